@@ -1,0 +1,13 @@
+pub mod ByteLists
+pub mod Digits
+pub mod VarintLaws
+pub mod VarintLoops
+pub mod Integers
+pub mod Steps
+pub mod FieldKinds
+pub mod FieldTakes
+pub mod FieldAgain
+pub mod FieldFails
+pub mod FieldReading
+pub mod Spellings
+pub mod KeyColumns

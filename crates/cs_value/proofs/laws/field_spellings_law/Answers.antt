@@ -1,0 +1,5 @@
+use Rattle.cs_value.proofs.Spellings.{field_spellings}
+use Rattle.cs_value.proofs.laws.field_spellings_law.Goals as goal
+
+pub returns : goal.returns
+returns c = field_spellings

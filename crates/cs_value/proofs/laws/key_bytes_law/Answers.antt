@@ -1,0 +1,5 @@
+use Rattle.cs_value.proofs.Spellings.{row_bytes_same}
+use Rattle.cs_value.proofs.laws.key_bytes_law.Goals as goal
+
+pub returns : goal.returns
+returns c = row_bytes_same

@@ -1,0 +1,5 @@
+pub mod Value
+pub mod Varint
+pub mod Spelling
+pub mod FieldFaults
+pub mod Reading

@@ -1,0 +1,42 @@
+//! Values, fields, rows and keys of SQLite changesets, and the bytes that spell them.
+//!
+//! A value is an integer of 64 bits, a text, a blob or NULL. A field is a value or undefined. What
+//! a field, a row or a key is written as follows the format comment of SQLite's
+//! `sqlite3session.c`; this crate reads and writes exactly that spelling.
+//!
+//! ```rust
+//! let (field, used) = field_read(&[0x03, 0x01, 0x78])?;
+//! assert_eq!(rt; field, Field::Defined(Value::Text("x")));
+//! assert_eq!(rt; used, 3);
+//! ```
+//!
+//! `value` has the values, `text` and `bytes` what they hold, `varint` the numbers of the format,
+//! `field` the reader and the writer of fields, `row` and `key` lists of values, `fault` and
+//! `no_memory` what calls refuse with, and `laws` what holds of all spellings.
+#![tactic(auto)]
+
+mod bytes;
+mod fault;
+mod field;
+mod key;
+mod laws;
+mod no_memory;
+mod row;
+mod text;
+mod value;
+mod varint;
+
+pub use bytes::Bytes;
+pub use fault::{FieldFault, FieldFaultKind};
+pub use field::{field_read, field_write};
+pub use key::Key;
+pub use laws::{field_spellings_law, key_bytes_law, record_spellings_law};
+pub use no_memory::NoMemory;
+pub use row::{Row, row_write};
+pub use text::Text;
+pub use value::{Field, OwnedField, OwnedValue, Value};
+pub use varint::{varint_len, varint_read, varint_write};
+
+/// The most bytes that a text or a blob of a changeset can have: SQLite writes their count as a
+/// varint of 31 bits.
+pub const MAX_CONTENT_LEN: usize = 2_147_483_647;

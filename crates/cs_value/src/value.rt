@@ -1,0 +1,80 @@
+//! Values and fields, borrowed and owned.
+ghost use Rattle.std.specs.Prelude.{◌≡◌, ◌≤◌, ◌↔◌, IfOk, IsTrue};
+ghost use Rattle.cs_value.specs.declared.TheConstants.{MAX_CONTENT_LEN};
+ghost use Rattle.cs_value.specs.Value.{value_of, Fits};
+
+use crate::MAX_CONTENT_LEN;
+use crate::bytes::Bytes;
+use crate::no_memory::NoMemory;
+use crate::text::Text;
+use std::alloc::Global;
+
+/// A value that borrows its text or its bytes.
+#[derive(Clone, Copy, Debug, PartialEq, Eq)]
+pub enum Value<'a> {
+    Int(i64),
+    Text(&'a str),
+    Blob(&'a [u8]),
+    Null,
+}
+
+/// A field that borrows its value: undefined, as a column that an UPDATE does not name, or a value.
+#[derive(Clone, Copy, Debug, PartialEq, Eq)]
+pub enum Field<'a> {
+    Undefined,
+    Defined(Value<'a>),
+}
+
+/// A value. Two values are equal where type and content are: 1 and '1' differ.
+#[derive(Debug, PartialEq, Eq, Drop)]
+pub enum OwnedValue {
+    Int(i64),
+    Text(Text),
+    Blob(Bytes),
+    Null,
+}
+
+/// A field: undefined, or a value.
+#[derive(Debug, PartialEq, Eq, Drop)]
+pub enum OwnedField {
+    Undefined,
+    Defined(OwnedValue),
+}
+
+impl OwnedValue {
+    /// Whether a text or a blob of `len` bytes is a value: at most 2147483647.
+    pub fn fits(len: usize) -> bool
+        ensures { IsTrue result ↔ (len ≤ MAX_CONTENT_LEN) }
+    {
+        len <= MAX_CONTENT_LEN
+    }
+
+    /// The same value, borrowed.
+    pub fn as_value(&self) -> Value<'_>
+        ensures same { value_of result ≡ self.now }
+        ensures short { Fits result }
+    {
+        match self {
+            OwnedValue::Int(number) => Value::Int(*number),
+            OwnedValue::Text(text) => Value::Text(text.as_str()),
+            OwnedValue::Blob(bytes) => Value::Blob(bytes.as_slice()),
+            OwnedValue::Null => Value::Null,
+        }
+    }
+}
+
+impl Value<'_> {
+    /// A copy of the value that owns its content. The content is short enough, as
+    /// [`OwnedValue::fits`] tests.
+    pub fn to_owned(self, alloc: Global) -> Result<OwnedValue, NoMemory>
+        requires { Fits self }
+        ensures { IfOk result (λ v. v ≡ value_of self.entry) }
+    {
+        Ok(match self {
+            Value::Int(number) => OwnedValue::Int(number),
+            Value::Text(text) => OwnedValue::Text(Text::new(String::from_str(alloc, text)?)),
+            Value::Blob(bytes) => OwnedValue::Blob(Bytes::new(Vec::from_slice(alloc, bytes)?)),
+            Value::Null => OwnedValue::Null,
+        })
+    }
+}

@@ -1,0 +1,90 @@
+//! The numbers of the format: how many columns a table has, how many bytes a text or a blob.
+ghost use Rattle.std.specs.Prelude.{◌≡◌, ◌≤◌, ◌++◌, ℕ, List, length, IfOk, IfErr, OnOk, OnErr, MatchResult};
+ghost use Rattle.cs_value.specs.declared.TheConstants.{MAX_CONTENT_LEN};
+ghost use Rattle.cs_value.specs.Varint.{varint};
+ghost use Rattle.cs_value.specs.Spelling.{BeginsWith};
+ghost use Rattle.cs_value.specs.FieldFaults.{VarintFails};
+ghost use Rattle.cs_value.specs.Reading.{number_at};
+
+use crate::MAX_CONTENT_LEN;
+use crate::fault::{FieldFault, FieldFaultKind};
+use crate::no_memory::NoMemory;
+
+/// How many bytes the varint of `number` has, 1 to 5. The number is at most 2147483647.
+pub fn varint_len(number: u32) -> usize
+    requires { number ≤ MAX_CONTENT_LEN }
+    ensures { result ≡ length (varint number) }
+{
+    match number {
+        0..0x80 => 1,
+        0x80..0x4000 => 2,
+        0x4000..0x20_0000 => 3,
+        0x20_0000..0x1000_0000 => 4,
+        _ => 5,
+    }
+}
+
+/// Appends the varint of `number`, which is at most 2147483647.
+/// [`NoMemory`] leaves `out` as it was.
+pub fn varint_write(out: &mut Vec<u8>, number: u32) -> Result<(), NoMemory>
+    requires { number ≤ MAX_CONTENT_LEN }
+    ensures ok { OnOk result (out.new.items ≡ out.old.items ++ varint number) }
+    ensures err { OnErr result (out.new.items ≡ out.old.items) }
+{
+    let mut digits = [0; 5];
+    let mut at = 4;
+    digits[at] = (number % 128) as u8;
+    let mut high = number / 128;
+    while high > 0 {
+        at -= 1;
+        digits[at] = (high % 128) as u8 + 128;
+        high /= 128;
+    }
+    out.extend_from_slice(&digits[at..])?;
+    Ok(())
+}
+
+/// Reads the varint at the front of `bytes`: the number and the count of bytes that it takes.
+/// Bytes may follow it. It takes no memory.
+///
+/// Refuses with `Truncated` where the bytes end inside the varint, and with `BadVarint` where they
+/// begin with none: not the shortest spelling, or a number above 2147483647.
+pub fn varint_read(bytes: &[u8]) -> Result<(u32, usize), FieldFault>
+    ensures found { IfOk result (λ r. (r.0 ≤ MAX_CONTENT_LEN) × BeginsWith bytes.now (varint r.0) r.1) }
+    ensures only { (n : ℕ) (rest : List ℕ) → n ≤ MAX_CONTENT_LEN → bytes.now ≡ varint n ++ rest
+        → result ≡ Ok (n, length (varint n)) }
+    ensures fault { IfErr result (λ f. VarintFails bytes.now f.kind f.place) }
+{
+    read_number(bytes)
+}
+
+// The number at the front, read digit by digit.
+pub(crate) fn read_number(bytes: &[u8]) -> Result<(u32, usize), FieldFault>
+    ensures exact { result ≡ number_at bytes.now }
+    ensures within { MatchResult result (λ r. r.1 ≤ length bytes.now) (λ f. f.place ≤ length bytes.now) }
+{
+    let malformed = Err(FieldFault {
+        kind: FieldFaultKind::BadVarint,
+        place: 0,
+    });
+    if let [0x80, ..] = bytes {
+        return malformed;
+    }
+    let mut number: u64 = 0;
+    for (used, &byte) in bytes.iter().enumerate() {
+        number = number * 128 + u64::from(byte % 128);
+        if byte < 128 {
+            if number > MAX_CONTENT_LEN as u64 {
+                return malformed;
+            }
+            return Ok((number as u32, used + 1));
+        }
+        if used == 4 {
+            return malformed;
+        }
+    }
+    Err(FieldFault {
+        kind: FieldFaultKind::Truncated,
+        place: bytes.len(),
+    })
+}
