@@ -1,0 +1,3 @@
+pub mod EntryLaws
+pub mod GroupLaws
+pub mod InverseLaws

@@ -1,0 +1,11 @@
+use Rattle.std.proofs.Common.{◌≡◌, ◌++◌, take, length, ◌∙◌, ap, sym, append_assoc}
+use Rattle.std.proofs.lemmas.List.{take_all}
+use Rattle.cs_shell.specs.Changeset.{group_bytes, header_bytes, entries_bytes}
+use Rattle.cs_shell.specs.Views.{entries_data}
+use Rattle.cs_shell.proofs.write.write_group.Goals as goal
+
+pub returns : goal.returns
+unfolding group_bytes
+returns c =
+    let all = take_all c.loop-entry.entry-index c.entries-entry-items.result.now c.loop-entry-test.false in
+    rw (all, c.entries-entry-items.ensures.same, append_assoc) at c.loop-entry.invariant

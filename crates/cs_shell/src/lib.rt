@@ -1,0 +1,13 @@
+//! x
+#![tactic(auto)]
+
+mod changeset;
+mod entry;
+mod fault;
+mod format;
+mod group;
+mod header;
+mod invert;
+mod write;
+
+pub use fault::{ReadFault, ReadFaultKind};
