@@ -4,7 +4,7 @@ use Rattle.std.proofs.lemmas.List.Elements.{All-push, All-nil}
 use Rattle.std.proofs.lemmas.List.Quantifiers.{all_pairs_push}
 use Rattle.cs_shell.specs.Entry.{EntryData, IsEntry, key_of}
 use Rattle.std.proofs.lemmas.List.{map-append}
-use Rattle.cs_shell.specs.Changeset.{HeaderData, GroupData, IsHeader, IsGroup}
+use Rattle.cs_shell.specs.Changeset.{HeaderData, GroupData, IsHeader, IsGroup, IsChangeset}
 use Rattle.cs_shell.specs.Views.{key_bytes, group_keys}
 
 -- two entries of one group have keys of their own
@@ -35,3 +35,11 @@ IsGroup-push group entry g e fresh = record {
 pub kept_keys : (flags : List ℕ) (entries : List EntryData) (keys : List (List ℕ)) (entry : EntryData) (key : List ℕ)
     → keys ≡ group_keys flags entries → key ≡ key_bytes flags entry → keys ++ key ∷ [] ≡ group_keys flags (entries ++ entry ∷ [])
 kept_keys flags entries keys entry key kept new = rw (kept, new) (sym (map-append (key_bytes flags) entries (entry ∷ [])))
+
+-- a changeset with the group of one more table
+pub IsChangeset-push : (groups : List GroupData) (group : GroupData) → IsChangeset groups → IsGroup group
+    → All (λ g. g.header.name ≢ group.header.name) groups → IsChangeset (groups ++ group ∷ [])
+IsChangeset-push groups group c g fresh = record {
+  each = All-push IsGroup groups group c.each g;
+  once = all_pairs_push (λ (g h : GroupData). g.header.name ≢ h.header.name) groups group c.once (λ k d lt. fresh k d lt);
+}

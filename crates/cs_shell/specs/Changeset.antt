@@ -11,11 +11,14 @@ pub record HeaderData : Type 0 where
   pub name : List ℕ
   pub flags : List ℕ
 
--- the name has a byte and is UTF-8 without a zero byte
+-- a table's name has a byte and is UTF-8 without a zero byte
+pub record IsName (name : List ℕ) : Type 0 where
+  pub some : 0 < length name
+  pub text : IsUtf8 name
+  pub no_zero : AllByRecursion (λ b. b ≢ 0) name
+
 pub record IsHeader (header : HeaderData) : Type 0 where
-  pub named : 0 < length header.name
-  pub text : IsUtf8 header.name
-  pub no_zero : AllByRecursion (λ b. b ≢ 0) header.name
+  pub name : IsName header.name
   pub flags : IsFlags header.flags
 
 -- the changes of a table
@@ -35,9 +38,13 @@ pub record IsChangeset (changeset : List GroupData) : Type 0 where
   pub each : All IsGroup changeset
   pub once : AllPairs (λ g h. g.header.name ≢ h.header.name) changeset
 
--- 0x54, the count of columns, a flag for each, the name, 0x00
+-- the count of columns, and a flag for each
+unfoldable pub flags_bytes : List ℕ → List ℕ
+flags_bytes flags = varint (length flags) ++ flags
+
+-- 0x54, the flags, the name, 0x00
 unfoldable pub header_bytes : HeaderData → List ℕ
-header_bytes header = 0x54 ∷ varint (length header.flags) ++ (header.flags ++ (header.name ++ 0 ∷ []))
+header_bytes header = 0x54 ∷ flags_bytes header.flags ++ (header.name ++ 0 ∷ [])
 
 -- the entries in turn
 abbrev pub entries_bytes : List EntryData → List ℕ

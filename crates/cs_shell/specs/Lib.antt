@@ -2,6 +2,7 @@ pub mod ReadFaults
 pub mod Entry
 pub mod Changeset
 pub mod Inverse
+pub mod Reading
 pub mod Views
 pub use Rattle.cs_value.specs.Value
 pub use Rattle.cs_value.specs.Varint

@@ -1,5 +1,7 @@
 -- The faults of a file that is no changeset's: their numbers and names, which are this project's own.
 use Rattle.std.specs.Prelude.{ℕ, List, codes}
+use Rattle.cs_value.specs.declared.fault.FieldFaultKind.{FieldFaultKind}
+use Rattle.cs_value.specs.declared.fault.FieldFaultKind.TheVariants as field
 use Rattle.cs_shell.specs.declared.fault.ReadFaultKind.{ReadFaultKind}
 use Rattle.cs_shell.specs.declared.fault.ReadFaultKind.TheVariants.{Truncated, NotTable, Patchset, BadVarint, ColumnCount, NoKey, BadName, DuplicateTable, EmptyGroup, BadOp, BadFlag, BadType, RealValue, BadText, UndefinedField, Unpaired, NullKey, DuplicateKey}
 
@@ -44,3 +46,11 @@ name_of UndefinedField = codes "UndefinedField"
 name_of Unpaired = codes "Unpaired"
 name_of NullKey = codes "NullKey"
 name_of DuplicateKey = codes "DuplicateKey"
+
+-- the kind of a fault of a field
+abbrev pub kind_of : FieldFaultKind → ReadFaultKind
+kind_of field.Truncated = Truncated
+kind_of field.BadVarint = BadVarint
+kind_of field.BadType = BadType
+kind_of field.RealValue = RealValue
+kind_of field.BadText = BadText

@@ -5,6 +5,8 @@ use Rattle.cs_value.specs.declared.value.OwnedValue.{OwnedValue}
 use Rattle.cs_shell.specs.declared.entry.Change.{Change}
 use Rattle.cs_shell.specs.declared.entry.Change.TheVariants as code
 use Rattle.cs_shell.specs.declared.entry.Entry.{Entry}
+use Rattle.cs_shell.specs.declared.entry.Operation.{Operation}
+use Rattle.cs_shell.specs.declared.entry.Operation.TheVariants as what
 use Rattle.cs_shell.specs.Entry.{ChangeData, Insert, Delete, EntryData, key_of}
 
 abbrev pub change_data : Change → ChangeData
@@ -16,6 +18,16 @@ entry_data entry = record { indirect = entry.indirect; change = change_data entr
 
 abbrev pub entries_data : List Entry → List EntryData
 entries_data entries = map entry_data entries
+
+-- the byte that says what an entry does
+abbrev pub byte_of : Operation → ℕ
+byte_of what.Insert = 0x12
+byte_of what.Delete = 0x09
+
+-- the change that does it to a row
+abbrev pub change_of : Operation → List OwnedValue → Change
+change_of what.Insert row = code.Insert row
+change_of what.Delete row = code.Delete row
 
 -- the row of a change
 abbrev pub row_of : Change → List OwnedValue

@@ -19,6 +19,27 @@ pub(crate) struct Entry {
     pub(crate) change: Change,
 }
 
+/// What an entry does to its row.
+#[derive(Clone, Copy, Debug)]
+pub(crate) enum Operation {
+    Insert,
+    Delete,
+}
+
+impl Operation {
+    ghost use Rattle.cs_shell.specs.Views.{change_of};
+
+    /// The change that does this to a row.
+    pub(crate) fn change(self, row: Row) -> Change
+        ensures { result ≡ change_of self row }
+    {
+        match self {
+            Operation::Insert => Change::Insert(row),
+            Operation::Delete => Change::Delete(row),
+        }
+    }
+}
+
 impl Change {
     ghost use Rattle.cs_shell.specs.Views.{row_of};
 

@@ -1,8 +1,10 @@
 //! Why a file is refused.
-ghost use Rattle.std.specs.Prelude.{◌≡◌};
-ghost use Rattle.cs_shell.specs.ReadFaults.{code_of, name_of};
+ghost use Rattle.std.specs.Prelude.{◌≡◌, ◌+◌, ◌<◌, ◌^◌};
+ghost use Rattle.cs_shell.specs.ReadFaults.{code_of, name_of, kind_of};
+ghost use Rattle.cs_shell.specs.declared.fault.ReadError.TheVariants.{NoMemory as OutOfMemory};
 
-use cs_value::NoMemory;
+use cs_value::{FieldFault, FieldFaultKind, NoMemory};
+use std::alloc::{AllocError, AllocFailed};
 use thiserror::Error;
 
 /// What is wrong with bytes that are no changeset's file.
@@ -108,11 +110,93 @@ pub struct ReadFault {
     pub place: usize,
 }
 
-/// Why a call on a changeset's file is refused.
+impl ReadFault {
+    /// The number of this fault among the faults of the product, 1 to 18.
+    pub fn code(self) -> u8
+        ensures { result ≡ code_of self.kind }
+    {
+        self.kind.code()
+    }
+
+    /// SQLite's result code for it, `SQLITE_CORRUPT`.
+    pub fn class(self) -> u8
+        ensures { result ≡ 11 }
+    {
+        11
+    }
+
+    /// The name that error lines print.
+    pub fn name(self) -> &'static str
+        ensures { result.now ≡ name_of self.kind }
+    {
+        self.kind.name()
+    }
+}
+
+/// Why a file is not read.
 #[derive(Clone, Copy, Debug, PartialEq, Eq)]
+pub(crate) enum ReadError {
+    /// It is no changeset's file.
+    Fault(ReadFault),
+    /// Memory was refused.
+    NoMemory,
+}
+
+impl ReadError {
+    /// A fault at a place of the file.
+    pub(crate) fn fault(kind: ReadFaultKind, place: usize) -> ReadError
+        ensures { result ≡ ReadError.Fault (record { kind = kind; place = place }) }
+    {
+        ReadError::Fault(ReadFault { kind, place })
+    }
+
+    /// The fault of a field or a varint that was read from `start` on.
+    pub(crate) fn behind(start: usize, fault: FieldFault) -> ReadError
+        requires { start + fault.place < 2 ^ 64 }
+        ensures { result ≡ ReadError.Fault (record { kind = kind_of fault.kind; place = start + fault.place }) }
+    {
+        let kind = match fault.kind {
+            FieldFaultKind::Truncated => ReadFaultKind::Truncated,
+            FieldFaultKind::BadVarint => ReadFaultKind::BadVarint,
+            FieldFaultKind::BadType => ReadFaultKind::BadType,
+            FieldFaultKind::RealValue => ReadFaultKind::RealValue,
+            FieldFaultKind::BadText => ReadFaultKind::BadText,
+        };
+        ReadError::fault(kind, start + fault.place)
+    }
+}
+
+impl From<NoMemory> for ReadError {
+    ghost from_gives = { λ _ e. e ≡ OutOfMemory };
+
+    fn from(_refusal: NoMemory) -> ReadError {
+        ReadError::NoMemory
+    }
+}
+
+impl From<AllocError> for ReadError {
+    ghost from_gives = { λ _ e. e ≡ OutOfMemory };
+
+    fn from(_refusal: AllocError) -> ReadError {
+        ReadError::NoMemory
+    }
+}
+
+impl<T: Drop> From<AllocFailed<T>> for ReadError {
+    ghost from_gives = { λ _ e. e ≡ OutOfMemory };
+
+    fn from(_refusal: AllocFailed<T>) -> ReadError {
+        ReadError::NoMemory
+    }
+}
+
+/// Why a call on a changeset's file is refused.
+#[derive(Clone, Copy, Debug, PartialEq, Eq, Error)]
 pub enum ToolFault {
     /// The file is no changeset's.
+    #[error("{0}")]
     Read(ReadFault),
     /// Memory was refused.
-    NoMemory(NoMemory),
+    #[error("out of memory")]
+    NoMemory,
 }

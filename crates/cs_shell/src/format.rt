@@ -11,3 +11,6 @@ pub(crate) const INSERT: u8 = 0x12;
 
 /// Begins an entry that deletes a row.
 pub(crate) const DELETE: u8 = 0x09;
+
+/// The most columns that a table has.
+pub(crate) const MAX_COLUMNS: usize = 32767;

@@ -8,6 +8,7 @@ mod format;
 mod group;
 mod header;
 mod invert;
+mod read;
 mod write;
 
 pub use fault::{ReadFault, ReadFaultKind};

@@ -33,7 +33,7 @@ fn write_group(out: &mut Vec<u8>, group: &Group) -> Result<(), NoMemory>
     Ok(())
 }
 
-#[tactic(auto, unfolding(crate::specs::Changeset::header_bytes))]
+#[tactic(auto, unfolding(crate::specs::Changeset::header_bytes, crate::specs::Changeset::flags_bytes))]
 fn write_header(out: &mut Vec<u8>, header: &Header) -> Result<(), NoMemory>
     ensures { OnOk result (out.new.items ≡ out.old.items ++ header_bytes header.now) }
 {

@@ -1,0 +1,9 @@
+use Rattle.std.proofs.Common.{rules}
+use Rattle.cs_shell.specs.Changeset.{IsGroup}
+use Rattle.cs_shell.proofs.GroupLaws.{IsChangeset-push}
+use Rattle.cs_shell.proofs.changeset.Changeset.push.Goals as goal
+
+pub invariant_of-self-2 : goal.invariant_of-self-2
+invariant_of-self-2 c =
+    let whole : IsGroup c.args.group = search rules in
+    rw c.in_ok-push.ensures.items (IsChangeset-push c.self.inside.groups.items c.args.group c.self.invariant whole (rw (← c.self.view_is) at c.requires))
