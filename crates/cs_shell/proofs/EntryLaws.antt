@@ -1,5 +1,5 @@
 -- Entries: their rows and keys.
-use Rattle.std.proofs.Common.{◌≡◌, ◌≢◌, ℕ, zero, suc, Bool, cond, List, [], ◌∷◌, ◌++◌, length, map, refl, sym, ap, ◌∙◌, arith}
+use Rattle.std.proofs.Common.{◌≡◌, ◌≢◌, ℕ, zero, suc, ◌<◌, Bool, cond, List, [], ◌∷◌, ◌++◌, length, map, refl, sym, ap, ◌∙◌, arith}
 use Rattle.std.specs.List.{flat_map}
 use Rattle.cs_value.specs.declared.value.OwnedValue.{OwnedValue}
 use Rattle.cs_value.specs.declared.value.OwnedField.{OwnedField}
@@ -98,3 +98,15 @@ entry_bytes-of what.Delete indirect row = refl
 pub same_entry : (indirect : Bool) (change : ChangeData) (entry : EntryData) → indirect ≡ entry.indirect → change ≡ entry.change
     → ◌≡◌ {A = EntryData} (record { indirect = indirect; change = change }) entry
 same_entry indirect change entry p q = λ i. record { indirect = p i; change = q i }
+
+pub entry_bytes_some : (entry : EntryData) → 0 < length (entry_bytes entry)
+unfolding entry_bytes
+entry_bytes_some entry = omega arith
+
+-- an entry of the code is no update
+pub IsWhole-entry_data : (entry : Entry) → IsWhole (entry_data entry).change
+IsWhole-entry_data entry = by_change entry.change
+  where
+    by_change : (change : Change) → IsWhole (change_data change)
+    by_change (code.Insert row) = tt
+    by_change (code.Delete row) = tt

@@ -3,9 +3,10 @@ use Rattle.std.proofs.Common.{◌≡◌, ◌≢◌, ℕ, zero, ◌<◌, ◌+◌,
 use Rattle.std.proofs.lemmas.List.Elements.{All-push, All-nil}
 use Rattle.std.proofs.lemmas.List.Quantifiers.{all_pairs_push}
 use Rattle.cs_shell.specs.Entry.{EntryData, IsEntry, key_of}
-use Rattle.std.proofs.lemmas.List.{map-append}
+use Rattle.std.proofs.lemmas.List.{map-append, map_push}
+use Rattle.cs_shell.specs.declared.entry.Entry.{Entry}
 use Rattle.cs_shell.specs.Changeset.{HeaderData, GroupData, IsHeader, IsGroup, IsChangeset}
-use Rattle.cs_shell.specs.Views.{key_bytes, group_keys}
+use Rattle.cs_shell.specs.Views.{entry_data, entries_data, key_bytes, group_keys}
 
 -- two entries of one group have keys of their own
 abbrev pub HasOtherKey : List ℕ → EntryData → EntryData → Type 0
@@ -43,3 +44,10 @@ IsChangeset-push groups group c g fresh = record {
   each = All-push IsGroup groups group c.each g;
   once = all_pairs_push (λ (g h : GroupData). g.header.name ≢ h.header.name) groups group c.once (λ k d lt. fresh k d lt);
 }
+
+-- the same, of the entries that the code keeps
+pub IsGroup-pushed : (header : HeaderData) (old : List Entry) (entry : Entry) (new : List Entry) → new ≡ old ++ entry ∷ []
+    → IsGroup (record { header = header; entries = entries_data old }) → IsEntry header.flags (entry_data entry)
+    → All (λ e. key_of header.flags e.change ≢ key_of header.flags (entry_data entry).change) (entries_data old)
+    → IsGroup (record { header = header; entries = entries_data new })
+IsGroup-pushed header old entry new items g e fresh = rw (items, map_push entry_data old entry) (IsGroup-push (record { header = header; entries = entries_data old }) (entry_data entry) g e fresh)

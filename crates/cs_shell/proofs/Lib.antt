@@ -4,3 +4,6 @@ pub mod InverseLaws
 pub mod ReadingLaws
 pub mod ValueLaws
 pub mod RowLaws
+pub mod KeyLaws
+pub mod EntriesLaws
+pub mod GroupsLaws

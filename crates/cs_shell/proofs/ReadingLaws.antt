@@ -157,3 +157,7 @@ Stands-header file at a b c header first flags name = Stands-then file at a c (0
 pub same_header : (name flags : List ℕ) (header : HeaderData) → name ≡ header.name → flags ≡ header.flags
     → ◌≡◌ {A = HeaderData} (record { name = name; flags = flags }) header
 same_header name flags header p q = λ i. record { name = p i; flags = q i }
+
+-- a text that has a byte ends behind the place where it begins
+pub Stands-moves : (file : List ℕ) (a b : ℕ) (s : List ℕ) → Stands file a s b → 0 < length s → a < length file → a < b
+Stands-moves file a b s h some le = omega (arith, ap length h.spelled, length-append s (drop b file), length-drop a file, length-drop b file, h.within)

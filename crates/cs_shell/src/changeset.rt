@@ -57,6 +57,7 @@ impl Changeset {
     pub(crate) fn push(&mut self, group: Group) -> Result<(), NoMemory>
         requires { All (λ g. g.header.name ≢ group.header.name) self.old }
         ensures ok { OnOk result (self.new ≡ self.old ++ group ∷ []) }
+        ensures well_formed { OnOk result (IsChangeset self.new) }
         ensures err { OnErr result (self.new ≡ self.old) }
     {
         self.groups.push(group)?;

@@ -39,9 +39,10 @@ impl Group {
     /// A group of one entry, which fits the header's flags.
     pub(crate) fn new(alloc: Global, header: Header, first: Entry) -> Result<Group, NoMemory>
         requires { IsEntry header.flags (entry_data first) }
-        ensures { IfOk result (λ g. g ≡ record { header = header; entries = entry_data first ∷ [] }) }
+        ensures made { IfOk result (λ g. g ≡ record { header = header; entries = entry_data first ∷ [] }) }
+        ensures well_formed { IfOk result IsGroup }
     {
-        let key = Key::of_row(alloc, header.flags(), first.change.row())?;
+        let key = header.key_of(alloc, &first)?;
         Ok(Group {
             header,
             entries: vec![in alloc; first]?,
@@ -51,7 +52,8 @@ impl Group {
 
     /// The table's header.
     pub(crate) fn header(&self) -> &Header
-        ensures { result.now ≡ self.now.header }
+        ensures same { result.now ≡ self.now.header }
+        ensures well_formed { IsGroup self.now }
     {
         &self.header
     }
@@ -79,6 +81,7 @@ impl Group {
         requires key { key ≡ key_bytes self.old.header.flags (entry_data entry) }
         requires fresh { All (λ e. key_of self.old.header.flags e.change ≢ key_of self.old.header.flags (entry_data entry).change) self.old.entries }
         ensures header { self.new.header ≡ self.old.header }
+        ensures well_formed { OnOk result (IsGroup self.new) }
         ensures ok { OnOk result (self.new.entries ≡ self.old.entries ++ entry_data entry ∷ []) }
         ensures err { OnErr result (self.new ≡ self.old) }
     {

@@ -1,7 +1,10 @@
 //! What heads the changes of a table.
-ghost use Rattle.std.specs.Prelude.{◌≡◌, string_bytes};
+ghost use Rattle.std.specs.Prelude.{◌≡◌, IfOk, string_bytes};
 ghost use Rattle.cs_shell.specs.Changeset.{HeaderData, IsHeader};
 
+use crate::entry::Entry;
+use cs_value::{Key, NoMemory};
+use std::alloc::Global;
 use std::marker::Model;
 
 /// The name and the flags of a table: a flag for each column, those other than 0 for the columns of
@@ -24,6 +27,9 @@ impl Model for Header {
 }
 
 impl Header {
+    ghost use Rattle.cs_shell.specs.Entry.{IsEntry};
+    ghost use Rattle.cs_shell.specs.Views.{entry_data, key_bytes};
+
     /// Makes a header, and takes no memory. The name has a byte and none that is zero; there are
     /// 1 to 32767 flags, and one is not 0.
     pub(crate) fn new(name: String, flags: Vec<u8>) -> Header
@@ -46,5 +52,13 @@ impl Header {
         ensures well_formed { IsHeader self.now }
     {
         &self.flags
+    }
+
+    /// The key of an entry that fits the flags.
+    pub(crate) fn key_of(&self, alloc: Global, entry: &Entry) -> Result<Key, NoMemory>
+        requires { IsEntry self.now.flags (entry_data entry.now) }
+        ensures { IfOk result (λ key. key ≡ key_bytes self.now.flags (entry_data entry.now)) }
+    {
+        Key::of_row(alloc, self.flags(), entry.change.row())
     }
 }

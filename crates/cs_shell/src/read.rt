@@ -2,26 +2,128 @@
 //!
 //! Each reader takes the file and the place where to begin, and answers what stands there and the
 //! place behind it. A fault has the place that section "Read faults" of `docs/FORMAT.md` gives it.
-ghost use Rattle.std.specs.Prelude.{◌≡◌, ◌≤◌, ◌<◌, ◌++◌, ◌∷◌, [], ℕ, List, length, drop, IfOk, string_bytes, ◌+◌, Bool, if◌then◌else◌, IsTrue, ◌↔◌, Any, ◌≢◌, IfSome, IfNone, EachIndex, slice_index};
+ghost use Rattle.std.specs.Prelude.{◌≡◌, ◌≤◌, ◌<◌, ◌++◌, ◌∷◌, [], ℕ, List, length, drop, IfOk, OnOk, string_bytes, ◌+◌, Bool, if◌then◌else◌, IsTrue, ◌↔◌, Any, ◌≢◌, IfSome, IfNone, EachIndex, slice_index, All};
 ghost use Rattle.cs_value.specs.declared.value.OwnedValue.{OwnedValue};
 ghost use Rattle.cs_value.specs.declared.value.OwnedValue.TheVariants.{Null};
 ghost use Rattle.cs_value.specs.Value.{IsRow, IsValue, value_of};
 ghost use Rattle.cs_value.specs.Varint.{varint};
 ghost use Rattle.cs_value.specs.declared.TheConstants.{MAX_CONTENT_LEN};
 ghost use Rattle.cs_value.specs.Spelling.{row_bytes, value_bytes};
-ghost use Rattle.cs_shell.specs.Entry.{IsFlags, IsKeyedRow, IsEntry, EntryData, ChangeData, operation, entry_bytes};
-ghost use Rattle.cs_shell.specs.Changeset.{HeaderData, IsName, IsHeader, flags_bytes, header_bytes};
-ghost use Rattle.cs_shell.specs.Inverse.{IsWhole};
-ghost use Rattle.cs_shell.specs.Reading.{Stands, Reads, CanStand};
+ghost use Rattle.cs_shell.specs.Entry.{IsFlags, IsKeyedRow, IsEntry, EntryData, ChangeData, operation, key_of, entry_bytes};
+ghost use Rattle.cs_shell.specs.Changeset.{HeaderData, GroupData, IsName, IsHeader, IsGroup, IsChangeset, flags_bytes, header_bytes, entries_bytes, group_bytes, file_bytes};
+ghost use Rattle.cs_shell.specs.Inverse.{IsWhole, HasNoUpdate};
+ghost use Rattle.cs_shell.specs.Reading.{Stands, Reads, CanStand, HasEntry, EndsGroup, AreWhole};
 ghost use Rattle.cs_shell.specs.Views.{entry_data, byte_of};
 
+use crate::changeset::Changeset;
 use crate::entry::{Entry, Operation};
 use crate::fault::{ReadError, ReadFaultKind};
 use crate::format::{DELETE, INSERT, MAX_COLUMNS, PATCHSET, TABLE};
+use crate::group::Group;
 use crate::header::Header;
-use cs_value::{Field, OwnedValue, Row, Value, field_read, varint_read};
+use cs_value::{
+    Field, OwnedValue, Row, Value, field_read, record_spellings_law, varint_read,
+};
 use std::alloc::Global;
 use std::str;
+
+/// The changeset whose file this is.
+pub(crate) fn read(alloc: Global, file: &[u8]) -> Result<Changeset, ReadError>
+    ensures found { IfOk result (λ c. IsChangeset c × HasNoUpdate c × (file.now ≡ file_bytes c)) }
+    ensures only { (c : List GroupData) → IsChangeset c → HasNoUpdate c → file.now ≡ file_bytes c → Reads result (λ r. r ≡ c) }
+{
+    let mut changeset = Changeset::new(alloc);
+    let mut end = 0;
+    'groups: while end < file.len() {
+        end = push_group(alloc, file, end, &mut changeset)?;
+    }
+    Ok(changeset)
+}
+
+/// Reads a group and appends it, which is of a table that is not yet there.
+fn push_group(
+    alloc: Global,
+    file: &[u8],
+    at: usize,
+    changeset: &mut Changeset,
+) -> Result<usize, ReadError>
+    requires { at < length file.now }
+    ensures found { IfOk result (λ end. (group : GroupData) × IsGroup group × AreWhole group.entries
+        × Stands file.now at (group_bytes group) end × (changeset.new ≡ changeset.old ++ group ∷ [])) }
+    ensures only { (group : GroupData) (rest : List ℕ) → IsGroup group → AreWhole group.entries
+        → All (λ g. g.header.name ≢ group.header.name) changeset.old → EndsGroup rest
+        → drop at file.now ≡ group_bytes group ++ rest → Reads result (λ _. changeset.new ≡ changeset.old ++ group ∷ []) }
+    ensures well_formed { OnOk result (IsChangeset changeset.new) }
+{
+    let (header, start) = read_header(alloc, file, at)?;
+    if changeset.find(header.name()).is_some() {
+        return Err(ReadError::fault(ReadFaultKind::DuplicateTable, at));
+    }
+    let (group, end) = read_group(alloc, file, start, header)?;
+    changeset.push(group)?;
+    Ok(end)
+}
+
+/// The entries of a table, one at least.
+fn read_group(
+    alloc: Global,
+    file: &[u8],
+    at: usize,
+    header: Header,
+) -> Result<(Group, usize), ReadError>
+    requires { at ≤ length file.now }
+    ensures found { IfOk result (λ r. (r.0.header ≡ header) × IsGroup r.0 × AreWhole r.0.entries
+        × Stands file.now at (entries_bytes r.0.entries) r.1) }
+    ensures only { (entries : List EntryData) (rest : List ℕ) → IsGroup (record { header = header; entries = entries })
+        → AreWhole entries → EndsGroup rest → drop at file.now ≡ entries_bytes entries ++ rest
+        → Reads result (λ r. r.0.entries ≡ entries) }
+{
+    if !has_entry(file, at) {
+        return Err(ReadError::fault(ReadFaultKind::EmptyGroup, at));
+    }
+    let (first, next) = read_entry(alloc, file, at, header.flags())?;
+    let mut group = Group::new(alloc, header, first)?;
+    let mut end = next;
+    'entries: while has_entry(file, end) {
+        end = push_entry(alloc, file, end, &mut group)?;
+    }
+    Ok((group, end))
+}
+
+/// Whether an entry is to be read, and no header.
+fn has_entry(file: &[u8], at: usize) -> bool
+    ensures { IsTrue result ↔ HasEntry file.now at }
+{
+    at < file.len() && file[at] != TABLE && file[at] != PATCHSET
+}
+
+/// Reads an entry and appends it, whose key is not yet there.
+fn push_entry(
+    alloc: Global,
+    file: &[u8],
+    at: usize,
+    group: &mut Group,
+) -> Result<usize, ReadError>
+    requires { at < length file.now }
+    ensures found { IfOk result (λ end. (entry : EntryData) × IsWhole entry.change × Stands file.now at (entry_bytes entry) end
+        × (group.new.entries ≡ group.old.entries ++ entry ∷ [])) }
+    ensures only { (entry : EntryData) (rest : List ℕ) → IsEntry group.old.header.flags entry → IsWhole entry.change
+        → All (λ e. key_of group.old.header.flags e.change ≢ key_of group.old.header.flags entry.change) group.old.entries
+        → drop at file.now ≡ entry_bytes entry ++ rest → Reads result (λ _. group.new.entries ≡ group.old.entries ++ entry ∷ []) }
+    ensures header { group.new.header ≡ group.old.header }
+    ensures well_formed { OnOk result (IsGroup group.new) }
+{
+    let header = group.header();
+    let (entry, end) = read_entry(alloc, file, at, header.flags())?;
+    let key = header.key_of(alloc, &entry)?;
+    // Keys that are spelled alike are one.
+    record_spellings_law();
+    if group.find(&key).is_some() {
+        return Err(ReadError::fault(ReadFaultKind::DuplicateKey, at));
+    }
+    group.push(key, entry)?;
+    Ok(end)
+}
 
 /// What is left of the file from a place on.
 fn rest_from(file: &[u8], at: usize) -> &[u8]
