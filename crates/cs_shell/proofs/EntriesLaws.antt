@@ -78,9 +78,9 @@ module _ (file : List ℕ) (at : ℕ) (header : HeaderData) (entries : List Entr
             let there : get_or all (length entries) d ≡ entry = rw is (at_seam entries entry others d) in
             g.once k (length entries) d k_lt lt (ap (λ (x : EntryData). key_of header.flags x.change) before ∙ same ∙ ap (λ (x : EntryData). key_of header.flags x.change) (sym there));
         spelled =
-          let regrouped : entries_bytes all ++ rest ≡ entries_bytes entries ++ (entry_bytes entry ++ (entries_bytes others ++ rest)) =
-              rw (is, flat_map-append) (append_assoc (entries_bytes entries) (entry_bytes entry ++ entries_bytes others) rest ∙ ap (λ (x : List ℕ). entries_bytes entries ++ x) (append_assoc (entry_bytes entry) (entries_bytes others) rest)) in
-          rest_is file at end (entries_bytes entries) (entry_bytes entry ++ (entries_bytes others ++ rest)) stands (e ∙ regrouped);
+            let regrouped : entries_bytes all ++ rest ≡ entries_bytes entries ++ (entry_bytes entry ++ (entries_bytes others ++ rest)) =
+            rw (is, flat_map-append) (append_assoc (entries_bytes entries) (entry_bytes entry ++ entries_bytes others) rest ∙ ap (λ (x : List ℕ). entries_bytes entries ++ x) (append_assoc (entry_bytes entry) (entries_bytes others) rest)) in
+            rest_is file at end (entries_bytes entries) (entry_bytes entry ++ (entries_bytes others ++ rest)) stands (e ∙ regrouped);
       }
 
   -- where no other entry stands, what is left is what follows the group
@@ -128,7 +128,7 @@ module _ (file : List ℕ) (at : ℕ) (header : HeaderData) (group : GroupData) 
   pub EntriesSoFar-push : HasEntry file end → (new : GroupData) (entry : EntryData) (next : ℕ) → new.header ≡ group.header → IsGroup new → IsWhole entry.change
       → Stands file end (entry_bytes entry) next → new.entries ≡ group.entries ++ entry ∷ []
       → ((e : EntryData) (rest : List ℕ) → IsEntry group.header.flags e → IsWhole e.change → All (λ d. key_of group.header.flags d.change ≢ key_of group.header.flags e.change) group.entries
-          → drop end file ≡ entry_bytes e ++ rest → new.entries ≡ group.entries ++ e ∷ [])
+      → drop end file ≡ entry_bytes e ++ rest → new.entries ≡ group.entries ++ e ∷ [])
       → EntriesSoFar file at header new next
   EntriesSoFar-push h new entry next same g whole stands grown only = record {
     header_is = same ∙ so.header_is;

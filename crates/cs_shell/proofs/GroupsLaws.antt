@@ -90,8 +90,8 @@ module _ (file : List ℕ) (changeset : List GroupData) (end : ℕ) (so : Groups
             is_all.once k (length changeset) d k_lt lt (ap (λ (g : GroupData). g.header.name) before ∙ same ∙ ap (λ (g : GroupData). g.header.name) (sym (at_seam d)));
         ends = ends_group others;
         spelled =
-          let regrouped : file_bytes all ≡ file_bytes changeset ++ (group_bytes group ++ file_bytes others) = rw (is, flat_map-append) refl in
-          rest_is file 0 end (file_bytes changeset) (group_bytes group ++ file_bytes others) so.stands (e ∙ regrouped);
+            let regrouped : file_bytes all ≡ file_bytes changeset ++ (group_bytes group ++ file_bytes others) = rw (is, flat_map-append) refl in
+            rest_is file 0 end (file_bytes changeset) (group_bytes group ++ file_bytes others) so.stands (e ∙ regrouped);
       }
 
   -- where no other group stands, the file ends
@@ -128,7 +128,7 @@ module _ (file : List ℕ) (changeset : List GroupData) (end : ℕ) (so : Groups
   pub GroupsSoFar-push : end < length file → (new : List GroupData) (group : GroupData) (next : ℕ) → IsChangeset new → AreWhole group.entries → Stands file end (group_bytes group) next
       → new ≡ changeset ++ group ∷ []
       → ((g : GroupData) (rest : List ℕ) → IsGroup g → AreWhole g.entries → All (λ h. h.header.name ≢ g.header.name) changeset → EndsGroup rest → drop end file ≡ group_bytes g ++ rest
-          → new ≡ changeset ++ g ∷ [])
+      → new ≡ changeset ++ g ∷ [])
       → GroupsSoFar file new next
   GroupsSoFar-push lt new group next is_new whole stands grown only = record {
     is_changeset = is_new;

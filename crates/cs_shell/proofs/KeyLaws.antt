@@ -64,8 +64,8 @@ same_key law flags c d hc hd e =
     let kd = has_key flags d hd in
     let spelled : record_bytes (key_of flags c) ++ [] ≡ record_bytes (key_of flags d) ++ [] = ap (λ (x : List ℕ). x ++ []) e in
     (law (key_of flags c) (key_of flags d) [] []
-      (rw kc.key (each-key_columns IsField flags kc.image kc.is_record)) (rw kd.key (each-key_columns IsField flags kd.image kd.is_record))
-      (rw (kc.key, kd.key) (length-key_columns flags kc.image kd.image kc.count kd.count)) spelled).0
+    (rw kc.key (each-key_columns IsField flags kc.image kc.is_record)) (rw kd.key (each-key_columns IsField flags kd.image kd.is_record))
+    (rw (kc.key, kd.key) (length-key_columns flags kc.image kd.image kc.count kd.count)) spelled).0
 
 -- an entry whose key is spelled like that of one at a place of the group has its key
 pub not_fresh : RecordSpellings → (flags : List ℕ) (entries : List EntryData) (entry : EntryData) (key : List ℕ) (place : ℕ) → All (IsEntry flags) entries → IsEntry flags entry

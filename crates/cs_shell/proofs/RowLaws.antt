@@ -91,9 +91,9 @@ next_of file at flags i values end so row rest h keyed e value others is = recor
   is_value = each-at IsValue values value others (rw is at h);
   can = rw (← so.count) (keyed_at flags values value others (rw is at keyed));
   spelled =
-    let regrouped : row_bytes row ++ rest ≡ row_bytes values ++ (value_bytes value ++ (row_bytes others ++ rest)) =
-        rw (is, flat_map-append) (append_assoc (row_bytes values) (value_bytes value ++ row_bytes others) rest ∙ ap (λ (x : List ℕ). row_bytes values ++ x) (append_assoc (value_bytes value) (row_bytes others) rest)) in
-    rest_is file at end (row_bytes values) (value_bytes value ++ (row_bytes others ++ rest)) so.stands (e ∙ regrouped);
+      let regrouped : row_bytes row ++ rest ≡ row_bytes values ++ (value_bytes value ++ (row_bytes others ++ rest)) =
+      rw (is, flat_map-append) (append_assoc (row_bytes values) (value_bytes value ++ row_bytes others) rest ∙ ap (λ (x : List ℕ). row_bytes values ++ x) (append_assoc (value_bytes value) (row_bytes others) rest)) in
+      rest_is file at end (row_bytes values) (value_bytes value ++ (row_bytes others ++ rest)) so.stands (e ∙ regrouped);
 }
 
 -- where a flag is left, a row that stands there has a value for it
@@ -116,8 +116,8 @@ RowSoFar-push file at flags i values end value next so lt is can stands only = r
   count = omega (arith, length-append values (value ∷ []), so.count);
   row = each-push IsValue values value so.row is;
   keyed =
-    let n : i + 1 ≡ suc (length values) = omega (arith, so.count) in
-    rw n (keyed-push flags values value (omega (arith, so.count)) (rw so.count so.keyed) (rw so.count can));
+      let n : i + 1 ≡ suc (length values) = omega (arith, so.count) in
+      rw n (keyed-push flags values value (omega (arith, so.count)) (rw so.count so.keyed) (rw so.count can));
   stands = rw (flat_map-append value_bytes values (value ∷ []), append-nil) (Stands-then file at end next (row_bytes values) (value_bytes value) so.stands stands);
   begins = λ row rest h keyed e.
       let n = has_next file at flags i values end so lt row rest h keyed e in

@@ -2,6 +2,7 @@
 ghost use Rattle.std.specs.Prelude.{◌≡◌, ◌+◌, ◌<◌, ◌^◌};
 ghost use Rattle.cs_shell.specs.ReadFaults.{code_of, name_of, kind_of};
 ghost use Rattle.cs_shell.specs.declared.fault.ReadError.TheVariants.{NoMemory as OutOfMemory};
+ghost use Rattle.cs_shell.specs.Answers.{told_of};
 
 use cs_value::{FieldFault, FieldFaultKind, NoMemory};
 use std::alloc::{AllocError, AllocFailed};
@@ -199,4 +200,23 @@ pub enum ToolFault {
     /// Memory was refused.
     #[error("out of memory")]
     NoMemory,
+}
+
+impl From<ReadError> for ToolFault {
+    ghost from_gives = { λ error fault. fault ≡ told_of error };
+
+    fn from(error: ReadError) -> ToolFault {
+        match error {
+            ReadError::Fault(fault) => ToolFault::Read(fault),
+            ReadError::NoMemory => ToolFault::NoMemory,
+        }
+    }
+}
+
+impl From<NoMemory> for ToolFault {
+    ghost from_gives = { λ _ fault. fault ≡ told_of OutOfMemory };
+
+    fn from(_refusal: NoMemory) -> ToolFault {
+        ToolFault::NoMemory
+    }
 }

@@ -114,5 +114,10 @@ impl Group {
 fn inverse_entries(alloc: Global, entries: Vec<Entry>) -> Result<Vec<Entry>, NoMemory>
     ensures { IfOk result (λ v. v.items ≡ map inverse_of entries.items) }
 {
-    Ok(entries.into_iter().map(|entry| entry.inverse()).collect(alloc)?)
+    Ok(
+        entries
+            .into_iter()
+            .map(|entry| entry.inverse())
+            .collect(alloc)?,
+    )
 }

@@ -1,4 +1,15 @@
-//! x
+//! The `changeset` tool as a library: inverting the files of SQLite changesets, by a call, by the
+//! lines of a script and by the words of a command line.
+//!
+//! ```rust
+//! let inverse = invert_bytes(alloc, &file)?;
+//! let status = run_slots(alloc, &mut Told::new(input), &mut Told::new(output));
+//! ```
+//!
+//! `header`, `entry`, `group` and `changeset` are what a file holds, `read` and `write` go from
+//! bytes to that and back, `fault` says why a file is refused, and `invert` inverts. `lines` is the
+//! grammar of a script's lines, `slots` what they name, `reply` what they are answered, `print` how
+//! that is printed, and `script` runs them. `told` has the streams, `words` the command line.
 #![tactic(auto)]
 
 mod changeset;
@@ -8,7 +19,18 @@ mod format;
 mod group;
 mod header;
 mod invert;
+mod lines;
+mod print;
 mod read;
+mod reply;
+mod script;
+mod slots;
+#[cfg(test)]
+mod tests;
+mod told;
 mod write;
 
-pub use fault::{ReadFault, ReadFaultKind};
+pub use fault::{ReadFault, ReadFaultKind, ToolFault};
+pub use invert::invert_bytes;
+pub use script::{Status, run_slots};
+pub use told::Told;

@@ -21,9 +21,7 @@ use crate::fault::{ReadError, ReadFaultKind};
 use crate::format::{DELETE, INSERT, MAX_COLUMNS, PATCHSET, TABLE};
 use crate::group::Group;
 use crate::header::Header;
-use cs_value::{
-    Field, OwnedValue, Row, Value, field_read, record_spellings_law, varint_read,
-};
+use cs_value::{Field, OwnedValue, Row, Value, field_read, record_spellings_law, varint_read};
 use std::alloc::Global;
 use std::str;
 
@@ -98,12 +96,7 @@ fn has_entry(file: &[u8], at: usize) -> bool
 }
 
 /// Reads an entry and appends it, whose key is not yet there.
-fn push_entry(
-    alloc: Global,
-    file: &[u8],
-    at: usize,
-    group: &mut Group,
-) -> Result<usize, ReadError>
+fn push_entry(alloc: Global, file: &[u8], at: usize, group: &mut Group) -> Result<usize, ReadError>
     requires { at < length file.now }
     ensures found { IfOk result (λ end. (entry : EntryData) × IsWhole entry.change × Stands file.now at (entry_bytes entry) end
         × (group.new.entries ≡ group.old.entries ++ entry ∷ [])) }
@@ -223,7 +216,12 @@ fn zero_at(bytes: &[u8]) -> Option<usize>
 }
 
 /// An entry of a table with these flags.
-fn read_entry(alloc: Global, file: &[u8], at: usize, flags: &[u8]) -> Result<(Entry, usize), ReadError>
+fn read_entry(
+    alloc: Global,
+    file: &[u8],
+    at: usize,
+    flags: &[u8],
+) -> Result<(Entry, usize), ReadError>
     requires { at < length file.now }
     ensures found { IfOk result (λ r. IsEntry flags.now (entry_data r.0) × Stands file.now at (entry_bytes (entry_data r.0)) r.1) }
     ensures only { (entry : EntryData) (rest : List ℕ) → IsEntry flags.now entry → IsWhole entry.change

@@ -21,10 +21,10 @@ pub returns-in_err-group-clause-only : goal.returns-in_err-group-clause-only
 returns-in_err-group-clause-only c =
     let p = err_from_is_err_and c.from_residual-in_err-group.result c.from_residual-in_err-group.ensures.1 in
     λ group rest g whole fresh ends e.
-      let spelled = e ∙ group_bytes-append group rest in
-      let same = c.in_ok-header.ensures.only group.header _ g.header spelled in
-      let entries = rest_is c.args.file.now c.args.at c.in_ok-header.start (header_bytes group.header) _ (rw (← same) c.in_ok-header.ensures.found.1) spelled in
-      rw (p.1, p.2) (Reads-err c.in_err-group.field-0.0 _ _ (c.in_err-group.ensures.only group.entries rest (under_header group c.in_ok-header.header same g) whole ends entries))
+    let spelled = e ∙ group_bytes-append group rest in
+    let same = c.in_ok-header.ensures.only group.header _ g.header spelled in
+    let entries = rest_is c.args.file.now c.args.at c.in_ok-header.start (header_bytes group.header) _ (rw (← same) c.in_ok-header.ensures.found.1) spelled in
+    rw (p.1, p.2) (Reads-err c.in_err-group.field-0.0 _ _ (c.in_err-group.ensures.only group.entries rest (under_header group c.in_ok-header.header same g) whole ends entries))
 
 pub returns-clause-found : goal.returns-clause-found
 returns-clause-found c =

@@ -11,8 +11,8 @@ pub returns-in_err-end-clause-only : goal.returns-in_err-end-clause-only
 returns-in_err-end-clause-only c =
     let p = err_from_is_err_and c.from_residual.result c.from_residual.ensures.1 in
     λ all is_all whole e.
-      let n = next_of_groups c.args.file.now c.groups.changeset c.groups.end c.groups.invariant c.groups-test.true all is_all whole e in
-      rw (p.1, p.2) (Reads-err c.in_err-end.field-0.0 _ _ (c.in_err-end.ensures.only n.group _ n.is_group n.whole n.fresh n.ends n.spelled))
+    let n = next_of_groups c.args.file.now c.groups.changeset c.groups.end c.groups.invariant c.groups-test.true all is_all whole e in
+    rw (p.1, p.2) (Reads-err c.in_err-end.field-0.0 _ _ (c.in_err-end.ensures.only n.group _ n.is_group n.whole n.fresh n.ends n.spelled))
 
 pub groups-smaller : goal.groups-smaller
 groups-smaller c =

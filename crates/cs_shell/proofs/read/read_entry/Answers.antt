@@ -17,22 +17,22 @@ pub returns-in_err-indirect-clause-only : goal.returns-in_err-indirect-clause-on
 returns-in_err-indirect-clause-only c =
     let p = err_from_is_err_and c.from_residual-in_err-indirect.result c.from_residual-in_err-indirect.ensures.1 in
     λ entry rest h whole e.
-      let whole_entry = e ∙ entry_bytes-append entry rest in
-      let same = c.in_ok-operation.ensures.only entry.change _ whole whole_entry in
-      let behind = behind_byte c.args.file.now c.args.at c.in_ok-operation.at _ _ _ c.in_ok-operation.ensures.found same whole_entry in
-      rw (p.1, p.2) (Reads-err c.in_err-indirect.field-0.0 _ _ (c.in_err-indirect.ensures.only entry.indirect _ behind))
+    let whole_entry = e ∙ entry_bytes-append entry rest in
+    let same = c.in_ok-operation.ensures.only entry.change _ whole whole_entry in
+    let behind = behind_byte c.args.file.now c.args.at c.in_ok-operation.at _ _ _ c.in_ok-operation.ensures.found same whole_entry in
+    rw (p.1, p.2) (Reads-err c.in_err-indirect.field-0.0 _ _ (c.in_err-indirect.ensures.only entry.indirect _ behind))
 
 pub returns-in_err-row-clause-only : goal.returns-in_err-row-clause-only
 returns-in_err-row-clause-only c =
     let p = err_from_is_err_and c.from_residual-in_err-row.result c.from_residual-in_err-row.ensures.1 in
     λ entry rest h whole e.
-      let whole_entry = e ∙ entry_bytes-append entry rest in
-      let same = c.in_ok-operation.ensures.only entry.change _ whole whole_entry in
-      let behind = behind_byte c.args.file.now c.args.at c.in_ok-operation.at _ _ _ c.in_ok-operation.ensures.found same whole_entry in
-      let flag = c.in_ok-indirect.ensures.only entry.indirect _ behind in
-      let records = behind_byte c.args.file.now c.in_ok-operation.at c.in_ok-indirect.at _ _ _ c.in_ok-indirect.ensures.found (ap (λ (b : Bool). cond b 1 0) flag) behind in
-      let row = IsChange-whole c.args.flags.now entry.change whole h in
-      rw (p.1, p.2) (Reads-err c.in_err-row.field-0.0 _ _ (c.in_err-row.ensures.only (row_data entry.change) rest row.0 row.1 (records ∙ ap (λ (x : List ℕ). x ++ rest) (records_bytes-whole entry.change whole))))
+    let whole_entry = e ∙ entry_bytes-append entry rest in
+    let same = c.in_ok-operation.ensures.only entry.change _ whole whole_entry in
+    let behind = behind_byte c.args.file.now c.args.at c.in_ok-operation.at _ _ _ c.in_ok-operation.ensures.found same whole_entry in
+    let flag = c.in_ok-indirect.ensures.only entry.indirect _ behind in
+    let records = behind_byte c.args.file.now c.in_ok-operation.at c.in_ok-indirect.at _ _ _ c.in_ok-indirect.ensures.found (ap (λ (b : Bool). cond b 1 0) flag) behind in
+    let row = IsChange-whole c.args.flags.now entry.change whole h in
+    rw (p.1, p.2) (Reads-err c.in_err-row.field-0.0 _ _ (c.in_err-row.ensures.only (row_data entry.change) rest row.0 row.1 (records ∙ ap (λ (x : List ℕ). x ++ rest) (records_bytes-whole entry.change whole))))
 
 pub returns-clause-found : goal.returns-clause-found
 returns-clause-found c =

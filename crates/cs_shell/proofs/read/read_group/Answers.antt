@@ -16,20 +16,20 @@ pub returns-in_err-first-clause-only : goal.returns-in_err-first-clause-only
 returns-in_err-first-clause-only c =
     let p = err_from_is_err_and c.from_residual.result c.from_residual.ensures.1 in
     λ all rest g whole ends e.
-      let n = first_entry c.args.file.now c.args.at c.args.header all rest c.requires g whole e in
-      rw (p.1, p.2) (Reads-err c.in_err-first.field-0.0 _ _ (c.in_err-first.ensures.only n.entry n.rest (rw c.flags.ensures.same n.is_entry) n.whole n.spelled))
+    let n = first_entry c.args.file.now c.args.at c.args.header all rest c.requires g whole e in
+    rw (p.1, p.2) (Reads-err c.in_err-first.field-0.0 _ _ (c.in_err-first.ensures.only n.entry n.rest (rw c.flags.ensures.same n.is_entry) n.whole n.spelled))
 
 pub entries-init : goal.entries-init
 entries-init c =
     EntriesSoFar-one c.args.file.now c.args.at c.args.header c.in_ok-group.group (entry_data c.in_ok-first.first) c.in_ok-first.next c.requires c.in_ok-group.ensures.made c.in_ok-group.ensures.well_formed
-      (IsWhole-entry_data c.in_ok-first.first) c.in_ok-first.ensures.found.1 (λ entry rest h whole e. c.in_ok-first.ensures.only entry rest (rw c.flags.ensures.same h) whole e)
+    (IsWhole-entry_data c.in_ok-first.first) c.in_ok-first.ensures.found.1 (λ entry rest h whole e. c.in_ok-first.ensures.only entry rest (rw c.flags.ensures.same h) whole e)
 
 pub returns-in_err-end-clause-only : goal.returns-in_err-end-clause-only
 returns-in_err-end-clause-only c =
     let p = err_from_is_err_and c.from_residual-in_err-end.result c.from_residual-in_err-end.ensures.1 in
     λ all rest g whole ends e.
-      let n = next_of_entries c.args.file.now c.args.at c.args.header c.entries.group c.entries.end c.entries.invariant (c.has_entry-in-entries.ensures.0 c.entries-test.true) all rest g whole ends e in
-      rw (p.1, p.2) (Reads-err c.in_err-end.field-0.0 _ _ (c.in_err-end.ensures.only n.entry n.rest n.is_entry n.whole n.fresh n.spelled))
+    let n = next_of_entries c.args.file.now c.args.at c.args.header c.entries.group c.entries.end c.entries.invariant (c.has_entry-in-entries.ensures.0 c.entries-test.true) all rest g whole ends e in
+    rw (p.1, p.2) (Reads-err c.in_err-end.field-0.0 _ _ (c.in_err-end.ensures.only n.entry n.rest n.is_entry n.whole n.fresh n.spelled))
 
 pub entries-smaller : goal.entries-smaller
 entries-smaller c =

@@ -18,19 +18,19 @@ pub returns-in_err-flags-clause-only : goal.returns-in_err-flags-clause-only
 returns-in_err-flags-clause-only c =
     let p = err_from_is_err_and c.from_residual.result c.from_residual.ensures.1 in
     λ header rest h e.
-      let whole = e ∙ header_bytes-append header rest in
-      let flags = behind_byte c.args.file.now c.args.at (c.args.at + 1) _ _ _ (Stands-byte c.args.file.now c.args.at c.requires) (first_byte c.args.file.now c.args.at _ _ c.requires whole) whole in
-      rw (p.1, p.2) (Reads-err c.in_err-flags.field-0.0 _ _ (c.in_err-flags.ensures.only header.flags _ h.flags flags))
+    let whole = e ∙ header_bytes-append header rest in
+    let flags = behind_byte c.args.file.now c.args.at (c.args.at + 1) _ _ _ (Stands-byte c.args.file.now c.args.at c.requires) (first_byte c.args.file.now c.args.at _ _ c.requires whole) whole in
+    rw (p.1, p.2) (Reads-err c.in_err-flags.field-0.0 _ _ (c.in_err-flags.ensures.only header.flags _ h.flags flags))
 
 pub returns-in_err-name-clause-only : goal.returns-in_err-name-clause-only
 returns-in_err-name-clause-only c =
     let p = err_from_is_err_and c.from_residual-in_err-name.result c.from_residual-in_err-name.ensures.1 in
     λ header rest h e.
-      let whole = e ∙ header_bytes-append header rest in
-      let flags = behind_byte c.args.file.now c.args.at (c.args.at + 1) _ _ _ (Stands-byte c.args.file.now c.args.at c.requires) (first_byte c.args.file.now c.args.at _ _ c.requires whole) whole in
-      let same = c.in_ok-flags.ensures.only header.flags _ h.flags flags in
-      let name = rest_is c.args.file.now (c.args.at + 1) c.in_ok-flags.at (flags_bytes header.flags) _ (rw (← same) c.in_ok-flags.ensures.found.1) flags in
-      rw (p.1, p.2) (Reads-err c.in_err-name.field-0.0 _ _ (c.in_err-name.ensures.only header.name rest h.name name))
+    let whole = e ∙ header_bytes-append header rest in
+    let flags = behind_byte c.args.file.now c.args.at (c.args.at + 1) _ _ _ (Stands-byte c.args.file.now c.args.at c.requires) (first_byte c.args.file.now c.args.at _ _ c.requires whole) whole in
+    let same = c.in_ok-flags.ensures.only header.flags _ h.flags flags in
+    let name = rest_is c.args.file.now (c.args.at + 1) c.in_ok-flags.at (flags_bytes header.flags) _ (rw (← same) c.in_ok-flags.ensures.found.1) flags in
+    rw (p.1, p.2) (Reads-err c.in_err-name.field-0.0 _ _ (c.in_err-name.ensures.only header.name rest h.name name))
 
 pub returns-clause-found : goal.returns-clause-found
 returns-clause-found c =

@@ -11,8 +11,8 @@ pub returns-in_err-value-clause-only : goal.returns-in_err-value-clause-only
 returns-in_err-value-clause-only c =
     let p = err_from_is_err_and c.from_residual.result c.from_residual.ensures.1 in
     λ row rest h keyed e.
-      let n = has_next c.args.file.now c.args.at c.args.flags.now c.loop-flag.flag-index c.loop-flag.values.items c.loop-flag.end c.loop-flag.invariant c.loop-flag-test.true row rest h keyed e in
-      rw (p.1, p.2) (Reads-err c.in_err-value.field-0.0 _ _ (c.in_err-value.ensures.only n.value n.rest n.is_value n.can n.spelled))
+    let n = has_next c.args.file.now c.args.at c.args.flags.now c.loop-flag.flag-index c.loop-flag.values.items c.loop-flag.end c.loop-flag.invariant c.loop-flag-test.true row rest h keyed e in
+    rw (p.1, p.2) (Reads-err c.in_err-value.field-0.0 _ _ (c.in_err-value.ensures.only n.value n.rest n.is_value n.can n.spelled))
 
 pub loop-flag-preserved : goal.loop-flag-preserved
 loop-flag-preserved c =

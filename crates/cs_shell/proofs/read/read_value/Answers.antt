@@ -28,10 +28,10 @@ returns-clause-found c =
     let is : c.in_ok-to_owned.field-0 ≡ value_of c.in-Defined.value = c.in_ok-to_owned.ensures in
     let field = rw c.in-Defined.is at c.in-Ok.ensures.found in
     let can : c.args.is_key ≡ true → value_of c.in-Defined.value ≢ Null = λ key.
-        elim c.else-is_key.branch [
-          | else-is_key-via-then-is_key+else-is_null w ↦ iff_false w.is_null.ensures w.if-is_null.false
-          | else-is_key-via-else-is_key w ↦ absurd (false≢true (sym w.if-is_key.false ∙ key))
-        ] in (
+    elim c.else-is_key.branch [
+      | else-is_key-via-then-is_key+else-is_null w ↦ iff_false w.is_null.ensures w.if-is_null.false
+      | else-is_key-via-else-is_key w ↦ absurd (false≢true (sym w.if-is_key.false ∙ key))
+    ] in (
       rw is field.0,
       rw is can,
       rw is (Stands-value c.args.file.now c.args.at c.in-Ok.read.1 (value_of c.in-Defined.value) c.requires (rw c.rest_from.ensures at field.1)),

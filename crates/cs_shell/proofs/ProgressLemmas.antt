@@ -1,0 +1,182 @@
+-- Lemmas on a script that is run line by line.
+use Rattle.std.proofs.Common.{◌≡◌, ◌≢◌, ℕ, ◌+◌, ◌<◌, ◌≤◌, ◌||◌, ◌==◌, vec_len, Bool, true, false, List, [], ◌∷◌, ◌++◌, length, take, get_or, Option, Result, Ok, Err, OnOk, refl, sym, ap, subst, ◌∙◌, append_assoc, append-nil, arith, length-append}
+use Rattle.std.specs.List.{flat_map, list_any, AllByRecursion}
+use Rattle.std.proofs.lemmas.Bool.{both_ways, eqb-true, eqb-false}
+use Rattle.std.proofs.lemmas.Grind.{flat_map-append}
+use Rattle.std.proofs.lemmas.List.{take_more, take_all, nil_from_length}
+use Rattle.std.specs.FinMap.{empty}
+use Rattle.std.specs.Io.KnownBytes.{Appends}
+use Rattle.std.proofs.KnownBytes.{Appends-nil, Appends-trans}
+use Rattle.cs_shell.specs.declared.script.Script.{Script}
+use Rattle.cs_shell.specs.Lines.{Splits, HasNoFeed, ended, unended}
+use Rattle.cs_shell.specs.Script.{SlotMap, Reply, LineGives, LinesGive, reply_text, replies_text, is_refused}
+use Rattle.cs_shell.specs.Progress.{HoldsLine, AddsByte, EndsLine, Progress, Advances, Finishes}
+
+-- what holds of each element, one more at the end
+AllByRecursion-push : {X : Type 0} (P : X → Type 0) (xs : List X) (x : X) → AllByRecursion P xs → P x → AllByRecursion P (xs ++ x ∷ [])
+AllByRecursion-push P [] x h p = (p, tt)
+AllByRecursion-push P (y ∷ xs) x h p = (h.0, AllByRecursion-push P xs x h.1 p)
+
+list_any-push : {X : Type 0} (p : X → Bool) (xs : List X) (x : X) → list_any p (xs ++ x ∷ []) ≡ (list_any p xs || p x)
+list_any-push p [] x = elim (p x) as (λ b. (b || false) ≡ (false || b)) [ true ↦ refl | false ↦ refl ]
+list_any-push p (y ∷ xs) x = elim (p y) as (λ b. (b || list_any p (xs ++ x ∷ [])) ≡ ((b || list_any p xs) || p x)) [ true ↦ refl | false ↦ list_any-push p xs x ]
+
+flat_map-push : {X : Type 0} (f : X → List ℕ) (xs : List X) (x : X) → flat_map f (xs ++ x ∷ []) ≡ flat_map f xs ++ f x
+flat_map-push f xs x = flat_map-append f xs (x ∷ []) ∙ ap (λ l. flat_map f xs ++ l) (append-nil (f x))
+
+-- the text is no line more, and a byte longer
+pub Splits-byte : (text : List ℕ) (lines : List (List ℕ)) (last : List ℕ) (b : ℕ) → b ≢ 10 → Splits text lines last → Splits (text ++ b ∷ []) lines (last ++ b ∷ [])
+Splits-byte text lines last b apart s = record {
+  spelled = ap (λ l. l ++ b ∷ []) s.spelled ∙ append_assoc (flat_map ended lines) last (b ∷ []);
+  no_feed = s.no_feed;
+  no_feed_last = AllByRecursion-push (λ c. c ≢ 10) last b s.no_feed_last apart;
+}
+
+-- the text is a line more
+pub Splits-feed : (text : List ℕ) (lines : List (List ℕ)) (last : List ℕ) → Splits text lines last → Splits (text ++ 10 ∷ []) (lines ++ last ∷ []) []
+Splits-feed text lines last s = record {
+  spelled =
+      ap (λ l. l ++ 10 ∷ []) s.spelled ∙ append_assoc (flat_map ended lines) last (10 ∷ []) ∙ sym (flat_map-push ended lines last)
+      ∙ sym (append-nil (flat_map ended (lines ++ last ∷ [])));
+  no_feed = AllByRecursion-push HasNoFeed lines last s.no_feed s.no_feed_last;
+  no_feed_last = tt;
+}
+
+-- a line more is answered
+pub LinesGive-push : (old mid new : SlotMap) (lines : List (List ℕ)) (replies : List Reply) (line : List ℕ) (reply : Reply) → LinesGive old lines replies mid → LineGives mid line reply new
+    → LinesGive old (lines ++ line ∷ []) (replies ++ reply ∷ []) new
+LinesGive-push old mid new [] [] line reply h given = (new, subst (λ m. LineGives m line reply new) h given, refl)
+LinesGive-push old mid new (l ∷ lines) (r ∷ replies) line reply h given = (h.0, h.1, LinesGive-push h.0 mid new lines replies line reply h.2 given)
+LinesGive-push old mid new [] (r ∷ replies) line reply h given = absurd h
+LinesGive-push old mid new (l ∷ lines) [] line reply h given = absurd h
+
+push_nonempty : (bytes : List ℕ) (b : ℕ) → bytes ++ b ∷ [] ≢ []
+push_nonempty bytes b is = absurd (omega (arith, ap length is, length-append bytes (b ∷ [])))
+
+-- what was run, where nothing is read
+pub Progress-start : (script : Script) (known : Option (List ℕ)) → script.slots ≡ empty → script.line.items ≡ [] → script.is_lost ≡ false → script.has_refused ≡ false
+    → Progress empty [] known known script
+Progress-start script known slots line held fine = record {
+  lines = [];
+  last = [];
+  replies = [];
+  splits = record { spelled = refl; no_feed = tt; no_feed_last = tt };
+  given = slots;
+  written = Appends-nil known;
+  has_refused = sym fine;
+  holds = λ _. line;
+  lost = λ lost. absurd (both_ways script.is_lost held lost);
+}
+
+pub Advances-nil : (script : Script) (known : Option (List ℕ)) → Advances script script known known []
+Advances-nil script known = λ start front first p. subst (λ l. Progress start l first known script) (sym (append-nil front)) p
+
+pub Advances-trans : (a b c : Script) (x y z : Option (List ℕ)) (bytes more : List ℕ) → Advances a b x y bytes → Advances b c y z more → Advances a c x z (bytes ++ more)
+Advances-trans a b c x y z bytes more p q =
+    λ start front first h. subst (λ l. Progress start l first z c) (append_assoc front bytes more) (q start (front ++ bytes) first (p start front first h))
+
+-- bytes of a list, one more
+pub Advances-more : (a b c : Script) (x y z : Option (List ℕ)) (bytes : List ℕ) (i : ℕ) → i < length bytes → Advances a b x y (take i bytes) → Advances b c y z (get_or bytes i 0 ∷ [])
+    → Advances a c x z (take (i + 1) bytes)
+Advances-more a b c x y z bytes i within p q = subst (Advances a c x z) (sym (take_more bytes i 0 within)) (Advances-trans a b c x y z _ _ p q)
+
+-- bytes of a list, which are all
+pub Advances-all : (a b : Script) (x y : Option (List ℕ)) (bytes : List ℕ) (i : ℕ) → length bytes ≤ i → Advances a b x y (take i bytes) → Advances a b x y bytes
+Advances-all a b x y bytes i past p = subst (Advances a b x y) (take_all i bytes past) p
+
+-- a byte that ends no line
+pub Advances-byte : (old new : Script) (known : Option (List ℕ)) (b : ℕ) → b ≢ 10 → AddsByte old new b → Advances old new known known (b ∷ [])
+Advances-byte old new known b apart adds = λ start front first p. record {
+  lines = p.lines;
+  last = p.last ++ b ∷ [];
+  replies = p.replies;
+  splits = Splits-byte front p.lines p.last b apart p.splits;
+  given = subst (λ m. LinesGive start p.lines p.replies m) (sym adds.slots) p.given;
+  written = p.written;
+  has_refused = p.has_refused ∙ sym adds.has_refused;
+  holds = λ held. (adds.line held).1 ∙ ap (λ l. l ++ b ∷ []) (p.holds (adds.line held).0);
+  lost = λ _. push_nonempty p.last b;
+}
+
+-- the replies with one more, where a line is ended
+replies_text-push : (replies : List Reply) (reply : Reply) → replies_text (replies ++ reply ∷ []) ≡ replies_text replies ++ reply_text reply
+replies_text-push replies reply = flat_map-push reply_text replies reply
+
+written_more : (first before after : Option (List ℕ)) (replies : List Reply) (reply : Reply) → Appends first before (replies_text replies) → Appends before after (reply_text reply)
+    → Appends first after (replies_text (replies ++ reply ∷ []))
+written_more first before after replies reply p q =
+    subst (λ text. Appends first after text) (sym (replies_text-push replies reply)) (Appends-trans first before after _ _ p q)
+
+refused_more : (replies : List Reply) (reply : Reply) (b c : Bool) → list_any is_refused replies ≡ b → c ≡ (b || is_refused reply) → list_any is_refused (replies ++ reply ∷ []) ≡ c
+refused_more replies reply b c p q = list_any-push is_refused replies reply ∙ ap (λ t. t || is_refused reply) p ∙ sym q
+
+-- a line feed
+pub Advances-feed : {X E : Type 0} (old new : Script) (result : Result X E) (before after : Option (List ℕ)) → EndsLine old new result before after → OnOk result (Advances old new before after (10 ∷ []))
+Advances-feed old new (Ok x) before after e = λ start front first p. record {
+  lines = p.lines ++ p.last ∷ [];
+  last = [];
+  replies = p.replies ++ e.reply ∷ [];
+  splits = Splits-feed front p.lines p.last p.splits;
+  given = LinesGive-push start old.slots new.slots p.lines p.replies p.last e.reply p.given (e.given p.last p.holds);
+  written = written_more first before after p.replies e.reply p.written e.wrote;
+  has_refused = refused_more p.replies e.reply old.has_refused new.has_refused p.has_refused e.has_refused;
+  holds = λ _. e.line;
+  lost = λ lost. absurd (both_ways new.is_lost e.is_lost lost);
+}
+Advances-feed old new (Err x) before after e = tt
+
+-- what a test of the line's length says
+pub some_line : (script : Script) (is_empty : Bool) → is_empty ≡ (vec_len script.line == 0) → is_empty ≡ false → script.line.items ≢ []
+some_line script is_empty is tested none = eqb-false (vec_len script.line) 0 (sym is ∙ tested) (script.line.ok.0 ∙ ap length none)
+
+pub empty_line : (script : Script) (is_empty : Bool) → is_empty ≡ (vec_len script.line == 0) → is_empty ≡ true → script.line.items ≡ []
+empty_line script is_empty is tested = nil_from_length script.line.items (sym script.line.ok.0 ∙ eqb-true (vec_len script.line) 0 (sym is ∙ tested))
+
+-- a last line that has a byte
+unended_some : (last : List ℕ) → last ≢ [] → unended last ≡ last ∷ []
+unended_some [] some = absurd (some refl)
+unended_some (b ∷ bytes) some = refl
+
+-- the last line has a byte, and was ended
+pub Finishes-ended : {X E : Type 0} (old new : Script) (result : Result X E) (before after : Option (List ℕ))
+    → EndsLine old new result before after → (old.is_lost ≡ false → old.line.items ≢ []) → OnOk result (Finishes old new before after)
+Finishes-ended old new (Ok x) before after e some = λ start text first p short.
+    let full : p.last ≢ [] = full_line p.last old some p.holds p.lost in (
+      replies_text (p.replies ++ e.reply ∷ []),
+      record {
+        lines = p.lines;
+        last = p.last;
+        replies = p.replies ++ e.reply ∷ [];
+        new = new.slots;
+        splits = p.splits;
+        given = subst (λ ls. LinesGive start (p.lines ++ ls) (p.replies ++ e.reply ∷ []) new.slots) (sym (unended_some p.last full))
+            (LinesGive-push start old.slots new.slots p.lines p.replies p.last e.reply p.given (e.given p.last p.holds));
+        written_is = refl;
+        refused_is = refused_more p.replies e.reply old.has_refused new.has_refused p.has_refused e.has_refused;
+        short = short;
+      },
+      written_more first before after p.replies e.reply p.written e.wrote,
+    )
+  where
+    full_line : (last : List ℕ) (script : Script) → (script.is_lost ≡ false → script.line.items ≢ []) → HoldsLine script last → (script.is_lost ≡ true → last ≢ []) → last ≢ []
+    full_line last script some holds lost none =
+        elim script.is_lost as (λ b. script.is_lost ≡ b → ⊥) [ true ↦ λ is. lost is none | false ↦ λ is. some is (holds is ∙ none) ] refl
+Finishes-ended old new (Err x) before after e some = tt
+
+-- there is no last line
+pub Finishes-at_once : (script : Script) (known : Option (List ℕ)) → script.is_lost ≡ false → script.line.items ≡ [] → Finishes script script known known
+Finishes-at_once script known held none = λ start text first p short. (
+  replies_text p.replies,
+  record {
+    lines = p.lines;
+    last = p.last;
+    replies = p.replies;
+    new = script.slots;
+    splits = p.splits;
+    given = subst (λ ls. LinesGive start ls p.replies script.slots) (sym (ap (λ l. p.lines ++ unended l) (sym (p.holds held) ∙ none) ∙ append-nil p.lines)) p.given;
+    written_is = refl;
+    refused_is = p.has_refused;
+    short = short;
+  },
+  p.written,
+)

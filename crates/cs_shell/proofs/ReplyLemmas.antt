@@ -1,0 +1,53 @@
+-- Lemmas on the replies to commands, with what calls ensure turned the way that they are stated.
+use Rattle.std.proofs.Common.{◌≡◌, ◌⊎◌, inl, inr, ℕ, List, true, false, Some, Result, Ok, Err, IfOk, MatchResult, is_err, IsUtf8, refl, sym, subst}
+use Rattle.std.proofs.lemmas.Bool.{both_ways}
+use Rattle.hex.specs.Hex.{encode_lower, decode_of}
+use Rattle.hex.specs.declared.error.FromHexError.{FromHexError}
+use Rattle.hex.specs.declared.error.FromHexError.TheVariants.{OutOfMemory}
+use Rattle.std.specs.FinMap.{get, insert}
+use Rattle.cs_value.specs.declared.no_memory.NoMemory.{NoMemory}
+use Rattle.cs_shell.specs.declared.reply.Reply.{Reply}
+use Rattle.cs_shell.specs.declared.reply.Refusal.TheVariants as refusal
+use Rattle.cs_shell.specs.Inverse.{Inverts}
+use Rattle.cs_shell.specs.Lines.{CommandData, Load, Hex, Invert, Asks}
+use Rattle.cs_shell.specs.Script.{SlotMap, Silent, Text, Refused, CommandGives, loaded, shown, inverted, LineGives, answered, no_memory}
+use Rattle.cs_shell.specs.Replies.{reply_of}
+
+-- a slot that was given the bytes of its digits
+pub gives_loaded : (old new : SlotMap) (slot digits bytes : List ℕ) → decode_of digits ≡ Ok bytes → new ≡ insert old slot bytes → CommandGives old (Load slot digits) Silent new
+gives_loaded old new slot digits bytes is stored = subst (λ m. CommandGives old (Load slot digits) Silent m) (sym stored) (loaded old slot digits bytes is)
+
+-- a slot whose digits are shown
+pub gives_shown : (old : SlotMap) (slot bytes text : List ℕ) → Some bytes ≡ get old slot → text ≡ encode_lower bytes → CommandGives old (Hex slot) (Text text) old
+gives_shown old slot bytes text is spelled = subst (λ t. CommandGives old (Hex slot) (Text t) old) (sym spelled) (shown old slot bytes (sym is))
+
+-- a slot that was given an inverse
+pub gives_inverted : (old new : SlotMap) (from into file out : List ℕ) → Some file ≡ get old from → Inverts file out → new ≡ insert old into out → CommandGives old (Invert from into) Silent new
+gives_inverted old new from into file out is inverse stored =
+    subst (λ m. CommandGives old (Invert from into) Silent m) (sym stored) (inverted old from into file out (sym is) inverse)
+
+-- what a failed decoding says, unless memory ran out
+pub bad_digits : (text : List ℕ) (e : FromHexError) → (e ≡ OutOfMemory) ⊎ (decode_of text ≡ Err e) → (e ≡ OutOfMemory → ⊥) → decode_of text ≡ Err e
+bad_digits text e (inl same) apart = absurd (apart same)
+bad_digits text e (inr is) apart = is
+
+-- what a test says of a fact that holds at Ok, and not at Err
+pub tested_ok : {X E : Type 0} (result : Result X E) (same : X → Type 0) (more : E → Type 0) (P : Type 0)
+    → MatchResult result (λ x. same x × P) (λ e. ¬ P × more e) → is_err result ≡ false → P
+tested_ok (Ok x) same more P h tested = h.1
+tested_ok (Err e) same more P h tested = absurd (both_ways true tested refl)
+
+pub tested_err : {X E : Type 0} (result : Result X E) (same : X → Type 0) (more : E → Type 0) (P : Type 0)
+    → MatchResult result (λ x. same x × P) (λ e. ¬ P × more e) → is_err result ≡ true → P → ⊥
+tested_err (Ok x) same more P h tested = absurd (both_ways false refl tested)
+tested_err (Err e) same more P h tested = h.0
+
+-- a command that is answered answers its line
+pub gives_answered : (old new : SlotMap) (line : List ℕ) (command : CommandData) (result : Result Reply NoMemory) → IsUtf8 line → Asks line command
+    → IfOk result (λ reply. CommandGives old command (reply_of reply) new) → IfOk result (λ reply. LineGives old line (reply_of reply) new)
+gives_answered old new line command (Ok reply) text asks h = answered old line command (reply_of reply) new text asks h
+gives_answered old new line command (Err e) text asks h = tt
+
+-- a line that is refused for memory, and changed nothing
+pub gives_no_memory : (old new : SlotMap) (line : List ℕ) → new ≡ old → LineGives old line (Refused refusal.NoMemory) new
+gives_no_memory old new line same = subst (λ m. LineGives old line (Refused refusal.NoMemory) m) (sym same) (no_memory old line)

@@ -1,0 +1,132 @@
+//! How replies are printed.
+ghost use Rattle.std.specs.Prelude.{[], IsTrue, OnErr};
+ghost use Rattle.std.specs.List.{flat_map};
+ghost use Rattle.cs_shell.specs.Told.{inner_of, has_failed};
+ghost use Rattle.cs_shell.specs.Calls.{Wrote};
+ghost use Rattle.cs_shell.specs.Script.{error_line, number_detail, refusal_text, reply_text};
+ghost use Rattle.cs_shell.specs.Replies.{reply_of};
+
+use crate::reply::{Refusal, Reply};
+use crate::told::Told;
+use itoa::Buffer;
+use std::io::Write;
+
+/// A write failed, or took no byte.
+#[derive(Clone, Copy, Debug, PartialEq, Eq)]
+pub(crate) struct OutputFault;
+
+/// Writes all of the bytes. It fails, with some front of them written, where a write fails or takes
+/// none.
+fn write_whole<W: Write>(out: &mut Told<W>, bytes: &[u8]) -> Result<(), OutputFault>
+    ensures wrote { Wrote result
+        (W.contents (inner_of out.old)) (W.contents (inner_of out.new))
+        bytes.now }
+    ensures told { OnErr result (IsTrue (has_failed out.new)) }
+{
+    let mut rest = bytes;
+    while !rest.is_empty() {
+        match out.write(rest) {
+            Ok(count) if count > 0 => rest = &rest[count..],
+            _ => return Err(OutputFault),
+        }
+    }
+    Ok(())
+}
+
+/// Writes pieces in turn, and fails as `write_whole` does.
+fn write_pieces<W: Write>(out: &mut Told<W>, pieces: &[&[u8]]) -> Result<(), OutputFault>
+    ensures wrote { Wrote result
+        (W.contents (inner_of out.old)) (W.contents (inner_of out.new))
+        (flat_map (λ piece. piece.now) pieces.now) }
+    ensures told { OnErr result (IsTrue (has_failed out.new)) }
+{
+    for piece in pieces {
+        write_whole(out, piece)?;
+    }
+    Ok(())
+}
+
+/// Writes the line of an error that has a number and a name.
+pub(crate) fn write_error<W: Write>(
+    out: &mut Told<W>,
+    code: u8,
+    name: &str,
+) -> Result<(), OutputFault>
+    ensures wrote { Wrote result
+        (W.contents (inner_of out.old)) (W.contents (inner_of out.new))
+        (error_line code name.now []) }
+    ensures told { OnErr result (IsTrue (has_failed out.new)) }
+{
+    let mut buffer = Buffer::new();
+    let code = buffer.format(code);
+    write_pieces(
+        out,
+        &[b"error ", code.as_bytes(), b" ", name.as_bytes(), b"\n"],
+    )
+}
+
+/// Writes the line of an error that has a number, a name and a place.
+fn write_error_at<W: Write>(
+    out: &mut Told<W>,
+    code: u8,
+    name: &str,
+    place: usize,
+) -> Result<(), OutputFault>
+    ensures wrote { Wrote result
+        (W.contents (inner_of out.old)) (W.contents (inner_of out.new))
+        (error_line code name.now (number_detail place)) }
+    ensures told { OnErr result (IsTrue (has_failed out.new)) }
+{
+    let mut code_buffer = Buffer::new();
+    let code = code_buffer.format(code);
+    let mut place_buffer = Buffer::new();
+    let place = place_buffer.format(place);
+    write_pieces(
+        out,
+        &[
+            b"error ",
+            code.as_bytes(),
+            b" ",
+            name.as_bytes(),
+            b" ",
+            place.as_bytes(),
+            b"\n",
+        ],
+    )
+}
+
+/// Writes the error line of a refusal.
+#[tactic(auto, unfolding(crate::specs::Script::refusal_text))]
+fn write_refusal<W: Write>(out: &mut Told<W>, refusal: Refusal) -> Result<(), OutputFault>
+    ensures wrote { Wrote result
+        (W.contents (inner_of out.old)) (W.contents (inner_of out.new))
+        (refusal_text refusal) }
+    ensures told { OnErr result (IsTrue (has_failed out.new)) }
+{
+    match refusal {
+        Refusal::Fault(fault) => {
+            write_error_at(out, fault.kind.code(), fault.kind.name(), fault.place)
+        }
+        Refusal::NoMemory => write_error(out, 60, "NoMemory"),
+        Refusal::Syntax(column) => write_error_at(out, 61, "Syntax", column),
+        Refusal::EmptySlot => write_error(out, 62, "EmptySlot"),
+        Refusal::BadHex => write_error(out, 66, "BadHex"),
+        Refusal::LineText => write_error(out, 68, "LineText"),
+    }
+}
+
+/// Writes what is printed for a reply. It fails, with some front of that written, where a write
+/// fails or takes no byte.
+#[tactic(auto, unfolding(crate::specs::Script::reply_text))]
+pub(crate) fn write_reply<W: Write>(out: &mut Told<W>, reply: &Reply) -> Result<(), OutputFault>
+    ensures wrote { Wrote result
+        (W.contents (inner_of out.old)) (W.contents (inner_of out.new))
+        (reply_text (reply_of reply.now)) }
+    ensures told { OnErr result (IsTrue (has_failed out.new)) }
+{
+    match reply {
+        Reply::Silent => Ok(()),
+        Reply::Text(text) => write_pieces(out, &[text.as_bytes(), b"\n"]),
+        Reply::Refused(refusal) => write_refusal(out, *refusal),
+    }
+}

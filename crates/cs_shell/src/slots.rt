@@ -1,0 +1,62 @@
+//! The slots of a script: bytes under names.
+ghost use Rattle.std.specs.Prelude.{◌≡◌, OnOk, OnErr, Option};
+ghost use Rattle.std.specs.Option.{option_copied};
+ghost use Rattle.std.specs.FinMap as map;
+
+use cs_value::NoMemory;
+use std::alloc::Global;
+use std::collections::BTreeMap;
+use std::marker::Model;
+
+/// Bytes under names, which contracts see as the map from the bytes of each name.
+#[derive(Drop)]
+pub(crate) struct Slots {
+    slots: BTreeMap<Vec<u8>, Vec<u8>>,
+}
+
+impl Model for Slots {
+    ghost use Rattle.std.specs.Prelude.{List, ℕ, map as map_list};
+    ghost use Rattle.std.specs.Ordering.{nat_cmp};
+    ghost use Rattle.std.specs.Cmp.Lexicographic.{slice_cmp};
+    ghost use Rattle.std.specs.Coded.{coded_ℕ, coded_list};
+    ghost use Rattle.std.specs.FinMap as map;
+
+    ghost Value = { map.FinMap (slice_cmp nat_cmp) (List ℕ) };
+
+    ghost coded = { map.code (coded_list coded_ℕ) (coded_list coded_ℕ) };
+
+    ghost view = { λ s. map.from_entries (map_list (λ e. (e.0.items, e.1.items)) s.slots.entries) };
+}
+
+impl Slots {
+    /// No slot has bytes.
+    pub(crate) fn new(alloc: Global) -> Slots
+        ensures { result ≡ map.empty }
+    {
+        Slots {
+            slots: BTreeMap::new(alloc),
+        }
+    }
+
+    /// The bytes under a name.
+    pub(crate) fn get(&self, name: &[u8]) -> Option<&[u8]>
+        ensures { option_copied result ≡ map.get self.now name.now }
+    {
+        let bytes = self.slots.get(name)?;
+        Some(bytes.as_slice())
+    }
+
+    /// Puts bytes under a name, in place of those that it had. A refusal changes nothing.
+    pub(crate) fn insert(
+        &mut self,
+        alloc: Global,
+        name: &[u8],
+        bytes: Vec<u8>,
+    ) -> Result<(), NoMemory>
+        ensures ok { OnOk result (self.new ≡ map.insert self.old name.now bytes.items) }
+        ensures err { OnErr result (self.new ≡ self.old) }
+    {
+        self.slots.insert(Vec::from_slice(alloc, name)?, bytes)?;
+        Ok(())
+    }
+}

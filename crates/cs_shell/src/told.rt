@@ -1,0 +1,78 @@
+//! Readers and writers that tell afterwards whether a call of them failed.
+ghost use Rattle.std.specs.Prelude.{◌≡◌, ◌||◌, is_err, false};
+ghost use Rattle.std.specs.Io.{ReadsAtMost, WritesAtMost};
+ghost use Rattle.std.specs.Io.KnownBytes.{ReadConsumes, WriteAppends};
+ghost use Rattle.cs_shell.specs.Calls.{is_failed_write};
+ghost use Rattle.cs_shell.specs.Told.{inner_of, has_failed};
+
+use std::io;
+use std::io::{Read, Write};
+
+/// A reader or a writer with a flag, unset at first, that is set where a call of `read` or `write`
+/// fails, or a `write` of some bytes takes none.
+#[derive(Debug, Drop)]
+pub struct Told<T> {
+    inner: T,
+    failed: bool,
+}
+
+impl<T> Told<T> {
+    /// Puts the flag, unset, beside a reader or a writer.
+    pub fn new(inner: T) -> Told<T>
+        ensures inner { inner_of result ≡ inner }
+        ensures unset { has_failed result ≡ false }
+    {
+        Told {
+            inner,
+            failed: false,
+        }
+    }
+
+    /// Whether a call failed.
+    pub fn failed(&self) -> bool
+        ensures { result ≡ has_failed self.now }
+    {
+        self.failed
+    }
+}
+
+impl<R: Read> Read for Told<R> {
+    ghost remaining = { λ told. R.remaining (inner_of told) };
+
+    fn read(&mut self, buf: &mut [u8]) -> io::Result<usize>
+        ensures bound { ReadsAtMost result buf.new }
+        ensures bytes { ReadConsumes
+            (R.remaining (inner_of self.old)) (R.remaining (inner_of self.new)) result buf.new }
+        ensures flag { has_failed self.new ≡ (has_failed self.old || is_err result) }
+    {
+        let result = self.inner.read(buf);
+        if result.is_err() {
+            self.failed = true;
+        }
+        result
+    }
+}
+
+impl<W: Write> Write for Told<W> {
+    ghost contents = { λ told. W.contents (inner_of told) };
+
+    fn write(&mut self, buf: &[u8]) -> io::Result<usize>
+        ensures bound { WritesAtMost result buf.now }
+        ensures bytes { WriteAppends
+            (W.contents (inner_of self.old)) (W.contents (inner_of self.new)) result buf.now }
+        ensures flag { has_failed self.new
+            ≡ (has_failed self.old || is_failed_write result buf.now) }
+    {
+        let result = self.inner.write(buf);
+        match &result {
+            Ok(0) if !buf.is_empty() => self.failed = true,
+            Ok(_) => {}
+            Err(_) => self.failed = true,
+        }
+        result
+    }
+
+    fn flush(&mut self) -> io::Result<()> {
+        self.inner.flush()
+    }
+}
