@@ -5,6 +5,10 @@ use Rattle.cs_shell.specs.declared.lines.Command.{Command}
 use Rattle.cs_shell.specs.declared.lines.Command.TheVariants as command
 use Rattle.cs_shell.specs.declared.lines.LineFault.{LineFault}
 use Rattle.cs_shell.specs.declared.lines.LineFault.TheVariants as fault
+use Rattle.cs_shell.specs.declared.fault.ToolFault.{ToolFault}
+use Rattle.cs_shell.specs.declared.fault.ToolFault.TheVariants as tool
+use Rattle.cs_shell.specs.declared.reply.Refusal.{Refusal}
+use Rattle.cs_shell.specs.declared.reply.Refusal.TheVariants as refusal
 use Rattle.cs_shell.specs.declared.reply.Reply.{Reply}
 use Rattle.cs_shell.specs.declared.reply.Reply.TheVariants as reply
 use Rattle.cs_shell.specs.Lines as lines
@@ -39,4 +43,9 @@ RefusesLine line (fault.NoMemory e) = Unit {0}
 abbrev pub reply_of : Reply → script.Reply
 reply_of reply.Silent = script.Silent
 reply_of (reply.Text text) = script.Text (string_bytes text)
-reply_of (reply.Refused refusal) = script.Refused refusal
+reply_of (reply.Refused why) = script.Refused why
+
+-- why a line is refused whose call on a file is
+abbrev pub refusal_of : ToolFault → Refusal
+refusal_of (tool.Read f) = refusal.Fault f
+refusal_of tool.NoMemory = refusal.NoMemory

@@ -1,8 +1,8 @@
 //! Why a file is refused.
-ghost use Rattle.std.specs.Prelude.{◌≡◌, ◌+◌, ◌<◌, ◌^◌};
+ghost use Rattle.std.specs.Prelude.{◌≡◌, ◌+◌, ◌≤◌, ◌<◌, ◌^◌};
 ghost use Rattle.cs_shell.specs.ReadFaults.{code_of, name_of, kind_of};
 ghost use Rattle.cs_shell.specs.declared.fault.ReadError.TheVariants.{NoMemory as OutOfMemory};
-ghost use Rattle.cs_shell.specs.Answers.{told_of};
+ghost use Rattle.cs_shell.specs.Answers.{told_of, tool_code, tool_class, tool_name};
 
 use cs_value::{FieldFault, FieldFaultKind, NoMemory};
 use std::alloc::{AllocError, AllocFailed};
@@ -52,7 +52,8 @@ pub enum ReadFaultKind {
 impl ReadFaultKind {
     /// The number of this fault among the faults of the product, 1 to 18.
     pub fn code(self) -> u8
-        ensures { result ≡ code_of self }
+        ensures code { result ≡ code_of self }
+        ensures range { (1 ≤ result) × (result ≤ 18) }
     {
         match self {
             ReadFaultKind::Truncated => 1,
@@ -200,6 +201,38 @@ pub enum ToolFault {
     /// Memory was refused.
     #[error("out of memory")]
     NoMemory,
+}
+
+impl ToolFault {
+    /// The number of this fault among the faults of the product: 1 to 18 for a file, 60 for memory.
+    pub fn code(self) -> u8
+        ensures { result ≡ tool_code self }
+    {
+        match self {
+            ToolFault::Read(fault) => fault.code(),
+            ToolFault::NoMemory => NoMemory.code(),
+        }
+    }
+
+    /// SQLite's result code for it, `SQLITE_CORRUPT` or `SQLITE_NOMEM`.
+    pub fn class(self) -> u8
+        ensures { result ≡ tool_class self }
+    {
+        match self {
+            ToolFault::Read(fault) => fault.class(),
+            ToolFault::NoMemory => NoMemory.class(),
+        }
+    }
+
+    /// The name that error lines print.
+    pub fn name(self) -> &'static str
+        ensures { result.now ≡ tool_name self }
+    {
+        match self {
+            ToolFault::Read(fault) => fault.name(),
+            ToolFault::NoMemory => NoMemory.name(),
+        }
+    }
 }
 
 impl From<ReadError> for ToolFault {

@@ -28,9 +28,11 @@ mod slots;
 #[cfg(test)]
 mod tests;
 mod told;
+mod words;
 mod write;
 
 pub use fault::{ReadFault, ReadFaultKind, ToolFault};
 pub use invert::invert_bytes;
 pub use script::{Status, run_slots};
 pub use told::Told;
+pub use words::run_words;

@@ -8,6 +8,7 @@ ghost use Rattle.cs_shell.specs.Replies.{reply_of};
 
 use crate::reply::{Refusal, Reply};
 use crate::told::Told;
+use cs_value::NoMemory;
 use itoa::Buffer;
 use std::io::Write;
 
@@ -17,7 +18,7 @@ pub(crate) struct OutputFault;
 
 /// Writes all of the bytes. It fails, with some front of them written, where a write fails or takes
 /// none.
-fn write_whole<W: Write>(out: &mut Told<W>, bytes: &[u8]) -> Result<(), OutputFault>
+pub(crate) fn write_whole<W: Write>(out: &mut Told<W>, bytes: &[u8]) -> Result<(), OutputFault>
     ensures wrote { Wrote result
         (W.contents (inner_of out.old)) (W.contents (inner_of out.new))
         bytes.now }
@@ -97,17 +98,18 @@ fn write_error_at<W: Write>(
 
 /// Writes the error line of a refusal.
 #[tactic(auto, unfolding(crate::specs::Script::refusal_text))]
-fn write_refusal<W: Write>(out: &mut Told<W>, refusal: Refusal) -> Result<(), OutputFault>
+pub(crate) fn write_refusal<W: Write>(
+    out: &mut Told<W>,
+    refusal: Refusal,
+) -> Result<(), OutputFault>
     ensures wrote { Wrote result
         (W.contents (inner_of out.old)) (W.contents (inner_of out.new))
         (refusal_text refusal) }
     ensures told { OnErr result (IsTrue (has_failed out.new)) }
 {
     match refusal {
-        Refusal::Fault(fault) => {
-            write_error_at(out, fault.kind.code(), fault.kind.name(), fault.place)
-        }
-        Refusal::NoMemory => write_error(out, 60, "NoMemory"),
+        Refusal::Fault(fault) => write_error_at(out, fault.code(), fault.name(), fault.place),
+        Refusal::NoMemory => write_error(out, NoMemory.code(), NoMemory.name()),
         Refusal::Syntax(column) => write_error_at(out, 61, "Syntax", column),
         Refusal::EmptySlot => write_error(out, 62, "EmptySlot"),
         Refusal::BadHex => write_error(out, 66, "BadHex"),

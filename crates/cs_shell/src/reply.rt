@@ -2,7 +2,7 @@
 ghost use Rattle.std.specs.Prelude.{◌≡◌, IfOk, OnErr};
 ghost use Rattle.cs_shell.specs.Lines as lines;
 ghost use Rattle.cs_shell.specs.Script.{CommandGives, LineGives, is_refused as refused};
-ghost use Rattle.cs_shell.specs.Replies.{command_of, reply_of};
+ghost use Rattle.cs_shell.specs.Replies.{command_of, reply_of, refusal_of};
 
 use crate::fault::{ReadFault, ToolFault};
 use crate::invert::invert_bytes;
@@ -27,6 +27,17 @@ pub(crate) enum Refusal {
     BadHex,
     /// The line is not UTF-8.
     LineText,
+}
+
+impl From<ToolFault> for Refusal {
+    ghost from_gives = { λ fault refusal. refusal ≡ refusal_of fault };
+
+    fn from(fault: ToolFault) -> Refusal {
+        match fault {
+            ToolFault::Read(fault) => Refusal::Fault(fault),
+            ToolFault::NoMemory => Refusal::NoMemory,
+        }
+    }
 }
 
 /// What a line is answered.
