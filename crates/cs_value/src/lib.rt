@@ -22,6 +22,8 @@ mod key;
 mod laws;
 mod no_memory;
 mod row;
+#[cfg(test)]
+mod tests;
 mod text;
 mod value;
 mod varint;

@@ -38,6 +38,26 @@ impl Row {
     }
 }
 
+impl PartialEq for Row {
+    ghost use Rattle.cs_value.specs.contracts.value.OwnedValuePartialEq.TheImpl.Laws.{laws-law};
+    ghost use Rattle.std.specs.Cmp.Lexicographic.{pointwise, lists_per};
+
+    ghost eq = { pointwise ⟦<OwnedValue as PartialEq>⟧.eq };
+
+    ghost laws = { lists_per laws-law };
+
+    fn eq(&self, other: &Row) -> bool {
+        self.values == other.values
+    }
+}
+
+impl Eq for Row {
+    ghost use Rattle.cs_value.specs.contracts.value.OwnedValueEq.TheImpl.Laws.{laws-law};
+    ghost use Rattle.std.specs.Cmp.Lexicographic.{lists_equiv};
+
+    ghost laws = { lists_equiv laws-law };
+}
+
 /// Appends the bytes of the row's values in turn. [`NoMemory`] leaves `out` as it was.
 pub fn row_write(out: &mut Vec<u8>, row: &Row) -> Result<(), NoMemory>
     ensures ok { OnOk result (out.new.items ≡ out.old.items ++ row_bytes row.now) }

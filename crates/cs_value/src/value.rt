@@ -1,5 +1,5 @@
 //! Values and fields, borrowed and owned.
-ghost use Rattle.std.specs.Prelude.{◌≡◌, ◌≤◌, ◌↔◌, IfOk, IsTrue};
+ghost use Rattle.std.specs.Prelude.{◌≡◌, ◌<◌, ◌≤◌, ◌↔◌, ◌^◌, IfOk, IsTrue};
 ghost use Rattle.cs_value.specs.declared.TheConstants.{MAX_CONTENT_LEN};
 ghost use Rattle.cs_value.specs.Value.{value_of, Fits};
 
@@ -44,7 +44,8 @@ pub enum OwnedField {
 impl OwnedValue {
     /// Whether a text or a blob of `len` bytes is a value: at most 2147483647.
     pub fn fits(len: usize) -> bool
-        ensures { IsTrue result ↔ (len ≤ MAX_CONTENT_LEN) }
+        ensures within { IsTrue result ↔ (len ≤ MAX_CONTENT_LEN) }
+        ensures below { IsTrue result ↔ (len < 2 ^ 31) }
     {
         len <= MAX_CONTENT_LEN
     }
