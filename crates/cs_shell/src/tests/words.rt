@@ -4,6 +4,7 @@ use super::bytes_of;
 use crate::{Told, run_words};
 use std::path::PathBuf;
 use std::process::Abort;
+use std::rt::Files;
 use std::test::Fail;
 use std::{env, fs};
 
@@ -22,7 +23,7 @@ struct Outcome {
 }
 
 /// Runs words, behind the program's name.
-fn run(rt: &HostRuntime, words: &[&str], input: &[u8]) -> Result<Outcome, Fail> {
+fn run(rt: &(impl Files + AllocGlobal), words: &[&str], input: &[u8]) -> Result<Outcome, Fail> {
     let mut all = Vec::new(rt.alloc());
     all.push(String::from_str(rt.alloc(), "changeset")?)?;
     for word in words {
@@ -122,7 +123,7 @@ fn runs_the_input_as_a_script(rt: HostRuntime) -> Result<(), Fail> {
 }
 
 /// Asserts that words are answered the usage text alone.
-fn expect_usage(rt: &HostRuntime, words: &[&str]) -> Result<(), Fail> {
+fn expect_usage(rt: &(impl Files + AllocGlobal + Abort), words: &[&str]) -> Result<(), Fail> {
     let outcome = run(rt, words, b".hex a\n")?;
     assert_eq!(rt; outcome.status, 2);
     assert!(rt; outcome.out.is_empty());
