@@ -45,9 +45,9 @@ enum Action<'a> {
 enum Failure {
     /// A file is no changeset's, or memory is refused.
     Refused(Refusal),
-    /// A file is missing, or is not read, or has more than `FILE_LIMIT` bytes.
+    /// A file is missing, or has more than `FILE_LIMIT` bytes, or a read failed.
     Input,
-    /// A file is not written.
+    /// A file is not written, or a write failed.
     Output,
 }
 
@@ -101,6 +101,21 @@ fn report<E: Write>(err: &mut Told<E>, failure: Failure) {
     };
 }
 
+/// The exit status of a script, whose own errors are already written. A stream that failed is
+/// reported.
+fn end_script<E: Write>(err: &mut Told<E>, status: Status) -> u8
+    ensures done { result ≡ 0 → status ≡ Status.Done }
+    ensures refused { result ≤ 1 }
+{
+    match status {
+        Status::Done => return 0,
+        Status::LinesRefused | Status::TooLong => {}
+        Status::InputFault => report(err, Failure::Input),
+        Status::OutputFault => report(err, Failure::Output),
+    }
+    1
+}
+
 /// Does what the words of a command line ask for, the program's name first, and answers the exit
 /// status: 0 where that is done, 1 where it is refused and 2 where the words fit no command.
 ///
@@ -122,10 +137,7 @@ pub fn run_words<H: Files + AllocGlobal, R: Read, W: Write, E: Write>(
         × Appends (W.contents (inner_of out.old)) (W.contents (inner_of out.new)) written) }
 {
     match parse_words(words) {
-        Some(Action::Script) => match run_slots(rt.alloc(), input, out) {
-            Status::Done => 0,
-            _ => 1,
-        },
+        Some(Action::Script) => end_script(err, run_slots(rt.alloc(), input, out)),
         Some(Action::Invert { file, out }) => match invert_file(rt, file, out) {
             Ok(()) => 0,
             Err(failure) => {

@@ -40,8 +40,8 @@ fn expect_unwritten<W: Write + Drop>(rt: &(impl Abort + AllocGlobal), out: W) {
 
 /// A reader that gives some bytes, and then fails.
 #[derive(Drop)]
-struct Broken<'a> {
-    bytes: &'a [u8],
+pub(super) struct Broken<'a> {
+    pub(super) bytes: &'a [u8],
 }
 
 impl Read for Broken<'_> {
@@ -55,7 +55,7 @@ impl Read for Broken<'_> {
 
 /// A writer that fails.
 #[derive(Drop)]
-struct Closed;
+pub(super) struct Closed;
 
 impl Write for Closed {
     fn write(&mut self, _buf: &[u8]) -> io::Result<usize> {

@@ -1,6 +1,7 @@
 //! What the words of a command line are answered.
 
 use super::bytes_of;
+use super::scripts::{Broken, Closed};
 use crate::{Told, run_words};
 use std::path::PathBuf;
 use std::process::Abort;
@@ -120,6 +121,31 @@ fn runs_the_input_as_a_script(rt: HostRuntime) -> Result<(), Fail> {
     assert_eq!(rt; refused.out.as_slice(), b"error 62 EmptySlot\n".as_slice());
     assert!(rt; done.err.is_empty() && refused.err.is_empty());
     Ok(())
+}
+
+#[test]
+fn reports_failed_streams(rt: HostRuntime) {
+    let mut err = Vec::new(rt.alloc());
+    let mut written = Vec::new(rt.alloc());
+    let status = run_words(
+        &rt,
+        &[],
+        &mut Told::new(Broken { bytes: b".hex q" }),
+        &mut Told::new(&mut written),
+        &mut Told::new(&mut err),
+    );
+    assert_eq!(rt; status, 1);
+    assert_eq!(rt; err.as_slice(), b"error 71 InputFault\n".as_slice());
+    let mut err = Vec::new(rt.alloc());
+    let status = run_words(
+        &rt,
+        &[],
+        &mut Told::new(b".hex q\n".as_slice()),
+        &mut Told::new(Closed),
+        &mut Told::new(&mut err),
+    );
+    assert_eq!(rt; status, 1);
+    assert_eq!(rt; err.as_slice(), b"error 72 OutputFault\n".as_slice());
 }
 
 /// Asserts that words are answered the usage text alone.
