@@ -1,10 +1,9 @@
 -- The entries of a table that are read one after another.
-use Rattle.std.proofs.Common.{◌≡◌, ◌≢◌, ℕ, ◌+◌, ◌<◌, ◌≤◌, List, [], ◌∷◌, ◌++◌, length, take, drop, get_or, All, AllPairs, refl, sym, ap, ◌∙◌, subst, append_assoc, arith, length-append, inl, inr, add-zero}
+use Rattle.std.proofs.Common.{◌≡◌, ◌≢◌, ℕ, ◌<◌, ◌≤◌, List, [], ◌∷◌, ◌++◌, length, drop, get_or, All, refl, sym, ap, ◌∙◌, subst, append_assoc, arith, length-append, inl, inr, add-zero}
 use Rattle.std.proofs.lemmas.List.{append-nil, length-drop, get_or-drop, get_or_at, get_or_append_left}
 use Rattle.std.proofs.lemmas.List.Concat.{flat_map-append}
 use Rattle.std.proofs.lemmas.List.Elements.{All-push, All-nil}
 use Rattle.std.proofs.lemmas.Option.{get_or_from_slice_get}
-use Rattle.std.specs.List.{flat_map}
 use Rattle.cs_shell.specs.Entry.{EntryData, ChangeData, Insert, Delete, Update, IsEntry, key_of, operation, entry_bytes}
 use Rattle.cs_shell.specs.Changeset.{HeaderData, GroupData, IsGroup, entries_bytes}
 use Rattle.cs_shell.specs.Inverse.{IsWhole}

@@ -1,8 +1,6 @@
 -- Entries: their rows and keys.
-use Rattle.std.proofs.Common.{◌≡◌, ◌≢◌, ℕ, zero, suc, ◌<◌, Bool, cond, List, [], ◌∷◌, ◌++◌, length, map, refl, sym, ap, ◌∙◌, arith}
-use Rattle.std.specs.List.{flat_map}
+use Rattle.std.proofs.Common.{◌≡◌, ℕ, zero, suc, ◌<◌, Bool, cond, List, [], ◌∷◌, ◌++◌, length, map, refl, ap, ◌∙◌, arith}
 use Rattle.cs_value.specs.declared.value.OwnedValue.{OwnedValue}
-use Rattle.cs_value.specs.declared.value.OwnedField.{OwnedField}
 use Rattle.cs_value.specs.declared.value.OwnedField.TheVariants.{Defined}
 use Rattle.cs_value.specs.Value.{key_columns, IsRow}
 use Rattle.cs_value.specs.Spelling.{field_bytes, record_bytes, row_bytes}
@@ -11,7 +9,7 @@ use Rattle.cs_shell.specs.declared.entry.Change.TheVariants as code
 use Rattle.cs_shell.specs.declared.entry.Entry.{Entry}
 use Rattle.cs_shell.specs.declared.entry.Operation.{Operation}
 use Rattle.cs_shell.specs.declared.entry.Operation.TheVariants as what
-use Rattle.cs_shell.specs.Entry.{IsKeyedRow, ChangeData, Insert, Delete, Update, EntryData, IsChange, IsEntry, key_of, operation, records_bytes, entry_bytes}
+use Rattle.cs_shell.specs.Entry.{IsKeyedRow, ChangeData, Insert, Delete, Update, EntryData, IsChange, key_of, operation, records_bytes, entry_bytes}
 use Rattle.cs_shell.specs.Inverse.{IsWhole}
 use Rattle.cs_shell.specs.Views.{row_of, change_data, entry_data, key_bytes, byte_of, change_of}
 

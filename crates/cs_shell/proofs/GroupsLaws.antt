@@ -1,10 +1,9 @@
 -- The groups of a file that are read one after another.
-use Rattle.std.proofs.Common.{◌≡◌, ◌≢◌, ℕ, ◌+◌, ◌<◌, ◌≤◌, List, [], ◌∷◌, ◌++◌, length, drop, get_or, All, refl, sym, ap, ◌∙◌, subst, append_assoc, arith, length-append, inl, inr}
+use Rattle.std.proofs.Common.{◌≡◌, ◌≢◌, ℕ, ◌<◌, ◌≤◌, List, [], ◌∷◌, ◌++◌, length, drop, get_or, All, refl, sym, ap, ◌∙◌, subst, append_assoc, arith, length-append, inl, inr}
 use Rattle.std.specs.Prelude.{slice_get, Some}
 use Rattle.std.proofs.lemmas.List.{append-nil, get_or_at, get_or_append_left, drop_all, length-drop}
 use Rattle.std.proofs.lemmas.List.Concat.{flat_map-append}
 use Rattle.std.proofs.lemmas.List.Elements.{All-push, All-nil}
-use Rattle.cs_shell.specs.Entry.{EntryData}
 use Rattle.cs_shell.specs.Changeset.{HeaderData, GroupData, IsGroup, IsChangeset, header_bytes, entries_bytes, group_bytes, file_bytes}
 use Rattle.cs_shell.specs.Inverse.{HasNoUpdate}
 use Rattle.cs_shell.specs.Reading.{Stands, EndsGroup, AreWhole}

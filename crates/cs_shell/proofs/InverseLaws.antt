@@ -1,17 +1,15 @@
 -- Entries and groups, and what undoes them.
-use Rattle.std.proofs.Common.{◌≡◌, ◌≢◌, ℕ, zero, suc, ◌<◌, Bool, List, [], ◌∷◌, ◌++◌, length, map, All, AllPairs, get_or, refl, sym, ap, ◌∙◌, subst, arith}
-use Rattle.std.specs.List.{AllZip, AllByRecursion}
-use Rattle.std.proofs.lemmas.List.{length-map}
+use Rattle.std.proofs.Common.{◌≡◌, ◌≢◌, ℕ, zero, suc, ◌<◌, Bool, List, [], ◌∷◌, length, map, AllPairs, get_or, refl, sym, ap, ◌∙◌, arith}
+use Rattle.std.specs.List.{AllByRecursion}
 use Rattle.std.proofs.lemmas.List.Elements.{All-from_recursion, recursion_from_All, AllZip-get_or, length_all_zip}
 use Rattle.cs_value.specs.Spelling.{record_bytes}
 use Rattle.cs_shell.specs.declared.entry.Change.{Change}
 use Rattle.cs_shell.specs.declared.entry.Change.TheVariants as code
 use Rattle.cs_shell.specs.declared.entry.Entry.{Entry}
 use Rattle.cs_shell.specs.Entry.{EntryData, IsChange, IsEntry, key_of}
-use Rattle.cs_shell.specs.Changeset.{HeaderData, GroupData, IsGroup, ImageData, image_of, images}
-use Rattle.cs_shell.specs.Inverse.{exchanged, indirect_flags, IsInverseGroup, IsInverse}
-use Rattle.cs_shell.specs.Views.{change_data, entry_data, entries_data, inverse_change, inverse_of, key_bytes, group_keys}
-use Rattle.cs_shell.proofs.GroupLaws.{HasOtherKey}
+use Rattle.cs_shell.specs.Changeset.{HeaderData, GroupData, IsGroup, image_of}
+use Rattle.cs_shell.specs.Inverse.{exchanged, IsInverseGroup, IsInverse}
+use Rattle.cs_shell.specs.Views.{change_data, entries_data, inverse_change, inverse_of, group_keys}
 
 -- a change and its inverse are of one key
 key_of-inverse : (flags : List ℕ) (change : Change) → key_of flags (change_data (inverse_change change)) ≡ key_of flags (change_data change)

@@ -1,5 +1,6 @@
 pub mod EntriesLaws
 pub mod EntryLaws
+pub mod Examples
 pub mod GroupLaws
 pub mod GroupsLaws
 pub mod InverseLaws

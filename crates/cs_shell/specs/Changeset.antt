@@ -1,10 +1,10 @@
 -- Changesets and their files: the format comment of SQLite's sqlite3session.c, under "changeset format". That each
 -- table and each key stands once is this project's own.
-use Rattle.std.specs.Prelude.{◌≡◌, ◌≢◌, ℕ, ◌<◌, Bool, List, [], ◌∷◌, ◌++◌, length, map, All, AllPairs, Option, IsUtf8}
+use Rattle.std.specs.Prelude.{◌≡◌, ◌≢◌, ℕ, ◌<◌, List, [], ◌∷◌, ◌++◌, length, map, All, AllPairs, Option, IsUtf8}
 use Rattle.std.specs.List.{flat_map, AllByRecursion}
 use Rattle.cs_value.specs.declared.value.OwnedField.{OwnedField}
 use Rattle.cs_value.specs.Varint.{varint}
-use Rattle.cs_shell.specs.Entry.{IsFlags, ChangeData, EntryData, IsEntry, before_image, after_image, key_of, entry_bytes}
+use Rattle.cs_shell.specs.Entry.{IsFlags, EntryData, IsEntry, before_image, after_image, key_of, entry_bytes}
 
 -- what heads the changes of a table: its name and its flags
 pub record HeaderData : Type 0 where

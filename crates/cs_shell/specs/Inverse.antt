@@ -2,7 +2,7 @@
 -- order and the indirect flags stay is this project's own.
 use Rattle.std.specs.Prelude.{◌≡◌, ℕ, Bool, List, map, All}
 use Rattle.std.specs.List.{AllZip}
-use Rattle.cs_shell.specs.Entry.{EntryData, ChangeData, Insert, Delete, Update}
+use Rattle.cs_shell.specs.Entry.{ChangeData, Insert, Delete, Update}
 use Rattle.cs_shell.specs.Changeset.{GroupData, IsChangeset, file_bytes, ImageData, images}
 
 -- before and after exchanged

@@ -1,5 +1,5 @@
 -- The data that the types of the code show.
-use Rattle.std.specs.Prelude.{◌≡◌, ℕ, ◌<◌, List, length, map, HoldsAt}
+use Rattle.std.specs.Prelude.{ℕ, ◌<◌, List, length, map, HoldsAt}
 use Rattle.cs_value.specs.Spelling.{record_bytes}
 use Rattle.cs_value.specs.declared.value.OwnedValue.{OwnedValue}
 use Rattle.cs_shell.specs.declared.entry.Change.{Change}

@@ -4,6 +4,7 @@ pub mod VarintLaws
 pub mod VarintLoops
 pub mod Integers
 pub mod Steps
+pub mod Examples
 pub mod FieldKinds
 pub mod FieldTakes
 pub mod FieldAgain

@@ -1,6 +1,5 @@
-use Rattle.std.proofs.Common.{◌≡◌, ℕ, List, ap, sym, ◌∙◌}
+use Rattle.std.proofs.Common.{◌≡◌, ap, sym, ◌∙◌}
 use Rattle.cs_shell.specs.Changeset.{HeaderData}
-use Rattle.cs_shell.specs.Entry.{IsEntry}
 use Rattle.cs_shell.specs.Views.{entry_data, key_bytes}
 use Rattle.cs_shell.proofs.KeyLaws.{not_fresh, is_fresh, found_place, not_found}
 use Rattle.cs_shell.proofs.read.push_entry.Goals as goal

@@ -1,6 +1,6 @@
-use Rattle.std.proofs.Common.{◌≡◌, List, ◌∷◌, [], ◌++◌, ap, sym, ◌∙◌}
+use Rattle.std.proofs.Common.{◌∷◌, [], ◌++◌, ap, sym, ◌∙◌}
 use Rattle.std.proofs.lemmas.Result.{err_from_is_err_and}
-use Rattle.cs_shell.specs.Changeset.{HeaderData, GroupData, header_bytes, entries_bytes}
+use Rattle.cs_shell.specs.Changeset.{HeaderData, GroupData, header_bytes}
 use Rattle.cs_shell.proofs.ReadingLaws.{Reads-err, rest_is}
 use Rattle.cs_shell.proofs.KeyLaws.{found_place}
 use Rattle.cs_shell.proofs.GroupsLaws.{group_bytes-append, Stands-group, same_group, under_header, not_new_table}

@@ -1,9 +1,7 @@
-use Rattle.std.proofs.Common.{◌≡◌, ℕ, Bool, cond, List, [], ◌∷◌, ◌++◌, drop, ap, sym, ◌∙◌}
+use Rattle.std.proofs.Common.{ℕ, Bool, cond, List, ◌++◌, ap, ◌∙◌}
 use Rattle.std.proofs.lemmas.Result.{err_from_is_err_and}
 use Rattle.cs_value.specs.declared.value.OwnedValue.{OwnedValue}
-use Rattle.cs_value.specs.Spelling.{row_bytes}
-use Rattle.cs_shell.specs.Entry.{operation, records_bytes}
-use Rattle.cs_shell.specs.Views.{byte_of, change_data}
+use Rattle.cs_shell.specs.Views.{change_data}
 use Rattle.cs_shell.proofs.ReadingLaws.{Reads-err, Stands-then, behind_byte}
 use Rattle.cs_shell.proofs.EntryLaws.{row_data, entry_bytes-append, entry_bytes-of, records_bytes-whole, IsChange-whole, IsChange-of, change_of-same, same_entry}
 use Rattle.cs_shell.proofs.read.read_entry.Goals as goal

@@ -1,9 +1,8 @@
-use Rattle.std.proofs.Common.{◌≡◌, ℕ, ◌+◌, ◌<◌, ◌≤◌, List, ◌++◌, length, take, drop, ap, sym, subst, ◌∙◌, arith, length-append}
+use Rattle.std.proofs.Common.{◌≡◌, ◌+◌, ◌≤◌, ◌++◌, length, take, drop, ap, ◌∙◌, arith, length-append}
 use Rattle.std.proofs.lemmas.Result.{err_from_is_err_and}
-use Rattle.std.proofs.lemmas.List.{take_at, length-drop, length-take}
+use Rattle.std.proofs.lemmas.List.{length-drop}
 use Rattle.std.proofs.lemmas.Bool.{iff_false}
-use Rattle.cs_shell.specs.Changeset.{flags_bytes}
-use Rattle.cs_shell.proofs.ReadingLaws.{Reads-err, Stands-then, Stands-take, IsFlags-read, flags_some, flags_bytes-append, flags_counted, flags_taken, Stands-flags}
+use Rattle.cs_shell.proofs.ReadingLaws.{Reads-err, IsFlags-read, flags_some, flags_bytes-append, flags_counted, flags_taken, Stands-flags}
 use Rattle.cs_shell.proofs.read.read_flags.Goals as goal
 
 pub returns-in_err-count-clause-only : goal.returns-in_err-count-clause-only

@@ -1,7 +1,6 @@
-use Rattle.std.proofs.Common.{◌≡◌, ap, sym, ◌∙◌, arith}
+use Rattle.std.proofs.Common.{arith}
 use Rattle.std.proofs.lemmas.Result.{err_from_is_err_and}
 use Rattle.std.proofs.lemmas.Bool.{iff_false}
-use Rattle.cs_shell.specs.Changeset.{HeaderData}
 use Rattle.cs_shell.specs.Views.{entry_data}
 use Rattle.cs_shell.proofs.ReadingLaws.{Reads-err, Stands-moves}
 use Rattle.cs_shell.proofs.EntryLaws.{entry_bytes_some, IsWhole-entry_data}

@@ -1,7 +1,6 @@
-use Rattle.std.proofs.Common.{◌≡◌, ℕ, ◌+◌, List, [], ◌∷◌, ◌++◌, drop, get_or, ap, sym, ◌∙◌, arith}
-use Rattle.std.specs.Prelude.{string_bytes}
+use Rattle.std.proofs.Common.{◌+◌, [], ◌∷◌, ◌∙◌, arith}
 use Rattle.std.proofs.lemmas.Result.{err_from_is_err_and}
-use Rattle.cs_shell.specs.Changeset.{HeaderData, flags_bytes}
+use Rattle.cs_shell.specs.Changeset.{flags_bytes}
 use Rattle.cs_shell.specs.Reading.{Stands}
 use Rattle.cs_shell.proofs.ReadingLaws.{Reads-err, behind_byte, rest_is, first_byte, Stands-byte, header_bytes-append, Stands-header, same_header}
 use Rattle.cs_shell.proofs.read.read_header.Goals as goal

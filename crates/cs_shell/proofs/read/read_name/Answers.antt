@@ -1,7 +1,7 @@
-use Rattle.std.proofs.Common.{◌≡◌, ℕ, ◌<◌, List, length, take, drop, ap, sym, ◌∙◌, arith}
+use Rattle.std.proofs.Common.{◌≡◌, ◌<◌, length, take, sym, ◌∙◌, arith}
 use Rattle.std.proofs.lemmas.Bool.{eqb-false}
 use Rattle.std.specs.Prelude.{string_bytes}
-use Rattle.cs_shell.proofs.ReadingLaws.{name_ended, name_has_end, IsName-read, name_taken, Stands-ended}
+use Rattle.cs_shell.proofs.ReadingLaws.{name_has_end, IsName-read, name_taken, Stands-ended}
 use Rattle.cs_shell.proofs.read.read_name.Goals as goal
 
 pub returns-in_default-clause-only : goal.returns-in_default-clause-only

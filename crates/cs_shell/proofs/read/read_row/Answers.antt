@@ -1,4 +1,3 @@
-use Rattle.std.proofs.Common.{◌≡◌, sym}
 use Rattle.std.proofs.lemmas.Result.{err_from_is_err_and}
 use Rattle.cs_shell.proofs.ReadingLaws.{Reads-err}
 use Rattle.cs_shell.proofs.RowLaws.{RowSoFar-none, RowSoFar-push, RowSoFar-all, has_next}

@@ -1,4 +1,3 @@
-use Rattle.std.proofs.Common.{ℕ, ◌≤◌, length, take}
 use Rattle.cs_shell.proofs.RowLaws.{RowSoFar}
 use Rattle.cs_shell.proofs.read.read_row.Given as goal
 

@@ -1,10 +1,8 @@
-use Rattle.std.proofs.Common.{◌≡◌, ◌≢◌, true, ◌+◌, List, ◌++◌, length, drop, ◌∙◌, ap, sym, refl}
+use Rattle.std.proofs.Common.{◌≡◌, ◌≢◌, true, ◌∙◌, ap, sym}
 use Rattle.std.proofs.lemmas.Bool.{iff_false, false≢true}
 use Rattle.cs_value.specs.declared.value.OwnedValue.TheVariants.{Null}
-use Rattle.cs_value.specs.declared.value.OwnedField.TheVariants.{Undefined, Defined}
-use Rattle.cs_value.specs.Value.{value_of, field_of, IsField}
-use Rattle.cs_value.specs.Spelling.{BeginsWith, field_bytes}
-use Rattle.cs_shell.proofs.ReadingLaws.{Stands-read}
+use Rattle.cs_value.specs.declared.value.OwnedField.TheVariants.{Defined}
+use Rattle.cs_value.specs.Value.{value_of, field_of}
 use Rattle.cs_shell.proofs.ValueLaws.{as_field, same_value, not_undefined, Stands-value}
 use Rattle.cs_shell.proofs.read.read_value.Goals as goal
 use Rattle.cs_shell.proofs.read.read_value.Goals.{else-is_key-via-then-is_key+else-is_null, else-is_key-via-else-is_key}

@@ -1,7 +1,6 @@
-use Rattle.std.proofs.Common.{◌≡◌, ◌++◌, take, length, ◌∙◌, ap, sym, append_assoc}
+use Rattle.std.proofs.Common.{append_assoc}
 use Rattle.std.proofs.lemmas.List.{take_all}
-use Rattle.cs_shell.specs.Changeset.{group_bytes, header_bytes, entries_bytes}
-use Rattle.cs_shell.specs.Views.{entries_data}
+use Rattle.cs_shell.specs.Changeset.{group_bytes}
 use Rattle.cs_shell.proofs.write.write_group.Goals as goal
 
 pub returns : goal.returns

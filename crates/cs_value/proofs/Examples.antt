@@ -1,0 +1,242 @@
+-- The definitions of varints, values, rows, keys and faults, computed at some of them.
+use Rattle.std.proofs.Common.{◌≡◌, ℕ, pos, negsuc, true≢false, List, [], ◌∷◌, replicate, codes, refl, inl, inr, arith, unwrap_or, get_or, sym, ap}
+use Rattle.std.specs.Char.{encode_utf8}
+use Rattle.std.specs.Str.{chars, is_utf8}
+use Rattle.std.proofs.lemmas.Str.{IsUtf8-from_is_utf8, is_utf8-from_IsUtf8}
+use Rattle.cs_value.specs.declared.fault.FieldFaultKind.{FieldFaultKind}
+use Rattle.cs_value.specs.declared.fault.FieldFaultKind.TheVariants.{Truncated, BadVarint, BadType, RealValue, BadText}
+use Rattle.cs_value.specs.declared.value.OwnedValue.TheVariants.{Int, Text, Blob, Null}
+use Rattle.cs_value.specs.declared.value.OwnedField.TheVariants.{Undefined, Defined}
+use Rattle.cs_value.specs.Value.{IsValue, IsRow, key_columns}
+use Rattle.cs_value.specs.Varint.{leading_digits, varint}
+use Rattle.cs_value.specs.Spelling.{counted, value_bytes, field_bytes, row_bytes, record_bytes, BeginsWith}
+use Rattle.cs_value.specs.FieldFaults.{IsCutVarint, VarintFails, FieldFails}
+use Rattle.cs_value.specs.Reading.{fault, number_from, number_at}
+use Rattle.cs_value.proofs.VarintLaws.{number_faults}
+
+computing : Unit {0}
+unfolding leading_digits varint counted value_bytes field_bytes encode_utf8 chars is_utf8
+computing = tt
+
+-- varints
+
+-- 0 has one digit
+zero_is_spelled : varint 0 ≡ 0x00 ∷ []
+unfolding computing
+zero_is_spelled = refl
+
+-- 127 is the largest of one byte
+one_byte_is_spelled : varint 127 ≡ 0x7f ∷ []
+unfolding computing
+one_byte_is_spelled = refl
+
+-- 128 is the least of two
+two_bytes_are_spelled : varint 128 ≡ 0x81 ∷ 0x00 ∷ []
+unfolding computing
+two_bytes_are_spelled = refl
+
+-- 16383 is the largest of two
+most_of_two_bytes_is_spelled : varint 16383 ≡ 0xff ∷ 0x7f ∷ []
+unfolding computing
+most_of_two_bytes_is_spelled = refl
+
+-- 16384 is the least of three
+three_bytes_are_spelled : varint 16384 ≡ 0x81 ∷ 0x80 ∷ 0x00 ∷ []
+unfolding computing
+three_bytes_are_spelled = refl
+
+-- 32767 is the largest count of columns
+most_columns_are_spelled : varint 32767 ≡ 0x81 ∷ 0xff ∷ 0x7f ∷ []
+unfolding computing
+most_columns_are_spelled = refl
+
+-- 2147483647, the largest of all, has five
+largest_is_spelled : varint 2147483647 ≡ 0x87 ∷ 0xff ∷ 0xff ∷ 0xff ∷ 0x7f ∷ []
+unfolding computing
+largest_is_spelled = refl
+
+-- values, fields and records
+
+-- the integer 1
+one_is_spelled : field_bytes (Defined (Int (pos 1))) ≡ 0x01 ∷ 0 ∷ 0 ∷ 0 ∷ 0 ∷ 0 ∷ 0 ∷ 0 ∷ 1 ∷ []
+unfolding computing
+one_is_spelled = refl
+
+-- the integer -1, in two's complement
+minus_one_is_spelled : field_bytes (Defined (Int (negsuc 0))) ≡ 0x01 ∷ 0xff ∷ 0xff ∷ 0xff ∷ 0xff ∷ 0xff ∷ 0xff ∷ 0xff ∷ 0xff ∷ []
+unfolding computing
+minus_one_is_spelled = refl
+
+-- the least integer of 64 bits
+least_is_spelled : field_bytes (Defined (Int (negsuc 9223372036854775807))) ≡ 0x01 ∷ 0x80 ∷ 0 ∷ 0 ∷ 0 ∷ 0 ∷ 0 ∷ 0 ∷ 0 ∷ []
+unfolding computing
+least_is_spelled = refl
+
+-- the text 'x', which is counted
+text_is_spelled : field_bytes (Defined (Text (codes "x"))) ≡ 0x03 ∷ 0x01 ∷ 0x78 ∷ []
+unfolding computing
+text_is_spelled = refl
+
+-- a blob of no bytes
+empty_blob_is_spelled : field_bytes (Defined (Blob [])) ≡ 0x04 ∷ 0x00 ∷ []
+unfolding computing
+empty_blob_is_spelled = refl
+
+-- the count of a blob of 127 bytes has one byte
+blob_of_127_is_spelled : field_bytes (Defined (Blob (replicate 127 0))) ≡ 0x04 ∷ 0x7f ∷ replicate 127 0
+unfolding computing
+blob_of_127_is_spelled = refl
+
+-- that of a blob of 128 bytes has two
+blob_of_128_is_spelled : field_bytes (Defined (Blob (replicate 128 0))) ≡ 0x04 ∷ 0x81 ∷ 0x00 ∷ replicate 128 0
+unfolding computing
+blob_of_128_is_spelled = refl
+
+-- NULL has its type alone
+null_is_spelled : field_bytes (Defined Null) ≡ 0x05 ∷ []
+unfolding computing
+null_is_spelled = refl
+
+-- and so has an undefined field
+undefined_is_spelled : field_bytes Undefined ≡ 0x00 ∷ []
+unfolding computing
+undefined_is_spelled = refl
+
+-- the row (1, 'x')
+row_is_spelled : row_bytes (Int (pos 1) ∷ Text (codes "x") ∷ []) ≡ 0x01 ∷ 0 ∷ 0 ∷ 0 ∷ 0 ∷ 0 ∷ 0 ∷ 0 ∷ 1 ∷ 0x03 ∷ 0x01 ∷ 0x78 ∷ []
+unfolding computing
+row_is_spelled = refl
+
+-- the new record of an update of its second column
+record_is_spelled : record_bytes (Undefined ∷ Defined (Text (codes "y")) ∷ []) ≡ 0x00 ∷ 0x03 ∷ 0x01 ∷ 0x79 ∷ []
+unfolding computing
+record_is_spelled = refl
+
+-- 1 and 'x' are values
+row_is : IsRow (Int (pos 1) ∷ Text (codes "x") ∷ [])
+unfolding computing
+row_is = (record { sfits = omega arith }, ((IsUtf8-from_is_utf8 (codes "x") refl, omega arith), tt))
+
+-- the least integer of 64 bits is a value
+least_is_value : IsValue (Int (negsuc 9223372036854775807))
+least_is_value = record { sfits = omega arith }
+
+-- and the one below it is none
+below_least_is_none : IsValue (Int (negsuc 9223372036854775808)) → ⊥
+below_least_is_none h = absurd (omega (arith, h.sfits))
+
+-- the byte ff alone is no text
+ff_is_no_text : IsValue (Text (0xff ∷ [])) → ⊥
+unfolding computing
+ff_is_no_text h = true≢false (sym (is_utf8-from_IsUtf8 (0xff ∷ []) h.0))
+
+-- but it is a blob
+ff_is_blob : IsValue (Blob (0xff ∷ []))
+ff_is_blob = ((omega arith, tt), omega arith)
+
+-- the bytes of NULL begin what follows them
+null_begins : BeginsWith (0x05 ∷ 0x03 ∷ []) (field_bytes (Defined Null)) 1
+unfolding computing
+null_begins = record { whole = refl; count = refl }
+
+-- the key of (1, 'x') where the first column is the key
+first_column_is_key : key_columns (1 ∷ 0 ∷ []) (Int (pos 1) ∷ Text (codes "x") ∷ []) ≡ Int (pos 1) ∷ []
+first_column_is_key = refl
+
+-- the flags 2 0 1 mark the first and the third column, which stand in the order of the table
+flagged_columns_are_key : key_columns (2 ∷ 0 ∷ 1 ∷ []) (Text (codes "x") ∷ Null ∷ Int (pos 1) ∷ []) ≡ Text (codes "x") ∷ Int (pos 1) ∷ []
+flagged_columns_are_key = refl
+
+-- and so they stand under the flags 2 1
+all_columns_are_key : key_columns (2 ∷ 1 ∷ []) (Int (pos 1) ∷ Text (codes "x") ∷ []) ≡ Int (pos 1) ∷ Text (codes "x") ∷ []
+all_columns_are_key = refl
+
+-- faults of varints
+
+cut_is : IsCutVarint (0x81 ∷ [])
+cut_is = record { few = omega arith; go_on = (omega arith, tt); shortest = λ same. absurd (omega (arith, ap (λ o. unwrap_or o 0) same)) }
+
+-- 81 goes on, and nothing follows
+cut_varint_is_truncated : VarintFails (0x81 ∷ []) Truncated 1
+cut_varint_is_truncated = (cut_is, refl)
+
+-- there is no byte
+no_varint_is_truncated : VarintFails [] Truncated 0
+no_varint_is_truncated = (record { few = omega arith; go_on = tt; shortest = λ same. cc }, refl)
+
+-- 80 01 has a leading zero
+leading_zero_is_bad : VarintFails (0x80 ∷ 0x01 ∷ []) BadVarint 0
+leading_zero_is_bad = (inl refl, refl)
+
+-- and so has 80 alone
+lone_zero_is_bad : VarintFails (0x80 ∷ []) BadVarint 0
+lone_zero_is_bad = (inl refl, refl)
+
+-- 88 80 80 80 00 is 2147483648, which is too large
+too_large_is_bad : VarintFails (0x88 ∷ 0x80 ∷ 0x80 ∷ 0x80 ∷ 0x00 ∷ []) BadVarint 0
+unfolding number_at number_from
+too_large_is_bad = number_faults (0x88 ∷ 0x80 ∷ 0x80 ∷ 0x80 ∷ 0x00 ∷ []) (fault BadVarint 0) refl
+
+-- 81 80 80 80 80 does not end
+too_long_is_bad : VarintFails (0x81 ∷ 0x80 ∷ 0x80 ∷ 0x80 ∷ 0x80 ∷ []) BadVarint 0
+unfolding number_at number_from
+too_long_is_bad = number_faults (0x81 ∷ 0x80 ∷ 0x80 ∷ 0x80 ∷ 0x80 ∷ []) (fault BadVarint 0) refl
+
+-- faults of fields
+
+-- there is no byte
+no_field_is_truncated : FieldFails [] Truncated 0
+no_field_is_truncated = (inl refl, refl)
+
+-- an integer of two bytes
+short_integer_is_truncated : FieldFails (0x01 ∷ 0x00 ∷ 0x00 ∷ []) Truncated 3
+short_integer_is_truncated = (inr (inl (0x00 ∷ 0x00 ∷ [], refl, omega arith)), refl)
+
+-- a text whose count is cut off
+cut_count_is_truncated : FieldFails (0x03 ∷ 0x81 ∷ []) Truncated 2
+cut_count_is_truncated = (inr (inr (0x81 ∷ [], inl refl, inl cut_is)), refl)
+
+-- a blob of two bytes, of which one is there
+short_blob_is_truncated : FieldFails (0x04 ∷ 0x02 ∷ 0xff ∷ []) Truncated 3
+unfolding computing
+short_blob_is_truncated = (inr (inr (0x02 ∷ 0xff ∷ [], inr refl, inr (2, 0xff ∷ [], omega arith, refl, omega arith))), refl)
+
+-- a text whose count has a leading zero: the place is that of the count
+bad_count_is_bad : FieldFails (0x03 ∷ 0x80 ∷ 0x01 ∷ 0x78 ∷ []) BadVarint 1
+bad_count_is_bad = ((0x80 ∷ 0x01 ∷ 0x78 ∷ [], inl refl, inl refl), refl)
+
+-- the type 06, which is none
+type_six_is_bad : FieldFails (0x06 ∷ []) BadType 0
+type_six_is_bad = ((6, [], refl, omega arith), refl)
+
+-- the type 02 of reals, whose bytes are not looked at
+real_is_refused : FieldFails (0x02 ∷ []) RealValue 0
+real_is_refused = (refl, refl)
+
+-- a text of the byte ff: the place is that of the text
+ff_is_bad_text : FieldFails (0x03 ∷ 0x01 ∷ 0xff ∷ []) BadText 2
+unfolding computing
+ff_is_bad_text = record {
+  text = 0xff ∷ [];
+  rest = [];
+  spelled = refl;
+  short = omega arith;
+  not_utf8 = λ text. true≢false (sym (is_utf8-from_IsUtf8 (0xff ∷ []) text));
+  behind_count = refl;
+}
+
+first_byte : List ℕ → ℕ
+first_byte bytes = get_or bytes 0 0
+
+-- NULL has no fault
+null_is_no_fault : (kind : FieldFaultKind) (place : ℕ) → FieldFails (0x05 ∷ []) kind place → ⊥
+unfolding first_byte
+null_is_no_fault Truncated place (inl none, at) = cc none
+null_is_no_fault Truncated place (inr (inl integer), at) = absurd (omega (arith, ap first_byte integer.1))
+null_is_no_fault Truncated place (inr (inr (content, inl text, cut)), at) = absurd (omega (arith, ap first_byte text))
+null_is_no_fault Truncated place (inr (inr (content, inr blob, cut)), at) = absurd (omega (arith, ap first_byte blob))
+null_is_no_fault BadVarint place ((content, inl text, bad), at) = absurd (omega (arith, ap first_byte text))
+null_is_no_fault BadVarint place ((content, inr blob, bad), at) = absurd (omega (arith, ap first_byte blob))
+null_is_no_fault BadType place ((kind, rest, is, above), at) = absurd (omega (arith, ap first_byte is))
+null_is_no_fault RealValue place (is, at) = absurd (omega (arith, ap (λ o. unwrap_or o 0) is))
+null_is_no_fault BadText place h = absurd (omega (arith, ap first_byte h.spelled))
