@@ -1,8 +1,10 @@
 -- How far a script is run, which the loops that run it keep.
-use Rattle.std.specs.Prelude.{◌≡◌, ◌≢◌, ℕ, ◌≤◌, ◌||◌, Bool, true, false, List, [], ◌∷◌, ◌++◌, length, Option, Result}
+use Rattle.std.specs.Prelude.{◌≡◌, ◌≢◌, ℕ, ◌≤◌, ◌||◌, Bool, true, false, List, [], ◌∷◌, ◌++◌, length, Option, Result, IsTrue}
 use Rattle.std.specs.List.{list_any}
 use Rattle.std.specs.Io.KnownBytes.{Appends, Consumes}
 use Rattle.cs_shell.specs.declared.script.Script.{Script}
+use Rattle.cs_shell.specs.declared.script.Stop.{Stop}
+use Rattle.cs_shell.specs.declared.script.Stop.TheVariants as stop
 use Rattle.cs_shell.specs.Calls.{Wrote}
 use Rattle.cs_shell.specs.Lines.{Splits}
 use Rattle.cs_shell.specs.Script.{SlotMap, Reply, LineGives, LinesGive, ScriptGives, reply_text, replies_text, is_refused, SCRIPT_LIMIT}
@@ -69,3 +71,9 @@ pub record RunsText (old new : Script) (before after : Option (List ℕ)) (text 
 abbrev pub RunsScript : Script → Script → Option (List ℕ) → Option (List ℕ) → List ℕ → Type 0
 RunsScript old new before after text = (start : SlotMap) (first : Option (List ℕ))
     → Progress start [] first before old → WritesScript start text first after new.has_refused
+
+-- where a read or a write stopped the script, the flag of its stream is set
+abbrev pub IsTold : (input_failed output_failed : Bool) → Stop → Type 0
+IsTold input_failed output_failed stop.TooLong = Unit {0}
+IsTold input_failed output_failed stop.Input = IsTrue input_failed
+IsTold input_failed output_failed stop.Output = IsTrue output_failed

@@ -1,12 +1,12 @@
 //! Scripts: lines that are read, answered and printed in turn.
-ghost use Rattle.std.specs.Prelude.{◌≡◌, ◌<◌, ◌≤◌, ◌∷◌, [], ℕ, List, length, true, false, IsTrue, IfOk, IfSome, OnOk, OnErr};
+ghost use Rattle.std.specs.Prelude.{◌≡◌, ◌<◌, ◌≤◌, ◌∷◌, [], ℕ, List, length, true, false, IsTrue, IfOk, IfErr, IfSome, OnOk, OnErr};
 ghost use Rattle.std.specs.FinMap as map;
 ghost use Rattle.std.specs.Io.KnownBytes.{Appends, Consumes, IsAtEnd};
 ghost use Rattle.cs_shell.specs.declared.script.Stop.TheVariants.{Output};
 ghost use Rattle.cs_shell.specs.Told.{inner_of, has_failed};
 ghost use Rattle.cs_shell.specs.Script.{LineGives, ScriptGives};
 ghost use Rattle.cs_shell.specs.Replies.{reply_of};
-ghost use Rattle.cs_shell.specs.Progress.{HoldsLine, AddsByte, EndsLine, Advances, Finishes, RunsText, RunsScript};
+ghost use Rattle.cs_shell.specs.Progress.{HoldsLine, AddsByte, EndsLine, Advances, Finishes, RunsText, RunsScript, IsTold};
 
 use crate::print::{OutputFault, write_error, write_reply};
 use crate::reply::{Refusal, Reply, answer};
@@ -62,7 +62,7 @@ fn next_piece<'a, R: Read>(input: &mut Told<R>, room: &'a mut [u8]) -> Result<&'
     ensures short { IfOk result (λ piece. length piece.now ≤ length room.entry.now) }
     ensures end { IfOk result (λ piece. length piece.now ≡ 0 → 0 < length room.entry.now →
         IsAtEnd (R.remaining (inner_of input.new))) }
-    ensures told { OnErr result (IsTrue (has_failed input.new)) }
+    ensures told { IfErr result (λ stop. (stop ≡ Stop.Input) × IsTrue (has_failed input.new)) }
 {
     match input.read(room) {
         Ok(count) => Ok(&room[..count]),
@@ -189,9 +189,10 @@ impl Script {
         input: &mut Told<R>,
         out: &mut Told<W>,
     ) -> Result<(), Stop>
-        ensures { OnOk result (IfSome (R.remaining (inner_of input.old))
+        ensures ok { OnOk result (IfSome (R.remaining (inner_of input.old))
             (RunsText self.old self.new
             (W.contents (inner_of out.old)) (W.contents (inner_of out.new)))) }
+        ensures told { IfErr result (IsTold (has_failed input.new) (has_failed out.new)) }
     {
         let mut chunk = [0; CHUNK_LEN];
         let mut count = 0;
@@ -219,9 +220,10 @@ impl Script {
         input: &mut Told<R>,
         out: &mut Told<W>,
     ) -> Result<(), Stop>
-        ensures { OnOk result (IfSome (R.remaining (inner_of input.old))
+        ensures ok { OnOk result (IfSome (R.remaining (inner_of input.old))
             (RunsScript self.old self.new
             (W.contents (inner_of out.old)) (W.contents (inner_of out.new)))) }
+        ensures told { IfErr result (IsTold (has_failed input.new) (has_failed out.new)) }
     {
         self.take_input(alloc, input, out)?;
         self.finish(alloc, out)?;
@@ -240,6 +242,8 @@ pub fn run_slots<R: Read, W: Write>(alloc: Global, input: &mut Told<R>, out: &mu
         IfSome (R.remaining (inner_of input.old)) (λ text.
         (written : List ℕ) × ScriptGives map.empty text written true
         × Appends (W.contents (inner_of out.old)) (W.contents (inner_of out.new)) written) }
+    ensures input_fault { result ≡ Status.InputFault → IsTrue (has_failed input.new) }
+    ensures output_fault { result ≡ Status.OutputFault → IsTrue (has_failed out.new) }
 {
     let mut script = Script::new(alloc);
     match script.run(alloc, input, out) {

@@ -8,6 +8,12 @@ mod words;
 use crate::{ToolFault, invert_bytes};
 use std::process::Abort;
 
+/// An INSERT of (1, 'x') into the table t, whose first column is its key.
+const INSERT: &str = "5402010074001200010000000000000001030178";
+
+/// The DELETE of that row.
+const DELETE: &str = "5402010074000900010000000000000001030178";
+
 /// The bytes of hexadecimal digits.
 fn bytes_of(rt: &(impl Abort + AllocGlobal), digits: &str) -> Vec<u8> {
     hex::decode(rt.alloc(), digits).expect(rt, "hexadecimal digits")

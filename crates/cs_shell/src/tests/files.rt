@@ -1,13 +1,7 @@
 //! Which files are inverted, and which are refused.
 
-use super::{bytes_of, expect_inverse, expect_refused};
+use super::{DELETE, INSERT, bytes_of, expect_inverse, expect_refused};
 use crate::{ToolFault, invert_bytes};
-
-/// An INSERT of (1, 'x') into the table t, whose first column is its key.
-const INSERT: &str = "5402010074001200010000000000000001030178";
-
-/// The DELETE of that row.
-const DELETE: &str = "5402010074000900010000000000000001030178";
 
 #[test]
 fn exchanges_inserts_and_deletes(rt: HostRuntime) {

@@ -1,5 +1,6 @@
 //! What scripts print, and how they end.
 
+use super::{INSERT, bytes_of};
 use crate::{Status, Told, run_slots};
 use std::io;
 use std::io::{ErrorKind, Read, Write};
@@ -228,6 +229,25 @@ fn keeps_a_slot_whose_line_is_refused(rt: HostRuntime) {
         Status::LinesRefused,
         b"error 66 BadHex\nerror 1 Truncated 1\nerror 62 EmptySlot\n0f\n",
     );
+}
+
+#[test]
+fn keeps_slots_where_a_part_of_a_file_is_inverted(rt: HostRuntime) -> Result<(), Fail> {
+    let file = bytes_of(&rt, INSERT);
+    for end in 1..file.len() {
+        let part = hex::encode(rt.alloc(), &file[..end])?;
+        let script = format!(in rt.alloc();
+            ".load a 0f\n.load b {part}\n.invert b a\n.hex a\n.hex b\n"
+        )?;
+        let shown = format!(in rt.alloc(); "\n0f\n{part}\n")?;
+        let mut input = Told::new(script.as_bytes());
+        let mut written = Vec::new(rt.alloc());
+        let status = run_slots(rt.alloc(), &mut input, &mut Told::new(&mut written));
+        assert_eq!(rt; status, Status::LinesRefused);
+        assert!(rt; written.starts_with(b"error "));
+        assert!(rt; written.ends_with(shown.as_bytes()));
+    }
+    Ok(())
 }
 
 #[test]

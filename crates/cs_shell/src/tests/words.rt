@@ -1,19 +1,13 @@
 //! What the words of a command line are answered.
 
-use super::bytes_of;
 use super::scripts::{Broken, Closed};
+use super::{DELETE, INSERT, bytes_of};
 use crate::{Told, run_words};
 use std::path::PathBuf;
 use std::process::Abort;
 use std::rt::Files;
 use std::test::Fail;
 use std::{env, fs};
-
-/// An INSERT of (1, 'x') into the table t, whose first column is its key.
-const INSERT: &str = "5402010074001200010000000000000001030178";
-
-/// The DELETE of that row.
-const DELETE: &str = "5402010074000900010000000000000001030178";
 
 /// What a run of words answered: its exit status, and what it wrote.
 #[derive(Debug, Drop)]
