@@ -1,5 +1,5 @@
 -- How far a script is run, which the loops that run it keep.
-use Rattle.std.specs.Prelude.{◌≡◌, ◌≢◌, ℕ, ◌≤◌, ◌||◌, Bool, true, false, List, [], ◌∷◌, ◌++◌, length, Option, Result, IsTrue}
+use Rattle.std.specs.Prelude.{◌≡◌, ◌≢◌, ℕ, ◌≤◌, ◌||◌, Bool, true, false, List, [], ◌∷◌, ◌++◌, length, Option, Result, IsTrue, codes}
 use Rattle.std.specs.List.{list_any}
 use Rattle.std.specs.Io.KnownBytes.{Appends, Consumes}
 use Rattle.cs_shell.specs.declared.script.Script.{Script}
@@ -7,7 +7,7 @@ use Rattle.cs_shell.specs.declared.script.Stop.{Stop}
 use Rattle.cs_shell.specs.declared.script.Stop.TheVariants as stop
 use Rattle.cs_shell.specs.Calls.{Wrote}
 use Rattle.cs_shell.specs.Lines.{Splits}
-use Rattle.cs_shell.specs.Script.{SlotMap, Reply, LineGives, LinesGive, ScriptGives, reply_text, replies_text, is_refused, SCRIPT_LIMIT}
+use Rattle.cs_shell.specs.Script.{SlotMap, Reply, LineGives, LinesGive, ScriptGives, error_line, reply_text, replies_text, is_refused, SCRIPT_LIMIT}
 
 -- the line that is read, unless it is lost
 abbrev pub HoldsLine : Script → List ℕ → Type 0
@@ -71,6 +71,22 @@ pub record RunsText (old new : Script) (before after : Option (List ℕ)) (text 
 abbrev pub RunsScript : Script → Script → Option (List ℕ) → Option (List ℕ) → List ℕ → Type 0
 RunsScript old new before after text = (start : SlotMap) (first : Option (List ℕ))
     → Progress start [] first before old → WritesScript start text first after new.has_refused
+
+-- a front of the text was run
+pub record RunsFront (old : Script) (before after : Option (List ℕ)) (text : List ℕ) : Type 0 where
+  pub new : Script
+  pub front : List ℕ
+  pub rest : List ℕ
+  pub whole : text ≡ front ++ rest
+  pub advances : Advances old new before after front
+
+-- the text is too long: its first bytes were run, and the error line was written
+pub record OverrunsText (old : Script) (before after : Option (List ℕ)) (text : List ℕ) : Type 0 where
+  pub middle : Option (List ℕ)
+  pub runs : RunsFront old before middle text
+  pub full : length runs.front ≡ SCRIPT_LIMIT
+  pub more : runs.rest ≢ []
+  pub told : Appends middle after (error_line 63 (codes "ScriptTooLong") [])
 
 -- where a read or a write stopped the script, the flag of its stream is set
 abbrev pub IsTold : (input_failed output_failed : Bool) → Stop → Type 0

@@ -1,6 +1,6 @@
 -- What a script of lines answers: a relation from the text and the slots to the replies and the slots after them. The
 -- lines and the printed texts are this project's own.
-use Rattle.std.specs.Prelude.{◌≡◌, ℕ, ◌+◌, ◌≤◌, Bool, true, false, List, [], ◌∷◌, ◌++◌, length, None, Some, Ok, Err, codes, decimal, IsUtf8}
+use Rattle.std.specs.Prelude.{◌≡◌, ◌≢◌, ℕ, ◌+◌, ◌≤◌, Bool, true, false, List, [], ◌∷◌, ◌++◌, length, None, Some, Ok, Err, codes, decimal, IsUtf8}
 use Rattle.std.specs.List.{flat_map, list_any}
 use Rattle.std.specs.Ordering.{nat_cmp}
 use Rattle.std.specs.Cmp.Lexicographic.{slice_cmp}
@@ -98,3 +98,24 @@ pub record ScriptGives (old : SlotMap) (text written : List ℕ) (some_refused :
   pub written_is : written ≡ replies_text replies
   pub refused_is : list_any is_refused replies ≡ some_refused
   pub short : length text ≤ SCRIPT_LIMIT
+
+-- no more of the text than a front of it is read, and the lines that end in that are answered
+pub record FrontGives (old : SlotMap) (text written : List ℕ) : Type 0 where
+  pub front : List ℕ
+  pub rest : List ℕ
+  pub lines : List (List ℕ)
+  pub last : List ℕ
+  pub replies : List Reply
+  pub new : SlotMap
+  pub whole : text ≡ front ++ rest
+  pub splits : Splits front lines last
+  pub given : LinesGive old lines replies new
+  pub written_is : written ≡ replies_text replies
+
+-- the text is too long: the lines that end among its first bytes are answered, and then an error line is written
+pub record OverrunGives (old : SlotMap) (text written : List ℕ) : Type 0 where
+  pub answered : List ℕ
+  pub gives : FrontGives old text answered
+  pub full : length gives.front ≡ SCRIPT_LIMIT
+  pub more : gives.rest ≢ []
+  pub written_is : written ≡ answered ++ error_line 63 (codes "ScriptTooLong") []

@@ -1,12 +1,12 @@
 //! Scripts: lines that are read, answered and printed in turn.
-ghost use Rattle.std.specs.Prelude.{◌≡◌, ◌<◌, ◌≤◌, ◌∷◌, [], ℕ, List, length, true, false, IsTrue, IfOk, IfErr, IfSome, OnOk, OnErr};
+ghost use Rattle.std.specs.Prelude.{◌≡◌, ◌<◌, ◌≤◌, ◌∷◌, [], ℕ, List, length, true, false, IsTrue, Err, IfOk, IfErr, IfSome, OnOk, OnErr};
 ghost use Rattle.std.specs.FinMap as map;
 ghost use Rattle.std.specs.Io.KnownBytes.{Appends, Consumes, IsAtEnd};
 ghost use Rattle.cs_shell.specs.declared.script.Stop.TheVariants.{Output};
 ghost use Rattle.cs_shell.specs.Told.{inner_of, has_failed};
-ghost use Rattle.cs_shell.specs.Script.{LineGives, ScriptGives};
+ghost use Rattle.cs_shell.specs.Script.{LineGives, ScriptGives, OverrunGives, FrontGives};
 ghost use Rattle.cs_shell.specs.Replies.{reply_of};
-ghost use Rattle.cs_shell.specs.Progress.{HoldsLine, AddsByte, EndsLine, Advances, Finishes, RunsText, RunsScript, IsTold};
+ghost use Rattle.cs_shell.specs.Progress.{HoldsLine, AddsByte, EndsLine, Advances, Finishes, RunsText, RunsScript, OverrunsText, RunsFront, IsTold};
 
 use crate::print::{OutputFault, write_error, write_reply};
 use crate::reply::{Refusal, Reply, answer};
@@ -192,6 +192,12 @@ impl Script {
         ensures ok { OnOk result (IfSome (R.remaining (inner_of input.old))
             (RunsText self.old self.new
             (W.contents (inner_of out.old)) (W.contents (inner_of out.new)))) }
+        ensures too_long { result ≡ Err Stop.TooLong → IfSome (R.remaining (inner_of input.old))
+            (OverrunsText self.old
+            (W.contents (inner_of out.old)) (W.contents (inner_of out.new))) }
+        ensures broken { result ≡ Err Stop.Input → IfSome (R.remaining (inner_of input.old))
+            (RunsFront self.old
+            (W.contents (inner_of out.old)) (W.contents (inner_of out.new))) }
         ensures told { IfErr result (IsTold (has_failed input.new) (has_failed out.new)) }
     {
         let mut chunk = [0; CHUNK_LEN];
@@ -223,6 +229,12 @@ impl Script {
         ensures ok { OnOk result (IfSome (R.remaining (inner_of input.old))
             (RunsScript self.old self.new
             (W.contents (inner_of out.old)) (W.contents (inner_of out.new)))) }
+        ensures too_long { result ≡ Err Stop.TooLong → IfSome (R.remaining (inner_of input.old))
+            (OverrunsText self.old
+            (W.contents (inner_of out.old)) (W.contents (inner_of out.new))) }
+        ensures broken { result ≡ Err Stop.Input → IfSome (R.remaining (inner_of input.old))
+            (RunsFront self.old
+            (W.contents (inner_of out.old)) (W.contents (inner_of out.new))) }
         ensures told { IfErr result (IsTold (has_failed input.new) (has_failed out.new)) }
     {
         self.take_input(alloc, input, out)?;
@@ -242,8 +254,14 @@ pub fn run_slots<R: Read, W: Write>(alloc: Global, input: &mut Told<R>, out: &mu
         IfSome (R.remaining (inner_of input.old)) (λ text.
         (written : List ℕ) × ScriptGives map.empty text written true
         × Appends (W.contents (inner_of out.old)) (W.contents (inner_of out.new)) written) }
-    ensures input_fault { result ≡ Status.InputFault → IsTrue (has_failed input.new) }
-    ensures output_fault { result ≡ Status.OutputFault → IsTrue (has_failed out.new) }
+    ensures too_long { result ≡ Status.TooLong → IfSome (R.remaining (inner_of input.old)) (λ text.
+        (written : List ℕ) × OverrunGives map.empty text written
+        × Appends (W.contents (inner_of out.old)) (W.contents (inner_of out.new)) written) }
+    ensures broken { result ≡ Status.InputFault → IfSome (R.remaining (inner_of input.old)) (λ text.
+        (written : List ℕ) × FrontGives map.empty text written
+        × Appends (W.contents (inner_of out.old)) (W.contents (inner_of out.new)) written) }
+    ensures input_failed { result ≡ Status.InputFault → IsTrue (has_failed input.new) }
+    ensures output_failed { result ≡ Status.OutputFault → IsTrue (has_failed out.new) }
 {
     let mut script = Script::new(alloc);
     match script.run(alloc, input, out) {

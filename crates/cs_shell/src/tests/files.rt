@@ -141,3 +141,12 @@ fn refuses_repeated_tables_and_keys(rt: HostRuntime) {
         "DuplicateKey",
     );
 }
+
+#[test]
+fn names_a_refusal_for_memory(rt: HostRuntime) {
+    let fault = ToolFault::NoMemory;
+    assert_eq!(rt;
+        (fault.code(), fault.class(), fault.name()),
+        (60, 7, "NoMemory")
+    );
+}
