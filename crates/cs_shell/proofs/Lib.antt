@@ -1,16 +1,7 @@
-pub mod EntriesLaws
-pub mod EntryLaws
-pub mod Examples
-pub mod GroupLaws
-pub mod GroupsLaws
 pub mod InverseLaws
-pub mod KeyLaws
 pub mod ProgressLemmas
-pub mod ReadingLaws
 pub mod ReplyLemmas
-pub mod RowLaws
 pub mod RunLemmas
 pub mod SlotEntries
-pub mod ValueLaws
 pub mod WordLemmas
 pub mod WriteLemmas

@@ -1,20 +1,19 @@
 -- What calls that take a file answer.
 use Rattle.std.specs.Prelude.{ℕ, List, codes}
-use Rattle.cs_shell.specs.declared.fault.ReadError.{ReadError}
-use Rattle.cs_shell.specs.declared.fault.ReadError.TheVariants as read
+use Rattle.cs_wire.specs.declared.fault.ReadError.{ReadError}
+use Rattle.cs_wire.specs.declared.fault.ReadError.TheVariants as read
 use Rattle.cs_shell.specs.declared.fault.ToolFault.{ToolFault}
 use Rattle.cs_shell.specs.declared.fault.ToolFault.TheVariants as tool
-use Rattle.cs_shell.specs.Inverse.{IsInvertible}
-use Rattle.cs_shell.specs.ReadFaults.{code_of, name_of}
+use Rattle.cs_wire.specs.ReadFaults.{code_of, name_of, ReadFails}
 
 -- what a call tells of a file that is not read
 abbrev pub told_of : ReadError → ToolFault
 told_of (read.Fault f) = tool.Read f
 told_of read.NoMemory = tool.NoMemory
 
--- no memory, or a fault of bytes that are no file of a changeset without an update
+-- no memory, or a fault of bytes that are no changeset's file
 abbrev pub RefusesInverse : List ℕ → ToolFault → Type 0
-RefusesInverse file (tool.Read f) = IsInvertible file → ⊥
+RefusesInverse file (tool.Read f) = ReadFails file f.kind f.place
 RefusesInverse file tool.NoMemory = Unit {0}
 
 -- its number among the faults of the product

@@ -2,8 +2,7 @@
 -- order and the indirect flags stay is this project's own.
 use Rattle.std.specs.Prelude.{◌≡◌, ℕ, Bool, List, map, All}
 use Rattle.std.specs.List.{AllZip}
-use Rattle.cs_shell.specs.Entry.{ChangeData, Insert, Delete, Update}
-use Rattle.cs_shell.specs.Changeset.{GroupData, IsChangeset, file_bytes, ImageData, images}
+use Rattle.cs_wire.specs.Changeset.{GroupData, IsChangeset, file_bytes, ImageData, images}
 
 -- before and after exchanged
 abbrev pub exchanged : ImageData → ImageData
@@ -31,20 +30,3 @@ pub record Inverts (file out : List ℕ) : Type 0 where
   pub is_inverse : IsInverse changeset inverse
   pub inverse_is_changeset : IsChangeset inverse
   pub inverse_is_file : out ≡ file_bytes inverse
-
--- the change is that of a whole row, and no update
-abbrev pub IsWhole : ChangeData → Type 0
-IsWhole (Insert row) = Unit {0}
-IsWhole (Delete row) = Unit {0}
-IsWhole (Update old new) = ⊥
-
--- no entry is an update
-abbrev pub HasNoUpdate : List GroupData → Type 0
-HasNoUpdate changeset = All (λ group. All (λ entry. IsWhole entry.change) group.entries) changeset
-
--- the bytes are the file of a changeset without an update
-pub record IsInvertible (file : List ℕ) : Type 0 where
-  pub changeset : List GroupData
-  pub is_changeset : IsChangeset changeset
-  pub no_update : HasNoUpdate changeset
-  pub is_file : file ≡ file_bytes changeset

@@ -1,10 +1,6 @@
-pub mod Entry
-pub mod Changeset
 pub mod Inverse
+pub mod Inverting
 pub mod Answers
-pub mod ReadFaults
-pub mod Views
-pub mod Reading
 pub mod Calls
 pub mod Lines
 pub mod Told
@@ -15,3 +11,6 @@ pub use Rattle.cs_value.specs.Value
 pub use Rattle.cs_value.specs.Varint
 pub use Rattle.cs_value.specs.Spelling
 pub use Rattle.cs_value.specs.FieldFaults
+pub use Rattle.cs_wire.specs.Entry
+pub use Rattle.cs_wire.specs.Changeset
+pub use Rattle.cs_wire.specs.ReadFaults

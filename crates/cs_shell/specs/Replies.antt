@@ -1,5 +1,5 @@
 -- Commands and replies of the code, as the definitions of scripts see them.
-use Rattle.std.specs.Prelude.{ℕ, ◌+◌, ◌≤◌, List, [], ◌∷◌, length, map, Bool, true, not, Option, None, Some, string_bytes}
+use Rattle.std.specs.Prelude.{◌≡◌, ℕ, ◌+◌, ◌≤◌, List, [], ◌∷◌, length, map, Bool, true, not, Option, None, Some, string_bytes}
 use Rattle.std.specs.Borrow.{Bor}
 use Rattle.cs_shell.specs.declared.lines.Command.{Command}
 use Rattle.cs_shell.specs.declared.lines.Command.TheVariants as command
@@ -49,3 +49,8 @@ reply_of (reply.Refused why) = script.Refused why
 abbrev pub refusal_of : ToolFault → Refusal
 refusal_of (tool.Read f) = refusal.Fault f
 refusal_of tool.NoMemory = refusal.NoMemory
+
+-- the reply to a line whose file is refused for a read fault
+abbrev pub IsRefusalOf : ToolFault → script.Reply → Type 0
+IsRefusalOf (tool.Read f) answer = answer ≡ script.Refused (refusal.Fault f)
+IsRefusalOf tool.NoMemory answer = ⊥

@@ -7,11 +7,11 @@ use Rattle.std.specs.Cmp.Lexicographic.{slice_cmp}
 use Rattle.std.specs.FinMap.{FinMap, get, insert}
 use Rattle.hex.specs.Hex.{encode_lower, decode_of}
 use Rattle.hex.specs.declared.error.FromHexError.{FromHexError}
-use Rattle.cs_shell.specs.declared.fault.ReadFault.{ReadFault}
+use Rattle.cs_wire.specs.declared.fault.ReadFault.{ReadFault}
 use Rattle.cs_shell.specs.declared.reply.Refusal.{Refusal}
 use Rattle.cs_shell.specs.declared.reply.Refusal.TheVariants.{Fault, NoMemory, Syntax, EmptySlot, BadHex, LineText}
-use Rattle.cs_shell.specs.Inverse.{Inverts, IsInvertible}
-use Rattle.cs_shell.specs.ReadFaults.{code_of, name_of}
+use Rattle.cs_shell.specs.Inverse.{Inverts}
+use Rattle.cs_wire.specs.ReadFaults.{code_of, name_of, ReadFails}
 use Rattle.cs_shell.specs.Lines.{Splits, unended, CommandData, Load, Hex, Invert, Asks, AsksNothing}
 
 -- the bytes in each slot that has some
@@ -52,7 +52,7 @@ pub data CommandGives : SlotMap → CommandData → Reply → SlotMap → Type 0
   shown : (old : SlotMap) (slot bytes : List ℕ) → get old slot ≡ Some bytes → CommandGives old (Hex slot) (Text (encode_lower bytes)) old
   nothing_to_show : (old : SlotMap) (slot : List ℕ) → get old slot ≡ None → CommandGives old (Hex slot) (Refused EmptySlot) old
   inverted : (old : SlotMap) (from into file out : List ℕ) → get old from ≡ Some file → Inverts file out → CommandGives old (Invert from into) Silent (insert old into out)
-  not_inverted : (old : SlotMap) (from into file : List ℕ) (f : ReadFault) → get old from ≡ Some file → (IsInvertible file → ⊥) → CommandGives old (Invert from into) (Refused (Fault f)) old
+  not_inverted : (old : SlotMap) (from into file : List ℕ) (f : ReadFault) → get old from ≡ Some file → ReadFails file f.kind f.place → CommandGives old (Invert from into) (Refused (Fault f)) old
   nothing_to_invert : (old : SlotMap) (from into : List ℕ) → get old from ≡ None → CommandGives old (Invert from into) (Refused EmptySlot) old
 
 -- the reply to a line, and the slots after it; the column of Syntax may be any of the line's, and any line may be

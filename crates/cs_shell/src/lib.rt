@@ -6,22 +6,15 @@
 //! let status = run_slots(alloc, &mut Told::new(input), &mut Told::new(output));
 //! ```
 //!
-//! `header`, `entry`, `group` and `changeset` are what a file holds, `read` and `write` go from
-//! bytes to that and back, `fault` says why a file is refused, and `invert` inverts. `lines` is the
+//! `invert` inverts, and `fault` says why a file is not inverted. `lines` is the
 //! grammar of a script's lines, `slots` what they name, `reply` what they are answered, `print` how
 //! that is printed, and `script` runs them. `told` has the streams, `words` the command line.
 #![tactic(auto)]
 
-mod changeset;
-mod entry;
 mod fault;
-mod format;
-mod group;
-mod header;
 mod invert;
 mod lines;
 mod print;
-mod read;
 mod reply;
 mod script;
 mod slots;
@@ -29,9 +22,9 @@ mod slots;
 mod tests;
 mod told;
 mod words;
-mod write;
 
-pub use fault::{ReadFault, ReadFaultKind, ToolFault};
+pub use cs_wire::{ReadFault, ReadFaultKind};
+pub use fault::ToolFault;
 pub use invert::invert_bytes;
 pub use script::{Status, run_slots};
 pub use told::Told;

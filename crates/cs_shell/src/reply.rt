@@ -2,13 +2,14 @@
 ghost use Rattle.std.specs.Prelude.{◌≡◌, IfOk, OnErr};
 ghost use Rattle.cs_shell.specs.Lines as lines;
 ghost use Rattle.cs_shell.specs.Script.{CommandGives, LineGives, is_refused as refused};
-ghost use Rattle.cs_shell.specs.Replies.{command_of, reply_of, refusal_of};
+ghost use Rattle.cs_shell.specs.Replies.{command_of, reply_of, refusal_of, IsRefusalOf};
 
-use crate::fault::{ReadFault, ToolFault};
+use crate::fault::ToolFault;
 use crate::invert::invert_bytes;
 use crate::lines::{Command, LineFault, parse_line};
 use crate::slots::Slots;
 use cs_value::NoMemory;
+use cs_wire::ReadFault;
 use hex::FromHexError;
 use std::alloc::Global;
 
@@ -89,6 +90,16 @@ fn show(alloc: Global, slots: &Slots, slot: &[u8]) -> Result<Reply, NoMemory>
     }
 }
 
+/// The reply to a line whose file is refused. It fails only for memory.
+fn refuse(fault: ToolFault) -> Result<Reply, NoMemory>
+    ensures { IfOk result (λ reply. IsRefusalOf fault (reply_of reply)) }
+{
+    match fault {
+        ToolFault::Read(fault) => Ok(Reply::Refused(Refusal::Fault(fault))),
+        ToolFault::NoMemory => Err(NoMemory),
+    }
+}
+
 /// Puts the inverse of one slot's changeset into another.
 fn invert(alloc: Global, slots: &mut Slots, from: &[u8], into: &[u8]) -> Result<Reply, NoMemory>
     ensures ok { IfOk result (λ reply.
@@ -103,8 +114,7 @@ fn invert(alloc: Global, slots: &mut Slots, from: &[u8], into: &[u8]) -> Result<
             slots.insert(alloc, into, out)?;
             Ok(Reply::Silent)
         }
-        Err(ToolFault::Read(fault)) => Ok(Reply::Refused(Refusal::Fault(fault))),
-        Err(ToolFault::NoMemory) => Err(NoMemory),
+        Err(fault) => refuse(fault),
     }
 }
 

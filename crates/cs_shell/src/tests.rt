@@ -14,6 +14,9 @@ const INSERT: &str = "5402010074001200010000000000000001030178";
 /// The DELETE of that row.
 const DELETE: &str = "5402010074000900010000000000000001030178";
 
+/// The UPDATE of 'x' to 'y' in that row.
+const UPDATE: &str = "540201007400170001000000000000000103017800030179";
+
 /// The bytes of hexadecimal digits.
 fn bytes_of(rt: &(impl Abort + AllocGlobal), digits: &str) -> Vec<u8> {
     hex::decode(rt.alloc(), digits).expect(rt, "hexadecimal digits")
@@ -25,8 +28,8 @@ fn expect_inverse(rt: &(impl Abort + AllocGlobal), file: &str, inverse: &str) {
     assert_eq!(rt; out, bytes_of(rt, inverse));
 }
 
-/// Asserts that a file is refused, and by which fault.
-fn expect_refused(rt: &(impl Abort + AllocGlobal), file: &str, code: u8, name: &str) {
+/// Asserts that a file is refused, by which fault and at which place.
+fn expect_refused(rt: &(impl Abort + AllocGlobal), file: &str, code: u8, name: &str, place: usize) {
     let fault = invert_bytes(rt.alloc(), &bytes_of(rt, file)).expect_err(rt, "no changeset");
     assert_eq!(rt;
         (fault.code(), fault.class(), fault.name()),
@@ -40,4 +43,5 @@ fn expect_refused(rt: &(impl Abort + AllocGlobal), file: &str, code: u8, name: &
         (code, 11, name)
     );
     assert_eq!(rt; (fault.kind.code(), fault.kind.name()), (code, name));
+    assert_eq!(rt; fault.place, place);
 }

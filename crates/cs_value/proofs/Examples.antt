@@ -1,16 +1,19 @@
 -- The definitions of varints, values, rows, keys and faults, computed at some of them.
-use Rattle.std.proofs.Common.{◌≡◌, ℕ, pos, negsuc, true≢false, List, [], ◌∷◌, replicate, codes, refl, inl, inr, arith, unwrap_or, get_or, sym, ap}
+use Rattle.std.proofs.Common.{◌≡◌, ℕ, pos, negsuc, true≢false, List, [], ◌∷◌, replicate, codes, refl, inl, inr, arith, unwrap_or, get_or, length, drop, sym, ap, subst, ◌∙◌}
 use Rattle.std.specs.Char.{encode_utf8}
 use Rattle.std.specs.Str.{chars, is_utf8}
+use Rattle.std.proofs.lemmas.List.{nil_from_length}
 use Rattle.std.proofs.lemmas.Str.{IsUtf8-from_is_utf8, is_utf8-from_IsUtf8}
 use Rattle.cs_value.specs.declared.fault.FieldFaultKind.{FieldFaultKind}
 use Rattle.cs_value.specs.declared.fault.FieldFaultKind.TheVariants.{Truncated, BadVarint, BadType, RealValue, BadText}
 use Rattle.cs_value.specs.declared.value.OwnedValue.TheVariants.{Int, Text, Blob, Null}
+use Rattle.cs_value.specs.declared.value.OwnedField.{OwnedField}
 use Rattle.cs_value.specs.declared.value.OwnedField.TheVariants.{Undefined, Defined}
 use Rattle.cs_value.specs.Value.{IsValue, IsRow, key_columns}
 use Rattle.cs_value.specs.Varint.{leading_digits, varint}
 use Rattle.cs_value.specs.Spelling.{counted, value_bytes, field_bytes, row_bytes, record_bytes, BeginsWith}
 use Rattle.cs_value.specs.FieldFaults.{IsCutVarint, VarintFails, FieldFails}
+use Rattle.cs_value.specs.ImageFaults.{RecordFails}
 use Rattle.cs_value.specs.Reading.{fault, number_from, number_at}
 use Rattle.cs_value.proofs.VarintLaws.{number_faults}
 
@@ -111,6 +114,11 @@ row_is_spelled = refl
 record_is_spelled : record_bytes (Undefined ∷ Defined (Text (codes "y")) ∷ []) ≡ 0x00 ∷ 0x03 ∷ 0x01 ∷ 0x79 ∷ []
 unfolding computing
 record_is_spelled = refl
+
+-- the old image of that update: the key, and the column's value
+old_image_is_spelled : record_bytes (Defined (Int (pos 1)) ∷ Defined (Text (codes "x")) ∷ Undefined ∷ []) ≡ 0x01 ∷ 0 ∷ 0 ∷ 0 ∷ 0 ∷ 0 ∷ 0 ∷ 0 ∷ 1 ∷ 0x03 ∷ 0x01 ∷ 0x78 ∷ 0x00 ∷ []
+unfolding computing
+old_image_is_spelled = refl
 
 -- 1 and 'x' are values
 row_is : IsRow (Int (pos 1) ∷ Text (codes "x") ∷ [])
@@ -240,3 +248,40 @@ null_is_no_fault BadVarint place ((content, inr blob, bad), at) = absurd (omega 
 null_is_no_fault BadType place ((kind, rest, is, above), at) = absurd (omega (arith, ap first_byte is))
 null_is_no_fault RealValue place (is, at) = absurd (omega (arith, ap (λ o. unwrap_or o 0) is))
 null_is_no_fault BadText place h = absurd (omega (arith, ap first_byte h.spelled))
+
+-- faults of images
+
+-- one field of two: the place is the end of the bytes
+image_of_one_field_is_truncated : RecordFails (0x00 ∷ []) 2 Truncated 1
+unfolding computing
+image_of_one_field_is_truncated = record {
+  fields = Undefined ∷ [];
+  at = 1;
+  behind = 0;
+  are_fields = (tt, tt);
+  few = omega arith;
+  begins = record { whole = refl; count = refl };
+  fails = no_field_is_truncated;
+  place_is = refl;
+}
+
+-- NULL and a text of the byte ff: the place is that of the text, from the start of the image
+second_text_is_bad : RecordFails (0x05 ∷ 0x03 ∷ 0x01 ∷ 0xff ∷ []) 2 BadText 3
+unfolding computing
+second_text_is_bad = record {
+  fields = Defined Null ∷ [];
+  at = 1;
+  behind = 2;
+  are_fields = (tt, tt);
+  few = omega arith;
+  begins = record { whole = refl; count = refl };
+  fails = ff_is_bad_text;
+  place_is = refl;
+}
+
+-- NULL is an image of one column
+null_is_image : (kind : FieldFaultKind) (place : ℕ) → RecordFails (0x05 ∷ []) 1 kind place → ⊥
+null_is_image kind place h =
+    let none : h.fields ≡ [] = nil_from_length h.fields (omega (arith, h.few)) in
+    let start : h.at ≡ 0 = h.begins.count ∙ ap (λ (fields : List OwnedField). length (record_bytes fields)) none in
+    null_is_no_fault kind h.behind (subst (λ (n : ℕ). FieldFails (drop n (0x05 ∷ [])) kind h.behind) start h.fails)

@@ -12,3 +12,4 @@ pub mod FieldFails
 pub mod FieldReading
 pub mod Spellings
 pub mod KeyColumns
+pub mod ImageReading

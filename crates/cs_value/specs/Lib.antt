@@ -2,4 +2,5 @@ pub mod Value
 pub mod Varint
 pub mod Spelling
 pub mod FieldFaults
+pub mod ImageFaults
 pub mod Reading

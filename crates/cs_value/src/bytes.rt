@@ -1,7 +1,9 @@
 //! The bytes of a blob.
-ghost use Rattle.std.specs.Prelude.{◌≡◌, ◌≤◌, ℕ, List, length, vec_len};
+ghost use Rattle.std.specs.Prelude.{◌≡◌, ◌≤◌, ℕ, List, length, vec_len, IfOk};
 ghost use Rattle.cs_value.specs.declared.TheConstants.{MAX_CONTENT_LEN};
 
+use crate::no_memory::NoMemory;
+use std::alloc::Global;
 use std::marker::Model;
 
 /// The bytes of a blob: at most [`MAX_CONTENT_LEN`](crate::MAX_CONTENT_LEN), which contracts see as
@@ -35,6 +37,13 @@ impl Bytes {
         ensures short { length result.now ≤ MAX_CONTENT_LEN }
     {
         self.bytes.as_slice()
+    }
+
+    /// A copy of the blob, in memory of its own.
+    pub fn copy(&self, alloc: Global) -> Result<Bytes, NoMemory>
+        ensures { IfOk result (λ x. x ≡ self.now) }
+    {
+        Ok(Bytes::new(Vec::from_slice(alloc, self.as_slice())?))
     }
 
     /// Gives the vector back, and takes no memory.

@@ -1,17 +1,18 @@
 //! Keys: what tells the rows of a table apart.
 ghost use Rattle.std.specs.Prelude.{◌≡◌, length, IfOk};
 ghost use Rattle.cs_value.specs.Value.{key_columns};
-ghost use Rattle.cs_value.specs.Spelling.{row_bytes};
+ghost use Rattle.cs_value.specs.Spelling.{row_bytes, record_bytes};
 
-use crate::field::value_write;
+use crate::image::Image;
 use crate::no_memory::NoMemory;
+use crate::parts::key_parts;
 use crate::row::Row;
 use std::alloc::Global;
 use std::cmp::Ordering;
 use std::marker::Model;
 
-/// The key of a row: the bytes of the values in its key columns, in column order. Contracts see it
-/// as these bytes, by which keys are compared and ordered.
+/// The key of a row or an image: the bytes of what stands in its key columns, in column order.
+/// Contracts see it as these bytes, by which keys are compared and ordered.
 #[derive(Debug, Drop)]
 pub struct Key {
     bytes: Vec<u8>,
@@ -32,14 +33,19 @@ impl Key {
         requires { length flags.now ≡ length row.now }
         ensures { IfOk result (λ key. key ≡ row_bytes (key_columns flags.now row.now)) }
     {
-        let mut bytes = Vec::new(alloc);
-        for (flag, value) in flags.iter().zip(row.values()) {
-            if *flag == 0 {
-                continue;
-            }
-            value_write(&mut bytes, value.as_value())?;
-        }
-        Ok(Key { bytes })
+        Ok(Key {
+            bytes: key_parts(alloc, flags, row.values())?,
+        })
+    }
+
+    /// The key of an image, in the same way: the bytes of the fields in its key columns.
+    pub fn of_image(alloc: Global, flags: &[u8], image: &Image) -> Result<Key, NoMemory>
+        requires { length flags.now ≡ length image.now }
+        ensures { IfOk result (λ key. key ≡ record_bytes (key_columns flags.now image.now)) }
+    {
+        Ok(Key {
+            bytes: key_parts(alloc, flags, image.fields())?,
+        })
     }
 
     /// The bytes of the key's values.
@@ -47,6 +53,15 @@ impl Key {
         ensures { result.now ≡ self.now }
     {
         &self.bytes
+    }
+
+    /// A copy of the key, in memory of its own.
+    pub fn copy(&self, alloc: Global) -> Result<Key, NoMemory>
+        ensures { IfOk result (λ x. x ≡ self.now) }
+    {
+        Ok(Key {
+            bytes: Vec::from_slice(alloc, self.bytes())?,
+        })
     }
 }
 

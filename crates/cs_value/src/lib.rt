@@ -1,7 +1,7 @@
-//! Values, fields, rows and keys of SQLite changesets, and the bytes that spell them.
+//! Values, fields, rows, images and keys of SQLite changesets, and the bytes that spell them.
 //!
 //! A value is an integer of 64 bits, a text, a blob or NULL. A field is a value or undefined. What
-//! a field, a row or a key is written as follows the format comment of SQLite's
+//! a field, a row, an image or a key is written as follows the format comment of SQLite's
 //! `sqlite3session.c`; this crate reads and writes exactly that spelling.
 //!
 //! ```rust
@@ -11,16 +11,19 @@
 //! ```
 //!
 //! `value` has the values, `text` and `bytes` what they hold, `varint` the numbers of the format,
-//! `field` the reader and the writer of fields, `row` and `key` lists of values, `fault` and
-//! `no_memory` what calls refuse with, and `laws` what holds of all spellings.
+//! `field` the reader and the writer of fields, `row` lists of values, `image` lists of fields,
+//! `parts` what both are made of, `key` what tells rows apart, `fault` and `no_memory` what calls
+//! refuse with, and `laws` what holds of all spellings.
 #![tactic(auto)]
 
 mod bytes;
 mod fault;
 mod field;
+mod image;
 mod key;
 mod laws;
 mod no_memory;
+mod parts;
 mod row;
 #[cfg(test)]
 mod tests;
@@ -29,8 +32,9 @@ mod value;
 mod varint;
 
 pub use bytes::Bytes;
-pub use fault::{FieldFault, FieldFaultKind};
+pub use fault::{FieldFault, FieldFaultKind, ImageFault};
 pub use field::{field_read, field_write};
+pub use image::{Image, image_read, image_write};
 pub use key::Key;
 pub use laws::{field_spellings_law, key_bytes_law, record_spellings_law};
 pub use no_memory::NoMemory;

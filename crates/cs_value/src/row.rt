@@ -1,10 +1,11 @@
 //! Rows: records without an undefined field.
-ghost use Rattle.std.specs.Prelude.{◌≡◌, ◌++◌, OnOk, OnErr, take, length};
+ghost use Rattle.std.specs.Prelude.{◌≡◌, ◌++◌, IfOk, OnOk, OnErr};
 ghost use Rattle.cs_value.specs.Spelling.{row_bytes};
 
-use crate::field::value_write;
 use crate::no_memory::NoMemory;
+use crate::parts::{parts_copy, parts_write};
 use crate::value::OwnedValue;
+use std::alloc::Global;
 use std::marker::Model;
 
 /// A row: the values of its columns, which contracts see as their list.
@@ -36,6 +37,13 @@ impl Row {
     {
         &self.values
     }
+
+    /// A copy of the row, in memory of its own.
+    pub fn copy(&self, alloc: Global) -> Result<Row, NoMemory>
+        ensures { IfOk result (λ x. x ≡ self.now) }
+    {
+        Ok(Row::new(parts_copy(alloc, self.values())?))
+    }
 }
 
 impl PartialEq for Row {
@@ -63,21 +71,5 @@ pub fn row_write(out: &mut Vec<u8>, row: &Row) -> Result<(), NoMemory>
     ensures ok { OnOk result (out.new.items ≡ out.old.items ++ row_bytes row.now) }
     ensures err { OnErr result (out.new.items ≡ out.old.items) }
 {
-    let start = out.len();
-    let written = append_values(out, row.values());
-    if written.is_err() {
-        out.truncate(start);
-    }
-    written
-}
-
-// The same for a list of values, but for what a refusal leaves.
-fn append_values(out: &mut Vec<u8>, values: &[OwnedValue]) -> Result<(), NoMemory>
-    ensures ok { OnOk result (out.new.items ≡ out.old.items ++ row_bytes values.now) }
-    ensures err { OnErr result (take (length out.old.items) out.new.items ≡ out.old.items) }
-{
-    for value in values {
-        value_write(out, value.as_value())?;
-    }
-    Ok(())
+    parts_write(out, row.values())
 }

@@ -201,6 +201,103 @@ fn rows_and_keys(rt: HostRuntime) -> Result<(), Fail> {
 }
 
 #[test]
+fn copies(rt: HostRuntime) -> Result<(), Fail> {
+    let alloc = rt.alloc();
+    let x = Text::new(String::from_str(alloc, "x")?);
+    assert_eq!(rt; x.copy(alloc)?, x);
+    let zero = Bytes::new(Vec::from_slice(alloc, b"\x00")?);
+    assert_eq!(rt; zero.copy(alloc)?, zero);
+    for value in [
+        OwnedValue::Int(-1),
+        text(alloc, "x")?,
+        blob(alloc, b"\x00")?,
+        OwnedValue::Null,
+    ] {
+        assert_eq!(rt; value.copy(alloc)?, value);
+    }
+    let defined = OwnedField::Defined(text(alloc, "x")?);
+    assert_eq!(rt; defined.copy(alloc)?, defined);
+    assert_eq!(rt; defined.as_field(), Field::Defined(Value::Text("x")));
+    assert_eq!(rt; Field::Defined(Value::Text("x")).to_owned(alloc)?, defined);
+    let undefined = OwnedField::Undefined;
+    assert_eq!(rt; undefined.copy(alloc)?, undefined);
+    assert_eq!(rt; undefined.as_field(), Field::Undefined);
+    assert_eq!(rt; Field::Undefined.to_owned(alloc)?, undefined);
+    let row = Row::new(vec![in alloc; OwnedValue::Int(2), text(alloc, "x")?]?);
+    assert_eq!(rt; row.copy(alloc)?, row);
+    let image = Image::new(vec![in alloc; undefined, defined]?);
+    assert_eq!(rt; image.copy(alloc)?, image);
+    let key = key(alloc, OwnedValue::Int(2))?;
+    assert_eq!(rt; key.copy(alloc)?, key);
+    Ok(())
+}
+
+#[test]
+fn images(rt: HostRuntime) -> Result<(), Fail> {
+    let alloc = rt.alloc();
+    let image = Image::new(vec![in alloc;
+        OwnedField::Defined(OwnedValue::Int(2)),
+        OwnedField::Undefined,
+        OwnedField::Defined(text(alloc, "x")?),
+    ]?);
+    assert_eq!(rt; image.fields().len(), 3);
+    let mut out = Vec::new(alloc);
+    image_write(&mut out, &image)?;
+    assert_eq!(rt;
+        out.as_slice(),
+        b"\x01\x00\x00\x00\x00\x00\x00\x00\x02\x00\x03\x01x".as_slice()
+    );
+    let key = Key::of_image(alloc, &[1, 0, 2], &image)?;
+    assert_eq!(rt;
+        key.bytes(),
+        b"\x01\x00\x00\x00\x00\x00\x00\x00\x02\x03\x01x".as_slice()
+    );
+    out.push(0xff)?;
+    assert_eq!(rt; image_read(alloc, out.as_slice(), 3), Ok((image, 13)));
+    let first = Image::new(vec![in alloc; OwnedField::Defined(OwnedValue::Int(2))]?);
+    assert_eq!(rt; image_read(alloc, out.as_slice(), 1), Ok((first, 9)));
+    let none = Image::new(Vec::new(alloc));
+    assert_eq!(rt; image_read(alloc, out.as_slice(), 0), Ok((none, 0)));
+    Ok(())
+}
+
+#[test]
+fn images_refused(rt: HostRuntime) {
+    let alloc = rt.alloc();
+    for (bytes, columns, kind, place) in [
+        (b"".as_slice(), 1, FieldFaultKind::Truncated, 0),
+        (b"\x00".as_slice(), 2, FieldFaultKind::Truncated, 1),
+        (b"\x00\x03\x02x".as_slice(), 2, FieldFaultKind::Truncated, 4),
+        (
+            b"\x05\x00".as_slice(),
+            usize::MAX,
+            FieldFaultKind::Truncated,
+            2,
+        ),
+        (
+            b"\x05\x03\x80\x01x".as_slice(),
+            2,
+            FieldFaultKind::BadVarint,
+            2,
+        ),
+        (b"\x05\x06".as_slice(), 2, FieldFaultKind::BadType, 1),
+        (b"\x00\x02".as_slice(), 2, FieldFaultKind::RealValue, 1),
+        (
+            b"\x05\x03\x01\xff".as_slice(),
+            2,
+            FieldFaultKind::BadText,
+            3,
+        ),
+    ] {
+        assert_eq!(rt;
+            image_read(alloc, bytes, columns),
+            Err(ImageFault::Fault(FieldFault { kind, place })),
+            "at {bytes:?}"
+        );
+    }
+}
+
+#[test]
 fn refusals(rt: HostRuntime) -> Result<(), Fail> {
     let alloc = rt.alloc();
     for (kind, code, name, printed) in [
@@ -242,11 +339,22 @@ fn refusals(rt: HostRuntime) -> Result<(), Fail> {
         assert_eq!(rt; fault.class(), 11, "of {name}");
         assert_eq!(rt; fault.name(), name);
         assert_eq!(rt; format!(in alloc; "{fault}")?.as_str(), printed);
+        let fault = ImageFault::Fault(fault);
+        assert_eq!(rt; fault.code(), code, "of {name}");
+        assert_eq!(rt; fault.class(), 11, "of {name}");
+        assert_eq!(rt; fault.name(), name);
+        assert_eq!(rt; format!(in alloc; "{fault}")?.as_str(), printed);
     }
     assert_eq!(rt; NoMemory.code(), 60);
     assert_eq!(rt; NoMemory.class(), 7);
     assert_eq!(rt; NoMemory.name(), "NoMemory");
     assert_eq!(rt; format!(in alloc; "{NoMemory}")?.as_str(), "out of memory");
+    let refusal = ImageFault::from(NoMemory);
+    assert_eq!(rt; refusal, ImageFault::NoMemory);
+    assert_eq!(rt; refusal.code(), 60);
+    assert_eq!(rt; refusal.class(), 7);
+    assert_eq!(rt; refusal.name(), "NoMemory");
+    assert_eq!(rt; format!(in alloc; "{refusal}")?.as_str(), "out of memory");
     Ok(())
 }
 

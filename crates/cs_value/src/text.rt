@@ -1,8 +1,10 @@
 //! The text of a value.
-ghost use Rattle.std.specs.Prelude.{◌≡◌, ◌≤◌, ℕ, List, length, string_len};
+ghost use Rattle.std.specs.Prelude.{◌≡◌, ◌≤◌, ℕ, List, length, string_len, IfOk};
 ghost use Rattle.std.specs.String.{string_bytes};
 ghost use Rattle.cs_value.specs.declared.TheConstants.{MAX_CONTENT_LEN};
 
+use crate::no_memory::NoMemory;
+use std::alloc::Global;
 use std::marker::Model;
 
 /// The text of a value: UTF-8 of at most [`MAX_CONTENT_LEN`](crate::MAX_CONTENT_LEN) bytes, which
@@ -36,6 +38,13 @@ impl Text {
         ensures short { length result.now ≤ MAX_CONTENT_LEN }
     {
         self.text.as_str()
+    }
+
+    /// A copy of the text, in memory of its own.
+    pub fn copy(&self, alloc: Global) -> Result<Text, NoMemory>
+        ensures { IfOk result (λ x. x ≡ self.now) }
+    {
+        Ok(Text::new(String::from_str(alloc, self.as_str())?))
     }
 
     /// Gives the string back, and takes no memory.

@@ -1,7 +1,7 @@
 //! Values and fields, borrowed and owned.
 ghost use Rattle.std.specs.Prelude.{◌≡◌, ◌<◌, ◌≤◌, ◌↔◌, ◌^◌, IfOk, IsTrue};
 ghost use Rattle.cs_value.specs.declared.TheConstants.{MAX_CONTENT_LEN};
-ghost use Rattle.cs_value.specs.Value.{value_of, Fits};
+ghost use Rattle.cs_value.specs.Value.{value_of, field_of, Fits, FieldFits};
 
 use crate::MAX_CONTENT_LEN;
 use crate::bytes::Bytes;
@@ -62,6 +62,33 @@ impl OwnedValue {
             OwnedValue::Null => Value::Null,
         }
     }
+
+    /// A copy of the value, in memory of its own.
+    pub fn copy(&self, alloc: Global) -> Result<OwnedValue, NoMemory>
+        ensures { IfOk result (λ x. x ≡ self.now) }
+    {
+        self.as_value().to_owned(alloc)
+    }
+}
+
+impl OwnedField {
+    /// The same field, borrowed.
+    pub fn as_field(&self) -> Field<'_>
+        ensures same { field_of result ≡ self.now }
+        ensures short { FieldFits result }
+    {
+        match self {
+            OwnedField::Undefined => Field::Undefined,
+            OwnedField::Defined(value) => Field::Defined(value.as_value()),
+        }
+    }
+
+    /// A copy of the field, in memory of its own.
+    pub fn copy(&self, alloc: Global) -> Result<OwnedField, NoMemory>
+        ensures { IfOk result (λ x. x ≡ self.now) }
+    {
+        self.as_field().to_owned(alloc)
+    }
 }
 
 impl Value<'_> {
@@ -76,6 +103,20 @@ impl Value<'_> {
             Value::Text(text) => OwnedValue::Text(Text::new(String::from_str(alloc, text)?)),
             Value::Blob(bytes) => OwnedValue::Blob(Bytes::new(Vec::from_slice(alloc, bytes)?)),
             Value::Null => OwnedValue::Null,
+        })
+    }
+}
+
+impl Field<'_> {
+    /// A copy of the field that owns its content. The content is short enough, as
+    /// [`OwnedValue::fits`] tests.
+    pub fn to_owned(self, alloc: Global) -> Result<OwnedField, NoMemory>
+        requires { FieldFits self }
+        ensures { IfOk result (λ f. f ≡ field_of self.entry) }
+    {
+        Ok(match self {
+            Field::Undefined => OwnedField::Undefined,
+            Field::Defined(value) => OwnedField::Defined(value.to_owned(alloc)?),
         })
     }
 }

@@ -1,12 +1,28 @@
 //! Which files are inverted, and which are refused.
 
-use super::{DELETE, INSERT, bytes_of, expect_inverse, expect_refused};
-use crate::{ToolFault, invert_bytes};
+use super::{DELETE, INSERT, UPDATE, expect_inverse, expect_refused};
+use crate::ToolFault;
 
 #[test]
 fn exchanges_inserts_and_deletes(rt: HostRuntime) {
     expect_inverse(&rt, INSERT, DELETE);
     expect_inverse(&rt, DELETE, INSERT);
+}
+
+#[test]
+fn exchanges_the_values_of_updates(rt: HostRuntime) {
+    expect_inverse(
+        &rt,
+        UPDATE,
+        "540201007400170001000000000000000103017900030178",
+    );
+    // A value that stays, and no modified column.
+    for update in [
+        "540201007400170001000000000000000103017800030178",
+        "5402010074001700010000000000000001000000",
+    ] {
+        expect_inverse(&rt, update, update);
+    }
 }
 
 #[test]
@@ -21,6 +37,11 @@ fn keeps_flags_and_the_indirect_byte(rt: HostRuntime) {
         "5402020174001201030178010000000000000001",
         "5402020174000901030178010000000000000001",
     );
+    expect_inverse(
+        &rt,
+        "540202016b001200010000000000000001010000000000000002",
+        "540202016b000900010000000000000001010000000000000002",
+    );
 }
 
 #[test]
@@ -33,112 +54,15 @@ fn keeps_the_order(rt: HostRuntime) {
 }
 
 #[test]
-fn refuses_each_part_of_a_file(rt: HostRuntime) {
-    let file = bytes_of(&rt, INSERT);
-    for end in 1..file.len() {
-        let result = invert_bytes(rt.alloc(), &file[..end]);
-        assert!(rt; matches!(result, Err(ToolFault::Read(_))));
-    }
-}
-
-#[test]
-fn refuses_what_is_no_table(rt: HostRuntime) {
-    expect_refused(&rt, "55", 2, "NotTable");
-    expect_refused(
-        &rt,
-        "540201007400120001000000000000000103017800",
-        10,
-        "BadOp",
-    );
-}
-
-#[test]
-fn refuses_bad_headers(rt: HostRuntime) {
-    expect_refused(
-        &rt,
-        "540074001200010000000000000001030178",
-        5,
-        "ColumnCount",
-    );
-    expect_refused(&rt, "5402000074001200010000000000000001030178", 6, "NoKey");
-    expect_refused(&rt, "54020100001200010000000000000001030178", 7, "BadName");
-    expect_refused(
-        &rt,
-        "54020100ff001200010000000000000001030178",
-        7,
-        "BadName",
-    );
-    expect_refused(
-        &rt,
-        "548002010074001200010000000000000001030178",
-        4,
-        "BadVarint",
-    );
-    expect_refused(&rt, "540201007400", 9, "EmptyGroup");
-    expect_refused(&rt, "54020100740054010175001200030179", 9, "EmptyGroup");
-}
-
-#[test]
-fn refuses_bad_entries(rt: HostRuntime) {
-    expect_refused(&rt, "5402010074001300010000000000000001030178", 10, "BadOp");
-    expect_refused(
-        &rt,
-        "5402010074001202010000000000000001030178",
-        11,
-        "BadFlag",
-    );
-    expect_refused(&rt, "540201007400120005030178", 17, "NullKey");
-    expect_refused(&rt, "5402010074001200010000000000000001", 1, "Truncated");
-}
-
-#[test]
-fn refuses_bad_fields(rt: HostRuntime) {
-    expect_refused(&rt, "540201007400120001000000000000000106", 12, "BadType");
-    expect_refused(
-        &rt,
-        "5402010074001200010000000000000001020000000000000000",
-        13,
-        "RealValue",
-    );
-    expect_refused(
-        &rt,
-        "54020100740012000100000000000000010301ff",
-        14,
-        "BadText",
-    );
-    expect_refused(
-        &rt,
-        "540201007400120001000000000000000100",
-        15,
-        "UndefinedField",
-    );
-    expect_refused(
-        &rt,
-        "540201007400120001000000000000000103800178",
-        4,
-        "BadVarint",
-    );
-    expect_refused(
-        &rt,
-        "54020100740012000100000000000000010387ffffff7f",
-        1,
-        "Truncated",
-    );
-}
-
-#[test]
-fn refuses_repeated_tables_and_keys(rt: HostRuntime) {
-    expect_refused(
-        &rt,
-        "5402010074001200010000000000000001030178540201007400120001000000000000000205",
-        8,
-        "DuplicateTable",
-    );
+fn tells_the_fault_of_a_file(rt: HostRuntime) {
+    expect_refused(&rt, "54", 1, "Truncated", 1);
+    expect_refused(&rt, "540201007400120006", 12, "BadType", 8);
     expect_refused(
         &rt,
         "54020100740012000100000000000000010301780900010000000000000001030178",
         18,
         "DuplicateKey",
+        20,
     );
 }
 

@@ -1,6 +1,0 @@
-use Rattle.std.proofs.Common.{◌≡◌, take}
-use Rattle.cs_shell.specs.Changeset.{file_bytes}
-use Rattle.cs_shell.proofs.write.write.Given as goal
-
-abbrev pub invariant-loop-group : goal.invariant-loop-group
-invariant-loop-group l = l.out.items ≡ file_bytes (take l.group-index l.group-items)

@@ -1,0 +1,116 @@
+//! Images: the fields of a record, of which some may be undefined.
+ghost use Rattle.std.specs.Prelude.{◌≡◌, ◌+◌, ◌≤◌, ◌++◌, ℕ, List, length, drop, IfOk, IfErr, OnOk, OnErr};
+ghost use Rattle.cs_value.specs.declared.value.OwnedField.{OwnedField};
+ghost use Rattle.cs_value.specs.Value.{IsField, IsRecord};
+ghost use Rattle.cs_value.specs.Spelling.{field_bytes, record_bytes, BeginsWith};
+ghost use Rattle.cs_value.specs.ImageFaults.{ImageFails, ReadsImage};
+ghost use Rattle.cs_value.specs.Reading.{NoFieldAt};
+
+use crate::fault::ImageFault;
+use crate::field::field_read;
+use crate::no_memory::NoMemory;
+use crate::parts::{parts_copy, parts_write};
+use crate::value::OwnedField;
+use std::alloc::Global;
+use std::marker::Model;
+
+/// An image: the fields of a record, as an UPDATE's old or new one. Contracts see it as their list.
+#[derive(Debug, Drop)]
+pub struct Image {
+    fields: Vec<OwnedField>,
+}
+
+impl Model for Image {
+    ghost Value = { List OwnedField };
+
+    ghost view = { λ i. i.fields.items };
+}
+
+impl Image {
+    /// Makes an image of fields, and takes no memory.
+    pub fn new(fields: Vec<OwnedField>) -> Image
+        ensures { result ≡ fields.items }
+    {
+        Image { fields }
+    }
+
+    /// The fields, in column order.
+    pub fn fields(&self) -> &[OwnedField]
+        ensures { result.now ≡ self.now }
+    {
+        &self.fields
+    }
+
+    /// A copy of the image, in memory of its own.
+    pub fn copy(&self, alloc: Global) -> Result<Image, NoMemory>
+        ensures { IfOk result (λ i. i ≡ self.now) }
+    {
+        Ok(Image::new(parts_copy(alloc, self.fields())?))
+    }
+}
+
+impl PartialEq for Image {
+    ghost use Rattle.cs_value.specs.contracts.value.OwnedFieldPartialEq.TheImpl.Laws.{laws-law};
+    ghost use Rattle.std.specs.Cmp.Lexicographic.{pointwise, lists_per};
+
+    ghost eq = { pointwise ⟦<OwnedField as PartialEq>⟧.eq };
+
+    ghost laws = { lists_per laws-law };
+
+    fn eq(&self, other: &Image) -> bool {
+        self.fields == other.fields
+    }
+}
+
+impl Eq for Image {
+    ghost use Rattle.cs_value.specs.contracts.value.OwnedFieldEq.TheImpl.Laws.{laws-law};
+    ghost use Rattle.std.specs.Cmp.Lexicographic.{lists_equiv};
+
+    ghost laws = { lists_equiv laws-law };
+}
+
+/// Appends the bytes of the image's fields in turn. [`NoMemory`] leaves `out` as it was.
+pub fn image_write(out: &mut Vec<u8>, image: &Image) -> Result<(), NoMemory>
+    ensures ok { OnOk result (out.new.items ≡ out.old.items ++ record_bytes image.now) }
+    ensures err { OnErr result (out.new.items ≡ out.old.items) }
+{
+    parts_write(out, image.fields())
+}
+
+/// Reads the image at the front of `bytes`, of a record of so many columns: the image, and the
+/// count of bytes that it takes. Bytes may follow it. It takes memory only for what it has read,
+/// however many `columns` are claimed.
+///
+/// Refuses with the fault of the first field that is none, whose place is counted from the start
+/// of `bytes`, and where memory is refused.
+pub fn image_read(alloc: Global, bytes: &[u8], columns: usize) -> Result<(Image, usize), ImageFault>
+    ensures found { IfOk result (λ r. IsRecord r.0 × (length r.0 ≡ columns) × BeginsWith bytes.now (record_bytes r.0) r.1) }
+    ensures only { (fields : List OwnedField) (rest : List ℕ) → IsRecord fields → length fields ≡ columns
+        → bytes.now ≡ record_bytes fields ++ rest
+        → ReadsImage result (λ r. (r.0 ≡ fields) × (r.1 ≡ length (record_bytes fields))) }
+    ensures fault { IfErr result (ImageFails bytes.now columns) }
+{
+    let mut fields = Vec::new(alloc);
+    let mut end = 0;
+    'columns: for _ in 0..columns {
+        let (field, used) = read_at(alloc, bytes, end)?;
+        fields.push(field)?;
+        end += used;
+    }
+    Ok((Image::new(fields), end))
+}
+
+// The field that begins at a place, and the count of bytes that it takes.
+fn read_at(alloc: Global, bytes: &[u8], at: usize) -> Result<(OwnedField, usize), ImageFault>
+    requires { at ≤ length bytes.now }
+    ensures found { IfOk result (λ r. IsField r.0 × BeginsWith (drop at bytes.now) (field_bytes r.0) r.1) }
+    ensures within { IfOk result (λ r. at + r.1 ≤ length bytes.now) }
+    ensures only { (f : OwnedField) (rest : List ℕ) → IsField f → drop at bytes.now ≡ field_bytes f ++ rest
+        → ReadsImage result (λ r. r.0 ≡ f) }
+    ensures fault { IfErr result (NoFieldAt bytes.now at) }
+{
+    match field_read(&bytes[at..]) {
+        Ok((field, used)) => Ok((field.to_owned(alloc)?, used)),
+        Err(fault) => Err(ImageFault::behind(at, fault)),
+    }
+}

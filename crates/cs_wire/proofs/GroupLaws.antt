@@ -1,0 +1,46 @@
+-- Groups that grow by an entry.
+use Rattle.std.proofs.Common.{◌≡◌, ◌≢◌, ℕ, List, [], ◌∷◌, ◌++◌, All, sym, arith, length-append}
+use Rattle.std.proofs.lemmas.List.Elements.{All-push, All-nil}
+use Rattle.std.proofs.lemmas.List.Quantifiers.{all_pairs_push}
+use Rattle.cs_wire.specs.Entry.{IsEntry, key_of, key_bytes}
+use Rattle.std.proofs.lemmas.List.{map-append, map_push}
+use Rattle.cs_wire.specs.declared.entry.Entry.{Entry}
+use Rattle.cs_wire.specs.Changeset.{HeaderData, GroupData, IsHeader, IsGroup, IsChangeset}
+use Rattle.cs_wire.specs.Views.{group_keys}
+
+-- two entries of one group have keys of their own
+abbrev pub HasOtherKey : List ℕ → Entry → Entry → Type 0
+HasOtherKey flags d e = key_of flags d.change ≢ key_of flags e.change
+
+-- a group of one entry
+pub IsGroup-one : (header : HeaderData) (entry : Entry) → IsHeader header → IsEntry header.flags entry → IsGroup (record { header = header; entries = entry ∷ [] })
+IsGroup-one header entry h e = record {
+  header = h;
+  some = omega arith;
+  each = All-push (IsEntry header.flags) [] entry (All-nil (IsEntry header.flags)) e;
+  once = λ i j d lt in_list. absurd (omega arith);
+}
+
+-- a group with one more entry, of a key that it had not
+pub IsGroup-push : (group : GroupData) (entry : Entry) → IsGroup group → IsEntry group.header.flags entry
+    → All (λ e. key_of group.header.flags e.change ≢ key_of group.header.flags entry.change) group.entries
+    → IsGroup (record { header = group.header; entries = group.entries ++ entry ∷ [] })
+IsGroup-push group entry g e fresh = record {
+  header = g.header;
+  some = omega (arith, length-append group.entries (entry ∷ []));
+  each = All-push (IsEntry group.header.flags) group.entries entry g.each e;
+  once = all_pairs_push (HasOtherKey group.header.flags) group.entries entry g.once (λ k d lt. fresh k d lt);
+}
+
+-- what a group keeps beside its header and entries, for the keys that it kept before and one more
+pub kept_keys : (flags : List ℕ) (entries : List Entry) (keys : List (List ℕ)) (entry : Entry) (key : List ℕ)
+    → keys ≡ group_keys flags entries → key ≡ key_bytes flags entry → keys ++ key ∷ [] ≡ group_keys flags (entries ++ entry ∷ [])
+kept_keys flags entries keys entry key kept new = rw (kept, new) (sym (map-append (key_bytes flags) entries (entry ∷ [])))
+
+-- a changeset with the group of one more table
+pub IsChangeset-push : (groups : List GroupData) (group : GroupData) → IsChangeset groups → IsGroup group
+    → All (λ g. g.header.name ≢ group.header.name) groups → IsChangeset (groups ++ group ∷ [])
+IsChangeset-push groups group c g fresh = record {
+  each = All-push IsGroup groups group c.each g;
+  once = all_pairs_push (λ (g h : GroupData). g.header.name ≢ h.header.name) groups group c.once (λ k d lt. fresh k d lt);
+}

@@ -1,0 +1,10 @@
+pub mod ChangeLaws
+pub mod EntriesLaws
+pub mod EntryFaults
+pub mod EntryLaws
+pub mod FieldsLaws
+pub mod GroupLaws
+pub mod GroupsLaws
+pub mod HeaderFaults
+pub mod KeyLaws
+pub mod ReadingLaws

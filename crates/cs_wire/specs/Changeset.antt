@@ -1,0 +1,80 @@
+-- Changesets and their files: the format comment of SQLite's sqlite3session.c, under "changeset format". That each
+-- table and each key stands once is this project's own.
+use Rattle.std.specs.Prelude.{◌≡◌, ◌≢◌, ℕ, ◌<◌, List, [], ◌∷◌, ◌++◌, length, map, All, AllPairs, Option, IsUtf8}
+use Rattle.std.specs.List.{flat_map, AllByRecursion}
+use Rattle.cs_value.specs.declared.value.OwnedField.{OwnedField}
+use Rattle.cs_value.specs.Varint.{varint}
+use Rattle.cs_wire.specs.declared.entry.Entry.{Entry}
+use Rattle.cs_wire.specs.Entry.{IsFlags, IsEntry, before_image, after_image, key_of, entry_bytes}
+
+-- what heads the changes of a table: its name and its flags
+pub record HeaderData : Type 0 where
+  pub name : List ℕ
+  pub flags : List ℕ
+
+-- a table's name has a byte and is UTF-8 without a zero byte
+pub record IsName (name : List ℕ) : Type 0 where
+  pub some : 0 < length name
+  pub text : IsUtf8 name
+  pub no_zero : AllByRecursion (λ b. b ≢ 0) name
+
+pub record IsHeader (header : HeaderData) : Type 0 where
+  pub name : IsName header.name
+  pub flags : IsFlags header.flags
+
+-- the changes of a table
+pub record GroupData : Type 0 where
+  pub header : HeaderData
+  pub entries : List Entry
+
+-- one entry at least, each well formed, and no key twice
+pub record IsGroup (group : GroupData) : Type 0 where
+  pub header : IsHeader group.header
+  pub some : 0 < length group.entries
+  pub each : All (IsEntry group.header.flags) group.entries
+  pub once : AllPairs (λ d e. key_of group.header.flags d.change ≢ key_of group.header.flags e.change) group.entries
+
+-- a changeset: the changes of tables, no table twice
+pub record IsChangeset (changeset : List GroupData) : Type 0 where
+  pub each : All IsGroup changeset
+  pub once : AllPairs (λ g h. g.header.name ≢ h.header.name) changeset
+
+-- the count of columns, and a flag for each
+unfoldable pub flags_bytes : List ℕ → List ℕ
+flags_bytes flags = varint (length flags) ++ flags
+
+-- 0x54, the flags, the name, 0x00
+unfoldable pub header_bytes : HeaderData → List ℕ
+header_bytes header = 0x54 ∷ flags_bytes header.flags ++ (header.name ++ 0 ∷ [])
+
+-- the entries in turn
+abbrev pub entries_bytes : List Entry → List ℕ
+entries_bytes entries = flat_map entry_bytes entries
+
+unfoldable pub group_bytes : GroupData → List ℕ
+group_bytes group = header_bytes group.header ++ entries_bytes group.entries
+
+-- the file of a changeset: the groups in turn
+abbrev pub file_bytes : List GroupData → List ℕ
+file_bytes changeset = flat_map group_bytes changeset
+
+-- the bytes are the file of a changeset
+abbrev pub IsAccepted : List ℕ → Type 0
+IsAccepted bytes = (changeset : List GroupData) × IsChangeset changeset × (bytes ≡ file_bytes changeset)
+
+-- what an entry says of the row with its key, before and after the change
+pub record ImageData : Type 0 where
+  pub key : List OwnedField
+  pub before : Option (List OwnedField)
+  pub after : Option (List OwnedField)
+
+abbrev pub image_of : List ℕ → Entry → ImageData
+image_of flags entry = record {
+  key = key_of flags entry.change;
+  before = before_image entry.change;
+  after = after_image flags entry.change;
+}
+
+-- what a group says of its table, each key once
+abbrev pub images : GroupData → List ImageData
+images group = map (image_of group.header.flags) group.entries

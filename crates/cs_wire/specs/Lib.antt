@@ -1,0 +1,9 @@
+pub mod Entry
+pub mod Changeset
+pub mod ReadFaults
+pub mod Views
+pub mod Reading
+pub use Rattle.cs_value.specs.Value
+pub use Rattle.cs_value.specs.Varint
+pub use Rattle.cs_value.specs.Spelling
+pub use Rattle.cs_value.specs.FieldFaults

@@ -1,0 +1,261 @@
+-- Why bytes are no changeset's file: one case for each kind of fault, said of what the bytes begin with and not of the
+-- steps of a reader. The order of the format is that of the format comment of SQLite's sqlite3session.c; the faults,
+-- their numbers and their names are this project's own.
+use Rattle.std.specs.Prelude.{◌≡◌, ◌≢◌, ℕ, ◌+◌, ◌<◌, ◌≤◌, ◌⊎◌, Bool, if◌then◌else◌, List, [], ◌∷◌, ◌++◌, length, take, drop, slice_index, slice_index_or, slice_get, Some, All, AllPairs, IsUtf8, codes}
+use Rattle.std.specs.List.{AllByRecursion}
+use Rattle.cs_value.specs.declared.TheConstants.{MAX_CONTENT_LEN}
+use Rattle.cs_value.specs.declared.fault.FieldFaultKind.{FieldFaultKind}
+use Rattle.cs_value.specs.declared.fault.FieldFaultKind.TheVariants as field
+use Rattle.cs_value.specs.declared.value.OwnedValue.TheVariants.{Null}
+use Rattle.cs_value.specs.declared.value.OwnedField.{OwnedField}
+use Rattle.cs_value.specs.declared.value.OwnedField.TheVariants.{Undefined, Defined}
+use Rattle.cs_value.specs.Value.{IsField}
+use Rattle.cs_value.specs.Varint.{varint}
+use Rattle.cs_value.specs.Spelling.{field_bytes, record_bytes}
+use Rattle.cs_value.specs.FieldFaults.{VarintFails, FieldFails}
+use Rattle.cs_wire.specs.declared.entry.Change.{Change}
+use Rattle.cs_wire.specs.declared.entry.Change.TheVariants.{Insert, Delete, Update}
+use Rattle.cs_wire.specs.declared.entry.Entry.{Entry}
+use Rattle.cs_wire.specs.declared.fault.ReadError.{ReadError}
+use Rattle.cs_wire.specs.declared.fault.ReadError.TheVariants.{Fault, NoMemory}
+use Rattle.cs_wire.specs.declared.fault.ReadFaultKind.{ReadFaultKind}
+use Rattle.cs_wire.specs.declared.fault.ReadFaultKind.TheVariants.{Truncated, NotTable, Patchset, BadVarint, ColumnCount, NoKey, BadName, DuplicateTable, EmptyGroup, BadOp, BadFlag, BadType, RealValue, BadText, UndefinedField, Unpaired, NullKey, DuplicateKey}
+use Rattle.cs_wire.specs.Entry.{IsFlags, IsChange, IsEntry, key_of, operation, fields_of, entry_bytes}
+use Rattle.cs_wire.specs.Changeset.{HeaderData, GroupData, IsHeader, IsChangeset, flags_bytes, header_bytes, entries_bytes, file_bytes, IsAccepted}
+
+-- the number of a kind
+abbrev pub code_of : ReadFaultKind → ℕ
+code_of Truncated = 1
+code_of NotTable = 2
+code_of Patchset = 3
+code_of BadVarint = 4
+code_of ColumnCount = 5
+code_of NoKey = 6
+code_of BadName = 7
+code_of DuplicateTable = 8
+code_of EmptyGroup = 9
+code_of BadOp = 10
+code_of BadFlag = 11
+code_of BadType = 12
+code_of RealValue = 13
+code_of BadText = 14
+code_of UndefinedField = 15
+code_of Unpaired = 16
+code_of NullKey = 17
+code_of DuplicateKey = 18
+
+-- the name of a kind
+abbrev pub name_of : ReadFaultKind → List ℕ
+name_of Truncated = codes "Truncated"
+name_of NotTable = codes "NotTable"
+name_of Patchset = codes "Patchset"
+name_of BadVarint = codes "BadVarint"
+name_of ColumnCount = codes "ColumnCount"
+name_of NoKey = codes "NoKey"
+name_of BadName = codes "BadName"
+name_of DuplicateTable = codes "DuplicateTable"
+name_of EmptyGroup = codes "EmptyGroup"
+name_of BadOp = codes "BadOp"
+name_of BadFlag = codes "BadFlag"
+name_of BadType = codes "BadType"
+name_of RealValue = codes "RealValue"
+name_of BadText = codes "BadText"
+name_of UndefinedField = codes "UndefinedField"
+name_of Unpaired = codes "Unpaired"
+name_of NullKey = codes "NullKey"
+name_of DuplicateKey = codes "DuplicateKey"
+
+-- the number of a refusal
+abbrev pub error_code : ReadError → ℕ
+error_code (Fault f) = code_of f.kind
+error_code NoMemory = 60
+
+-- SQLite's result code for it: SQLITE_CORRUPT or SQLITE_NOMEM
+abbrev pub error_class : ReadError → ℕ
+error_class (Fault f) = 11
+error_class NoMemory = 7
+
+-- the name of a refusal
+abbrev pub error_name : ReadError → List ℕ
+error_name (Fault f) = name_of f.kind
+error_name NoMemory = codes "NoMemory"
+
+-- the kind of a fault of a field
+abbrev pub kind_of : FieldFaultKind → ReadFaultKind
+kind_of field.Truncated = Truncated
+kind_of field.BadVarint = BadVarint
+kind_of field.BadType = BadType
+kind_of field.RealValue = RealValue
+kind_of field.BadText = BadText
+
+-- ---- places
+
+-- the text stands in the file from one place to another
+pub record Stands (file : List ℕ) (from : ℕ) (text : List ℕ) (to : ℕ) : Type 0 where
+  pub spelled : drop from file ≡ text ++ drop to file
+  pub within : to ≤ length file
+
+-- there is a byte at this place, and it begins no header
+pub record HasEntry (file : List ℕ) (at : ℕ) : Type 0 where
+  pub within : at < length file
+  pub no_table : slice_index file at ≢ 0x54
+  pub no_patchset : slice_index file at ≢ 0x50
+
+-- a table is to begin at this place: behind the file of a changeset, which may be that of no table
+pub record TableStart (file : List ℕ) (at : ℕ) (groups : List GroupData) : Type 0 where
+  pub are : IsChangeset groups
+  pub stand : Stands file 0 (file_bytes groups) at
+
+-- this place is inside a header: behind a changeset's file, 0x54 and a text
+pub record HeaderPart (file text : List ℕ) (at : ℕ) : Type 0 where
+  pub from : ℕ
+  pub groups : List GroupData
+  pub start : TableStart file from groups
+  pub stands : Stands file from (0x54 ∷ text) at
+
+-- an entry may begin at this place: behind a changeset's file, the header of another table, and entries of it or none
+pub record EntryStart (file : List ℕ) (at : ℕ) (header : HeaderData) (entries : List Entry) : Type 0 where
+  pub from : ℕ
+  pub groups : List GroupData
+  pub start : TableStart file from groups
+  pub is_header : IsHeader header
+  pub new_table : All (λ g. g.header.name ≢ header.name) groups
+  pub each : All (IsEntry header.flags) entries
+  pub once : AllPairs (λ d e. key_of header.flags d.change ≢ key_of header.flags e.change) entries
+  pub stand : Stands file from (header_bytes header ++ entries_bytes entries) at
+
+-- a field is to begin at this place: behind an operation, an indirect flag and so many fields of a change, which has
+-- more of them
+pub record FieldStart (file : List ℕ) (at : ℕ) (flags : List ℕ) (change : Change) (count : ℕ) : Type 0 where
+  pub from : ℕ
+  pub header : HeaderData
+  pub entries : List Entry
+  pub start : EntryStart file from header entries
+  pub flags_are : flags ≡ header.flags
+  pub is_change : IsChange flags change
+  pub more : count < length (fields_of change)
+  pub indirect : Bool
+  pub stand : Stands file from (operation change ∷ (if indirect then 1 else 0) ∷ record_bytes (take count (fields_of change))) at
+
+-- ---- what is met there
+
+abbrev pub IsOperation : ℕ → Type 0
+IsOperation byte = (byte ≡ 0x12) ⊎ (byte ≡ 0x09) ⊎ (byte ≡ 0x17)
+
+abbrev pub IsColumnCount : ℕ → Type 0
+IsColumnCount count = (0 < count) × (count ≤ 32767)
+
+-- behind 0x54 stands no varint
+abbrev pub HasNoCount : List ℕ → FieldFaultKind → ℕ → Type 0
+HasNoCount file kind place = (at : ℕ) × (behind : ℕ) × HeaderPart file [] at × VarintFails (drop at file) kind behind × (place ≡ at + behind)
+
+-- behind 0x54 stands the varint of no column, or of too many
+abbrev pub HasBadCount : List ℕ → ℕ → Type 0
+HasBadCount file place = (count : ℕ) × (to : ℕ) × HeaderPart file [] place × Stands file place (varint count) to
+    × (count ≤ MAX_CONTENT_LEN) × (IsColumnCount count → ⊥)
+
+-- behind the count of columns stand fewer flags
+abbrev pub IsCutFlags : List ℕ → Type 0
+IsCutFlags file = (count : ℕ) × (at : ℕ) × HeaderPart file (varint count) at × IsColumnCount count × (length file < at + count)
+
+-- behind the count of columns stand as many flags, and each is 0
+abbrev pub HasNoKey : List ℕ → ℕ → Type 0
+HasNoKey file place = (flags : List ℕ) × (to : ℕ) × HeaderPart file (varint (length flags)) place × IsColumnCount (length flags)
+    × Stands file place flags to × AllByRecursion (λ flag. flag ≡ 0) flags
+
+-- behind the flags stands no zero byte
+abbrev pub IsCutName : List ℕ → Type 0
+IsCutName file = (flags : List ℕ) × (at : ℕ) × IsFlags flags × HeaderPart file (flags_bytes flags) at × AllByRecursion (λ b. b ≢ 0) (drop at file)
+
+-- behind the flags stands a name that is empty or not UTF-8
+abbrev pub HasBadName : List ℕ → ℕ → Type 0
+HasBadName file place = (flags : List ℕ) × (name : List ℕ) × (to : ℕ) × IsFlags flags × HeaderPart file (flags_bytes flags) place
+    × Stands file place (name ++ 0 ∷ []) to × AllByRecursion (λ b. b ≢ 0) name × ((name ≡ []) ⊎ (IsUtf8 name → ⊥))
+
+-- the header of a table that was there before
+abbrev pub RepeatsTable : List ℕ → ℕ → Type 0
+RepeatsTable file place = (groups : List GroupData) × (header : HeaderData) × (to : ℕ) × TableStart file place groups × IsHeader header
+    × Stands file place (header_bytes header) to × (All (λ g. g.header.name ≢ header.name) groups → ⊥)
+
+-- the file ends behind an operation
+abbrev pub IsCutEntry : List ℕ → Type 0
+IsCutEntry file = (at : ℕ) × (header : HeaderData) × (entries : List Entry) × (byte : ℕ) × EntryStart file at header entries × IsOperation byte
+    × Stands file at (byte ∷ []) (length file)
+
+-- behind an operation stands a byte above 1
+abbrev pub HasBadFlag : List ℕ → ℕ → Type 0
+HasBadFlag file place = (at : ℕ) × (header : HeaderData) × (entries : List Entry) × (byte : ℕ) × EntryStart file at header entries × IsOperation byte
+    × Stands file at (byte ∷ []) place × (place < length file) × (1 < slice_index file place)
+
+-- an entry of a key that was there before in its table
+abbrev pub RepeatsKey : List ℕ → ℕ → Type 0
+RepeatsKey file place = (header : HeaderData) × (entries : List Entry) × (entry : Entry) × (to : ℕ) × EntryStart file place header entries
+    × IsEntry header.flags entry × Stands file place (entry_bytes entry) to
+    × (All (λ e. key_of header.flags e.change ≢ key_of header.flags entry.change) entries → ⊥)
+
+-- where a field is to begin stands none
+abbrev pub HasNoField : List ℕ → FieldFaultKind → ℕ → Type 0
+HasNoField file kind place = (at : ℕ) × (behind : ℕ) × (flags : List ℕ) × (change : Change) × (count : ℕ) × FieldStart file at flags change count
+    × FieldFails (drop at file) kind behind × (place ≡ at + behind)
+
+-- the change is that of a whole row, and no update
+abbrev pub IsWhole : Change → Type 0
+IsWhole (Insert row) = Unit {0}
+IsWhole (Delete row) = Unit {0}
+IsWhole (Update old new) = ⊥
+
+-- the column is one of the key
+abbrev pub IsKeyColumn : List ℕ → ℕ → Type 0
+IsKeyColumn flags column = 0 < slice_index flags column
+
+-- a field stands in a column of a row or of an old record
+abbrev pub StandsBefore : List ℕ → ℕ → OwnedField → (List ℕ → Change → ℕ → Type 0) → Type 0
+StandsBefore file place f Where = (flags : List ℕ) × (change : Change) × (column : ℕ) × (to : ℕ) × FieldStart file place flags change column
+    × (column < length flags) × Stands file place (field_bytes f) to × Where flags change column
+
+-- both are defined, or both undefined
+abbrev pub IsAlike : OwnedField → OwnedField → Type 0
+IsAlike Undefined Undefined = Unit {0}
+IsAlike (Defined v) (Defined w) = Unit {0}
+IsAlike Undefined (Defined w) = ⊥
+IsAlike (Defined v) Undefined = ⊥
+
+-- in a new record stands a field that is defined where none is wanted, or the reverse
+abbrev pub StandsUnpaired : List ℕ → ℕ → Type 0
+StandsUnpaired file place = (flags : List ℕ) × (change : Change) × (count : ℕ) × (f : OwnedField) × (to : ℕ) × FieldStart file place flags change count
+    × (length flags ≤ count) × IsField f × Stands file place (field_bytes f) to × (IsAlike f (slice_index_or (fields_of change) count Undefined) → ⊥)
+
+-- ---- the cases
+
+-- what the bytes begin with, and the place of the fault
+abbrev pub ReadCase : List ℕ → ReadFaultKind → ℕ → Type 0
+ReadCase file Truncated place = (HasNoCount file field.Truncated place ⊎ HasNoField file field.Truncated place)
+    ⊎ ((IsCutFlags file ⊎ IsCutName file ⊎ IsCutEntry file) × (place ≡ length file))
+ReadCase file NotTable place = (place ≡ 0) × HasEntry file 0
+ReadCase file Patchset place = (groups : List GroupData) × TableStart file place groups × (slice_get file place ≡ Some 0x50)
+ReadCase file BadVarint place = HasNoCount file field.BadVarint place ⊎ HasNoField file field.BadVarint place
+ReadCase file ColumnCount place = HasBadCount file place
+ReadCase file NoKey place = HasNoKey file place
+ReadCase file BadName place = HasBadName file place
+ReadCase file DuplicateTable place = RepeatsTable file place
+ReadCase file EmptyGroup place = (header : HeaderData) × EntryStart file place header [] × (HasEntry file place → ⊥)
+ReadCase file BadOp place = (header : HeaderData) × (entries : List Entry) × EntryStart file place header entries × HasEntry file place
+    × (IsOperation (slice_index file place) → ⊥)
+ReadCase file BadFlag place = HasBadFlag file place
+ReadCase file BadType place = HasNoField file field.BadType place
+ReadCase file RealValue place = HasNoField file field.RealValue place
+ReadCase file BadText place = HasNoField file field.BadText place
+ReadCase file UndefinedField place = StandsBefore file place Undefined (λ flags change column. IsWhole change ⊎ IsKeyColumn flags column)
+ReadCase file Unpaired place = StandsUnpaired file place
+ReadCase file NullKey place = StandsBefore file place (Defined Null) (λ flags change column. IsKeyColumn flags column)
+ReadCase file DuplicateKey place = RepeatsKey file place
+
+-- the bytes are no changeset's file, for this reason
+pub record ReadFails (file : List ℕ) (kind : ReadFaultKind) (place : ℕ) : Type 0 where
+  pub refused : IsAccepted file → ⊥
+  pub case : ReadCase file kind place
+
+-- why a file is not read: a fault of the bytes, or memory that was refused
+abbrev pub RefusesFile : List ℕ → ReadError → Type 0
+RefusesFile file (Fault f) = ReadFails file f.kind f.place
+RefusesFile file NoMemory = Unit {0}

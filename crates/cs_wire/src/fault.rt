@@ -1,0 +1,225 @@
+//! Why a file is refused.
+ghost use Rattle.std.specs.Prelude.{◌≡◌, ◌+◌, ◌≤◌, ◌<◌, ◌^◌};
+ghost use Rattle.cs_wire.specs.ReadFaults.{code_of, name_of, kind_of, error_code, error_class, error_name};
+ghost use Rattle.cs_wire.specs.declared.fault.ReadError.TheVariants.{NoMemory as OutOfMemory};
+
+use cs_value::{FieldFault, FieldFaultKind, NoMemory};
+use std::alloc::{AllocError, AllocFailed};
+use thiserror::Error;
+
+/// What is wrong with bytes that are no changeset's file.
+#[derive(Clone, Copy, Debug, PartialEq, Eq, Error)]
+pub enum ReadFaultKind {
+    #[error("the file ends inside a part")]
+    Truncated,
+    #[error("the file does not begin with a table")]
+    NotTable,
+    #[error("the file is a patchset")]
+    Patchset,
+    #[error("a count is not spelled as a varint")]
+    BadVarint,
+    #[error("a table has no column, or more than 32767")]
+    ColumnCount,
+    #[error("a table has no key column")]
+    NoKey,
+    #[error("a table's name is empty or not UTF-8")]
+    BadName,
+    #[error("a table stands twice")]
+    DuplicateTable,
+    #[error("a table has no change")]
+    EmptyGroup,
+    #[error("a change has no operation of the format")]
+    BadOp,
+    #[error("an indirect flag is neither 0 nor 1")]
+    BadFlag,
+    #[error("a field has no type of the format")]
+    BadType,
+    #[error("a field is a real number")]
+    RealValue,
+    #[error("a text is not UTF-8")]
+    BadText,
+    #[error("a field that has to be defined is not")]
+    UndefinedField,
+    #[error("a field of an update is defined on one side alone")]
+    Unpaired,
+    #[error("a key is NULL")]
+    NullKey,
+    #[error("a key stands twice in a table")]
+    DuplicateKey,
+}
+
+impl ReadFaultKind {
+    /// The number of this fault among the faults of the product, 1 to 18.
+    pub fn code(self) -> u8
+        ensures code { result ≡ code_of self }
+        ensures range { (1 ≤ result) × (result ≤ 18) }
+    {
+        match self {
+            ReadFaultKind::Truncated => 1,
+            ReadFaultKind::NotTable => 2,
+            ReadFaultKind::Patchset => 3,
+            ReadFaultKind::BadVarint => 4,
+            ReadFaultKind::ColumnCount => 5,
+            ReadFaultKind::NoKey => 6,
+            ReadFaultKind::BadName => 7,
+            ReadFaultKind::DuplicateTable => 8,
+            ReadFaultKind::EmptyGroup => 9,
+            ReadFaultKind::BadOp => 10,
+            ReadFaultKind::BadFlag => 11,
+            ReadFaultKind::BadType => 12,
+            ReadFaultKind::RealValue => 13,
+            ReadFaultKind::BadText => 14,
+            ReadFaultKind::UndefinedField => 15,
+            ReadFaultKind::Unpaired => 16,
+            ReadFaultKind::NullKey => 17,
+            ReadFaultKind::DuplicateKey => 18,
+        }
+    }
+
+    /// The name that error lines print.
+    pub fn name(self) -> &'static str
+        ensures { result.now ≡ name_of self }
+    {
+        match self {
+            ReadFaultKind::Truncated => "Truncated",
+            ReadFaultKind::NotTable => "NotTable",
+            ReadFaultKind::Patchset => "Patchset",
+            ReadFaultKind::BadVarint => "BadVarint",
+            ReadFaultKind::ColumnCount => "ColumnCount",
+            ReadFaultKind::NoKey => "NoKey",
+            ReadFaultKind::BadName => "BadName",
+            ReadFaultKind::DuplicateTable => "DuplicateTable",
+            ReadFaultKind::EmptyGroup => "EmptyGroup",
+            ReadFaultKind::BadOp => "BadOp",
+            ReadFaultKind::BadFlag => "BadFlag",
+            ReadFaultKind::BadType => "BadType",
+            ReadFaultKind::RealValue => "RealValue",
+            ReadFaultKind::BadText => "BadText",
+            ReadFaultKind::UndefinedField => "UndefinedField",
+            ReadFaultKind::Unpaired => "Unpaired",
+            ReadFaultKind::NullKey => "NullKey",
+            ReadFaultKind::DuplicateKey => "DuplicateKey",
+        }
+    }
+}
+
+/// A fault, and its place: a count of bytes from the start of the file.
+#[derive(Clone, Copy, Debug, PartialEq, Eq, Error)]
+#[error("{kind} at byte {place}")]
+pub struct ReadFault {
+    pub kind: ReadFaultKind,
+    pub place: usize,
+}
+
+impl ReadFault {
+    /// The number of this fault among the faults of the product, 1 to 18.
+    pub fn code(self) -> u8
+        ensures { result ≡ code_of self.kind }
+    {
+        self.kind.code()
+    }
+
+    /// SQLite's result code for it, `SQLITE_CORRUPT`.
+    pub fn class(self) -> u8
+        ensures { result ≡ 11 }
+    {
+        11
+    }
+
+    /// The name that error lines print.
+    pub fn name(self) -> &'static str
+        ensures { result.now ≡ name_of self.kind }
+    {
+        self.kind.name()
+    }
+}
+
+/// Why a file is not read.
+#[derive(Clone, Copy, Debug, PartialEq, Eq, Error)]
+pub enum ReadError {
+    /// It is no changeset's file.
+    #[error("{0}")]
+    Fault(ReadFault),
+    /// Memory was refused.
+    #[error("out of memory")]
+    NoMemory,
+}
+
+impl ReadError {
+    /// The number of this refusal among the faults of the product: 1 to 18 for a file, 60 for
+    /// memory.
+    pub fn code(self) -> u8
+        ensures { result ≡ error_code self }
+    {
+        match self {
+            ReadError::Fault(fault) => fault.code(),
+            ReadError::NoMemory => NoMemory.code(),
+        }
+    }
+
+    /// SQLite's result code for it, `SQLITE_CORRUPT` or `SQLITE_NOMEM`.
+    pub fn class(self) -> u8
+        ensures { result ≡ error_class self }
+    {
+        match self {
+            ReadError::Fault(fault) => fault.class(),
+            ReadError::NoMemory => NoMemory.class(),
+        }
+    }
+
+    /// The name that error lines print.
+    pub fn name(self) -> &'static str
+        ensures { result.now ≡ error_name self }
+    {
+        match self {
+            ReadError::Fault(fault) => fault.name(),
+            ReadError::NoMemory => NoMemory.name(),
+        }
+    }
+
+    /// A fault at a place of the file.
+    pub(crate) fn fault(kind: ReadFaultKind, place: usize) -> ReadError
+        ensures { result ≡ ReadError.Fault (record { kind = kind; place = place }) }
+    {
+        ReadError::Fault(ReadFault { kind, place })
+    }
+
+    /// The fault of a field or a varint that was read from `start` on.
+    pub(crate) fn behind(start: usize, fault: FieldFault) -> ReadError
+        requires { start + fault.place < 2 ^ 64 }
+        ensures { result ≡ ReadError.Fault (record { kind = kind_of fault.kind; place = start + fault.place }) }
+    {
+        let kind = match fault.kind {
+            FieldFaultKind::Truncated => ReadFaultKind::Truncated,
+            FieldFaultKind::BadVarint => ReadFaultKind::BadVarint,
+            FieldFaultKind::BadType => ReadFaultKind::BadType,
+            FieldFaultKind::RealValue => ReadFaultKind::RealValue,
+            FieldFaultKind::BadText => ReadFaultKind::BadText,
+        };
+        ReadError::fault(kind, start + fault.place)
+    }
+}
+
+impl From<NoMemory> for ReadError {
+    ghost from_gives = { λ _ e. e ≡ OutOfMemory };
+
+    fn from(_refusal: NoMemory) -> ReadError {
+        ReadError::NoMemory
+    }
+}
+
+impl From<AllocError> for ReadError {
+    ghost from_gives = { λ _ e. e ≡ OutOfMemory };
+
+    fn from(_refusal: AllocError) -> ReadError {
+        ReadError::NoMemory
+    }
+}
+
+impl<T: Drop> From<AllocFailed<T>> for ReadError {
+    ghost from_gives = { λ _ e. e ≡ OutOfMemory };
+
+    fn from(_refusal: AllocFailed<T>) -> ReadError {
+        ReadError::NoMemory
+    }
+}

@@ -1,0 +1,101 @@
+//! What heads the changes of a table.
+ghost use Rattle.std.specs.Prelude.{◌≡◌, ◌<◌, ◌↔◌, IfOk, IsTrue, Any, string_bytes};
+ghost use Rattle.cs_wire.specs.Changeset.{HeaderData, IsHeader};
+
+use crate::entry::{Change, Entry};
+use crate::format::MAX_COLUMNS;
+use cs_value::{Key, NoMemory};
+use std::alloc::Global;
+use std::marker::Model;
+
+/// The name and the flags of a table: a flag for each column, those other than 0 for the columns of
+/// the primary key.
+#[derive(Debug, Drop)]
+pub struct Header {
+    name: String,
+    flags: Vec<u8>,
+}
+
+impl Model for Header {
+    ghost use Rattle.std.specs.Prelude.{string_bytes};
+    ghost use Rattle.cs_wire.specs.Changeset.{HeaderData, IsHeader};
+
+    ghost Value = { HeaderData };
+
+    ghost view = { λ h. record { name = string_bytes h.name; flags = h.flags.items } };
+
+    ghost invariant = { λ h. IsHeader (record { name = string_bytes h.name; flags = h.flags.items }) };
+}
+
+impl Header {
+    ghost use Rattle.cs_wire.specs.Entry.{IsEntry, key_bytes};
+
+    /// Whether a name and flags make a header: the name has a byte and none that is zero; there are
+    /// 1 to 32767 flags, and one is not 0. It takes no memory.
+    pub fn fits(name: &str, flags: &[u8]) -> bool
+        ensures { IsTrue result ↔ IsHeader (record { name = name.now; flags = flags.now }) }
+    {
+        !name.is_empty()
+            && !has_zero(name.as_bytes())
+            && flags.len() <= MAX_COLUMNS
+            && has_key(flags)
+    }
+
+    /// Makes a header of a name and flags that fit ([`Header::fits`]), and takes no memory.
+    pub fn new(name: String, flags: Vec<u8>) -> Header
+        requires { IsHeader (record { name = string_bytes name; flags = flags.items }) }
+        ensures { result ≡ record { name = string_bytes name; flags = flags.items } }
+    {
+        Header { name, flags }
+    }
+
+    /// The table's name.
+    pub fn name(&self) -> &str
+        ensures { result.now ≡ self.now.name }
+    {
+        self.name.as_str()
+    }
+
+    /// The flags, one for each column.
+    pub fn flags(&self) -> &[u8]
+        ensures same { result.now ≡ self.now.flags }
+        ensures well_formed { IsHeader self.now }
+    {
+        &self.flags
+    }
+
+    /// A copy of the header.
+    pub fn copy(&self, alloc: Global) -> Result<Header, NoMemory>
+        ensures { IfOk result (λ h. h ≡ self.now) }
+    {
+        Ok(Header {
+            name: String::from_str(alloc, &self.name)?,
+            flags: Vec::from_slice(alloc, &self.flags)?,
+        })
+    }
+
+    /// The key of an entry that fits the flags ([`Header::admits`]).
+    pub fn key_of(&self, alloc: Global, entry: &Entry) -> Result<Key, NoMemory>
+        requires { IsEntry self.now.flags entry.now }
+        ensures { IfOk result (λ key. key ≡ key_bytes self.now.flags entry.now) }
+    {
+        match &entry.change {
+            Change::Insert(row) | Change::Delete(row) => Key::of_row(alloc, self.flags(), row),
+            Change::Update { old, .. } => Key::of_image(alloc, self.flags(), old),
+        }
+    }
+}
+
+/// Whether some column is one of the key.
+pub(crate) fn has_key(flags: &[u8]) -> bool
+    ensures { IsTrue result ↔ Any (λ flag. 0 < flag) flags.now }
+{
+    flags.iter().any(|flag| *flag > 0)
+}
+
+/// Whether a byte is zero.
+fn has_zero(bytes: &[u8]) -> bool
+    ensures { IsTrue result ↔ Any (λ b. b ≡ 0) bytes.now }
+{
+    bytes.iter().any(|byte| *byte == 0)
+}

@@ -1,0 +1,36 @@
+//! Changesets and their files: the format of SQLite's session extension.
+//!
+//! A changeset is a list of groups, one for each table. A group has a header, the table's name and
+//! the flags of its columns, and entries: inserts, deletes and updates of rows. The bytes follow
+//! the format comment of SQLite's `sqlite3session.c`; a file is read exactly where it is the file of
+//! a changeset, and why another is not is told by kind and place.
+//!
+//! ```rust
+//! let changeset = read(alloc, &file)?;
+//! assert_eq!(rt; changeset.groups().len(), 1);
+//! assert_eq!(rt; write(alloc, &changeset)?, file);
+//! ```
+//!
+//! `header`, `entry`, `group` and `changeset` are what a file holds, `reader` and `writer` go from
+//! bytes to that and back, `fault` says why a file is refused, `format` has the bytes that tell its
+//! parts apart, and `laws` what holds of all files.
+#![tactic(auto)]
+
+mod changeset;
+mod entry;
+mod fault;
+mod format;
+mod group;
+mod header;
+mod reader;
+#[cfg(test)]
+mod tests;
+mod writer;
+
+pub use changeset::Changeset;
+pub use entry::{Change, Entry};
+pub use fault::{ReadError, ReadFault, ReadFaultKind};
+pub use group::Group;
+pub use header::Header;
+pub use reader::read;
+pub use writer::write;

@@ -1,0 +1,237 @@
+//! Reading the files of changesets.
+//!
+//! Each reader takes the file and the place where to begin, and answers what stands there and the
+//! place behind it. A fault has the place that section "Read faults" of `docs/FORMAT.md` gives it.
+ghost use Rattle.std.specs.Prelude.{◌≡◌, ◌≢◌, ◌≤◌, ◌<◌, ◌++◌, ◌∷◌, ◌↔◌, ◌+◌, [], ℕ, List, Bool, length, drop, map, All, Any, IfOk, IfErr, IfSome, IfNone, OnOk, EachIndex, IsTrue, None, slice_index, string_bytes, if◌then◌else◌};
+ghost use Rattle.cs_value.specs.declared.TheConstants.{MAX_CONTENT_LEN};
+ghost use Rattle.cs_value.specs.declared.value.OwnedValue.{OwnedValue};
+ghost use Rattle.cs_value.specs.declared.value.OwnedValue.TheVariants.{Null};
+ghost use Rattle.cs_value.specs.declared.value.OwnedField.{OwnedField};
+ghost use Rattle.cs_value.specs.declared.value.OwnedField.TheVariants.{Defined};
+ghost use Rattle.cs_value.specs.Value.{IsField, IsRecord, field_of, value_of};
+ghost use Rattle.cs_value.specs.Varint.{varint};
+ghost use Rattle.cs_value.specs.Spelling.{field_bytes, record_bytes};
+ghost use Rattle.cs_wire.specs.declared.entry.Change.{Change as ChangeData};
+ghost use Rattle.cs_wire.specs.declared.entry.Entry.{Entry as EntryData};
+ghost use Rattle.cs_wire.specs.Entry.{IsFlags, IsChange, IsEntry, operation, fields_of, key_of, entry_bytes};
+ghost use Rattle.cs_wire.specs.Changeset.{HeaderData, GroupData, IsName, IsHeader, IsGroup, IsChangeset, flags_bytes, header_bytes, entries_bytes, group_bytes, file_bytes};
+ghost use Rattle.cs_wire.specs.ReadFaults.{Stands, HasEntry, TableStart, HeaderPart, EntryStart, ReadCase, RefusesFile};
+ghost use Rattle.cs_wire.specs.Views.{byte_of};
+ghost use Rattle.cs_wire.specs.Reading.{Reads, Fails, EndsGroup, Meets, IsFieldAt, IsRecordAt, FieldRefused, RecordRefused, ChangeRefused, CountFails, NoField, NoOperation, NoFlag, row_wants, old_wants, new_wants, in_row, in_old, in_new, refusal, is_modified, is_defined};
+
+mod header;
+mod record;
+
+use crate::changeset::Changeset;
+use crate::entry::{Change, Entry, Operation};
+use crate::fault::{ReadError, ReadFaultKind};
+use crate::format::{DELETE, INSERT, PATCHSET, TABLE, UPDATE};
+use crate::group::Group;
+use crate::header::Header;
+use cs_value::record_spellings_law;
+use header::read_header;
+use record::{read_new, read_old, read_row};
+use std::alloc::Global;
+
+/// The changeset whose file this is.
+///
+/// # Errors
+///
+/// `Fault` where it is the file of none: the first fault that is met, in the order of the file.
+/// `NoMemory` where memory is refused.
+pub fn read(alloc: Global, file: &[u8]) -> Result<Changeset, ReadError>
+    ensures found { IfOk result (λ c. IsChangeset c × (file.now ≡ file_bytes c)) }
+    ensures refused { IfErr result (RefusesFile file.now) }
+{
+    read_groups(alloc, file)
+}
+
+/// The groups of a file.
+fn read_groups(alloc: Global, file: &[u8]) -> Result<Changeset, ReadError>
+    ensures found { IfOk result (λ c. IsChangeset c × (file.now ≡ file_bytes c)) }
+    ensures only { (c : List GroupData) → IsChangeset c → file.now ≡ file_bytes c → Reads result (λ r. r ≡ c) }
+    ensures fault { Fails result (ReadCase file.now) }
+{
+    let mut changeset = Changeset::new(alloc);
+    let mut end = 0;
+    'groups: while end < file.len() {
+        end = push_group(alloc, file, end, &mut changeset)?;
+    }
+    Ok(changeset)
+}
+
+/// Reads a group and appends it, which is of a table that is not yet there.
+fn push_group(
+    alloc: Global,
+    file: &[u8],
+    at: usize,
+    changeset: &mut Changeset,
+) -> Result<usize, ReadError>
+    requires { at < length file.now }
+    ensures found { IfOk result (λ end. (group : GroupData) × IsGroup group
+        × Stands file.now at (group_bytes group) end × (changeset.new ≡ changeset.old ++ group ∷ [])) }
+    ensures only { (group : GroupData) (rest : List ℕ) → IsGroup group
+        → All (λ g. g.header.name ≢ group.header.name) changeset.old → EndsGroup rest
+        → drop at file.now ≡ group_bytes group ++ rest → Reads result (λ _. changeset.new ≡ changeset.old ++ group ∷ []) }
+    ensures ends { IfOk result (λ end. HasEntry file.now end → ⊥) }
+    ensures fault { TableStart file.now at changeset.old → (HasEntry file.now at → at ≡ 0) → Fails result (ReadCase file.now) }
+    ensures well_formed { OnOk result (IsChangeset changeset.new) }
+{
+    let (header, start) = read_header(alloc, file, at)?;
+    if changeset.find(header.name()).is_some() {
+        return Err(ReadError::fault(ReadFaultKind::DuplicateTable, at));
+    }
+    let (group, end) = read_group(alloc, file, start, header)?;
+    changeset.push(group)?;
+    Ok(end)
+}
+
+/// The entries of a table, one at least.
+fn read_group(
+    alloc: Global,
+    file: &[u8],
+    at: usize,
+    header: Header,
+) -> Result<(Group, usize), ReadError>
+    requires { at ≤ length file.now }
+    ensures found { IfOk result (λ r. (r.0.header ≡ header) × IsGroup r.0
+        × Stands file.now at (entries_bytes r.0.entries) r.1) }
+    ensures only { (entries : List EntryData) (rest : List ℕ) → IsGroup (record { header = header; entries = entries })
+        → EndsGroup rest → drop at file.now ≡ entries_bytes entries ++ rest → Reads result (λ r. r.0.entries ≡ entries) }
+    ensures ends { IfOk result (λ r. HasEntry file.now r.1 → ⊥) }
+    ensures fault { EntryStart file.now at header [] → Fails result (ReadCase file.now) }
+{
+    if !has_entry(file, at) {
+        return Err(ReadError::fault(ReadFaultKind::EmptyGroup, at));
+    }
+    let (first, next) = read_entry(alloc, file, at, header.flags())?;
+    let mut group = Group::new(alloc, header, first)?;
+    let mut end = next;
+    'entries: while has_entry(file, end) {
+        end = push_entry(alloc, file, end, &mut group)?;
+    }
+    Ok((group, end))
+}
+
+/// Whether an entry is to be read, and no header.
+fn has_entry(file: &[u8], at: usize) -> bool
+    ensures { IsTrue result ↔ HasEntry file.now at }
+{
+    at < file.len() && file[at] != TABLE && file[at] != PATCHSET
+}
+
+/// Reads an entry and appends it, whose key is not yet there.
+fn push_entry(alloc: Global, file: &[u8], at: usize, group: &mut Group) -> Result<usize, ReadError>
+    requires { HasEntry file.now at }
+    ensures found { IfOk result (λ end. (entry : EntryData) × Stands file.now at (entry_bytes entry) end
+        × (group.new.entries ≡ group.old.entries ++ entry ∷ [])) }
+    ensures only { (entry : EntryData) (rest : List ℕ) → IsEntry group.old.header.flags entry
+        → All (λ e. key_of group.old.header.flags e.change ≢ key_of group.old.header.flags entry.change) group.old.entries
+        → drop at file.now ≡ entry_bytes entry ++ rest → Reads result (λ _. group.new.entries ≡ group.old.entries ++ entry ∷ []) }
+    ensures fault { EntryStart file.now at group.old.header group.old.entries → Fails result (ReadCase file.now) }
+    ensures header { group.new.header ≡ group.old.header }
+    ensures well_formed { OnOk result (IsGroup group.new) }
+{
+    let header = group.header();
+    let (entry, end) = read_entry(alloc, file, at, header.flags())?;
+    let key = header.key_of(alloc, &entry)?;
+    // Keys that are spelled alike are one.
+    record_spellings_law();
+    if group.find(&key).is_some() {
+        return Err(ReadError::fault(ReadFaultKind::DuplicateKey, at));
+    }
+    group.push_with_key(key, entry)?;
+    Ok(end)
+}
+
+/// An entry of a table with these flags.
+fn read_entry(
+    alloc: Global,
+    file: &[u8],
+    at: usize,
+    flags: &[u8],
+) -> Result<(Entry, usize), ReadError>
+    requires { HasEntry file.now at }
+    ensures found { IfOk result (λ r. IsEntry flags.now r.0 × Stands file.now at (entry_bytes r.0) r.1) }
+    ensures only { (entry : EntryData) (rest : List ℕ) → IsEntry flags.now entry
+        → drop at file.now ≡ entry_bytes entry ++ rest → Reads result (λ r. r.0 ≡ entry) }
+    ensures fault { (header : HeaderData) (entries : List EntryData) → flags.now ≡ header.flags
+        → EntryStart file.now at header entries → Fails result (ReadCase file.now) }
+{
+    let (operation, start) = read_operation(file, at)?;
+    let (indirect, start) = read_indirect(file, start)?;
+    let (change, end) = read_change(alloc, file, start, flags, operation)?;
+    Ok((Entry { indirect, change }, end))
+}
+
+/// What an entry does.
+fn read_operation(file: &[u8], at: usize) -> Result<(Operation, usize), ReadError>
+    requires { at < length file.now }
+    ensures found { IfOk result (λ r. Stands file.now at (byte_of r.0 ∷ []) r.1) }
+    ensures only { (change : ChangeData) (rest : List ℕ) → drop at file.now ≡ operation change ∷ rest
+        → Reads result (λ r. byte_of r.0 ≡ operation change) }
+    ensures fault { Fails result (NoOperation file.now at) }
+{
+    match file[at] {
+        INSERT => Ok((Operation::Insert, at + 1)),
+        DELETE => Ok((Operation::Delete, at + 1)),
+        UPDATE => Ok((Operation::Update, at + 1)),
+        _ => Err(ReadError::fault(ReadFaultKind::BadOp, at)),
+    }
+}
+
+/// The indirect flag of an entry.
+fn read_indirect(file: &[u8], at: usize) -> Result<(bool, usize), ReadError>
+    requires { at ≤ length file.now }
+    ensures found { IfOk result (λ r. Stands file.now at ((if r.0 then 1 else 0) ∷ []) r.1) }
+    ensures only { (indirect : Bool) (rest : List ℕ) → drop at file.now ≡ (if indirect then 1 else 0) ∷ rest
+        → Reads result (λ r. r.0 ≡ indirect) }
+    ensures fault { Fails result (NoFlag file.now at) }
+{
+    match file.get(at) {
+        Some(0) => Ok((false, at + 1)),
+        Some(1) => Ok((true, at + 1)),
+        Some(_) => Err(ReadError::fault(ReadFaultKind::BadFlag, at)),
+        None => Err(ReadError::fault(ReadFaultKind::Truncated, file.len())),
+    }
+}
+
+/// The records of a change with this operation.
+fn read_change(
+    alloc: Global,
+    file: &[u8],
+    at: usize,
+    flags: &[u8],
+    what: Operation,
+) -> Result<(Change, usize), ReadError>
+    requires { at ≤ length file.now }
+    ensures found { IfOk result (λ r. IsChange flags.now r.0 × (operation r.0 ≡ byte_of what)
+        × Stands file.now at (record_bytes (fields_of r.0)) r.1) }
+    ensures only { (change : ChangeData) (rest : List ℕ) → IsChange flags.now change → operation change ≡ byte_of what
+        → drop at file.now ≡ record_bytes (fields_of change) ++ rest → Reads result (λ r. r.0 ≡ change) }
+    ensures fault { Fails result (ChangeRefused (byte_of what) flags.now file.now at) }
+{
+    match what {
+        Operation::Insert => {
+            let (row, end) = read_row(alloc, file, at, flags)?;
+            Ok((Change::Insert(row), end))
+        }
+        Operation::Delete => {
+            let (row, end) = read_row(alloc, file, at, flags)?;
+            Ok((Change::Delete(row), end))
+        }
+        Operation::Update => {
+            let (old, middle) = read_old(alloc, file, at, flags)?;
+            let (new, end) = read_new(alloc, file, middle, flags, &old)?;
+            Ok((Change::Update { old, new }, end))
+        }
+    }
+}
+
+/// What is left of the file from a place on.
+pub(crate) fn rest_from(file: &[u8], at: usize) -> &[u8]
+    requires { at ≤ length file.now }
+    ensures { result.now ≡ drop at file.now }
+{
+    &file[at..]
+}

@@ -1,0 +1,116 @@
+//! Reading the headers of tables.
+ghost use Rattle.std.specs.Prelude.{◌≡◌, ◌≢◌, ◌≤◌, ◌<◌, ◌++◌, ◌∷◌, ◌↔◌, ◌+◌, [], ℕ, List, Bool, length, drop, map, All, Any, IfOk, IfErr, IfSome, IfNone, OnOk, EachIndex, IsTrue, None, slice_index, string_bytes, if◌then◌else◌};
+ghost use Rattle.cs_value.specs.declared.TheConstants.{MAX_CONTENT_LEN};
+ghost use Rattle.cs_value.specs.declared.value.OwnedValue.{OwnedValue};
+ghost use Rattle.cs_value.specs.declared.value.OwnedValue.TheVariants.{Null};
+ghost use Rattle.cs_value.specs.declared.value.OwnedField.{OwnedField};
+ghost use Rattle.cs_value.specs.declared.value.OwnedField.TheVariants.{Defined};
+ghost use Rattle.cs_value.specs.Value.{IsField, IsRecord, field_of, value_of};
+ghost use Rattle.cs_value.specs.Varint.{varint};
+ghost use Rattle.cs_value.specs.Spelling.{field_bytes, record_bytes};
+ghost use Rattle.cs_wire.specs.declared.entry.Change.{Change as ChangeData};
+ghost use Rattle.cs_wire.specs.declared.entry.Entry.{Entry as EntryData};
+ghost use Rattle.cs_wire.specs.Entry.{IsFlags, IsChange, IsEntry, operation, fields_of, key_of, entry_bytes};
+ghost use Rattle.cs_wire.specs.Changeset.{HeaderData, GroupData, IsName, IsHeader, IsGroup, IsChangeset, flags_bytes, header_bytes, entries_bytes, group_bytes, file_bytes};
+ghost use Rattle.cs_wire.specs.ReadFaults.{Stands, HasEntry, TableStart, HeaderPart, EntryStart, ReadCase, RefusesFile};
+ghost use Rattle.cs_wire.specs.Views.{byte_of};
+ghost use Rattle.cs_wire.specs.Reading.{Reads, Fails, EndsGroup, Meets, IsFieldAt, IsRecordAt, FieldRefused, RecordRefused, ChangeRefused, CountFails, NoField, NoOperation, NoFlag, row_wants, old_wants, new_wants, in_row, in_old, in_new, refusal, is_modified, is_defined};
+
+use crate::fault::{ReadError, ReadFaultKind};
+use crate::format::{MAX_COLUMNS, PATCHSET, TABLE};
+use crate::header::{Header, has_key};
+use crate::reader::rest_from;
+use cs_value::varint_read;
+use std::alloc::Global;
+use std::str;
+
+/// The header of a table.
+pub(crate) fn read_header(
+    alloc: Global,
+    file: &[u8],
+    at: usize,
+) -> Result<(Header, usize), ReadError>
+    requires { at < length file.now }
+    ensures found { IfOk result (λ r. IsHeader r.0 × Stands file.now at (header_bytes r.0) r.1) }
+    ensures only { (header : HeaderData) (rest : List ℕ) → IsHeader header
+        → drop at file.now ≡ header_bytes header ++ rest → Reads result (λ r. r.0 ≡ header) }
+    ensures fault { (groups : List GroupData) → TableStart file.now at groups → (HasEntry file.now at → at ≡ 0)
+        → Fails result (ReadCase file.now) }
+{
+    if file[at] == PATCHSET {
+        return Err(ReadError::fault(ReadFaultKind::Patchset, at));
+    }
+    if file[at] != TABLE {
+        return Err(ReadError::fault(ReadFaultKind::NotTable, at));
+    }
+    let (flags, at) = read_flags(alloc, file, at + 1)?;
+    let (name, at) = read_name(alloc, file, at)?;
+    Ok((Header::new(name, flags), at))
+}
+
+/// The count of columns, and a flag for each.
+fn read_flags(alloc: Global, file: &[u8], at: usize) -> Result<(Vec<u8>, usize), ReadError>
+    requires { at ≤ length file.now }
+    ensures found { IfOk result (λ r. IsFlags r.0.items × Stands file.now at (flags_bytes r.0.items) r.1) }
+    ensures only { (flags rest : List ℕ) → IsFlags flags → drop at file.now ≡ flags_bytes flags ++ rest
+        → Reads result (λ r. r.0.items ≡ flags) }
+    ensures fault { HeaderPart file.now [] at → Fails result (ReadCase file.now) }
+{
+    let (count, start) = read_count(file, at)?;
+    if count == 0 || count > MAX_COLUMNS {
+        return Err(ReadError::fault(ReadFaultKind::ColumnCount, at));
+    }
+    let rest = rest_from(file, start);
+    if rest.len() < count {
+        return Err(ReadError::fault(ReadFaultKind::Truncated, file.len()));
+    }
+    let flags = &rest[..count];
+    if !has_key(flags) {
+        return Err(ReadError::fault(ReadFaultKind::NoKey, start));
+    }
+    Ok((Vec::from_slice(alloc, flags)?, start + count))
+}
+
+/// A varint.
+fn read_count(file: &[u8], at: usize) -> Result<(usize, usize), ReadError>
+    requires { at ≤ length file.now }
+    ensures found { IfOk result (λ r. (r.0 ≤ MAX_CONTENT_LEN) × Stands file.now at (varint r.0) r.1) }
+    ensures only { (n : ℕ) (rest : List ℕ) → n ≤ MAX_CONTENT_LEN → drop at file.now ≡ varint n ++ rest
+        → Reads result (λ r. r.0 ≡ n) }
+    ensures fault { Fails result (CountFails file.now at) }
+{
+    match varint_read(rest_from(file, at)) {
+        Ok((count, used)) => Ok((count as usize, at + used)),
+        Err(fault) => Err(ReadError::behind(at, fault)),
+    }
+}
+
+/// The name of a table, and the zero byte behind it.
+fn read_name(alloc: Global, file: &[u8], at: usize) -> Result<(String, usize), ReadError>
+    requires { at ≤ length file.now }
+    ensures found { IfOk result (λ r. IsName (string_bytes r.0) × Stands file.now at (string_bytes r.0 ++ 0 ∷ []) r.1) }
+    ensures only { (name rest : List ℕ) → IsName name → drop at file.now ≡ name ++ 0 ∷ rest
+        → Reads result (λ r. string_bytes r.0 ≡ name) }
+    ensures fault { (flags : List ℕ) → IsFlags flags → HeaderPart file.now (flags_bytes flags) at → Fails result (ReadCase file.now) }
+{
+    let rest = rest_from(file, at);
+    let Some(len) = zero_at(rest) else {
+        return Err(ReadError::fault(ReadFaultKind::Truncated, file.len()));
+    };
+    let bytes = &rest[..len];
+    if bytes.is_empty() {
+        return Err(ReadError::fault(ReadFaultKind::BadName, at));
+    }
+    match str::from_utf8(bytes) {
+        Ok(name) => Ok((String::from_str(alloc, name)?, at + len + 1)),
+        Err(_) => Err(ReadError::fault(ReadFaultKind::BadName, at)),
+    }
+}
+
+/// The place of the first zero byte.
+fn zero_at(bytes: &[u8]) -> Option<usize>
+    ensures found { IfSome result (λ n. (n < length bytes.now) × (slice_index bytes.now n ≡ 0) × ((k : ℕ) → k < n → slice_index bytes.now k ≢ 0)) }
+    ensures none { IfNone result (EachIndex bytes.now (λ k. slice_index bytes.now k ≢ 0)) }
+{
+    bytes.iter().position(|byte| *byte == 0)
+}
