@@ -1,3 +1,4 @@
+pub mod Examples
 pub mod InverseLaws
 pub mod ProgressLemmas
 pub mod ReplyLemmas

@@ -1,14 +1,24 @@
 -- No spelling begins another's.
-use Rattle.std.proofs.Common.{◌≡◌, ℕ, List, [], ◌∷◌, ◌++◌, length, refl, sym, ap, ◌∙◌, append_assoc, arith}
+use Rattle.std.proofs.Common.{◌≡◌, ◌≤◌, ℕ, List, [], ◌∷◌, ◌++◌, length, refl, sym, ap, ◌∙◌, append_assoc, arith}
 use Rattle.std.proofs.lemmas.List.{append_cancel_left}
+use Rattle.cs_value.specs.declared.TheConstants.{MAX_CONTENT_LEN}
 use Rattle.cs_value.specs.declared.value.OwnedValue.{OwnedValue}
 use Rattle.cs_value.specs.declared.value.OwnedField.{OwnedField}
 use Rattle.cs_value.specs.declared.value.OwnedField.TheVariants.{Defined}
 use Rattle.cs_value.specs.Value.{IsValue, IsField, IsRecord, IsRow}
+use Rattle.cs_value.specs.Varint.{varint}
 use Rattle.cs_value.specs.Spelling.{value_bytes, field_bytes, record_bytes, row_bytes}
-use Rattle.cs_value.specs.Reading.{field_at}
+use Rattle.cs_value.specs.Reading.{number_at, field_at}
 use Rattle.cs_value.proofs.Steps.{ok_is}
+use Rattle.cs_value.proofs.VarintLaws.{number_again}
 use Rattle.cs_value.proofs.FieldAgain.{field_again}
+
+-- bytes that begin with two varints begin with one
+pub varint_spellings : (m n : ℕ) (x y : List ℕ) → m ≤ MAX_CONTENT_LEN → n ≤ MAX_CONTENT_LEN → varint m ++ x ≡ varint n ++ y → (m ≡ n) × (x ≡ y)
+varint_spellings m n x y small_m small_n e =
+    let both = ok_is (m, length (varint m)) (n, length (varint n)) (sym (number_again m x small_m) ∙ ap number_at e ∙ number_again n y small_n) in
+    let same : m ≡ n = ap (λ (p : ℕ × ℕ). p.0) both in
+    (same, append_cancel_left (varint m) x y (e ∙ ap (λ (k : ℕ). varint k ++ y) (sym same)))
 
 -- bytes that begin with two fields begin with one
 pub field_spellings : (f g : OwnedField) (x y : List ℕ) → IsField f → IsField g → field_bytes f ++ x ≡ field_bytes g ++ y → (f ≡ g) × (x ≡ y)

@@ -1,9 +1,17 @@
 //! What holds of all spellings. These functions do nothing: each has a law as its contract.
-ghost use Rattle.std.specs.Prelude.{◌≡◌, ◌++◌, ℕ, List, length};
+ghost use Rattle.std.specs.Prelude.{◌≡◌, ◌≤◌, ◌++◌, ℕ, List, length};
+ghost use Rattle.cs_value.specs.declared.TheConstants.{MAX_CONTENT_LEN};
 ghost use Rattle.cs_value.specs.declared.value.OwnedField.{OwnedField};
 ghost use Rattle.cs_value.specs.declared.value.OwnedValue.{OwnedValue};
 ghost use Rattle.cs_value.specs.Value.{IsField, IsRecord, IsRow};
+ghost use Rattle.cs_value.specs.Varint.{varint};
 ghost use Rattle.cs_value.specs.Spelling.{field_bytes, record_bytes, row_bytes};
+
+/// No varint begins another's spelling.
+pub fn varint_spellings_law()
+    ensures { (m n : ℕ) (x y : List ℕ) → m ≤ MAX_CONTENT_LEN → n ≤ MAX_CONTENT_LEN
+        → varint m ++ x ≡ varint n ++ y → (m ≡ n) × (x ≡ y) }
+{}
 
 /// No spelling of a field begins another's: bytes that begin with two fields begin with one.
 pub fn field_spellings_law()

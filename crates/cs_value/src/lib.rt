@@ -36,7 +36,7 @@ pub use fault::{FieldFault, FieldFaultKind, ImageFault};
 pub use field::{field_read, field_write};
 pub use image::{Image, image_read, image_write};
 pub use key::Key;
-pub use laws::{field_spellings_law, key_bytes_law, record_spellings_law};
+pub use laws::{field_spellings_law, key_bytes_law, record_spellings_law, varint_spellings_law};
 pub use no_memory::NoMemory;
 pub use row::{Row, row_write};
 pub use text::Text;

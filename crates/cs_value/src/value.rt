@@ -1,7 +1,7 @@
 //! Values and fields, borrowed and owned.
 ghost use Rattle.std.specs.Prelude.{◌≡◌, ◌<◌, ◌≤◌, ◌↔◌, ◌^◌, IfOk, IsTrue};
 ghost use Rattle.cs_value.specs.declared.TheConstants.{MAX_CONTENT_LEN};
-ghost use Rattle.cs_value.specs.Value.{value_of, field_of, Fits, FieldFits};
+ghost use Rattle.cs_value.specs.Value.{value_of, field_of, Fits, FieldFits, IsValue, IsField};
 
 use crate::MAX_CONTENT_LEN;
 use crate::bytes::Bytes;
@@ -54,11 +54,15 @@ impl OwnedValue {
     pub fn as_value(&self) -> Value<'_>
         ensures same { value_of result ≡ self.now }
         ensures short { Fits result }
+        ensures is_value { IsValue self.now }
     {
         match self {
             OwnedValue::Int(number) => Value::Int(*number),
             OwnedValue::Text(text) => Value::Text(text.as_str()),
-            OwnedValue::Blob(bytes) => Value::Blob(bytes.as_slice()),
+            OwnedValue::Blob(bytes) => {
+                let content = bytes.as_slice();
+                Value::Blob(content)
+            }
             OwnedValue::Null => Value::Null,
         }
     }
@@ -76,6 +80,7 @@ impl OwnedField {
     pub fn as_field(&self) -> Field<'_>
         ensures same { field_of result ≡ self.now }
         ensures short { FieldFits result }
+        ensures is_field { IsField self.now }
     {
         match self {
             OwnedField::Undefined => Field::Undefined,

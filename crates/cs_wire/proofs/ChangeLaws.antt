@@ -1,7 +1,7 @@
 -- Changes, by what is wanted in their columns.
-use Rattle.std.proofs.Common.{◌≡◌, ◌≢◌, ℕ, zero, suc, ◌+◌, ◌-◌, ◌<◌, ◌≤◌, pos, not, Bool, true, false, List, [], ◌∷◌, ◌++◌, length, map, take, drop, get_or, None, Some, refl, sym, ap, ◌∙◌, append_assoc, arith, length-append}
+use Rattle.std.proofs.Common.{◌≡◌, ◌≢◌, ℕ, zero, suc, ◌+◌, ◌≤◌, pos, not, Bool, true, false, List, [], ◌∷◌, ◌++◌, length, map, take, drop, get_or, None, refl, sym, ap, ◌∙◌, append_assoc, arith, length-append}
 use Rattle.std.proofs.lemmas.Bool.{ne_eqb}
-use Rattle.std.proofs.lemmas.List.{append-nil, length-map, length-drop, take_at, get_or_append_left, get_or-append-add}
+use Rattle.std.proofs.lemmas.List.{append-nil, length-map, take_at, get_or_append_left, get_or-append-add}
 use Rattle.std.proofs.lemmas.List.Concat.{flat_map-append}
 use Rattle.cs_value.specs.declared.value.OwnedValue.{OwnedValue}
 use Rattle.cs_value.specs.declared.value.OwnedValue.TheVariants.{Int, Text, Blob, Null}
@@ -17,7 +17,7 @@ use Rattle.cs_wire.specs.ReadFaults.{Stands}
 use Rattle.cs_wire.specs.Reading.{Want, KeyValue, AnyValue, AnyField, NewValue, Nothing, refusal, is_key_flag, in_row, in_old, in_new, is_modified, row_wants, old_wants, new_wants, wants_of, Meets, IsRecordAt, RecordRefused, ChangeRefused}
 use Rattle.cs_wire.proofs.ReadingLaws.{Stands-then, rest_is}
 use Rattle.cs_wire.proofs.EntryLaws.{IsRow-map}
-use Rattle.cs_wire.proofs.FieldsLaws.{length-Meets, length-new_wants}
+use Rattle.cs_wire.proofs.FieldsLaws.{length-Meets}
 
 -- a flag other than 0 marks a key column
 pub key_flag : (flag : ℕ) → is_key_flag (suc flag) ≡ true
@@ -179,7 +179,7 @@ filled_met wants [] le h = fillers_met wants
 filled_met [] (f ∷ fields) le h = absurd (omega arith)
 filled_met (w ∷ wants) (f ∷ fields) le h = (h.0, filled_met wants fields (omega arith) h.1)
 
-IsRecord-append : (fields others : List OwnedField) → IsRecord fields → IsRecord others → IsRecord (fields ++ others)
+pub IsRecord-append : (fields others : List OwnedField) → IsRecord fields → IsRecord others → IsRecord (fields ++ others)
 IsRecord-append [] others h k = k
 IsRecord-append (f ∷ fields) others h k = (h.0, IsRecord-append fields others h.1 k)
 

@@ -2,7 +2,6 @@
 use Rattle.std.proofs.Common.{◌≡◌, ◌≢◌, ℕ, ◌<◌, ◌≤◌, List, [], ◌∷◌, ◌++◌, length, drop, get_or, All, refl, sym, ap, ◌∙◌, subst, append_assoc, arith, length-append, inl, inr, add-zero}
 use Rattle.std.proofs.lemmas.List.{append-nil, length-drop, get_or-drop, get_or_at, get_or_append_left}
 use Rattle.std.proofs.lemmas.List.Concat.{flat_map-append}
-use Rattle.std.proofs.lemmas.List.Elements.{All-push}
 use Rattle.std.proofs.lemmas.Option.{get_or_from_slice_get}
 use Rattle.cs_wire.specs.declared.entry.Entry.{Entry}
 use Rattle.cs_wire.specs.declared.entry.Change.{Change}
@@ -29,7 +28,7 @@ pub record EntriesSoFar (file : List ℕ) (at : ℕ) (header : HeaderData) (grou
 -- ---- bytes
 
 -- an entry begins with a byte that begins no header
-operation_no_header : (change : Change) → (operation change ≢ 0x54) × (operation change ≢ 0x50)
+pub operation_no_header : (change : Change) → (operation change ≢ 0x54) × (operation change ≢ 0x50)
 operation_no_header (Insert row) = (λ e. omega arith, λ e. omega arith)
 operation_no_header (Delete row) = (λ e. omega arith, λ e. omega arith)
 operation_no_header (Update old new) = (λ e. omega arith, λ e. omega arith)

@@ -1,5 +1,5 @@
 -- Faults inside an entry.
-use Rattle.std.proofs.Common.{◌≡◌, ◌≢◌, ℕ, zero, suc, ◌+◌, ◌-◌, ◌<◌, ◌≤◌, Bool, true, false, cond, List, [], ◌∷◌, ◌++◌, length, map, take, drop, get_or, None, Some, refl, sym, ap, subst, ◌∙◌, arith, length-append, inl, inr}
+use Rattle.std.proofs.Common.{◌≡◌, ℕ, zero, suc, ◌+◌, ◌-◌, ◌<◌, ◌≤◌, Bool, true, false, cond, List, [], ◌∷◌, ◌++◌, length, get_or, None, Some, refl, sym, ap, subst, ◌∙◌, arith, length-append, inl, inr}
 use Rattle.std.specs.Prelude.{◌⊎◌, Option}
 use Rattle.std.proofs.lemmas.Bool.{cases_lt}
 use Rattle.std.proofs.lemmas.List.{length-map, get_or_append_left, get_or-append-add}
@@ -10,20 +10,20 @@ use Rattle.cs_value.specs.declared.value.OwnedValue.TheVariants.{Int, Text, Blob
 use Rattle.cs_value.specs.declared.value.OwnedField.{OwnedField}
 use Rattle.cs_value.specs.declared.value.OwnedField.TheVariants.{Undefined, Defined}
 use Rattle.cs_value.specs.Value.{IsField}
-use Rattle.cs_value.specs.Spelling.{field_bytes, record_bytes}
+use Rattle.cs_value.specs.Spelling.{field_bytes}
 use Rattle.cs_wire.specs.declared.entry.Change.{Change}
 use Rattle.cs_wire.specs.declared.entry.Change.TheVariants.{Insert, Delete, Update}
 use Rattle.cs_wire.specs.declared.entry.Entry.{Entry}
 use Rattle.cs_wire.specs.declared.fault.ReadFaultKind.{ReadFaultKind}
-use Rattle.cs_wire.specs.declared.fault.ReadFaultKind.TheVariants.{Truncated, BadFlag, BadOp, UndefinedField, Unpaired, NullKey}
+use Rattle.cs_wire.specs.declared.fault.ReadFaultKind.TheVariants.{UndefinedField, Unpaired, NullKey}
 use Rattle.cs_wire.specs.Entry.{IsChange, operation, fields_of}
 use Rattle.cs_wire.specs.Changeset.{HeaderData}
-use Rattle.cs_wire.specs.ReadFaults.{kind_of, Stands, HasEntry, EntryStart, FieldStart, IsOperation, HasNoField, IsWhole, IsKeyColumn, StandsBefore, IsAlike, StandsUnpaired, ReadCase}
-use Rattle.cs_wire.specs.Reading.{Want, KeyValue, AnyValue, AnyField, NewValue, Nothing, refusal, is_key_flag, in_row, in_old, in_new, is_modified, row_wants, old_wants, new_wants, wants_of, Meets, NoField, OtherField, ChangeRefused, NoOperation, NoFlag}
+use Rattle.cs_wire.specs.ReadFaults.{kind_of, Stands, EntryStart, FieldStart, HasNoField, IsWhole, IsKeyColumn, IsAlike, ReadCase}
+use Rattle.cs_wire.specs.Reading.{Want, KeyValue, AnyValue, AnyField, NewValue, Nothing, refusal, is_key_flag, in_row, in_old, in_new, is_modified, row_wants, old_wants, new_wants, wants_of, Meets, NoField, OtherField, ChangeRefused}
 use Rattle.cs_wire.proofs.ReadingLaws.{Stands-then}
 use Rattle.cs_wire.proofs.EntryLaws.{length-IsKeyedRow, length-IsKeyedUpdate}
-use Rattle.cs_wire.proofs.FieldsLaws.{want_at, length-Meets, length-new_wants, new_want_at}
-use Rattle.cs_wire.proofs.ChangeLaws.{key_flag, old_met, new_met}
+use Rattle.cs_wire.proofs.FieldsLaws.{want_at, length-new_wants}
+use Rattle.cs_wire.proofs.ChangeLaws.{key_flag, new_met}
 
 -- no field stands where one is to begin
 no_field_case : (file : List ℕ) (place : ℕ) (why : FieldFaultKind) → HasNoField file why place → ReadCase file (kind_of why) place

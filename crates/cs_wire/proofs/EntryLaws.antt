@@ -3,7 +3,7 @@ use Rattle.std.proofs.Common.{◌≡◌, ℕ, zero, suc, ◌<◌, Bool, cond, Li
 use Rattle.std.specs.Prelude.{◌⊎◌}
 use Rattle.cs_value.specs.declared.value.OwnedValue.{OwnedValue}
 use Rattle.cs_value.specs.declared.value.OwnedField.{OwnedField}
-use Rattle.cs_value.specs.declared.value.OwnedField.TheVariants.{Undefined, Defined}
+use Rattle.cs_value.specs.declared.value.OwnedField.TheVariants.{Defined}
 use Rattle.cs_value.specs.Value.{key_columns, IsRow, IsRecord}
 use Rattle.cs_value.specs.Spelling.{field_bytes, record_bytes, row_bytes}
 use Rattle.cs_wire.specs.declared.entry.Change.{Change}

@@ -3,7 +3,7 @@ use Rattle.std.proofs.Common.{◌≡◌, ◌≢◌, ℕ, ◌<◌, ◌≤◌, Lis
 use Rattle.std.specs.Prelude.{slice_get, Some}
 use Rattle.std.proofs.lemmas.List.{append-nil, get_or_at, get_or_append_left, drop_all, length-drop}
 use Rattle.std.proofs.lemmas.List.Concat.{flat_map-append}
-use Rattle.std.proofs.lemmas.List.Elements.{All-push, All-nil}
+use Rattle.std.proofs.lemmas.List.Elements.{All-nil}
 use Rattle.cs_wire.specs.Entry.{IsEntry}
 use Rattle.cs_wire.specs.Changeset.{HeaderData, GroupData, IsHeader, IsGroup, IsChangeset, header_bytes, entries_bytes, group_bytes, file_bytes}
 use Rattle.cs_wire.specs.ReadFaults.{Stands, HasEntry, TableStart, EntryStart}
@@ -49,7 +49,7 @@ unfolding group_bytes header_bytes
 group_bytes_some group = omega arith
 
 -- what follows a group of a file ends it
-ends_group : (others : List GroupData) → EndsGroup (file_bytes others)
+pub ends_group : (others : List GroupData) → EndsGroup (file_bytes others)
 ends_group [] = inl refl
 ends_group (group ∷ others) = inr (group_first group (file_bytes others))
 

@@ -1,8 +1,11 @@
+pub mod AdmitLaws
 pub mod ChangeLaws
 pub mod EntriesLaws
 pub mod EntryFaults
 pub mod EntryLaws
+pub mod Examples
 pub mod FieldsLaws
+pub mod FileSpellings
 pub mod GroupLaws
 pub mod GroupsLaws
 pub mod HeaderFaults

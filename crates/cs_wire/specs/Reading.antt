@@ -1,6 +1,6 @@
 -- What the private readers answer. No public contract names these: what reading is for is said by Changeset and
 -- ReadFaults.
-use Rattle.std.specs.Prelude.{◌≡◌, ◌≢◌, ℕ, zero, suc, ◌+◌, ◌<◌, ◌≤◌, ◌==◌, ◌⊎◌, Bool, true, false, not, if◌then◌else◌, List, [], ◌∷◌, ◌++◌, length, map, take, drop, slice_index, slice_index_or, slice_get, Option, Some, None, Result, Ok, Err}
+use Rattle.std.specs.Prelude.{◌≡◌, ℕ, ◌+◌, ◌<◌, ◌==◌, ◌⊎◌, Bool, true, false, not, if◌then◌else◌, List, [], ◌∷◌, ◌++◌, length, map, take, drop, slice_index, slice_index_or, slice_get, Option, Some, None, Result, Ok, Err}
 use Rattle.cs_value.specs.declared.fault.FieldFaultKind.{FieldFaultKind}
 use Rattle.cs_value.specs.declared.value.OwnedValue.TheVariants.{Int, Text, Blob, Null}
 use Rattle.cs_value.specs.declared.value.OwnedField.{OwnedField}

@@ -1,10 +1,12 @@
 //! What heads the changes of a table.
-ghost use Rattle.std.specs.Prelude.{◌≡◌, ◌<◌, ◌↔◌, IfOk, IsTrue, Any, string_bytes};
+ghost use Rattle.std.specs.Prelude.{◌≡◌, ◌<◌, ◌↔◌, ◌∷◌, [], IfOk, IsTrue, Any, string_bytes};
+ghost use Rattle.cs_value.specs.Value.{IsValue, IsField, IsRow, IsRecord};
+ghost use Rattle.cs_wire.specs.Entry.{IsKeyedRow, IsKeyedUpdate};
 ghost use Rattle.cs_wire.specs.Changeset.{HeaderData, IsHeader};
 
 use crate::entry::{Change, Entry};
 use crate::format::MAX_COLUMNS;
-use cs_value::{Key, NoMemory};
+use cs_value::{Field, Key, NoMemory, OwnedField, OwnedValue, Value};
 use std::alloc::Global;
 use std::marker::Model;
 
@@ -83,6 +85,71 @@ impl Header {
             Change::Insert(row) | Change::Delete(row) => Key::of_row(alloc, self.flags(), row),
             Change::Update { old, .. } => Key::of_image(alloc, self.flags(), old),
         }
+    }
+    /// Whether an entry fits the flags: each record has a field for each flag; the row of an insert
+    /// or a delete has no NULL in a key column; an update's old record has a value other than NULL
+    /// in each key column and its new one nothing there; elsewhere both fields are defined or both
+    /// undefined. It takes no memory.
+    pub fn admits(&self, entry: &Entry) -> bool
+        ensures { IsTrue result ↔ IsEntry self.now.flags entry.now }
+    {
+        match &entry.change {
+            Change::Insert(row) | Change::Delete(row) => admits_row(self.flags(), row.values()),
+            Change::Update { old, new } => admits_update(self.flags(), old.fields(), new.fields()),
+        }
+    }
+}
+
+/// Whether a row has a value for each flag, and none of them NULL in a key column.
+fn admits_row(flags: &[u8], values: &[OwnedValue]) -> bool
+    ensures { IsTrue result ↔ (IsRow values.now × IsKeyedRow flags.now values.now) }
+{
+    if flags.len() != values.len() {
+        return false;
+    }
+    for (column, flag) in flags.iter().enumerate() {
+        if !admits_value(*flag, &values[column]) {
+            return false;
+        }
+    }
+    true
+}
+
+/// Whether a row of this column alone is admitted.
+fn admits_value(flag: u8, value: &OwnedValue) -> bool
+    ensures is_value { IsValue value.now }
+    ensures admitted { IsTrue result ↔ IsKeyedRow (flag ∷ []) (value.now ∷ []) }
+{
+    let value = value.as_value();
+    flag == 0 || !matches!(value, Value::Null)
+}
+
+/// Whether the records of an update have a field for each flag: in a key column a value other than
+/// NULL and nothing, elsewhere two values or nothing twice.
+fn admits_update(flags: &[u8], old: &[OwnedField], new: &[OwnedField]) -> bool
+    ensures { IsTrue result ↔ (IsRecord old.now × IsRecord new.now × IsKeyedUpdate flags.now old.now new.now) }
+{
+    if flags.len() != old.len() || flags.len() != new.len() {
+        return false;
+    }
+    for (column, flag) in flags.iter().enumerate() {
+        if !admits_fields(*flag, &old[column], &new[column]) {
+            return false;
+        }
+    }
+    true
+}
+
+/// Whether an update of this column alone is admitted.
+fn admits_fields(flag: u8, old: &OwnedField, new: &OwnedField) -> bool
+    ensures are_fields { IsField old.now × IsField new.now }
+    ensures admitted { IsTrue result ↔ IsKeyedUpdate (flag ∷ []) (old.now ∷ []) (new.now ∷ []) }
+{
+    match (old.as_field(), new.as_field()) {
+        (Field::Undefined, Field::Undefined) => flag == 0,
+        (Field::Undefined, Field::Defined(_)) => false,
+        (Field::Defined(_), Field::Defined(_)) => flag == 0,
+        (Field::Defined(value), Field::Undefined) => flag != 0 && !matches!(value, Value::Null),
     }
 }
 

@@ -22,6 +22,7 @@ mod fault;
 mod format;
 mod group;
 mod header;
+mod laws;
 mod reader;
 #[cfg(test)]
 mod tests;
@@ -32,5 +33,6 @@ pub use entry::{Change, Entry};
 pub use fault::{ReadError, ReadFault, ReadFaultKind};
 pub use group::Group;
 pub use header::Header;
+pub use laws::changeset_files_law;
 pub use reader::read;
 pub use writer::write;

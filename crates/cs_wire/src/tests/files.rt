@@ -1,7 +1,7 @@
 //! Which files are read, and which are refused.
 
 use super::{INSERT, bytes_of};
-use crate::{Change, ReadError, ReadFault, read, write};
+use crate::{Change, Changeset, Entry, ReadError, ReadFault, read, write};
 use cs_value::{OwnedField, OwnedValue};
 use std::process::Abort;
 
@@ -11,6 +11,12 @@ fn fault_of(rt: &(impl Abort + AllocGlobal), file: &[u8]) -> ReadFault {
         ReadError::Fault(fault) => fault,
         ReadError::NoMemory => panic!(rt; "no memory"),
     }
+}
+
+/// The first entry of the first table.
+fn first_entry<'a>(rt: &(impl Abort + AllocGlobal), changeset: &'a Changeset) -> &'a Entry {
+    let group = changeset.groups().first().expect(rt, "a table");
+    group.entries().first().expect(rt, "an entry")
 }
 
 /// Asserts that a file is read, and written back byte for byte.
@@ -157,7 +163,7 @@ fn refuses_each_part_of_a_file(rt: HostRuntime) {
 fn reads_the_least_integer_and_null(rt: HostRuntime) {
     let file = bytes_of(&rt, "540201007400120001800000000000000005");
     let changeset = read(rt.alloc(), &file).expect(&rt, "a changeset");
-    let Change::Insert(row) = &changeset.groups()[0].entries()[0].change else {
+    let Change::Insert(row) = &first_entry(&rt, &changeset).change else {
         panic!(rt; "no insert");
     };
     assert_eq!(rt;
@@ -171,14 +177,20 @@ fn reads_the_least_integer_and_null(rt: HostRuntime) {
 fn reads_an_update(rt: HostRuntime) {
     let file = bytes_of(&rt, "5402010074001701010000000000000001030178000401ff");
     let changeset = read(rt.alloc(), &file).expect(&rt, "a changeset");
-    let entry = &changeset.groups()[0].entries()[0];
+    let entry = first_entry(&rt, &changeset);
     assert!(rt; entry.indirect);
     let Change::Update { old, new } = &entry.change else {
         panic!(rt; "no update");
     };
-    assert_eq!(rt; old.fields()[0], OwnedField::Defined(OwnedValue::Int(1)));
-    assert_eq!(rt; new.fields()[0], OwnedField::Undefined);
-    assert!(rt; matches!(&new.fields()[1], OwnedField::Defined(OwnedValue::Blob(_))));
+    let key = OwnedField::Defined(OwnedValue::Int(1));
+    assert_eq!(rt; old.fields().first(), Some(&key));
+    assert_eq!(rt; new.fields().first(), Some(&OwnedField::Undefined));
+    assert!(rt;
+        matches!(
+            new.fields().last(),
+            Some(OwnedField::Defined(OwnedValue::Blob(_)))
+        )
+    );
     expect_written_back(&rt, &file);
 }
 

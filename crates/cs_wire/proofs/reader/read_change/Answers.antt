@@ -1,17 +1,14 @@
-use Rattle.std.proofs.Common.{◌≡◌, ℕ, List, ◌++◌, map, drop, refl, ap, sym, ◌∙◌, append_assoc}
+use Rattle.std.proofs.Common.{List, map, refl, ap, sym, ◌∙◌}
 use Rattle.std.proofs.lemmas.Result.{err_from_is_err_and}
 use Rattle.std.proofs.lemmas.List.Concat.{flat_map-append}
 use Rattle.cs_value.specs.declared.value.OwnedValue.{OwnedValue}
 use Rattle.cs_value.specs.declared.value.OwnedField.{OwnedField}
 use Rattle.cs_value.specs.declared.value.OwnedField.TheVariants.{Defined}
 use Rattle.cs_value.specs.Spelling.{field_bytes, record_bytes}
-use Rattle.cs_wire.specs.declared.entry.Change.{Change}
 use Rattle.cs_wire.specs.declared.entry.Change.TheVariants.{Insert, Delete, Update}
 use Rattle.cs_wire.specs.Views.{byte_of}
-use Rattle.cs_wire.specs.Reading.{new_wants, old_wants}
-use Rattle.cs_wire.proofs.ReadingLaws.{Reads-err, because, Stands-then, rest_is}
-use Rattle.cs_wire.proofs.EntryLaws.{IsRecord-map, IsRow-map, length-IsKeyedUpdate}
-use Rattle.cs_wire.proofs.FieldsLaws.{length-Meets}
+use Rattle.cs_wire.proofs.ReadingLaws.{Reads-err, because, Stands-then}
+use Rattle.cs_wire.proofs.EntryLaws.{IsRecord-map, IsRow-map}
 use Rattle.cs_wire.proofs.ChangeLaws.{row_met, keyed_row, old_met, new_met, keyed_update, row_refused, old_refused, new_refused, inserted, deleted, updated, same_values, spelled_update, behind_old, length-old}
 use Rattle.cs_wire.proofs.reader.read_change.Goals as goal
 

@@ -1,4 +1,4 @@
-use Rattle.std.proofs.Common.{◌≡◌, ◌∷◌, [], ◌++◌, cond, append_assoc, ap, ◌∙◌, ℕ, List}
+use Rattle.std.proofs.Common.{◌++◌, append_assoc, ap, ◌∙◌, ℕ, List}
 use Rattle.std.proofs.lemmas.Result.{on_ok_weaker}
 use Rattle.cs_wire.proofs.EntryLaws.{entry_bytes-Insert, entry_bytes-Delete}
 use Rattle.cs_value.specs.Spelling.{row_bytes}

@@ -1,7 +1,7 @@
-use Rattle.std.proofs.Common.{◌≡◌, ◌<◌, ◌≤◌, ℕ, length, get_or}
+use Rattle.std.proofs.Common.{◌<◌, ◌≤◌, ℕ, length}
 use Rattle.std.proofs.lemmas.Result.{err_from_is_err_and}
 use Rattle.std.proofs.lemmas.List.{length-map}
-use Rattle.cs_wire.specs.Reading.{Want, AnyField, old_wants, in_old, is_key_flag}
+use Rattle.cs_wire.specs.Reading.{old_wants, in_old, is_key_flag}
 use Rattle.cs_wire.proofs.ReadingLaws.{Reads-err, because}
 use Rattle.cs_wire.proofs.FieldsLaws.{want_at, FieldsSoFar-none, FieldsSoFar-push, FieldsSoFar-all, FieldsSoFar-record, FieldsSoFar-refused, has_next}
 use Rattle.cs_wire.proofs.reader.record.read_old.Goals as goal

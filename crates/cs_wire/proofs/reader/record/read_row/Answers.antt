@@ -1,9 +1,9 @@
-use Rattle.std.proofs.Common.{◌≡◌, ◌<◌, ◌≤◌, ℕ, map, length, get_or}
+use Rattle.std.proofs.Common.{◌<◌, ◌≤◌, ℕ, map, length}
 use Rattle.std.proofs.lemmas.Result.{err_from_is_err_and}
 use Rattle.std.proofs.lemmas.List.{length-map}
 use Rattle.std.proofs.lemmas.List.{map_push}
 use Rattle.cs_value.specs.declared.value.OwnedField.TheVariants.{Defined}
-use Rattle.cs_wire.specs.Reading.{Want, AnyField, row_wants, in_row, is_key_flag}
+use Rattle.cs_wire.specs.Reading.{row_wants, in_row, is_key_flag}
 use Rattle.cs_wire.proofs.ReadingLaws.{Reads-err, because}
 use Rattle.cs_wire.proofs.FieldsLaws.{want_at, FieldsSoFar-none, FieldsSoFar-push, FieldsSoFar-all, FieldsSoFar-record, FieldsSoFar-refused, has_next}
 use Rattle.cs_wire.proofs.reader.record.read_row.Goals as goal

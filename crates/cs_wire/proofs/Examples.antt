@@ -1,0 +1,656 @@
+-- The definitions of changesets, their files and their faults, on a table `t` of two columns, of which the first is
+-- the key.
+use Rattle.std.proofs.Common.{◌≡◌, ◌≢◌, ℕ, zero, suc, ◌<◌, pos, negsuc, true, false, List, [], ◌∷◌, ◌++◌, map, All, slice_index_or}
+use Rattle.std.proofs.Common.{get_or, unwrap_or, true≢false, codes, refl, sym, ap, inl, inr, arith}
+use Rattle.std.specs.Char.{encode_utf8}
+use Rattle.std.specs.Str.{chars, is_utf8}
+use Rattle.std.proofs.lemmas.List.Elements.{All-nil, All-cons}
+use Rattle.std.proofs.lemmas.Str.{IsUtf8-from_is_utf8, is_utf8-from_IsUtf8}
+use Rattle.cs_value.specs.declared.value.OwnedValue.{OwnedValue}
+use Rattle.cs_value.specs.declared.value.OwnedValue.TheVariants.{Int, Text, Null}
+use Rattle.cs_value.specs.declared.value.OwnedField.TheVariants.{Undefined, Defined}
+use Rattle.cs_value.specs.Value.{IsRow}
+use Rattle.cs_value.specs.Varint.{leading_digits, varint}
+use Rattle.cs_value.specs.Spelling.{counted, value_bytes, field_bytes}
+use Rattle.cs_value.specs.FieldFaults.{HasBadText}
+use Rattle.cs_wire.specs.declared.entry.Change.{Change}
+use Rattle.cs_wire.specs.declared.entry.Change.TheVariants.{Insert, Delete, Update}
+use Rattle.cs_wire.specs.declared.entry.Entry.{Entry}
+use Rattle.cs_wire.specs.declared.fault.ReadFaultKind.{ReadFaultKind}
+use Rattle.cs_wire.specs.declared.fault.ReadFaultKind.TheVariants.{Truncated, NotTable, Patchset, BadVarint, ColumnCount, NoKey, BadName, DuplicateTable, EmptyGroup, BadOp, BadFlag, BadType, RealValue, BadText, UndefinedField, Unpaired, NullKey, DuplicateKey}
+use Rattle.cs_wire.specs.Entry.{IsFlags, IsKeyedRow, IsKeyedUpdate, IsEntry, IsChange, entry_bytes}
+use Rattle.cs_wire.specs.Changeset.{HeaderData, IsName, IsHeader, GroupData, IsGroup, IsChangeset, flags_bytes, header_bytes, group_bytes, file_bytes, IsAccepted}
+use Rattle.cs_wire.specs.ReadFaults.{Stands, TableStart, HeaderPart, EntryStart, FieldStart, IsOperation, ReadCase, ReadFails}
+use Rattle.cs_wire.proofs.GroupsLaws.{EntryStart-none}
+
+computing : Unit {0}
+unfolding leading_digits varint counted value_bytes field_bytes entry_bytes flags_bytes header_bytes group_bytes encode_utf8 chars is_utf8
+computing = tt
+
+-- what is said of one element is said of each of a list of it alone
+pub one : {X : Type 0} (P : X → Type 0) (e : X) → P e → All P (e ∷ [])
+one P e h = All-cons P e [] h (All-nil P)
+
+-- the table, rows and changes of the examples
+
+abbrev pub flags : List ℕ
+flags = 1 ∷ 0 ∷ []
+
+abbrev pub header : HeaderData
+header = record { name = codes "t"; flags = flags }
+
+abbrev pub direct : Change → Entry
+direct change = record { indirect = false; change = change }
+
+-- these changes of the table, none of them indirect
+abbrev pub group : List Change → GroupData
+group changes = record { header = header; entries = map direct changes }
+
+abbrev pub one_change_of : HeaderData → Change → List GroupData
+one_change_of head change = record { header = head; entries = direct change ∷ [] } ∷ []
+
+abbrev pub one_change : Change → List GroupData
+one_change change = one_change_of header change
+
+abbrev pub x : OwnedValue
+x = Text (codes "x")
+
+abbrev pub y : OwnedValue
+y = Text (codes "y")
+
+-- the row (1, 'x')
+abbrev pub row : List OwnedValue
+row = Int (pos 1) ∷ x ∷ []
+
+-- a change of the second column where the first is 1
+abbrev pub update : OwnedValue → OwnedValue → Change
+update from to = Update (Defined (Int (pos 1)) ∷ Defined from ∷ []) (Undefined ∷ Defined to ∷ [])
+
+-- the files of the examples
+
+abbrev pub insert_file : List ℕ
+insert_file = 0x54 ∷ 0x02 ∷ 0x01 ∷ 0x00 ∷ 0x74 ∷ 0x00 ∷ 0x12 ∷ 0x00 ∷ 0x01 ∷ 0 ∷ 0 ∷ 0 ∷ 0 ∷ 0 ∷ 0 ∷ 0 ∷ 1 ∷ 0x03 ∷ 0x01 ∷ 0x78 ∷ []
+
+abbrev pub delete_file : List ℕ
+delete_file = 0x54 ∷ 0x02 ∷ 0x01 ∷ 0x00 ∷ 0x74 ∷ 0x00 ∷ 0x09 ∷ 0x00 ∷ 0x01 ∷ 0 ∷ 0 ∷ 0 ∷ 0 ∷ 0 ∷ 0 ∷ 0 ∷ 1 ∷ 0x03 ∷ 0x01 ∷ 0x78 ∷ []
+
+abbrev pub update_file : List ℕ
+update_file = 0x54 ∷ 0x02 ∷ 0x01 ∷ 0x00 ∷ 0x74 ∷ 0x00 ∷ 0x17 ∷ 0x00 ∷ 0x01 ∷ 0 ∷ 0 ∷ 0 ∷ 0 ∷ 0 ∷ 0 ∷ 0 ∷ 1 ∷ 0x03 ∷ 0x01 ∷ 0x78
+    ∷ 0x00 ∷ 0x03 ∷ 0x01 ∷ 0x79 ∷ []
+
+abbrev pub update_back_file : List ℕ
+update_back_file = 0x54 ∷ 0x02 ∷ 0x01 ∷ 0x00 ∷ 0x74 ∷ 0x00 ∷ 0x17 ∷ 0x00 ∷ 0x01 ∷ 0 ∷ 0 ∷ 0 ∷ 0 ∷ 0 ∷ 0 ∷ 0 ∷ 1 ∷ 0x03 ∷ 0x01 ∷ 0x79
+    ∷ 0x00 ∷ 0x03 ∷ 0x01 ∷ 0x78 ∷ []
+
+-- the insertion of (1, 'x')
+pub insert_is_spelled : file_bytes (one_change (Insert row)) ≡ insert_file
+unfolding computing
+insert_is_spelled = refl
+
+-- the deletion of (1, 'x')
+pub delete_is_spelled : file_bytes (one_change (Delete row)) ≡ delete_file
+unfolding computing
+delete_is_spelled = refl
+
+-- the update of 'x' to 'y' where the key is 1
+pub update_is_spelled : file_bytes (one_change (update x y)) ≡ update_file
+unfolding computing
+update_is_spelled = refl
+
+-- and that of 'y' to 'x'
+pub update_back_is_spelled : file_bytes (one_change (update y x)) ≡ update_back_file
+unfolding computing
+update_back_is_spelled = refl
+
+-- a changeset of no table has no byte
+pub no_group_is_spelled : file_bytes [] ≡ []
+no_group_is_spelled = refl
+
+-- the indirect flag is the byte behind the operation
+pub indirect_is_spelled : entry_bytes (record { indirect = true; change = Delete row })
+    ≡ 0x09 ∷ 0x01 ∷ 0x01 ∷ 0 ∷ 0 ∷ 0 ∷ 0 ∷ 0 ∷ 0 ∷ 0 ∷ 1 ∷ 0x03 ∷ 0x01 ∷ 0x78 ∷ []
+unfolding computing
+indirect_is_spelled = refl
+
+-- what is a changeset
+
+-- the flags 1 0 mark a key
+pub flags_are : IsFlags flags
+flags_are = record {
+  bytes = (omega arith, (omega arith, tt));
+  few = omega arith;
+  some_key = (0, 1, omega arith, refl, omega arith);
+}
+
+-- they and the name `t` are a header
+pub header_is : IsHeader header
+unfolding computing
+header_is = record {
+  name = record {
+    some = omega arith;
+    text = IsUtf8-from_is_utf8 (codes "t") refl;
+    no_zero = (λ same. absurd (omega (arith, same)), tt);
+  };
+  flags = flags_are;
+}
+
+pub one_is_changeset : (head : HeaderData) (change : Change) → IsHeader head → IsChange head.flags change → IsChangeset (one_change_of head change)
+one_is_changeset head change is h = record {
+  each = one IsGroup (record { header = head; entries = direct change ∷ [] }) (record {
+    header = is;
+    some = omega arith;
+    each = one (IsEntry head.flags) (direct change) h;
+    once = λ i j d lt in_list. absurd (omega arith);
+  });
+  once = λ i j d lt in_list. absurd (omega arith);
+}
+
+pub one_change_is_changeset : (change : Change) → IsChange flags change → IsChangeset (one_change change)
+one_change_is_changeset change h = one_is_changeset header change header_is h
+
+-- 1 and 'x' are values
+pub row_is : IsRow row
+unfolding computing
+row_is = (record { sfits = omega arith }, ((IsUtf8-from_is_utf8 (codes "x") refl, omega arith), tt))
+
+-- and 1 may stand in the key
+pub row_is_keyed : IsKeyedRow flags row
+row_is_keyed = (λ same. cc, tt)
+
+-- the insertion of (1, 'x') is a changeset
+pub insert_is_changeset : IsChangeset (one_change (Insert row))
+insert_is_changeset = one_change_is_changeset (Insert row) (row_is, row_is_keyed)
+
+-- and so is the deletion
+pub delete_is_changeset : IsChangeset (one_change (Delete row))
+delete_is_changeset = one_change_is_changeset (Delete row) (row_is, row_is_keyed)
+
+-- an update of one value to another under the key 1
+pub update_is_change : (from to : OwnedValue) → IsRow (from ∷ []) → IsRow (to ∷ []) → IsChange flags (update from to)
+update_is_change from to f t = ((row_is.0, (f.0, tt)), (tt, (t.0, tt)), (λ same. cc, (tt, tt)))
+
+pub x_is : IsRow (x ∷ [])
+unfolding computing
+x_is = ((IsUtf8-from_is_utf8 (codes "x") refl, omega arith), tt)
+
+pub y_is : IsRow (y ∷ [])
+unfolding computing
+y_is = ((IsUtf8-from_is_utf8 (codes "y") refl, omega arith), tt)
+
+-- the update of 'x' to 'y' is a changeset
+pub update_is_changeset : IsChangeset (one_change (update x y))
+update_is_changeset = one_change_is_changeset (update x y) (update_is_change x y x_is y_is)
+
+-- and so is that of 'y' to 'x'
+pub update_back_is_changeset : IsChangeset (one_change (update y x))
+update_back_is_changeset = one_change_is_changeset (update y x) (update_is_change y x y_is x_is)
+
+abbrev pub null_row : List OwnedValue
+null_row = Int (negsuc 9223372036854775807) ∷ Null ∷ []
+
+-- NULL may stand outside the key: the insertion of the least integer and NULL is a changeset
+pub null_row_is_changeset : IsChangeset (one_change (Insert null_row))
+null_row_is_changeset = one_change_is_changeset (Insert null_row) ((record { sfits = omega arith }, (tt, tt)), (λ same. cc, tt))
+
+-- NULL is spelled by its type alone
+pub null_row_is_spelled : file_bytes (one_change (Insert null_row))
+    ≡ 0x54 ∷ 0x02 ∷ 0x01 ∷ 0x00 ∷ 0x74 ∷ 0x00 ∷ 0x12 ∷ 0x00 ∷ 0x01 ∷ 0x80 ∷ 0 ∷ 0 ∷ 0 ∷ 0 ∷ 0 ∷ 0 ∷ 0 ∷ 0x05 ∷ []
+unfolding computing
+null_row_is_spelled = refl
+
+-- an update may leave a value as it is
+pub update_of_same_is_changeset : IsChangeset (one_change (update x x))
+update_of_same_is_changeset = one_change_is_changeset (update x x) (update_is_change x x x_is x_is)
+
+abbrev pub idle_update : Change
+idle_update = Update (Defined (Int (pos 1)) ∷ Undefined ∷ []) (Undefined ∷ Undefined ∷ [])
+
+-- an update may modify no column
+pub idle_update_is_change : IsChange flags idle_update
+idle_update_is_change = ((row_is.0, (tt, tt)), (tt, (tt, tt)), (λ same. cc, (tt, tt)))
+
+-- a changeset may have no table
+pub no_group_is_changeset : IsChangeset []
+no_group_is_changeset = record {
+  each = All-nil IsGroup;
+  once = λ i j d lt in_list. absurd (omega arith);
+}
+
+-- a table `k` of two key columns, in whose flags the first is the second of the key
+abbrev pub keys_header : HeaderData
+keys_header = record { name = codes "k"; flags = 2 ∷ 1 ∷ [] }
+
+abbrev pub keys_row : List OwnedValue
+keys_row = Int (pos 1) ∷ Int (pos 2) ∷ []
+
+pub keys_header_is : IsHeader keys_header
+unfolding computing
+keys_header_is = record {
+  name = record {
+    some = omega arith;
+    text = IsUtf8-from_is_utf8 (codes "k") refl;
+    no_zero = (λ same. absurd (omega (arith, same)), tt);
+  };
+  flags = record {
+    bytes = (omega arith, (omega arith, tt));
+    few = omega arith;
+    some_key = (0, 2, omega arith, refl, omega arith);
+  };
+}
+
+pub keys_row_is : IsRow keys_row
+keys_row_is = (record { sfits = omega arith }, (record { sfits = omega arith }, tt))
+
+pub keys_row_is_keyed : IsKeyedRow (2 ∷ 1 ∷ []) keys_row
+keys_row_is_keyed = (λ same. cc, (λ same. cc, tt))
+
+-- the file of the change of (1, 2) with this operation
+abbrev pub keys_file : ℕ → List ℕ
+keys_file operation = 0x54 ∷ 0x02 ∷ 0x02 ∷ 0x01 ∷ 0x6b ∷ 0x00 ∷ operation ∷ 0x00
+    ∷ 0x01 ∷ 0 ∷ 0 ∷ 0 ∷ 0 ∷ 0 ∷ 0 ∷ 0 ∷ 1 ∷ 0x01 ∷ 0 ∷ 0 ∷ 0 ∷ 0 ∷ 0 ∷ 0 ∷ 0 ∷ 2 ∷ []
+
+-- the insertion of (1, 2) is a changeset
+pub keys_insert_is_changeset : IsChangeset (one_change_of keys_header (Insert keys_row))
+keys_insert_is_changeset = one_is_changeset keys_header (Insert keys_row) keys_header_is (keys_row_is, keys_row_is_keyed)
+
+-- and so is the deletion
+pub keys_delete_is_changeset : IsChangeset (one_change_of keys_header (Delete keys_row))
+keys_delete_is_changeset = one_is_changeset keys_header (Delete keys_row) keys_header_is (keys_row_is, keys_row_is_keyed)
+
+-- in their files the flags stand as they are
+pub keys_insert_is_spelled : file_bytes (one_change_of keys_header (Insert keys_row)) ≡ keys_file 0x12
+unfolding computing
+keys_insert_is_spelled = refl
+
+pub keys_delete_is_spelled : file_bytes (one_change_of keys_header (Delete keys_row)) ≡ keys_file 0x09
+unfolding computing
+keys_delete_is_spelled = refl
+
+-- the file of the insertion is accepted
+pub insert_file_is_accepted : IsAccepted insert_file
+insert_file_is_accepted = (one_change (Insert row), insert_is_changeset, sym insert_is_spelled)
+
+-- and so are no bytes
+pub no_byte_is_accepted : IsAccepted []
+no_byte_is_accepted = ([], no_group_is_changeset, refl)
+
+-- what is none
+
+-- a file that begins with another byte than 0x54
+other_begin_is_none : (b : ℕ) (rest : List ℕ) → b ≢ 0x54 → IsAccepted (b ∷ rest) → ⊥
+unfolding group_bytes header_bytes
+other_begin_is_none b rest other ([], is, e) = cc e
+other_begin_is_none b rest other (g ∷ groups, is, e) = other (ap (λ bytes. get_or bytes 0 0) e)
+
+-- a table without a change
+empty_group_is_none : IsGroup (group []) → ⊥
+empty_group_is_none g = absurd (omega (arith, g.some))
+
+-- two changes of one key
+twice_one_key_is_none : IsGroup (group (Insert row ∷ Delete row ∷ [])) → ⊥
+twice_one_key_is_none g = g.once 0 1 (direct (Insert row)) (omega arith) (omega arith) refl
+
+-- one table twice
+twice_one_table_is_none : (changes more : List Change) → IsChangeset (group changes ∷ group more ∷ []) → ⊥
+twice_one_table_is_none changes more c = c.once 0 1 (group []) (omega arith) (omega arith) refl
+
+-- a table without a name
+no_name_is_none : IsName [] → ⊥
+no_name_is_none n = absurd (omega (arith, n.some))
+
+-- NULL in the key column of a row
+null_key_is_none : IsKeyedRow flags (Null ∷ x ∷ []) → ⊥
+null_key_is_none h = h.0 refl
+
+-- a row without a value for the second column
+short_row_is_none : IsKeyedRow flags (Int (pos 1) ∷ []) → ⊥
+short_row_is_none h = h.1
+
+-- an update of the key from 1 to 2
+changed_key_is_none : IsKeyedUpdate flags (Defined (Int (pos 1)) ∷ Undefined ∷ []) (Defined (Int (pos 2)) ∷ Undefined ∷ []) → ⊥
+changed_key_is_none h = h.0
+
+-- an update without its key
+no_key_is_none : IsKeyedUpdate flags (Undefined ∷ Defined x ∷ []) (Undefined ∷ Defined y ∷ []) → ⊥
+no_key_is_none h = h.0
+
+-- an update of NULL in the key
+null_update_is_none : IsKeyedUpdate flags (Defined Null ∷ Defined x ∷ []) (Undefined ∷ Defined y ∷ []) → ⊥
+null_update_is_none h = h.0 refl
+
+-- an update that has the value before alone
+unpaired_old_is_none : IsKeyedUpdate flags (Defined (Int (pos 1)) ∷ Defined x ∷ []) (Undefined ∷ Undefined ∷ []) → ⊥
+unpaired_old_is_none h = h.1.0
+
+-- an update that has the value after alone
+unpaired_new_is_none : IsKeyedUpdate flags (Defined (Int (pos 1)) ∷ Undefined ∷ []) (Undefined ∷ Defined y ∷ []) → ⊥
+unpaired_new_is_none h = h.1.0
+
+-- 0 marks no column
+no_flag_at : (place flag : ℕ) → place < 1 → slice_index_or (0 ∷ []) place flag ≡ flag → 0 < flag → ⊥
+no_flag_at zero flag within is some = absurd (omega arith)
+no_flag_at (suc place) flag within is some = absurd (omega arith)
+
+-- the flags of a table without a key
+no_flag_is_none : IsFlags (0 ∷ []) → ⊥
+no_flag_is_none h = no_flag_at h.some_key.0 h.some_key.1 h.some_key.2 h.some_key.3 h.some_key.4
+
+-- faults
+
+-- the header of the table `t`
+abbrev header_file : List ℕ
+header_file = 0x54 ∷ 0x02 ∷ 0x01 ∷ 0x00 ∷ 0x74 ∷ 0x00 ∷ []
+
+-- the field 1
+abbrev one_field : List ℕ
+one_field = 0x01 ∷ 0 ∷ 0 ∷ 0 ∷ 0 ∷ 0 ∷ 0 ∷ 0 ∷ 1 ∷ []
+
+-- the field 'x'
+abbrev x_field : List ℕ
+x_field = 0x03 ∷ 0x01 ∷ 0x78 ∷ []
+
+-- each file begins with that of the changeset of no table
+no_table : (file : List ℕ) → TableStart file 0 []
+no_table file = record { are = no_group_is_changeset; stand = record { spelled = refl; within = omega arith } }
+
+-- a text stands behind the first byte of a header that begins the file
+in_header : (file text : List ℕ) (at : ℕ) → Stands file 0 (0x54 ∷ text) at → HeaderPart file text at
+in_header file text at stands = record { from = 0; groups = []; start = no_table file; stands = stands }
+
+-- behind the header an entry may begin
+after_header : (rest : List ℕ) → EntryStart (header_file ++ rest) 6 header []
+unfolding computing
+after_header rest =
+    EntryStart-none (header_file ++ rest) 0 6 [] header (no_table (header_file ++ rest)) header_is (All-nil (λ g. g.header.name ≢ header.name)) (record { spelled = refl; within = omega arith })
+
+-- behind its operation and its indirect flag the first field of an insert
+insert_field : (rest : List ℕ) → FieldStart (header_file ++ 0x12 ∷ 0x00 ∷ rest) 8 flags (Insert row) 0
+unfolding computing
+insert_field rest = record {
+  from = 6;
+  header = header;
+  entries = [];
+  start = after_header (0x12 ∷ 0x00 ∷ rest);
+  flags_are = refl;
+  is_change = (row_is, row_is_keyed);
+  more = omega arith;
+  indirect = false;
+  stand = record { spelled = refl; within = omega arith };
+}
+
+-- and behind the field 1 the second
+second_insert_field : (rest : List ℕ) → FieldStart (header_file ++ 0x12 ∷ 0x00 ∷ (one_field ++ rest)) 17 flags (Insert row) 1
+unfolding computing
+second_insert_field rest = record {
+  from = 6;
+  header = header;
+  entries = [];
+  start = after_header (0x12 ∷ 0x00 ∷ (one_field ++ rest));
+  flags_are = refl;
+  is_change = (row_is, row_is_keyed);
+  more = omega arith;
+  indirect = false;
+  stand = record { spelled = refl; within = omega arith };
+}
+
+-- the first field of the old record of an update
+old_field : (rest : List ℕ) → FieldStart (header_file ++ 0x17 ∷ 0x00 ∷ rest) 8 flags (update x y) 0
+unfolding computing
+old_field rest = record {
+  from = 6;
+  header = header;
+  entries = [];
+  start = after_header (0x17 ∷ 0x00 ∷ rest);
+  flags_are = refl;
+  is_change = update_is_change x y x_is y_is;
+  more = omega arith;
+  indirect = false;
+  stand = record { spelled = refl; within = omega arith };
+}
+
+-- and the first of the new record, behind the old one
+new_field : (rest : List ℕ) → FieldStart (header_file ++ 0x17 ∷ 0x00 ∷ (one_field ++ x_field ++ rest)) 20 flags (update x y) 2
+unfolding computing
+new_field rest = record {
+  from = 6;
+  header = header;
+  entries = [];
+  start = after_header (0x17 ∷ 0x00 ∷ (one_field ++ x_field ++ rest));
+  flags_are = refl;
+  is_change = update_is_change x y x_is y_is;
+  more = omega arith;
+  indirect = false;
+  stand = record { spelled = refl; within = omega arith };
+}
+
+-- behind 54 stands no count
+no_count_is_truncated : ReadCase (0x54 ∷ []) Truncated 1
+no_count_is_truncated = inl (inl (
+  1,
+  0,
+  in_header (0x54 ∷ []) [] 1 (record { spelled = refl; within = omega arith }),
+  (record { few = omega arith; go_on = tt; shortest = λ same. cc }, refl),
+  refl,
+))
+
+-- of two columns one has a flag
+one_flag_is_truncated : ReadCase (0x54 ∷ 0x02 ∷ 0x01 ∷ []) Truncated 3
+unfolding computing
+one_flag_is_truncated = inr (
+  inl (2, 2, in_header (0x54 ∷ 0x02 ∷ 0x01 ∷ []) (0x02 ∷ []) 2 (record { spelled = refl; within = omega arith }), (omega arith, omega arith), omega arith),
+  refl,
+)
+
+-- the name has no end
+open_name_is_truncated : ReadCase (0x54 ∷ 0x02 ∷ 0x01 ∷ 0x00 ∷ 0x74 ∷ []) Truncated 5
+unfolding computing
+open_name_is_truncated = inr (
+  inr (inl (
+    flags,
+    4,
+    flags_are,
+    in_header (0x54 ∷ 0x02 ∷ 0x01 ∷ 0x00 ∷ 0x74 ∷ []) (0x02 ∷ 0x01 ∷ 0x00 ∷ []) 4 (record { spelled = refl; within = omega arith }),
+    (λ same. absurd (omega (arith, same)), tt),
+  )),
+  refl,
+)
+
+-- behind an operation stands no indirect flag
+no_flag_byte_is_truncated : ReadCase (header_file ++ 0x12 ∷ []) Truncated 7
+no_flag_byte_is_truncated = inr (
+  inr (inr (6, header, [], 0x12, after_header (0x12 ∷ []), inl refl, record { spelled = refl; within = omega arith })),
+  refl,
+)
+
+-- a row ends behind its first field
+no_second_field_is_truncated : ReadCase (header_file ++ 0x12 ∷ 0x00 ∷ (one_field ++ [])) Truncated 17
+no_second_field_is_truncated = inl (inr (17, 0, flags, Insert row, 1, second_insert_field [], (inl refl, refl), refl))
+
+-- a file begins with the byte 41
+letter_is_no_table : ReadCase (0x41 ∷ []) NotTable 0
+letter_is_no_table = (refl, record { within = omega arith; no_table = λ same. absurd (omega (arith, same)); no_patchset = λ same. absurd (omega (arith, same)) })
+
+-- and so it is refused
+pub letter_is_refused : ReadFails (0x41 ∷ []) NotTable 0
+letter_is_refused = record { refused = other_begin_is_none 0x41 [] (λ same. absurd (omega (arith, same))); case = letter_is_no_table }
+
+-- a file begins with the byte of a patchset
+p_is_patchset : ReadCase (0x50 ∷ []) Patchset 0
+p_is_patchset = ([], no_table (0x50 ∷ []), refl)
+
+-- the count of columns has a leading zero
+long_count_is_bad : ReadCase (0x54 ∷ 0x80 ∷ 0x01 ∷ []) BadVarint 1
+long_count_is_bad = inl (1, 0, in_header (0x54 ∷ 0x80 ∷ 0x01 ∷ []) [] 1 (record { spelled = refl; within = omega arith }), (inl refl, refl), refl)
+
+-- a table has no column
+no_column_is_counted : ReadCase (0x54 ∷ 0x00 ∷ []) ColumnCount 1
+unfolding computing
+no_column_is_counted = (
+  0,
+  2,
+  in_header (0x54 ∷ 0x00 ∷ []) [] 1 (record { spelled = refl; within = omega arith }),
+  record { spelled = refl; within = omega arith },
+  omega arith,
+  λ count. absurd (omega (arith, count.0)),
+)
+
+-- the one column of a table is none of the key
+no_key_is_marked : ReadCase (0x54 ∷ 0x01 ∷ 0x00 ∷ []) NoKey 2
+unfolding computing
+no_key_is_marked = (
+  0 ∷ [],
+  3,
+  in_header (0x54 ∷ 0x01 ∷ 0x00 ∷ []) (0x01 ∷ []) 2 (record { spelled = refl; within = omega arith }),
+  (omega arith, omega arith),
+  record { spelled = refl; within = omega arith },
+  (refl, tt),
+)
+
+-- the name of a table is empty
+empty_name_is_bad : ReadCase (0x54 ∷ 0x01 ∷ 0x01 ∷ 0x00 ∷ []) BadName 3
+unfolding computing
+empty_name_is_bad = (
+  1 ∷ [],
+  [],
+  4,
+  record { bytes = (omega arith, tt); few = omega arith; some_key = (0, 1, omega arith, refl, omega arith) },
+  in_header (0x54 ∷ 0x01 ∷ 0x01 ∷ 0x00 ∷ []) (0x01 ∷ 0x01 ∷ []) 3 (record { spelled = refl; within = omega arith }),
+  record { spelled = refl; within = omega arith },
+  tt,
+  inl refl,
+)
+
+-- the table `t` stands twice
+second_table_is_duplicate : ReadCase (insert_file ++ insert_file) DuplicateTable 20
+unfolding computing
+second_table_is_duplicate = (
+  one_change (Insert row),
+  header,
+  26,
+  record { are = insert_is_changeset; stand = record { spelled = refl; within = omega arith } },
+  header_is,
+  record { spelled = refl; within = omega arith },
+  λ fresh. fresh 0 (group []) (omega arith) refl,
+)
+
+-- a table has no change
+no_change_is_empty : ReadCase header_file EmptyGroup 6
+no_change_is_empty = (header, after_header [], λ entry. absurd (omega (arith, entry.within)))
+
+-- no operation is 13
+thirteen_is_no_operation : IsOperation 0x13 → ⊥
+thirteen_is_no_operation (inl same) = absurd (omega (arith, same))
+thirteen_is_no_operation (inr (inl same)) = absurd (omega (arith, same))
+thirteen_is_no_operation (inr (inr same)) = absurd (omega (arith, same))
+
+thirteen_is_bad : ReadCase (header_file ++ 0x13 ∷ []) BadOp 6
+thirteen_is_bad = (
+  header,
+  [],
+  after_header (0x13 ∷ []),
+  record { within = omega arith; no_table = λ same. absurd (omega (arith, same)); no_patchset = λ same. absurd (omega (arith, same)) },
+  thirteen_is_no_operation,
+)
+
+-- no indirect flag is 2
+two_is_bad_flag : ReadCase (header_file ++ 0x12 ∷ 0x02 ∷ []) BadFlag 7
+two_is_bad_flag = (6, header, [], 0x12, after_header (0x12 ∷ 0x02 ∷ []), inl refl, record { spelled = refl; within = omega arith }, omega arith, omega arith)
+
+-- no type is 06
+six_is_bad_type : ReadCase (header_file ++ 0x12 ∷ 0x00 ∷ 0x06 ∷ []) BadType 8
+six_is_bad_type = (8, 0, flags, Insert row, 0, insert_field (0x06 ∷ []), ((6, [], refl, omega arith), refl), refl)
+
+-- the type 02 is that of reals
+two_is_real : ReadCase (header_file ++ 0x12 ∷ 0x00 ∷ 0x02 ∷ []) RealValue 8
+two_is_real = (8, 0, flags, Insert row, 0, insert_field (0x02 ∷ []), (refl, refl), refl)
+
+ff_is_no_text : HasBadText (0x03 ∷ 0x01 ∷ 0xff ∷ []) 2
+unfolding computing
+ff_is_no_text = record {
+  text = 0xff ∷ [];
+  rest = [];
+  spelled = refl;
+  short = omega arith;
+  not_utf8 = λ text. true≢false (sym (is_utf8-from_IsUtf8 (0xff ∷ []) text));
+  behind_count = refl;
+}
+
+-- the text in the second column is the byte ff
+ff_is_bad_text : ReadCase (header_file ++ 0x12 ∷ 0x00 ∷ (one_field ++ 0x03 ∷ 0x01 ∷ 0xff ∷ [])) BadText 19
+ff_is_bad_text = (17, 2, flags, Insert row, 1, second_insert_field (0x03 ∷ 0x01 ∷ 0xff ∷ []), ff_is_no_text, refl)
+
+-- the first field of a row is undefined
+row_is_undefined : ReadCase (header_file ++ 0x12 ∷ 0x00 ∷ 0x00 ∷ []) UndefinedField 8
+unfolding computing
+row_is_undefined = (flags, Insert row, 0, 9, insert_field (0x00 ∷ []), omega arith, record { spelled = refl; within = omega arith }, inl tt)
+
+-- and so is the key of an old record
+key_is_undefined : ReadCase (header_file ++ 0x17 ∷ 0x00 ∷ 0x00 ∷ []) UndefinedField 8
+unfolding computing
+key_is_undefined = (flags, update x y, 0, 9, old_field (0x00 ∷ []), omega arith, record { spelled = refl; within = omega arith }, inr (omega arith))
+
+-- a new record has the key
+new_key_is_unpaired : ReadCase (header_file ++ 0x17 ∷ 0x00 ∷ (one_field ++ x_field ++ one_field)) Unpaired 20
+unfolding computing
+new_key_is_unpaired = (
+  flags,
+  update x y,
+  2,
+  Defined (Int (pos 1)),
+  29,
+  new_field one_field,
+  omega arith,
+  row_is.0,
+  record { spelled = refl; within = omega arith },
+  λ alike. alike,
+)
+
+-- the key of a row is NULL
+null_is_no_key : ReadCase (header_file ++ 0x12 ∷ 0x00 ∷ 0x05 ∷ []) NullKey 8
+unfolding computing
+null_is_no_key = (flags, Insert row, 0, 9, insert_field (0x05 ∷ []), omega arith, record { spelled = refl; within = omega arith }, omega arith)
+
+-- a second change has the key of the first
+second_change_is_duplicate : ReadCase (insert_file ++ 0x09 ∷ 0x00 ∷ (one_field ++ x_field)) DuplicateKey 20
+unfolding computing
+second_change_is_duplicate = (
+  header,
+  direct (Insert row) ∷ [],
+  direct (Delete row),
+  34,
+  record {
+    from = 0;
+    groups = [];
+    start = no_table (insert_file ++ 0x09 ∷ 0x00 ∷ (one_field ++ x_field));
+    is_header = header_is;
+    new_table = All-nil (λ g. g.header.name ≢ header.name);
+    each = one (IsEntry flags) (direct (Insert row)) (row_is, row_is_keyed);
+    once = λ i j d lt in_list. absurd (omega arith);
+    stand = record { spelled = refl; within = omega arith };
+  },
+  (row_is, row_is_keyed),
+  record { spelled = refl; within = omega arith },
+  λ fresh. fresh 0 (direct (Insert row)) (omega arith) refl,
+)
+
+-- what is no fault
+
+-- the byte of a patchset is no other byte
+patchset_is_not_other : ReadCase (0x50 ∷ []) NotTable 0 → ⊥
+patchset_is_not_other h = h.1.no_patchset refl
+
+-- and no other byte is that of a patchset
+letter_is_no_patchset : ReadCase (0x41 ∷ []) Patchset 0 → ⊥
+letter_is_no_patchset (groups, start, is) = absurd (omega (arith, ap (λ o. unwrap_or o 0) is))
+
+-- the place of a patchset is that of its byte, and not the one behind it
+patchset_behind_is_none : ReadCase (0x50 ∷ []) Patchset 1 → ⊥
+patchset_behind_is_none (groups, start, is) = cc is
+
+-- and likewise with an operation
+operation_behind_is_none : ReadCase (header_file ++ 0x13 ∷ []) BadOp 7 → ⊥
+operation_behind_is_none (header, entries, start, entry, none) = absurd (omega (arith, entry.within))
+
+-- what is accepted has no fault
+accepted_is_not_refused : (kind : ReadFaultKind) (place : ℕ) → ReadFails insert_file kind place → ⊥
+accepted_is_not_refused kind place h = h.refused insert_file_is_accepted
