@@ -1,5 +1,5 @@
 -- The definitions of inverses and scripts, on a table `t` of two columns, of which the first is the key.
-use Rattle.std.proofs.Common.{◌≡◌, ◌≢◌, ℕ, zero, suc, ◌<◌, pos, Bool, true, false, List, [], ◌∷◌, ◌++◌, map, Some}
+use Rattle.std.proofs.Common.{◌≡◌, ℕ, pos, Bool, true, false, List, [], ◌∷◌, ◌++◌, Some}
 use Rattle.std.proofs.Common.{get_or, is_some, ◌==◌, true≢false, codes, refl, sym, ap, ◌∙◌, inl, inr, arith}
 use Rattle.std.specs.List.{list_any}
 use Rattle.std.specs.Char.{encode_utf8}
@@ -15,11 +15,10 @@ use Rattle.hex.specs.declared.error.FromHexError.TheVariants.{OddLength}
 use Rattle.cs_value.specs.declared.value.OwnedValue.{OwnedValue}
 use Rattle.cs_value.specs.declared.value.OwnedValue.TheVariants.{Int}
 use Rattle.cs_wire.specs.declared.entry.Change.{Change}
-use Rattle.cs_wire.specs.declared.entry.Change.TheVariants.{Insert, Delete, Update}
-use Rattle.cs_wire.specs.declared.fault.ReadFault.{ReadFault}
+use Rattle.cs_wire.specs.declared.entry.Change.TheVariants.{Insert, Delete}
 use Rattle.cs_wire.specs.declared.fault.ReadFaultKind.TheVariants.{NotTable, EmptyGroup}
-use Rattle.cs_wire.specs.Changeset.{HeaderData, GroupData, ImageData}
-use Rattle.cs_wire.proofs.Examples.{header, direct, group, one_change_of, one_change, x, y, row, update, insert_file, delete_file, update_file, update_back_file, insert_is_spelled, delete_is_spelled, update_is_spelled, update_back_is_spelled}
+use Rattle.cs_wire.specs.Changeset.{ImageData}
+use Rattle.cs_wire.proofs.Examples.{header, group, one_change_of, one_change, x, y, row, update, insert_file, delete_file, update_file, update_back_file, insert_is_spelled, delete_is_spelled, update_is_spelled, update_back_is_spelled}
 use Rattle.cs_wire.proofs.Examples.{insert_is_changeset, delete_is_changeset, update_is_changeset, update_back_is_changeset, idle_update, no_group_is_changeset, keys_header, keys_row, keys_file, keys_insert_is_changeset, keys_delete_is_changeset, keys_insert_is_spelled, keys_delete_is_spelled, letter_is_refused}
 use Rattle.cs_shell.specs.Inverse.{IsInverseGroup, IsInverse, Inverts}
 use Rattle.cs_shell.specs.Lines.{HasNoFeed, words_of, IsSlot, CommandData, Load, Hex, Invert, Asks, AsksNothing}

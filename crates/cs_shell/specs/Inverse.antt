@@ -1,6 +1,6 @@
 -- The inverse of a changeset: the introduction to SQLite's session extension, under "inverting a changeset". That the
 -- order and the indirect flags stay is this project's own.
-use Rattle.std.specs.Prelude.{◌≡◌, ℕ, Bool, List, map, All}
+use Rattle.std.specs.Prelude.{◌≡◌, ℕ, Bool, List, map}
 use Rattle.std.specs.List.{AllZip}
 use Rattle.cs_wire.specs.Changeset.{GroupData, IsChangeset, file_bytes, ImageData, images}
 

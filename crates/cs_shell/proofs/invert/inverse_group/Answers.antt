@@ -1,6 +1,5 @@
 use Rattle.std.proofs.Common.{ℕ, List, ◌≡◌, get_or, ap, sym, ◌∙◌}
 use Rattle.cs_wire.specs.declared.entry.Entry.{Entry}
-use Rattle.cs_wire.specs.Entry.{IsEntry}
 use Rattle.cs_wire.specs.Changeset.{HeaderData}
 use Rattle.cs_shell.specs.Inverting.{inverse_entry}
 use Rattle.cs_shell.proofs.InverseLaws.{IsEntry-inverse, InverseSoFar-one, InverseSoFar-push, InverseSoFar-all, next_is, next_fresh}

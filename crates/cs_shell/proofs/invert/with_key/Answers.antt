@@ -1,4 +1,4 @@
-use Rattle.std.proofs.Common.{◌≡◌, List, length, get_or, Bor, ap, sym, ◌∙◌}
+use Rattle.std.proofs.Common.{◌≡◌, List, length, get_or, ap, sym, ◌∙◌}
 use Rattle.cs_value.specs.declared.value.OwnedField.{OwnedField}
 use Rattle.cs_shell.proofs.InverseLaws.{WithKeySoFar-none, WithKeySoFar-in, WithKeySoFar-out, WithKeySoFar-all}
 use Rattle.cs_shell.proofs.invert.with_key.Goals as goal
