@@ -66,17 +66,6 @@ IsRecord-with_key (suc flag ∷ flags) (x ∷ a) [] h k = tt
 IsRecord-with_key (zero ∷ flags) (x ∷ a) (y ∷ b) h k = (k.0, IsRecord-with_key flags a b h.1 k.1)
 IsRecord-with_key (suc flag ∷ flags) (x ∷ a) (y ∷ b) h k = (h.0, IsRecord-with_key flags a b h.1 k.1)
 
-pub length-update : (flags : List ℕ) (old new : List OwnedField) → IsKeyedUpdate flags old new → (length flags ≡ length old) × (length flags ≡ length new)
-length-update [] [] [] h = (refl, refl)
-length-update (zero ∷ flags) (o ∷ old) (n ∷ new) h = let both = length-update flags old new h.1 in (ap suc both.0, ap suc both.1)
-length-update (suc flag ∷ flags) (o ∷ old) (n ∷ new) h = let both = length-update flags old new h.1 in (ap suc both.0, ap suc both.1)
-length-update [] [] (n ∷ new) h = absurd h
-length-update [] (o ∷ old) new h = absurd h
-length-update (zero ∷ flags) [] new h = absurd h
-length-update (suc flag ∷ flags) [] new h = absurd h
-length-update (zero ∷ flags) (o ∷ old) [] h = absurd h
-length-update (suc flag ∷ flags) (o ∷ old) [] h = absurd h
-
 -- one more field of an image that is made of two
 with_key_in : (flags : List ℕ) (a b : List OwnedField) (i : ℕ) (f : OwnedField) → length flags ≡ length a → length flags ≡ length b → i < length flags → (get_or flags i 0 ≡ 0 → ⊥) → get_or a i f ≡ f
     → with_key (drop i flags) (drop i a) (drop i b) ≡ f ∷ with_key (drop (suc i) flags) (drop (suc i) a) (drop (suc i) b)

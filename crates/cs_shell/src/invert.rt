@@ -1,5 +1,5 @@
 //! Inverting changesets.
-ghost use Rattle.std.specs.Prelude.{◌≡◌, ℕ, ◌<◌, length, IfOk, IfErr};
+ghost use Rattle.std.specs.Prelude.{◌≡◌, length, IfOk, IfErr};
 ghost use Rattle.cs_wire.specs.Entry.{IsEntry, IsChange, with_key as with_key_of};
 ghost use Rattle.cs_wire.specs.Changeset.{IsGroup, IsChangeset};
 ghost use Rattle.cs_shell.specs.Inverse.{IsInverseGroup, IsInverse, Inverts};

@@ -2,22 +2,15 @@
 //!
 //! Each reader takes the file and the place where to begin, and answers what stands there and the
 //! place behind it. A fault has the place that section "Read faults" of `docs/FORMAT.md` gives it.
-ghost use Rattle.std.specs.Prelude.{◌≡◌, ◌≢◌, ◌≤◌, ◌<◌, ◌++◌, ◌∷◌, ◌↔◌, ◌+◌, [], ℕ, List, Bool, length, drop, map, All, Any, IfOk, IfErr, IfSome, IfNone, OnOk, EachIndex, IsTrue, None, slice_index, string_bytes, if◌then◌else◌};
-ghost use Rattle.cs_value.specs.declared.TheConstants.{MAX_CONTENT_LEN};
-ghost use Rattle.cs_value.specs.declared.value.OwnedValue.{OwnedValue};
-ghost use Rattle.cs_value.specs.declared.value.OwnedValue.TheVariants.{Null};
-ghost use Rattle.cs_value.specs.declared.value.OwnedField.{OwnedField};
-ghost use Rattle.cs_value.specs.declared.value.OwnedField.TheVariants.{Defined};
-ghost use Rattle.cs_value.specs.Value.{IsField, IsRecord, field_of, value_of};
-ghost use Rattle.cs_value.specs.Varint.{varint};
-ghost use Rattle.cs_value.specs.Spelling.{field_bytes, record_bytes};
+ghost use Rattle.std.specs.Prelude.{◌≡◌, ◌≢◌, ◌≤◌, ◌<◌, ◌++◌, ◌∷◌, ◌↔◌, ◌+◌, [], ℕ, List, Bool, length, drop, All, IfOk, IfErr, OnOk, IsTrue, if◌then◌else◌};
+ghost use Rattle.cs_value.specs.Spelling.{record_bytes};
 ghost use Rattle.cs_wire.specs.declared.entry.Change.{Change as ChangeData};
 ghost use Rattle.cs_wire.specs.declared.entry.Entry.{Entry as EntryData};
-ghost use Rattle.cs_wire.specs.Entry.{IsFlags, IsChange, IsEntry, operation, fields_of, key_of, entry_bytes};
-ghost use Rattle.cs_wire.specs.Changeset.{HeaderData, GroupData, IsName, IsHeader, IsGroup, IsChangeset, flags_bytes, header_bytes, entries_bytes, group_bytes, file_bytes};
-ghost use Rattle.cs_wire.specs.ReadFaults.{Stands, HasEntry, TableStart, HeaderPart, EntryStart, ReadCase, RefusesFile};
+ghost use Rattle.cs_wire.specs.Entry.{IsChange, IsEntry, operation, fields_of, key_of, entry_bytes};
+ghost use Rattle.cs_wire.specs.Changeset.{HeaderData, GroupData, IsGroup, IsChangeset, entries_bytes, group_bytes, file_bytes};
+ghost use Rattle.cs_wire.specs.ReadFaults.{Stands, HasEntry, TableStart, EntryStart, ReadCase, RefusesFile};
 ghost use Rattle.cs_wire.specs.Views.{byte_of};
-ghost use Rattle.cs_wire.specs.Reading.{Reads, Fails, EndsGroup, Meets, IsFieldAt, IsRecordAt, FieldRefused, RecordRefused, ChangeRefused, CountFails, NoField, NoOperation, NoFlag, row_wants, old_wants, new_wants, in_row, in_old, in_new, refusal, is_modified, is_defined};
+ghost use Rattle.cs_wire.specs.Reading.{Reads, Fails, EndsGroup, ChangeRefused, NoOperation, NoFlag};
 
 mod header;
 mod record;

@@ -1,20 +1,11 @@
 //! Reading the headers of tables.
-ghost use Rattle.std.specs.Prelude.{◌≡◌, ◌≢◌, ◌≤◌, ◌<◌, ◌++◌, ◌∷◌, ◌↔◌, ◌+◌, [], ℕ, List, Bool, length, drop, map, All, Any, IfOk, IfErr, IfSome, IfNone, OnOk, EachIndex, IsTrue, None, slice_index, string_bytes, if◌then◌else◌};
+ghost use Rattle.std.specs.Prelude.{◌≡◌, ◌≢◌, ◌≤◌, ◌<◌, ◌++◌, ◌∷◌, ◌+◌, [], ℕ, List, length, drop, IfOk, IfSome, IfNone, EachIndex, slice_index, string_bytes};
 ghost use Rattle.cs_value.specs.declared.TheConstants.{MAX_CONTENT_LEN};
-ghost use Rattle.cs_value.specs.declared.value.OwnedValue.{OwnedValue};
-ghost use Rattle.cs_value.specs.declared.value.OwnedValue.TheVariants.{Null};
-ghost use Rattle.cs_value.specs.declared.value.OwnedField.{OwnedField};
-ghost use Rattle.cs_value.specs.declared.value.OwnedField.TheVariants.{Defined};
-ghost use Rattle.cs_value.specs.Value.{IsField, IsRecord, field_of, value_of};
 ghost use Rattle.cs_value.specs.Varint.{varint};
-ghost use Rattle.cs_value.specs.Spelling.{field_bytes, record_bytes};
-ghost use Rattle.cs_wire.specs.declared.entry.Change.{Change as ChangeData};
-ghost use Rattle.cs_wire.specs.declared.entry.Entry.{Entry as EntryData};
-ghost use Rattle.cs_wire.specs.Entry.{IsFlags, IsChange, IsEntry, operation, fields_of, key_of, entry_bytes};
-ghost use Rattle.cs_wire.specs.Changeset.{HeaderData, GroupData, IsName, IsHeader, IsGroup, IsChangeset, flags_bytes, header_bytes, entries_bytes, group_bytes, file_bytes};
-ghost use Rattle.cs_wire.specs.ReadFaults.{Stands, HasEntry, TableStart, HeaderPart, EntryStart, ReadCase, RefusesFile};
-ghost use Rattle.cs_wire.specs.Views.{byte_of};
-ghost use Rattle.cs_wire.specs.Reading.{Reads, Fails, EndsGroup, Meets, IsFieldAt, IsRecordAt, FieldRefused, RecordRefused, ChangeRefused, CountFails, NoField, NoOperation, NoFlag, row_wants, old_wants, new_wants, in_row, in_old, in_new, refusal, is_modified, is_defined};
+ghost use Rattle.cs_wire.specs.Entry.{IsFlags};
+ghost use Rattle.cs_wire.specs.Changeset.{HeaderData, GroupData, IsName, IsHeader, flags_bytes, header_bytes};
+ghost use Rattle.cs_wire.specs.ReadFaults.{Stands, HasEntry, TableStart, HeaderPart, ReadCase};
+ghost use Rattle.cs_wire.specs.Reading.{Reads, Fails, CountFails};
 
 use crate::fault::{ReadError, ReadFaultKind};
 use crate::format::{MAX_COLUMNS, PATCHSET, TABLE};
