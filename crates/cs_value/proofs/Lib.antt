@@ -1,3 +1,4 @@
+pub mod Lists
 pub mod ByteLists
 pub mod Digits
 pub mod VarintLaws
@@ -13,3 +14,4 @@ pub mod FieldReading
 pub mod Spellings
 pub mod KeyColumns
 pub mod ImageReading
+pub mod RefusalLaws

@@ -4,3 +4,4 @@ pub mod Spelling
 pub mod FieldFaults
 pub mod ImageFaults
 pub mod Reading
+pub mod Refusals

@@ -4,7 +4,7 @@ ghost use Rattle.cs_value.specs.Value.{key_columns};
 ghost use Rattle.cs_value.specs.Spelling.{row_bytes, record_bytes};
 
 use crate::image::Image;
-use crate::no_memory::NoMemory;
+use crate::refusal::NoMemory;
 use crate::parts::key_parts;
 use crate::row::Row;
 use std::alloc::Global;
