@@ -9,7 +9,8 @@ use Rattle.cs_value.specs.declared.fault.FieldFaultKind.TheVariants.{Truncated, 
 use Rattle.cs_value.specs.declared.value.OwnedValue.TheVariants.{Int, Text, Blob, Null}
 use Rattle.cs_value.specs.declared.value.OwnedField.{OwnedField}
 use Rattle.cs_value.specs.declared.value.OwnedField.TheVariants.{Undefined, Defined}
-use Rattle.cs_value.specs.Value.{IsValue, IsRow, key_columns}
+use Rattle.cs_value.specs.Value.{IsValue, IsRow}
+use Rattle.cs_value.specs.Key.{key_columns}
 use Rattle.cs_value.specs.Varint.{leading_digits, varint}
 use Rattle.cs_value.specs.Spelling.{counted, value_bytes, field_bytes, row_bytes, record_bytes, BeginsWith}
 use Rattle.cs_value.specs.FieldFaults.{IsCutVarint, VarintFails, FieldFails}

@@ -1,5 +1,5 @@
 -- Images that are read field by field.
-use Rattle.std.proofs.Common.{◌≡◌, ℕ, ◌+◌, ◌<◌, ◌≤◌, List, [], ◌∷◌, ◌++◌, length, drop, refl, sym, ap, ◌∙◌, append_assoc, arith, length-append, Err}
+use Rattle.std.proofs.Common.{◌≡◌, ℕ, ◌+◌, ◌<◌, ◌≤◌, List, [], ◌∷◌, ◌++◌, length, drop, refl, sym, ap, ◌∙◌, append_assoc, arith, length-append}
 use Rattle.std.proofs.lemmas.List.{append-nil, drop-drop}
 use Rattle.std.proofs.lemmas.List.Concat.{flat_map-append}
 use Rattle.cs_value.specs.declared.fault.FieldFault.{FieldFault}
@@ -10,7 +10,7 @@ use Rattle.cs_value.specs.Value.{IsField, IsRecord}
 use Rattle.cs_value.specs.Spelling.{field_bytes, record_bytes, BeginsWith}
 use Rattle.cs_value.specs.ImageFaults.{RecordFails}
 use Rattle.cs_value.specs.Reading.{NoFieldAt}
-use Rattle.cs_value.specs.Refusals.{Answers, Refuses}
+use Rattle.cs_value.specs.Refusals.{Refuses}
 use Rattle.cs_value.proofs.Lists.{AllByRecursion-push}
 use Rattle.cs_value.proofs.Spellings.{field_spellings, record_spellings}
 

@@ -1,7 +1,10 @@
 pub mod Value
 pub mod Varint
 pub mod Spelling
+pub mod Key
+pub mod Table
 pub mod FieldFaults
 pub mod ImageFaults
-pub mod Reading
 pub mod Refusals
+pub mod Laws
+pub mod Reading

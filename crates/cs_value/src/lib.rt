@@ -46,3 +46,6 @@ pub use varint::{varint_len, varint_read, varint_write};
 /// The most bytes that a text or a blob of a changeset can have: SQLite writes their count as a
 /// varint of 31 bits.
 pub const MAX_CONTENT_LEN: usize = 2_147_483_647;
+
+/// The most columns that a table has: no SQLite can be built with more.
+pub const MAX_COLUMNS: usize = 32_767;

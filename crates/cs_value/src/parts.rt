@@ -1,7 +1,8 @@
 //! What rows and images are made of, one part after another: values and fields.
 ghost use Rattle.std.specs.Prelude.{◌≡◌, ◌++◌, ℕ, List, length, IfOk, OnOk, OnErr, take};
 ghost use Rattle.std.specs.List.{flat_map, AllByRecursion};
-ghost use Rattle.cs_value.specs.Value.{IsValue, IsField, key_columns};
+ghost use Rattle.cs_value.specs.Value.{IsValue, IsField};
+ghost use Rattle.cs_value.specs.Key.{key_columns};
 ghost use Rattle.cs_value.specs.Spelling.{value_bytes, field_bytes};
 
 use crate::field::{field_write, value_write};
