@@ -1,5 +1,6 @@
 pub mod Lists
 pub mod ByteLists
+pub mod ByteMaps
 pub mod Digits
 pub mod VarintLaws
 pub mod VarintLoops

@@ -2,6 +2,7 @@ pub mod Value
 pub mod Varint
 pub mod Spelling
 pub mod Key
+pub mod Maps
 pub mod Table
 pub mod FieldFaults
 pub mod ImageFaults

@@ -18,8 +18,10 @@ use Rattle.cs_wire.specs.declared.entry.Change.TheVariants.{Insert, Delete, Upda
 use Rattle.cs_wire.specs.declared.entry.Entry.{Entry}
 use Rattle.cs_wire.specs.declared.fault.ReadFaultKind.{ReadFaultKind}
 use Rattle.cs_wire.specs.declared.fault.ReadFaultKind.TheVariants.{Truncated, NotTable, Patchset, BadVarint, ColumnCount, NoKey, BadName, DuplicateTable, EmptyGroup, BadOp, BadFlag, BadType, RealValue, BadText, UndefinedField, Unpaired, NullKey, DuplicateKey}
-use Rattle.cs_wire.specs.Entry.{IsFlags, IsKeyedRow, IsKeyedUpdate, IsEntry, IsChange, entry_bytes}
-use Rattle.cs_wire.specs.Changeset.{HeaderData, IsName, IsHeader, GroupData, IsGroup, IsChangeset, flags_bytes, header_bytes, group_bytes, file_bytes, IsAccepted}
+use Rattle.cs_value.specs.Table.{IsFlags, IsKeyedRow}
+use Rattle.cs_wire.specs.Entry.{IsKeyedUpdate, IsEntry, IsChange, entry_bytes}
+use Rattle.cs_value.specs.Table.{IsName}
+use Rattle.cs_wire.specs.Changeset.{HeaderData, IsHeader, GroupData, IsGroup, IsChangeset, flags_bytes, header_bytes, group_bytes, file_bytes, IsAccepted}
 use Rattle.cs_wire.specs.ReadFaults.{Stands, TableStart, HeaderPart, EntryStart, FieldStart, IsOperation, ReadCase, ReadFails}
 use Rattle.cs_wire.proofs.GroupsLaws.{EntryStart-none}
 

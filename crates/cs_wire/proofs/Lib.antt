@@ -2,6 +2,7 @@ pub mod AdmitLaws
 pub mod ChangeLaws
 pub mod EntriesLaws
 pub mod EntryFaults
+pub mod EntryInverses
 pub mod EntryLaws
 pub mod Examples
 pub mod FieldsLaws
@@ -9,5 +10,6 @@ pub mod FileSpellings
 pub mod GroupLaws
 pub mod GroupsLaws
 pub mod HeaderFaults
+pub mod IndexLaws
 pub mod KeyLaws
 pub mod ReadingLaws

@@ -16,12 +16,11 @@ use Rattle.cs_value.specs.FieldFaults.{VarintFails, FieldFails}
 use Rattle.cs_wire.specs.declared.entry.Change.{Change}
 use Rattle.cs_wire.specs.declared.entry.Change.TheVariants.{Insert, Delete, Update}
 use Rattle.cs_wire.specs.declared.entry.Entry.{Entry}
-use Rattle.cs_wire.specs.declared.fault.ReadError.{ReadError}
-use Rattle.cs_wire.specs.declared.fault.ReadError.TheVariants.{Fault, NoMemory}
 use Rattle.cs_wire.specs.declared.fault.ReadFaultKind.{ReadFaultKind}
 use Rattle.cs_wire.specs.declared.fault.ReadFaultKind.TheVariants.{Truncated, NotTable, Patchset, BadVarint, ColumnCount, NoKey, BadName, DuplicateTable, EmptyGroup, BadOp, BadFlag, BadType, RealValue, BadText, UndefinedField, Unpaired, NullKey, DuplicateKey}
-use Rattle.cs_wire.specs.Entry.{IsFlags, IsChange, IsEntry, key_of, operation, fields_of, entry_bytes}
-use Rattle.cs_wire.specs.Changeset.{HeaderData, GroupData, IsHeader, IsChangeset, flags_bytes, header_bytes, entries_bytes, file_bytes, IsAccepted}
+use Rattle.cs_value.specs.Table.{IsFlags}
+use Rattle.cs_wire.specs.Entry.{IsChange, IsEntry, key_of, operation, fields_of, entry_bytes}
+use Rattle.cs_wire.specs.Changeset.{HeaderData, GroupData, IsNewKey, IsNewName, IsHeader, IsChangeset, flags_bytes, header_bytes, entries_bytes, file_bytes, IsAccepted}
 
 -- the number of a kind
 abbrev pub code_of : ReadFaultKind → ℕ
@@ -65,21 +64,6 @@ name_of Unpaired = codes "Unpaired"
 name_of NullKey = codes "NullKey"
 name_of DuplicateKey = codes "DuplicateKey"
 
--- the number of a refusal
-abbrev pub error_code : ReadError → ℕ
-error_code (Fault f) = code_of f.kind
-error_code NoMemory = 60
-
--- SQLite's result code for it: SQLITE_CORRUPT or SQLITE_NOMEM
-abbrev pub error_class : ReadError → ℕ
-error_class (Fault f) = 11
-error_class NoMemory = 7
-
--- the name of a refusal
-abbrev pub error_name : ReadError → List ℕ
-error_name (Fault f) = name_of f.kind
-error_name NoMemory = codes "NoMemory"
-
 -- the kind of a fault of a field
 abbrev pub kind_of : FieldFaultKind → ReadFaultKind
 kind_of field.Truncated = Truncated
@@ -119,7 +103,7 @@ pub record EntryStart (file : List ℕ) (at : ℕ) (header : HeaderData) (entrie
   pub groups : List GroupData
   pub start : TableStart file from groups
   pub is_header : IsHeader header
-  pub new_table : All (λ g. g.header.name ≢ header.name) groups
+  pub new_table : IsNewName groups header.name
   pub each : All (IsEntry header.flags) entries
   pub once : AllPairs (λ d e. key_of header.flags d.change ≢ key_of header.flags e.change) entries
   pub stand : Stands file from (header_bytes header ++ entries_bytes entries) at
@@ -175,7 +159,7 @@ HasBadName file place = (flags : List ℕ) × (name : List ℕ) × (to : ℕ) ×
 -- the header of a table that was there before
 abbrev pub RepeatsTable : List ℕ → ℕ → Type 0
 RepeatsTable file place = (groups : List GroupData) × (header : HeaderData) × (to : ℕ) × TableStart file place groups × IsHeader header
-    × Stands file place (header_bytes header) to × (All (λ g. g.header.name ≢ header.name) groups → ⊥)
+    × Stands file place (header_bytes header) to × (IsNewName groups header.name → ⊥)
 
 -- the file ends behind an operation
 abbrev pub IsCutEntry : List ℕ → Type 0
@@ -191,7 +175,7 @@ HasBadFlag file place = (at : ℕ) × (header : HeaderData) × (entries : List E
 abbrev pub RepeatsKey : List ℕ → ℕ → Type 0
 RepeatsKey file place = (header : HeaderData) × (entries : List Entry) × (entry : Entry) × (to : ℕ) × EntryStart file place header entries
     × IsEntry header.flags entry × Stands file place (entry_bytes entry) to
-    × (All (λ e. key_of header.flags e.change ≢ key_of header.flags entry.change) entries → ⊥)
+    × (IsNewKey header.flags entries (key_of header.flags entry.change) → ⊥)
 
 -- where a field is to begin stands none
 abbrev pub HasNoField : List ℕ → FieldFaultKind → ℕ → Type 0
@@ -254,8 +238,3 @@ ReadCase file DuplicateKey place = RepeatsKey file place
 pub record ReadFails (file : List ℕ) (kind : ReadFaultKind) (place : ℕ) : Type 0 where
   pub refused : IsAccepted file → ⊥
   pub case : ReadCase file kind place
-
--- why a file is not read: a fault of the bytes, or memory that was refused
-abbrev pub RefusesFile : List ℕ → ReadError → Type 0
-RefusesFile file (Fault f) = ReadFails file f.kind f.place
-RefusesFile file NoMemory = Unit {0}
