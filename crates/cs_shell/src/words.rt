@@ -1,9 +1,7 @@
 //! The words of a command line, and what they are answered.
-ghost use Rattle.std.specs.Prelude.{◌≡◌, ◌≤◌, ℕ, List, Some, length, false, IfOk, IfSome};
-ghost use Rattle.std.specs.FinMap as map;
-ghost use Rattle.std.specs.Io.KnownBytes.{Appends};
-ghost use Rattle.cs_shell.specs.Told.{inner_of};
-ghost use Rattle.cs_shell.specs.Script.{ScriptGives};
+ghost use Rattle.std.specs.Prelude.{◌≡◌, ◌≤◌, Some, length, IfOk, IfSome};
+ghost use Rattle.cs_shell.specs.Told.{known};
+ghost use Rattle.cs_shell.specs.Script.{Ends};
 
 use crate::fault::ToolFault;
 use crate::invert::invert_bytes;
@@ -132,9 +130,7 @@ pub fn run_words<H: Files + AllocGlobal, R: Read, W: Write, E: Write>(
 ) -> u8
     ensures status { result ≤ 2 }
     ensures script { length words.now ≤ 1 → result ≡ 0 →
-        IfSome (R.remaining (inner_of input.old)) (λ text.
-        (written : List ℕ) × ScriptGives map.empty text written false
-        × Appends (W.contents (inner_of out.old)) (W.contents (inner_of out.new)) written) }
+        IfSome (known R.remaining input.old) (Ends W.contents Status.Done out.old out.new) }
 {
     match parse_words(words) {
         Some(Action::Script) => end_script(err, run_slots(rt.alloc(), input, out)),
