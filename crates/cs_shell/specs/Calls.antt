@@ -24,4 +24,5 @@ pub record Writes {W X E : Type 0} (contents : W → Option (List ℕ)) (result 
 
 -- a text of which this holds was written
 abbrev pub WritesSome : {W : Type 0} → (W → Option (List ℕ)) → Told W → Told W → (List ℕ → Type 0) → Type 0
-WritesSome contents old new Holds = (written : List ℕ) × Holds written × Appends (known contents old) (known contents new) written
+WritesSome contents old new Holds =
+    (written : List ℕ) × Holds written × Appends (known contents old) (known contents new) written

@@ -136,7 +136,8 @@ pub record OverrunGives (old : SlotMap) (text written : List ℕ) : Type 0 where
 
 -- what was written for a text, by how its script ended: where a write failed nothing is said of it
 abbrev pub Ends : {W : Type 0} → (W → Option (List ℕ)) → Status → Told W → Told W → List ℕ → Type 0
-Ends contents Done before after text = WritesSome contents before after (λ written. ScriptGives empty text written false)
+Ends contents Done before after text =
+    WritesSome contents before after (λ written. ScriptGives empty text written false)
 Ends contents LinesRefused before after text =
     WritesSome contents before after (λ written. ScriptGives empty text written true)
 Ends contents TooLong before after text = WritesSome contents before after (OverrunGives empty text)
