@@ -30,16 +30,16 @@ returns-then-is_some-clause-fault c = λ start.
     let flags_is = c.flags.ensures.same ∙ ap (λ (h : HeaderData). h.flags) c.header-header.ensures.same in
     let found = rw flags_is at c.in_ok-entry.ensures.found in
     let key : c.in_ok-key.key ≡ key_bytes group.header.flags entry = c.in_ok-key.ensures ∙ ap (λ (h : HeaderData). key_bytes h.flags entry) c.header-header.ensures.same in
-    rw c.fault.ensures (
-      group.header,
-      group.entries,
-      entry,
-      c.in_ok-entry.end,
-      start,
-      found.0,
-      found.1,
-      not_fresh c.record_spellings_law.ensures group.header.flags group.entries entry c.in_ok-key.key place.0 c.header-header.ensures.well_formed.each found.0 key place.1,
-    )
+    rw c.fault.ensures (record {
+      header = group.header;
+      entries = group.entries;
+      entry = entry;
+      to = c.in_ok-entry.end;
+      start = start;
+      is_entry = found.0;
+      stands = found.1;
+      not_new = not_fresh c.record_spellings_law.ensures group.header.flags group.entries entry c.in_ok-key.key place.0 c.header-header.ensures.well_formed.each found.0 key place.1;
+    })
 
 pub push_with_key-requires-clause-fresh : goal.push_with_key-requires-clause-fresh
 push_with_key-requires-clause-fresh c =

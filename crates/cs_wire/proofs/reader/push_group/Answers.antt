@@ -47,15 +47,15 @@ pub returns-then-is_some-clause-fault : goal.returns-then-is_some-clause-fault
 returns-then-is_some-clause-fault c = λ start only.
     let header = c.in_ok-header.header in
     let place = found_place c.find.result _ (sym c.is_some.ensures ∙ c.if-is_some.true) c.find.ensures.found in
-    rw c.fault.ensures (
-      c.args.changeset.now,
-      header,
-      c.in_ok-header.start,
-      start,
-      c.in_ok-header.ensures.found.0,
-      c.in_ok-header.ensures.found.1,
-      not_new_name c.args.changeset.now c.name.result.now place.0 header c.name.ensures place.1,
-    )
+    rw c.fault.ensures (record {
+      groups = c.args.changeset.now;
+      header = header;
+      to = c.in_ok-header.start;
+      start = start;
+      is_header = c.in_ok-header.ensures.found.0;
+      stands = c.in_ok-header.ensures.found.1;
+      not_new = not_new_name c.args.changeset.now c.name.result.now place.0 header c.name.ensures place.1;
+    })
 
 pub returns-in_err-group-clause-fault : goal.returns-in_err-group-clause-fault
 returns-in_err-group-clause-fault c = λ start only.
