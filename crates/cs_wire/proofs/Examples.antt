@@ -20,8 +20,9 @@ use Rattle.cs_wire.specs.declared.entry.Change.TheVariants.{Insert, Delete, Upda
 use Rattle.cs_wire.specs.declared.entry.Entry.{Entry}
 use Rattle.cs_wire.specs.declared.fault.ReadFaultKind.{ReadFaultKind}
 use Rattle.cs_wire.specs.declared.fault.ReadFaultKind.TheVariants.{Truncated, NotTable, Patchset, BadVarint, ColumnCount, NoKey, BadName, DuplicateTable, EmptyGroup, BadOp, BadFlag, BadType, RealValue, BadText, UndefinedField, Unpaired, NullKey, DuplicateKey}
-use Rattle.cs_wire.specs.Entry.{IsFlags, IsKeyedRow, IsKeyedUpdate, IsEntry, IsChange, entry_bytes}
-use Rattle.cs_wire.specs.Changeset.{HeaderData, IsName, IsHeader, GroupData, IsGroup, IsChangeset, flags_bytes, header_bytes, group_bytes, file_bytes, IsAccepted}
+use Rattle.cs_value.specs.Table.{IsName, IsFlags, IsKeyedRow}
+use Rattle.cs_wire.specs.Entry.{IsKeyedUpdate, IsEntry, IsChange, entry_bytes}
+use Rattle.cs_wire.specs.Changeset.{HeaderData, IsHeader, GroupData, IsGroup, IsChangeset, flags_bytes, header_bytes, group_bytes, file_bytes, IsAccepted}
 use Rattle.cs_wire.specs.ReadFaults.{Stands, TableStart, HeaderPart, EntryStart, FieldStart, IsOperation, HasNoField, ReadCase, ReadFails}
 use Rattle.cs_wire.proofs.GroupsLaws.{EntryStart-none}
 
@@ -340,11 +341,11 @@ no_flag_is_none h = no_flag_at h.some_key.0 h.some_key.1 h.some_key.2 h.some_key
 -- faults
 
 -- the header of the table `t`
-abbrev header_file : List ℕ
+abbrev pub header_file : List ℕ
 header_file = 0x54 ∷ 0x02 ∷ 0x01 ∷ 0x00 ∷ 0x74 ∷ 0x00 ∷ []
 
 -- the field 1
-abbrev one_field : List ℕ
+abbrev pub one_field : List ℕ
 one_field = 0x01 ∷ 0 ∷ 0 ∷ 0 ∷ 0 ∷ 0 ∷ 0 ∷ 0 ∷ 1 ∷ []
 
 -- the field 'x'
@@ -616,7 +617,7 @@ no_insert_field rest kind behind fails = record {
 
 -- no type is 06
 six_is_bad_type : ReadCase (header_file ++ 0x12 ∷ 0x00 ∷ 0x06 ∷ []) BadType 8
-six_is_bad_type = no_insert_field (0x06 ∷ []) field.BadType 0 ((6, [], refl, omega arith), refl)
+six_is_bad_type = no_insert_field (0x06 ∷ []) field.BadType 0 (record { kind = 6; rest = []; spelled = refl; no_type = omega arith }, refl)
 
 -- the type 02 is that of reals
 two_is_real : ReadCase (header_file ++ 0x12 ∷ 0x00 ∷ 0x02 ∷ []) RealValue 8
@@ -730,24 +731,6 @@ second_change_is_duplicate = record {
   stands = record { spelled = refl; within = omega arith };
   not_new = λ fresh. fresh 0 (direct (Insert row)) (omega arith) refl;
 }
-
--- what is no fault
-
--- the byte of a patchset is no other byte
-patchset_is_not_other : ReadCase (0x50 ∷ []) NotTable 0 → ⊥
-patchset_is_not_other h = h.1.no_patchset refl
-
--- and no other byte is that of a patchset
-letter_is_no_patchset : ReadCase (0x41 ∷ []) Patchset 0 → ⊥
-letter_is_no_patchset h = absurd (omega (arith, ap (λ o. unwrap_or o 0) h.byte))
-
--- the place of a patchset is that of its byte, and not the one behind it
-patchset_behind_is_none : ReadCase (0x50 ∷ []) Patchset 1 → ⊥
-patchset_behind_is_none h = let byte = h.byte in cc byte
-
--- and likewise with an operation
-operation_behind_is_none : ReadCase (header_file ++ 0x13 ∷ []) BadOp 7 → ⊥
-operation_behind_is_none h = absurd (omega (arith, h.entry.within))
 
 -- what is accepted has no fault
 accepted_is_not_refused : (kind : ReadFaultKind) (place : ℕ) → ReadFails insert_file kind place → ⊥

@@ -6,7 +6,7 @@ use Rattle.std.proofs.lemmas.Bool.{cases_lt}
 use Rattle.std.proofs.lemmas.List.{length-drop, length-take, get_or_default, nil_from_length}
 use Rattle.std.proofs.lemmas.List.Elements.{recursion_from_All}
 use Rattle.cs_value.specs.Varint.{varint}
-use Rattle.cs_wire.specs.Entry.{IsFlags}
+use Rattle.cs_value.specs.Table.{IsFlags}
 use Rattle.cs_wire.specs.Changeset.{GroupData, flags_bytes}
 use Rattle.cs_wire.specs.ReadFaults.{Stands, TableStart, HeaderPart, IsColumnCount, HasNoKey, HasBadName}
 use Rattle.cs_wire.proofs.ReadingLaws.{Stands-then, Stands-take, Stands-ended, no_zero_before}

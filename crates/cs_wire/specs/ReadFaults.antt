@@ -12,20 +12,19 @@ use Rattle.cs_value.specs.declared.value.OwnedField.{OwnedField}
 use Rattle.cs_value.specs.declared.value.OwnedField.TheVariants.{Undefined, Defined}
 use Rattle.cs_value.specs.Value.{IsField}
 use Rattle.cs_value.specs.Varint.{varint}
+use Rattle.cs_value.specs.Table.{IsFlags}
 use Rattle.cs_value.specs.Spelling.{field_bytes, record_bytes}
 use Rattle.cs_value.specs.FieldFaults.{VarintFails, FieldFails}
 use Rattle.cs_wire.specs.declared.entry.Change.{Change}
 use Rattle.cs_wire.specs.declared.entry.Change.TheVariants.{Insert, Delete, Update}
 use Rattle.cs_wire.specs.declared.entry.Entry.{Entry}
-use Rattle.cs_wire.specs.declared.fault.ReadError.{ReadError}
-use Rattle.cs_wire.specs.declared.fault.ReadError.TheVariants.{Fault, NoMemory}
 use Rattle.cs_wire.specs.declared.fault.ReadFaultKind.{ReadFaultKind}
 use Rattle.cs_wire.specs.declared.fault.ReadFaultKind.TheVariants.{Truncated, NotTable, Patchset, BadVarint}
 use Rattle.cs_wire.specs.declared.fault.ReadFaultKind.TheVariants.{ColumnCount, NoKey, BadName, DuplicateTable}
-use Rattle.cs_wire.specs.declared.fault.ReadFaultKind.TheVariants.{EmptyGroup, BadOp, BadFlag, BadType, RealValue}
-use Rattle.cs_wire.specs.declared.fault.ReadFaultKind.TheVariants.{BadText, UndefinedField, Unpaired, NullKey, DuplicateKey}
-use Rattle.cs_wire.specs.Entry.{IsFlags, IsChange, IsEntry, key_of, operation, fields_of, entry_bytes}
-use Rattle.cs_wire.specs.Changeset.{HeaderData, GroupData, IsHeader, IsChangeset, IsAccepted}
+use Rattle.cs_wire.specs.declared.fault.ReadFaultKind.TheVariants.{EmptyGroup, BadOp, BadFlag, BadType, RealValue, BadText}
+use Rattle.cs_wire.specs.declared.fault.ReadFaultKind.TheVariants.{UndefinedField, Unpaired, NullKey, DuplicateKey}
+use Rattle.cs_wire.specs.Entry.{IsChange, IsEntry, key_of, operation, fields_of, entry_bytes}
+use Rattle.cs_wire.specs.Changeset.{HeaderData, GroupData, IsNewKey, IsNewName, IsHeader, IsChangeset, IsAccepted}
 use Rattle.cs_wire.specs.Changeset.{flags_bytes, header_bytes, entries_bytes, file_bytes}
 
 -- the number of a kind
@@ -70,21 +69,6 @@ name_of Unpaired = codes "Unpaired"
 name_of NullKey = codes "NullKey"
 name_of DuplicateKey = codes "DuplicateKey"
 
--- the number of a refusal
-abbrev pub error_code : ReadError → ℕ
-error_code (Fault f) = code_of f.kind
-error_code NoMemory = 60
-
--- SQLite's result code for it: SQLITE_CORRUPT or SQLITE_NOMEM
-abbrev pub error_class : ReadError → ℕ
-error_class (Fault f) = 11
-error_class NoMemory = 7
-
--- the name of a refusal
-abbrev pub error_name : ReadError → List ℕ
-error_name (Fault f) = name_of f.kind
-error_name NoMemory = codes "NoMemory"
-
 -- the kind of a fault of a field
 abbrev pub kind_of : FieldFaultKind → ReadFaultKind
 kind_of field.Truncated = Truncated
@@ -124,10 +108,15 @@ pub record EntryStart (file : List ℕ) (at : ℕ) (header : HeaderData) (entrie
   pub groups : List GroupData
   pub start : TableStart file from groups
   pub is_header : IsHeader header
-  pub new_table : All (λ g. g.header.name ≢ header.name) groups
+  pub new_table : IsNewName groups header.name
   pub each : All (IsEntry header.flags) entries
   pub once : AllPairs (λ d e. key_of header.flags d.change ≢ key_of header.flags e.change) entries
   pub stand : Stands file from (header_bytes header ++ entries_bytes entries) at
+
+-- the bytes of a change up to so many of its fields: its operation, its indirect flag and these
+abbrev pub change_front : Change → Bool → ℕ → List ℕ
+change_front change indirect count =
+    operation change ∷ (if indirect then 1 else 0) ∷ record_bytes (take count (fields_of change))
 
 -- a field is to begin at this place: behind an operation, an indirect flag and so many fields of a change, which has
 -- more of them
@@ -140,8 +129,7 @@ pub record FieldStart (file : List ℕ) (at : ℕ) (flags : List ℕ) (change : 
   pub is_change : IsChange flags change
   pub more : count < length (fields_of change)
   pub indirect : Bool
-  pub stand :
-      Stands file from (operation change ∷ (if indirect then 1 else 0) ∷ record_bytes (take count (fields_of change))) at
+  pub stand : Stands file from (change_front change indirect count) at
 
 -- ---- what is met in a header
 
@@ -215,7 +203,7 @@ pub record RepeatsTable (file : List ℕ) (place : ℕ) : Type 0 where
   pub start : TableStart file place groups
   pub is_header : IsHeader header
   pub stands : Stands file place (header_bytes header) to
-  pub not_new : All (λ g. g.header.name ≢ header.name) groups → ⊥
+  pub not_new : IsNewName groups header.name → ⊥
 
 -- ---- what is met where an entry may begin
 
@@ -267,7 +255,7 @@ pub record RepeatsKey (file : List ℕ) (place : ℕ) : Type 0 where
   pub start : EntryStart file place header entries
   pub is_entry : IsEntry header.flags entry
   pub stands : Stands file place (entry_bytes entry) to
-  pub not_new : All (λ e. key_of header.flags e.change ≢ key_of header.flags entry.change) entries → ⊥
+  pub not_new : IsNewKey header.flags entries (key_of header.flags entry.change) → ⊥
 
 -- ---- what is met where a field is to begin
 
@@ -353,8 +341,3 @@ ReadCase file DuplicateKey place = RepeatsKey file place
 pub record ReadFails (file : List ℕ) (kind : ReadFaultKind) (place : ℕ) : Type 0 where
   pub refused : IsAccepted file → ⊥
   pub case : ReadCase file kind place
-
--- why a file is not read: a fault of the bytes, or memory that was refused
-abbrev pub RefusesFile : List ℕ → ReadError → Type 0
-RefusesFile file (Fault f) = ReadFails file f.kind f.place
-RefusesFile file NoMemory = Unit {0}
