@@ -1,7 +1,7 @@
 -- The definitions of changesets, their files and their faults, on a table `t` of two columns, of which the first is
 -- the key.
 use Rattle.std.proofs.Common.{◌≡◌, ◌≢◌, ℕ, zero, suc, ◌+◌, ◌<◌, pos, negsuc, true, false, List, [], ◌∷◌, ◌++◌, map, All, slice_index_or}
-use Rattle.std.proofs.Common.{get_or, unwrap_or, true≢false, codes, refl, sym, ap, inl, inr, arith}
+use Rattle.std.proofs.Common.{get_or, true≢false, codes, refl, sym, ap, inl, inr, arith}
 use Rattle.std.specs.Char.{encode_utf8}
 use Rattle.std.specs.Str.{chars, is_utf8}
 use Rattle.std.proofs.lemmas.List.Elements.{All-nil, All-cons}

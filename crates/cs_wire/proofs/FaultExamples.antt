@@ -1,17 +1,15 @@
 -- What is no fault: for each kind of read fault a file that has none of that kind at any place, and files that differ
 -- from those of the examples of faults in the one byte that matters.
-use Rattle.std.proofs.Common.{◌≡◌, ◌≢◌, ℕ, zero, suc, ◌+◌, ◌-◌, ◌<◌, ◌≤◌, Some, List, [], ◌∷◌, ◌++◌, length, drop, get_or, unwrap_or, codes, refl, sym, ap, subst, inl, inr, arith, length-append, length-drop}
+use Rattle.std.proofs.Common.{◌≡◌, ◌≢◌, ℕ, zero, suc, ◌<◌, Some, List, [], ◌∷◌, ◌++◌, length, drop, get_or, unwrap_or, codes, refl, sym, ap, subst, inl, inr, arith, length-append, length-drop}
 use Rattle.std.specs.Prelude.{◌⊎◌, IsUtf8, slice_get}
 use Rattle.std.specs.List.{AllByRecursion}
 use Rattle.std.specs.Str.{chars, is_utf8}
 use Rattle.std.specs.Char.{encode_utf8}
 use Rattle.std.proofs.lemmas.List.Elements.{All-nil}
 use Rattle.std.proofs.lemmas.Str.{IsUtf8-from_is_utf8}
-use Rattle.cs_value.specs.declared.value.OwnedField.{OwnedField}
-use Rattle.cs_value.specs.declared.fault.FieldFaultKind.TheVariants as field
 use Rattle.cs_value.specs.Varint.{leading_digits, varint}
-use Rattle.cs_value.specs.Spelling.{counted, value_bytes, field_bytes}
-use Rattle.cs_value.specs.FieldFaults.{HasContent, BeginsNoVarint, HasBadType, HasBadText}
+use Rattle.cs_value.specs.Spelling.{value_bytes, field_bytes}
+use Rattle.cs_value.specs.FieldFaults.{HasContent, BeginsNoVarint, HasBadType}
 use Rattle.cs_value.proofs.Spellings.{varint_spellings}
 use Rattle.cs_wire.specs.declared.entry.Change.{Change}
 use Rattle.cs_wire.specs.declared.entry.Entry.{Entry}
@@ -119,13 +117,14 @@ two_is_a_count h =
 -- and so it is a varint
 two_is_a_varint : ReadCase (0x54 ∷ 0x02 ∷ []) BadVarint 1 → ⊥
 two_is_a_varint (inl h) =
-    let fails = subst (λ (n : ℕ). BeginsNoVarint (drop n (0x54 ∷ 0x02 ∷ []))) (omega (arith, h.place_is, h.fails.1)) h.fails.0 in no_fault fails
+    let at_is : h.at ≡ 1 = omega (arith, h.place_is, h.fails.1) in no_fault (subst (λ (n : ℕ). BeginsNoVarint (drop n (0x54 ∷ 0x02 ∷ []))) at_is h.fails.0)
   where
     no_fault : BeginsNoVarint (0x02 ∷ []) → ⊥
     no_fault (inl zero_first) = absurd (omega (arith, ap (λ o. unwrap_or o 0) zero_first))
     no_fault (inr long) = absurd (omega (arith, long.0))
 two_is_a_varint (inr h) =
-    let content = subst (λ (n : ℕ). HasContent (drop n (0x54 ∷ 0x02 ∷ [])) h.fails.0.content) (omega (arith, h.place_is, h.fails.1)) h.fails.0.has_content in no_content content
+    let at_is : h.at ≡ 0 = omega (arith, h.place_is, h.fails.1) in
+    no_content (subst (λ (n : ℕ). HasContent (drop n (0x54 ∷ 0x02 ∷ [])) h.fails.0.content) at_is h.fails.0.has_content)
   where
     no_content : HasContent (0x54 ∷ 0x02 ∷ []) h.fails.0.content → ⊥
     no_content (inl text) = absurd (omega (arith, ap first text))
@@ -139,14 +138,14 @@ marked_flags (flag ∷ flags) rest bytes is some zeros = let here : first bytes 
 key_is_marked : ReadCase (0x54 ∷ 0x02 ∷ 0x01 ∷ 0x00 ∷ []) NoKey 2 → ⊥
 key_is_marked h = absurd (omega (arith, marked_flags h.flags (drop h.to (0x54 ∷ 0x02 ∷ 0x01 ∷ 0x00 ∷ [])) (0x01 ∷ 0x00 ∷ []) h.stand.spelled h.is_count.0 h.all_zero))
 
+t_is_text : IsUtf8 (codes "t")
+unfolding encode_utf8 chars is_utf8
+t_is_text = IsUtf8-from_is_utf8 (codes "t") refl
+
 -- `t` is a name
 t_is_a_name : ReadCase (0x54 ∷ 0x01 ∷ 0x01 ∷ 0x74 ∷ 0x00 ∷ []) BadName 3 → ⊥
 t_is_a_name h = good_name h.name (drop h.to (0x54 ∷ 0x01 ∷ 0x01 ∷ 0x74 ∷ 0x00 ∷ [])) h.stands.spelled h.no_zero h.bad
   where
-    t_is_text : IsUtf8 (codes "t")
-    unfolding encode_utf8 chars is_utf8
-    t_is_text = IsUtf8-from_is_utf8 (codes "t") refl
-
     good_name : (name rest : List ℕ) → 0x74 ∷ 0x00 ∷ [] ≡ (name ++ 0 ∷ []) ++ rest → AllByRecursion (λ b. b ≢ 0) name → (name ≡ []) ⊎ (IsUtf8 name → ⊥) → ⊥
     good_name [] rest is no_zero bad = absurd (omega (arith, ap first is))
     good_name (a ∷ []) rest is no_zero (inl none) = cc none
@@ -187,16 +186,23 @@ one_is_a_flag h = absurd (omega (arith, h.above_one))
 -- 05 is a type
 five_is_a_type : ReadCase (header_file ++ 0x12 ∷ 0x00 ∷ 0x05 ∷ []) BadType 8 → ⊥
 five_is_a_type h =
-    let bad = subst (λ (n : ℕ). HasBadType (drop n (header_file ++ 0x12 ∷ 0x00 ∷ 0x05 ∷ []))) (omega (arith, h.place_is, h.fails.1)) h.fails.0 in no_fault bad
+    let at_is : h.at ≡ 8 = omega (arith, h.place_is, h.fails.1) in
+    no_fault (subst (λ (n : ℕ). HasBadType (drop n (header_file ++ 0x12 ∷ 0x00 ∷ 0x05 ∷ []))) at_is h.fails.0)
   where
     no_fault : HasBadType (0x05 ∷ []) → ⊥
     no_fault bad = absurd (omega (arith, ap first bad.spelled, bad.no_type))
 
--- and no real's, as 01 is none
+abbrev BeginsReal : List ℕ → Type 0
+BeginsReal bytes = slice_get bytes 0 ≡ Some 2
+
+-- and 01 is no real's
 integer_is_no_real : ReadCase (header_file ++ 0x12 ∷ 0x00 ∷ one_field) RealValue 8 → ⊥
 integer_is_no_real h =
-    let real = subst (λ (n : ℕ). slice_get (drop n (header_file ++ 0x12 ∷ 0x00 ∷ one_field)) 0 ≡ Some 2) (omega (arith, h.place_is, h.fails.1)) h.fails.0 in
-    absurd (omega (arith, ap (λ o. unwrap_or o 0) real))
+    let at_is : h.at ≡ 8 = omega (arith, h.place_is, h.fails.1) in
+    no_real (subst (λ (n : ℕ). BeginsReal (drop n (header_file ++ 0x12 ∷ 0x00 ∷ one_field))) at_is h.fails.0)
+  where
+    no_real : BeginsReal one_field → ⊥
+    no_real real = absurd (omega (arith, ap (λ o. unwrap_or o 0) real))
 
 -- a byte that a list has not is found nowhere
 found_nowhere : (byte : ℕ) (bytes : List ℕ) (at : ℕ) (rest : List ℕ) → AllByRecursion (λ b. b ≢ byte) bytes → drop at bytes ≡ byte ∷ rest → ⊥
@@ -216,16 +222,34 @@ blob_is_no_text place h = found_nowhere 3 (header_file ++ 0x12 ∷ 0x00 ∷ 0x04
     others : AllByRecursion (λ b. b ≢ 3) (header_file ++ 0x12 ∷ 0x00 ∷ 0x04 ∷ 0x01 ∷ 0xff ∷ [])
     others = (
       other 0x54 (inr (omega arith)),
-      (other 0x02 (inl (omega arith)),
-        (other 0x01 (inl (omega arith)),
-          (other 0x00 (inl (omega arith)),
-            (other 0x74 (inr (omega arith)),
-              (other 0x00 (inl (omega arith)),
-                (other 0x12 (inr (omega arith)),
-                  (other 0x00 (inl (omega arith)),
-                    (other 0x04 (inr (omega arith)),
-                      (other 0x01 (inl (omega arith)),
-                        (other 0xff (inr (omega arith)), tt)))))))))),
+      (
+        other 0x02 (inl (omega arith)),
+        (
+          other 0x01 (inl (omega arith)),
+          (
+            other 0x00 (inl (omega arith)),
+            (
+              other 0x74 (inr (omega arith)),
+              (
+                other 0x00 (inl (omega arith)),
+                (
+                  other 0x12 (inr (omega arith)),
+                  (
+                    other 0x00 (inl (omega arith)),
+                    (
+                      other 0x04 (inr (omega arith)),
+                      (
+                        other 0x01 (inl (omega arith)),
+                        (other 0xff (inr (omega arith)), tt),
+                      ),
+                    ),
+                  ),
+                ),
+              ),
+            ),
+          ),
+        ),
+      ),
     )
 
 -- 1 is a value
