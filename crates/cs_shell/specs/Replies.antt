@@ -1,5 +1,6 @@
 -- Commands and replies of the code, as the definitions of scripts see them.
-use Rattle.std.specs.Prelude.{◌≡◌, ℕ, ◌+◌, ◌≤◌, List, [], ◌∷◌, length, map, Bool, true, not, Option, None, Some, string_bytes}
+use Rattle.std.specs.Prelude.{◌≡◌, ℕ, ◌+◌, ◌≤◌, List, [], ◌∷◌, length, map, Bool, true, not, Option, None, Some}
+use Rattle.std.specs.Prelude.{string_bytes}
 use Rattle.std.specs.Borrow.{Bor}
 use Rattle.cs_shell.specs.declared.lines.Command.{Command}
 use Rattle.cs_shell.specs.declared.lines.Command.TheVariants as command
@@ -37,7 +38,9 @@ Parses words (Some command) = lines.IsCommand words (command_of command)
 
 -- why a line is refused: it asks for nothing that there is, and the column is one of its; or memory was refused
 abbrev pub RefusesLine : List ℕ → LineFault → Type 0
-RefusesLine line (fault.Syntax column) = (lines.AsksNothing line → ⊥) × ((command : lines.CommandData) → lines.Asks line command → ⊥) × (1 ≤ column) × (column ≤ length line + 1)
+RefusesLine line (fault.Syntax column) =
+    (lines.AsksNothing line → ⊥) × ((command : lines.CommandData) → lines.Asks line command → ⊥)
+    × (1 ≤ column) × (column ≤ length line + 1)
 RefusesLine line (fault.NoMemory e) = Unit {0}
 
 -- a reply without where its text lies in memory

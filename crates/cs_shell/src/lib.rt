@@ -26,4 +26,4 @@ pub use fault::ToolFault;
 pub use invert::{changeset_inverses_law, invert_bytes};
 pub use script::{Status, run_slots};
 pub use told::Told;
-pub use words::run_words;
+pub use words::{print_usage, run_words};

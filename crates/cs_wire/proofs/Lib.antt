@@ -5,6 +5,7 @@ pub mod EntryFaults
 pub mod EntryInverses
 pub mod EntryLaws
 pub mod Examples
+pub mod FaultExamples
 pub mod FieldsLaws
 pub mod FileSpellings
 pub mod GroupLaws

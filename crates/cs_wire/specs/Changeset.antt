@@ -77,7 +77,8 @@ image_of flags entry = record { before = before_image entry.change; after = afte
 
 -- what the entries of a group say: by the key of the row
 abbrev pub group_images : GroupData → ByBytes ImageData
-group_images group = from_entries (map (λ e. (key_of group.header.flags e.change, image_of group.header.flags e)) group.entries)
+group_images group =
+    from_entries (map (λ e. (key_of group.header.flags e.change, image_of group.header.flags e)) group.entries)
 
 -- what a changeset says: by the name of the table, and then by the key of the row
 abbrev pub images : List GroupData → ByBytes (ByBytes ImageData)
