@@ -18,8 +18,6 @@ mod print;
 mod reply;
 mod script;
 mod slots;
-#[cfg(test)]
-mod tests;
 mod told;
 mod words;
 

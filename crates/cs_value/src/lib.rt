@@ -25,8 +25,6 @@ mod laws;
 mod no_memory;
 mod parts;
 mod row;
-#[cfg(test)]
-mod tests;
 mod text;
 mod value;
 mod varint;

@@ -24,8 +24,6 @@ mod group;
 mod header;
 mod laws;
 mod reader;
-#[cfg(test)]
-mod tests;
 mod writer;
 
 pub use changeset::Changeset;
