@@ -1,6 +1,7 @@
 //! Tests of the public calls, of what no contract and no line of a script says.
 //!
-//! `value`, `wire` and `shell` have those of a crate, and `refusals` the names of what they refuse.
+//! `value`, `wire` and `shell` have those of a crate each, and `refusals` the numbers, names and
+//! texts of what they refuse with.
 #![tactic(auto)]
 
 #[cfg(test)]

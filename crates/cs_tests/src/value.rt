@@ -1,9 +1,8 @@
 //! Numbers, fields, values, rows, images and keys.
 
 use cs_value::*;
-use std::alloc::Global;
 use std::cmp::Ordering;
-use std::test::Fail;
+use std::process::Abort;
 
 /// The integer 2.
 const TWO: &[u8] = b"\x01\x00\x00\x00\x00\x00\x00\x00\x02";
@@ -11,18 +10,8 @@ const TWO: &[u8] = b"\x01\x00\x00\x00\x00\x00\x00\x00\x02";
 /// An image of three columns: 2, NULL and 'x'.
 const IMAGE: &[u8] = b"\x01\x00\x00\x00\x00\x00\x00\x00\x02\x05\x03\x01x";
 
-/// Whether a number is written as these bytes, as many as are told.
-fn is_written(alloc: Global, number: u32, bytes: &[u8]) -> Result<bool, NoMemory> {
-    if !OwnedValue::fits(number as usize) {
-        return Ok(false);
-    }
-    let mut out = Vec::new(alloc);
-    varint_write(&mut out, number)?;
-    Ok(out.as_slice() == bytes && varint_len(number) == bytes.len())
-}
-
 #[test]
-fn numbers(rt: HostRuntime) -> Result<(), Fail> {
+fn numbers(rt: HostRuntime) {
     for (number, bytes) in [
         (0, b"\x00".as_slice()),
         (127, b"\x7f".as_slice()),
@@ -31,10 +20,16 @@ fn numbers(rt: HostRuntime) -> Result<(), Fail> {
         (16_384, b"\x81\x80\x00".as_slice()),
         (2_147_483_647, b"\x87\xff\xff\xff\x7f".as_slice()),
     ] {
-        assert!(rt; is_written(rt.alloc(), number, bytes)?, "of {number}");
-        assert_eq!(rt; varint_read(bytes), Ok((number, bytes.len())));
+        assert!(rt; OwnedValue::fits(number as usize));
+        assert!(rt; varint_len(number) == bytes.len(), "of {number}");
+        assert!(rt;
+            varint_read(bytes) == Ok((number, bytes.len())),
+            "of {number}"
+        );
+        let mut out = Vec::new(rt.alloc());
+        varint_write(&mut out, number).expect(&rt, "memory");
+        assert!(rt; out.as_slice() == bytes, "of {number}");
     }
-    Ok(())
 }
 
 #[test]
@@ -49,33 +44,18 @@ fn numbers_refused(rt: HostRuntime) {
             0,
         ),
     ] {
-        assert_eq!(rt;
-            varint_read(bytes),
-            Err(FieldFault { kind, place }),
-            "at {bytes:?}"
+        assert!(rt;
+            varint_read(bytes) == Err(FieldFault { kind, place }),
+            "at {place}"
         );
     }
 }
 
-/// Whether the field that bytes are read as is written as they are.
-fn is_written_back(alloc: Global, bytes: &[u8]) -> Result<bool, ImageFault> {
-    let Ok((field, count)) = field_read(bytes) else {
-        return Ok(false);
-    };
-    let mut out = Vec::new(alloc);
-    field_write(&mut out, &field)?;
-    Ok(out.as_slice() == bytes && count == bytes.len())
-}
-
 #[test]
-fn fields(rt: HostRuntime) -> Result<(), Fail> {
+fn fields(rt: HostRuntime) {
     for (bytes, field) in [
         (b"\x00".as_slice(), Field::Undefined),
         (TWO, Field::Defined(Value::Int(2))),
-        (
-            b"\x01\xff\xff\xff\xff\xff\xff\xff\xff".as_slice(),
-            Field::Defined(Value::Int(-1)),
-        ),
         (b"\x03\x01x".as_slice(), Field::Defined(Value::Text("x"))),
         (
             b"\x04\x01\xff".as_slice(),
@@ -83,10 +63,12 @@ fn fields(rt: HostRuntime) -> Result<(), Fail> {
         ),
         (b"\x05".as_slice(), Field::Defined(Value::Null)),
     ] {
-        assert_eq!(rt; field_read(bytes), Ok((field, bytes.len())));
-        assert!(rt; is_written_back(rt.alloc(), bytes)?, "of {bytes:?}");
+        let (read, count) = field_read(bytes).expect(&rt, "a field");
+        assert!(rt; read == field && count == bytes.len());
+        let mut out = Vec::new(rt.alloc());
+        field_write(&mut out, &read).expect(&rt, "memory");
+        assert!(rt; out.as_slice() == bytes);
     }
-    Ok(())
 }
 
 #[test]
@@ -96,79 +78,58 @@ fn lengths(rt: HostRuntime) {
 }
 
 #[test]
-fn texts(rt: HostRuntime) -> Result<(), Fail> {
-    let text = Text::new(String::from_str(rt.alloc(), "x")?);
-    assert_eq!(rt; text.as_str(), "x");
-    assert!(rt; text.copy(rt.alloc())? == text);
-    assert_eq!(rt; text.into_string().as_str(), "x");
-    Ok(())
+fn texts(rt: HostRuntime) {
+    let text = Text::new(String::from_str(rt.alloc(), "x").expect(&rt, "memory"));
+    let copy = text.copy(rt.alloc()).expect(&rt, "memory");
+    assert!(rt; copy == text && copy.as_str() == "x");
+    assert!(rt; text.into_string().as_str() == "x");
 }
 
 #[test]
-fn blobs(rt: HostRuntime) -> Result<(), Fail> {
-    let blob = Bytes::new(Vec::from_slice(rt.alloc(), b"\xff")?);
-    assert_eq!(rt; blob.as_slice(), b"\xff".as_slice());
-    assert!(rt; blob.copy(rt.alloc())? == blob);
-    assert_eq!(rt; blob.into_vec().as_slice(), b"\xff".as_slice());
-    Ok(())
+fn blobs(rt: HostRuntime) {
+    let blob = Bytes::new(Vec::from_slice(rt.alloc(), b"\xff").expect(&rt, "memory"));
+    let copy = blob.copy(rt.alloc()).expect(&rt, "memory");
+    assert!(rt; copy == blob && copy.as_slice() == b"\xff".as_slice());
+    assert!(rt; blob.into_vec().as_slice() == b"\xff".as_slice());
 }
 
 #[test]
-fn values(rt: HostRuntime) -> Result<(), Fail> {
-    let text = Value::Text("1").to_owned(rt.alloc())?;
-    assert_eq!(rt; text.as_value(), Value::Text("1"));
-    assert!(rt; text.copy(rt.alloc())? == text);
+fn values(rt: HostRuntime) {
+    let text = Value::Text("1").to_owned(rt.alloc()).expect(&rt, "memory");
+    let copy = text.copy(rt.alloc()).expect(&rt, "memory");
+    assert!(rt; copy == text && copy.as_value() == Value::Text("1"));
     assert!(rt; text != OwnedValue::Int(1));
-    assert!(rt; text != Value::Blob(b"1").to_owned(rt.alloc())?);
-    Ok(())
 }
 
 #[test]
-fn owned_fields(rt: HostRuntime) -> Result<(), Fail> {
-    let blob = Field::Defined(Value::Blob(b"1")).to_owned(rt.alloc())?;
-    assert_eq!(rt; blob.as_field(), Field::Defined(Value::Blob(b"1")));
-    assert!(rt; blob.copy(rt.alloc())? == blob);
-    assert!(rt; OwnedField::Undefined != OwnedField::Defined(OwnedValue::Null));
-    Ok(())
-}
-
-/// The row of 2 and this number.
-fn row_of(alloc: Global, number: i64) -> Result<Row, NoMemory> {
-    Ok(Row::new(vec![in alloc; OwnedValue::Int(2), OwnedValue::Int(number)]?))
+fn owned_fields(rt: HostRuntime) {
+    let field = Field::Defined(Value::Blob(b"1"));
+    let blob = field.to_owned(rt.alloc()).expect(&rt, "memory");
+    let copy = blob.copy(rt.alloc()).expect(&rt, "memory");
+    assert!(rt; copy == blob && copy.as_field() == field);
+    assert!(rt; blob != OwnedField::Undefined);
 }
 
 #[test]
-fn rows(rt: HostRuntime) -> Result<(), Fail> {
-    let row = row_of(rt.alloc(), 2)?;
-    assert_eq!(rt; row.values().len(), 2);
-    assert!(rt; row.copy(rt.alloc())? == row);
-    assert!(rt; row != row_of(rt.alloc(), 3)?);
+fn rows(rt: HostRuntime) {
+    let row = Row::new(vec![in rt.alloc(); OwnedValue::Int(2), OwnedValue::Null].expect(
+        &rt, "memory",
+    ));
+    let copy = row.copy(rt.alloc()).expect(&rt, "memory");
+    assert!(rt; copy == row && copy.values().len() == 2);
     let mut out = Vec::new(rt.alloc());
-    row_write(&mut out, &row)?;
-    assert_eq!(rt; out.as_slice().strip_prefix(TWO), Some(TWO));
-    Ok(())
+    row_write(&mut out, &row).expect(&rt, "memory");
+    assert!(rt; out.as_slice() == &IMAGE[..10]);
 }
 
 #[test]
-fn images(rt: HostRuntime) -> Result<(), Fail> {
-    let (image, count) = image_read(rt.alloc(), IMAGE, 2)?;
-    assert_eq!(rt; count, 10);
-    assert_eq!(rt; image.fields().len(), 2);
-    assert!(rt; image.copy(rt.alloc())? == image);
+fn images(rt: HostRuntime) {
+    let (image, count) = image_read(rt.alloc(), IMAGE, 2).expect(&rt, "an image");
+    let copy = image.copy(rt.alloc()).expect(&rt, "memory");
+    assert!(rt; count == 10 && copy == image && copy.fields().len() == 2);
     let mut out = Vec::new(rt.alloc());
-    image_write(&mut out, &image)?;
-    assert_eq!(rt; out.as_slice(), &IMAGE[..10]);
-    Ok(())
-}
-
-#[test]
-fn images_refused(rt: HostRuntime) {
-    let fault = FieldFault {
-        kind: FieldFaultKind::BadText,
-        place: 3,
-    };
-    let read = image_read(rt.alloc(), b"\x05\x03\x01\xff", 2);
-    assert!(rt; read == Err(ImageFault::Fault(fault)));
+    image_write(&mut out, &image).expect(&rt, "memory");
+    assert!(rt; out.as_slice() == &IMAGE[..10]);
 }
 
 #[test]
@@ -177,52 +138,59 @@ fn no_image(rt: HostRuntime) {
     assert!(rt; image_read(rt.alloc(), IMAGE, 0) == Ok((none, 0)));
 }
 
+#[test]
+fn images_refused(rt: HostRuntime) {
+    for (bytes, columns, kind, place) in [
+        (
+            b"\x05\x03\x01\xff".as_slice(),
+            2,
+            FieldFaultKind::BadText,
+            3,
+        ),
+        (
+            b"\x05\x00".as_slice(),
+            usize::MAX,
+            FieldFaultKind::Truncated,
+            2,
+        ),
+    ] {
+        let fault = ImageFault::Fault(FieldFault { kind, place });
+        assert!(rt;
+            image_read(rt.alloc(), bytes, columns) == Err(fault),
+            "at {place}"
+        );
+    }
+}
+
+#[test]
+fn keys_of_rows(rt: HostRuntime) {
+    let row = Row::new(vec![in rt.alloc(); OwnedValue::Int(2), OwnedValue::Null].expect(
+        &rt, "memory",
+    ));
+    let key = Key::of_row(rt.alloc(), &[2, 0], &row).expect(&rt, "memory");
+    assert!(rt; key.bytes() == TWO);
+    let copy = key.copy(rt.alloc()).expect(&rt, "memory");
+    assert!(rt; copy == key);
+}
+
 /// The key of an image of a column.
-fn key_of(alloc: Global, bytes: &[u8]) -> Result<Key, ImageFault> {
-    let (image, _) = image_read(alloc, bytes, 1)?;
-    Ok(Key::of_image(alloc, &[1], &image)?)
+fn key_of(rt: &(impl Abort + AllocGlobal), bytes: &[u8]) -> Key {
+    let (image, _) = image_read(rt.alloc(), bytes, 1).expect(rt, "an image");
+    Key::of_image(rt.alloc(), &[1], &image).expect(rt, "memory")
 }
 
 #[test]
-fn keys_of_columns(rt: HostRuntime) -> Result<(), Fail> {
-    let (image, _) = image_read(rt.alloc(), IMAGE, 3)?;
-    let key = Key::of_image(rt.alloc(), &[2, 0, 1], &image)?;
-    drop(image);
-    assert_eq!(rt;
-        key.bytes().strip_prefix(TWO),
-        Some(b"\x03\x01x".as_slice())
-    );
-    assert!(rt; key.copy(rt.alloc())? == key);
-    Ok(())
-}
-
-#[test]
-fn keys_of_rows(rt: HostRuntime) -> Result<(), Fail> {
-    let key = Key::of_row(rt.alloc(), &[0, 1], &row_of(rt.alloc(), 2)?)?;
-    assert_eq!(rt; key.bytes(), TWO);
-    assert!(rt; key == key_of(rt.alloc(), TWO)?);
-    Ok(())
-}
-
-/// How the keys of two images of a column are ordered.
-fn order_of(alloc: Global, one: &[u8], other: &[u8]) -> Result<Ordering, ImageFault> {
-    Ok(key_of(alloc, one)?.cmp(&key_of(alloc, other)?))
-}
-
-#[test]
-fn keys_in_order(rt: HostRuntime) -> Result<(), Fail> {
+fn keys_in_order(rt: HostRuntime) {
     for (low, high) in [
         (TWO, b"\x01\xff\xff\xff\xff\xff\xff\xff\xff".as_slice()),
         (TWO, b"\x03\x01b".as_slice()),
         (b"\x03\x01b".as_slice(), b"\x03\x02aa".as_slice()),
         (b"\x03\x02aa".as_slice(), b"\x04\x01a".as_slice()),
     ] {
-        assert_eq!(rt; order_of(rt.alloc(), low, high)?, Ordering::Less);
-        assert_eq!(rt; order_of(rt.alloc(), high, low)?, Ordering::Greater);
-        assert_eq!(rt; order_of(rt.alloc(), low, low)?, Ordering::Equal);
+        let (low, high) = (key_of(&rt, low), key_of(&rt, high));
+        assert!(rt; low < high && low != high);
+        assert!(rt; low.cmp(&high) == Ordering::Less && high.cmp(&low) == Ordering::Greater);
     }
-    assert!(rt; key_of(rt.alloc(), TWO)? < key_of(rt.alloc(), b"\x05")?);
-    Ok(())
 }
 
 #[test]

@@ -1,14 +1,12 @@
 //! Changesets, their parts and their files.
 
 use crate::INSERT;
-use cs_value::{NoMemory, OwnedField, OwnedValue, Row};
+use cs_value::{OwnedField, OwnedValue, Row};
 use cs_wire::{
     Change, Changeset, Entry, Group, Header, ReadError, ReadFault, ReadFaultKind,
     changeset_files_law, read, write,
 };
-use std::alloc::Global;
 use std::process::Abort;
-use std::test::Fail;
 
 /// An UPDATE of 'x' to the blob ff where the key of the table t is 1, made indirectly.
 const UPDATE: &[u8] =
@@ -20,46 +18,43 @@ fn first_entry(changeset: &Changeset) -> Option<&Entry> {
 }
 
 #[test]
-fn reads_an_insert(rt: HostRuntime) -> Result<(), Fail> {
-    let changeset = read(rt.alloc(), INSERT)?;
+fn reads_an_insert(rt: HostRuntime) {
+    let changeset = read(rt.alloc(), INSERT).expect(&rt, "a changeset");
     let entry = first_entry(&changeset).expect(&rt, "an entry");
+    assert!(rt; !entry.indirect);
     let Change::Insert(row) = &entry.change else {
         panic!(rt; "no insert");
     };
-    assert!(rt; !entry.indirect);
-    assert_eq!(rt; row.values().len(), 2);
-    assert_eq!(rt; row.values().first(), Some(&OwnedValue::Int(1)));
-    Ok(())
+    assert!(rt; row.values().len() == 2 && row.values().first() == Some(&OwnedValue::Int(1)));
 }
 
 #[test]
-fn reads_an_update(rt: HostRuntime) -> Result<(), Fail> {
-    let changeset = read(rt.alloc(), UPDATE)?;
+fn reads_an_update(rt: HostRuntime) {
+    let changeset = read(rt.alloc(), UPDATE).expect(&rt, "a changeset");
     let entry = first_entry(&changeset).expect(&rt, "an entry");
+    assert!(rt; entry.indirect);
     let Change::Update { old, new } = &entry.change else {
         panic!(rt; "no update");
     };
-    assert!(rt; entry.indirect);
-    assert_eq!(rt; (old.fields().len(), new.fields().len()), (2, 2));
-    assert_eq!(rt; new.fields().first(), Some(&OwnedField::Undefined));
-    Ok(())
+    assert!(rt; old.fields().len() == 2 && old.fields().first() != Some(&OwnedField::Undefined));
+    assert!(rt; new.fields().len() == 2 && new.fields().first() == Some(&OwnedField::Undefined));
 }
 
 #[test]
-fn writes_what_was_read(rt: HostRuntime) -> Result<(), Fail> {
-    let changeset = read(rt.alloc(), UPDATE)?;
-    assert_eq!(rt; write(rt.alloc(), &changeset)?.as_slice(), UPDATE);
-    Ok(())
+fn writes_what_was_read(rt: HostRuntime) {
+    let changeset = read(rt.alloc(), UPDATE).expect(&rt, "a changeset");
+    let file = write(rt.alloc(), &changeset).expect(&rt, "memory");
+    assert!(rt; file.as_slice() == UPDATE);
 }
 
 #[test]
 fn refuses_a_patchset(rt: HostRuntime) {
+    let error = read(rt.alloc(), b"P").expect_err(&rt, "a patchset");
     let fault = ReadFault {
         kind: ReadFaultKind::Patchset,
         place: 0,
     };
-    let error = read(rt.alloc(), b"P").expect_err(&rt, "a patchset");
-    assert_eq!(rt; error, ReadError::Fault(fault));
+    assert!(rt; error == ReadError::Fault(fault));
 }
 
 #[test]
@@ -73,82 +68,77 @@ fn headers_that_fit(rt: HostRuntime) {
 
 /// The header of a table of this name, with a key of one column before another.
 fn header_of(rt: &(impl Abort + AllocGlobal), name: &str) -> Header {
-    assert!(rt; Header::fits(name, &[2, 0]));
+    let flags = [2, 0];
+    assert!(rt; Header::fits(name, &flags));
     let name = String::from_str(rt.alloc(), name).expect(rt, "memory");
     Header::new(
         name,
-        Vec::from_slice(rt.alloc(), &[2, 0]).expect(rt, "memory"),
+        Vec::from_slice(rt.alloc(), &flags).expect(rt, "memory"),
     )
 }
 
 #[test]
-fn headers(rt: HostRuntime) -> Result<(), Fail> {
+fn headers(rt: HostRuntime) {
     let header = header_of(&rt, "t");
-    assert_eq!(rt; (header.name(), header.flags()), ("t", [2, 0].as_slice()));
-    let copy = header.copy(rt.alloc())?;
-    assert_eq!(rt; (copy.name(), copy.flags()), ("t", [2, 0].as_slice()));
-    Ok(())
+    let copy = header.copy(rt.alloc()).expect(&rt, "memory");
+    assert!(rt; copy.name() == "t" && copy.flags() == [2, 0].as_slice());
 }
 
 /// The insertion of a value, with NULL behind it.
-fn insertion(alloc: Global, key: OwnedValue) -> Result<Entry, NoMemory> {
-    let row = Row::new(vec![in alloc; key, OwnedValue::Null]?);
-    Ok(Entry {
+fn insertion(rt: &(impl Abort + AllocGlobal), key: OwnedValue) -> Entry {
+    let values = vec![in rt.alloc(); key, OwnedValue::Null].expect(rt, "memory");
+    Entry {
         indirect: false,
-        change: Change::Insert(row),
-    })
+        change: Change::Insert(Row::new(values)),
+    }
 }
 
 #[test]
-fn entries_that_fit(rt: HostRuntime) -> Result<(), Fail> {
+fn entries_that_fit(rt: HostRuntime) {
     let header = header_of(&rt, "t");
-    assert!(rt; header.admits(&insertion(rt.alloc(), OwnedValue::Int(1))?));
-    assert!(rt; !header.admits(&insertion(rt.alloc(), OwnedValue::Null)?));
-    Ok(())
-}
-
-#[test]
-fn keys_of_entries(rt: HostRuntime) -> Result<(), Fail> {
-    let header = header_of(&rt, "t");
-    let entry = insertion(rt.alloc(), OwnedValue::Int(2))?;
+    let entry = insertion(&rt, OwnedValue::Int(2));
     assert!(rt; header.admits(&entry));
-    let key = header.key_of(rt.alloc(), &entry)?;
-    assert_eq!(rt; key.bytes(), [1, 0, 0, 0, 0, 0, 0, 0, 2].as_slice());
-    Ok(())
+    let key = header.key_of(rt.alloc(), &entry).expect(&rt, "memory");
+    assert!(rt; key.bytes() == b"\x01\x00\x00\x00\x00\x00\x00\x00\x02".as_slice());
+    assert!(rt; !header.admits(&insertion(&rt, OwnedValue::Null)));
 }
 
 /// A group of a table of this name, with the insertion of 1.
 fn group_of(rt: &(impl Abort + AllocGlobal), name: &str) -> Group {
     let header = header_of(rt, name);
-    let entry = insertion(rt.alloc(), OwnedValue::Int(1)).expect(rt, "memory");
+    let entry = insertion(rt, OwnedValue::Int(1));
     assert!(rt; header.admits(&entry));
     Group::new(rt.alloc(), header, entry).expect(rt, "memory")
 }
 
 #[test]
-fn groups(rt: HostRuntime) -> Result<(), Fail> {
+fn groups(rt: HostRuntime) {
     let mut group = group_of(&rt, "t");
-    let entry = insertion(rt.alloc(), OwnedValue::Int(2))?;
+    let entry = insertion(&rt, OwnedValue::Int(2));
     assert!(rt; group.header().admits(&entry));
-    let key = group.header().key_of(rt.alloc(), &entry)?;
+    let key = group
+        .header()
+        .key_of(rt.alloc(), &entry)
+        .expect(&rt, "memory");
     if group.find(&key).is_some() {
         panic!(rt; "the key is there before its entry");
     }
-    group.push(entry)?;
-    assert_eq!(rt; group.find(&key), Some(1));
-    assert_eq!(rt; group.entries().len(), 2);
-    Ok(())
+    group.push(entry).expect(&rt, "memory");
+    assert!(rt; group.find(&key) == Some(1) && group.entries().len() == 2);
 }
 
 #[test]
-fn changesets(rt: HostRuntime) -> Result<(), Fail> {
+fn changesets(rt: HostRuntime) {
     let mut changeset = Changeset::new(rt.alloc());
     let group = group_of(&rt, "t");
     assert!(rt; changeset.find(group.header().name()).is_none());
-    changeset.push(group)?;
-    assert_eq!(rt; changeset.groups().len(), 1);
-    assert_eq!(rt; (changeset.find("t"), changeset.find("u")), (Some(0), None));
-    Ok(())
+    changeset.push(group).expect(&rt, "memory");
+    assert!(rt; changeset.groups().len() == 1 && changeset.find("t") == Some(0));
+    let file = write(rt.alloc(), &changeset).expect(&rt, "memory");
+    assert!(rt;
+        file.as_slice()
+            == b"T\x02\x02\x00t\x00\x12\x00\x01\x00\x00\x00\x00\x00\x00\x00\x01\x05".as_slice()
+    );
 }
 
 #[test]

@@ -1,15 +1,11 @@
 //! What the words of a command line are answered.
 
-use super::streams::{Broken, Closed};
+use super::streams::{Closed, Script};
 use crate::{DELETE, INSERT};
 use cs_shell::{Told, run_words};
-use std::alloc::Global;
-use std::io::{Read, Write};
-use std::path::PathBuf;
+use std::fs;
 use std::process::Abort;
 use std::rt::Files;
-use std::test::Fail;
-use std::{env, fs};
 
 /// What words that fit no command are answered.
 const USAGE: &[u8] = b"\
@@ -24,118 +20,97 @@ COMMANDs:
 C is omit, replace or abort (the default).
 ";
 
-/// Words behind the program's name.
-fn words_of(alloc: Global, words: &[&str]) -> Result<Vec<String>, Fail> {
-    let mut all = Vec::new(alloc);
-    all.push(String::from_str(alloc, "changeset")?)?;
-    for word in words {
-        all.push(String::from_str(alloc, word)?)?;
+/// These words, behind the program's name.
+fn words_of(rt: &(impl Abort + AllocGlobal), words: &[&str]) -> Vec<String> {
+    let mut all = Vec::new(rt.alloc());
+    for word in ["changeset"].iter().chain(words) {
+        let word = String::from_str(rt.alloc(), word).expect(rt, "memory");
+        all.push(word).expect(rt, "memory");
     }
-    Ok(all)
+    all
 }
 
-/// Asserts what words are answered: the exit status, and what is printed and reported.
+/// Runs words over a script, and asserts the exit status, and what is printed and reported.
 fn expect_answer(
     rt: &(impl Files + AllocGlobal + Abort),
     words: &[&str],
     status: u8,
     printed: &[u8],
     reported: &[u8],
-) -> Result<(), Fail> {
+) {
     let mut out = Vec::new(rt.alloc());
     let mut err = Vec::new(rt.alloc());
-    let words = words_of(rt.alloc(), words)?;
-    let mut script = Told::new(b".load a 0f\n.hex a\n".as_slice());
     let answered = run_words(
         rt,
-        &words,
-        &mut script,
+        &words_of(rt, words),
+        &mut Told::new(b".load a 0f\n.hex a\n".as_slice()),
         &mut Told::new(&mut out),
         &mut Told::new(&mut err),
     );
-    assert_eq!(rt; answered, status);
-    assert_eq!(rt; out.as_slice(), printed);
-    assert_eq!(rt; err.as_slice(), reported);
-    Ok(())
+    assert!(rt; answered == status, "{answered} in place of {status}");
+    assert!(rt; out.as_slice() == printed);
+    assert!(rt; err.as_slice() == reported);
 }
 
-/// The path of a file of this name among those that tests make.
-fn path_of(rt: &HostRuntime, name: &str) -> Result<PathBuf, Fail> {
-    Ok(env::temp_dir(rt)?.join(rt.alloc(), name)?)
+/// Makes a file of these bytes, in the folder that the tests run in.
+fn make(rt: &(impl Files + AllocGlobal + Abort), name: &str, bytes: &[u8]) {
+    fs::write(rt, name, bytes).expect(rt, "a file");
 }
 
-/// A file of this name and these bytes.
-fn made(rt: &HostRuntime, name: &str, bytes: &[u8]) -> Result<PathBuf, Fail> {
-    let path = path_of(rt, name)?;
-    fs::write(rt, &path, bytes)?;
-    Ok(path)
-}
-
-/// Whether a file has these bytes. It is removed.
-fn had(rt: &HostRuntime, path: &PathBuf, bytes: &[u8]) -> Result<bool, Fail> {
-    let had = fs::read(rt, path)?;
-    fs::remove_file(rt, path)?;
-    Ok(had.as_slice() == bytes)
+/// Removes a file, and asserts which bytes it had.
+fn expect_removed(rt: &(impl Files + AllocGlobal + Abort), name: &str, bytes: &[u8]) {
+    let had = fs::read(rt, name).expect(rt, "a file");
+    assert!(rt; had.as_slice() == bytes);
+    fs::remove_file(rt, name).expect(rt, "a file");
 }
 
 #[test]
-fn writes_the_inverse(rt: HostRuntime) -> Result<(), Fail> {
-    let file = made(&rt, "cs_tests_insert.cs", INSERT)?;
-    let out = path_of(&rt, "cs_tests_insert.inverse.cs")?;
-    let words = [file.as_str(), "invert", out.as_str()];
-    expect_answer(&rt, &words, 0, b"", b"")?;
-    assert!(rt; had(&rt, &file, INSERT)?);
-    assert!(rt; had(&rt, &out, DELETE)?);
-    Ok(())
+fn writes_the_inverse(rt: HostRuntime) {
+    make(&rt, "insert.cs", INSERT);
+    let words = ["insert.cs", "invert", "insert.inverse.cs"];
+    expect_answer(&rt, &words, 0, b"", b"");
+    expect_removed(&rt, "insert.cs", INSERT);
+    expect_removed(&rt, "insert.inverse.cs", DELETE);
 }
 
 #[test]
-fn replaces_what_the_other_file_held(rt: HostRuntime) -> Result<(), Fail> {
-    let file = made(&rt, "cs_tests_in_place.cs", INSERT)?;
-    let words = [file.as_str(), "invert", file.as_str()];
-    expect_answer(&rt, &words, 0, b"", b"")?;
-    assert!(rt; had(&rt, &file, DELETE)?);
-    Ok(())
+fn replaces_what_the_other_file_held(rt: HostRuntime) {
+    make(&rt, "in_place.cs", INSERT);
+    expect_answer(&rt, &["in_place.cs", "invert", "in_place.cs"], 0, b"", b"");
+    expect_removed(&rt, "in_place.cs", DELETE);
 }
 
 #[test]
-fn reports_a_missing_file(rt: HostRuntime) -> Result<(), Fail> {
-    let file = path_of(&rt, "cs_tests_missing.cs")?;
-    let out = path_of(&rt, "cs_tests_missing.inverse.cs")?;
-    let words = [file.as_str(), "invert", out.as_str()];
-    expect_answer(&rt, &words, 1, b"", b"error 71 InputFault\n")?;
-    assert!(rt; !fs::exists(&rt, &out)?);
-    Ok(())
+fn reports_a_missing_file(rt: HostRuntime) {
+    let words = ["missing.cs", "invert", "missing.inverse.cs"];
+    expect_answer(&rt, &words, 1, b"", b"error 71 InputFault\n");
+    assert!(rt; !fs::exists(&rt, "missing.inverse.cs").expect(&rt, "an answer"));
 }
 
 #[test]
-fn reports_a_refused_file(rt: HostRuntime) -> Result<(), Fail> {
-    let file = made(&rt, "cs_tests_patchset.cs", b"P")?;
-    let out = path_of(&rt, "cs_tests_patchset.inverse.cs")?;
-    let words = [file.as_str(), "invert", out.as_str()];
-    expect_answer(&rt, &words, 1, b"", b"error 3 Patchset 0\n")?;
-    assert!(rt; !fs::exists(&rt, &out)?);
-    assert!(rt; had(&rt, &file, b"P")?);
-    Ok(())
+fn reports_a_refused_file(rt: HostRuntime) {
+    make(&rt, "patchset.cs", b"P");
+    let words = ["patchset.cs", "invert", "patchset.inverse.cs"];
+    expect_answer(&rt, &words, 1, b"", b"error 3 Patchset 0\n");
+    expect_removed(&rt, "patchset.cs", b"P");
+    assert!(rt; !fs::exists(&rt, "patchset.inverse.cs").expect(&rt, "an answer"));
 }
 
 #[test]
-fn reports_a_file_that_is_not_written(rt: HostRuntime) -> Result<(), Fail> {
-    let file = made(&rt, "cs_tests_unwritten.cs", INSERT)?;
-    let out = path_of(&rt, "cs_tests_no_folder/out.cs")?;
-    let words = [file.as_str(), "invert", out.as_str()];
-    expect_answer(&rt, &words, 1, b"", b"error 72 OutputFault\n")?;
-    assert!(rt; had(&rt, &file, INSERT)?);
-    Ok(())
+fn reports_a_file_that_is_not_written(rt: HostRuntime) {
+    make(&rt, "unwritten.cs", INSERT);
+    let words = ["unwritten.cs", "invert", "no_folder/out.cs"];
+    expect_answer(&rt, &words, 1, b"", b"error 72 OutputFault\n");
+    expect_removed(&rt, "unwritten.cs", INSERT);
 }
 
 #[test]
-fn runs_the_input_as_a_script(rt: HostRuntime) -> Result<(), Fail> {
-    expect_answer(&rt, &[], 0, b"0f\n", b"")
+fn runs_the_input_as_a_script(rt: HostRuntime) {
+    expect_answer(&rt, &[], 0, b"0f\n", b"");
 }
 
 #[test]
-fn prints_the_usage(rt: HostRuntime) -> Result<(), Fail> {
+fn prints_the_usage(rt: HostRuntime) {
     for words in [
         ["a.cs"].as_slice(),
         ["a.cs", "frob"].as_slice(),
@@ -144,47 +119,58 @@ fn prints_the_usage(rt: HostRuntime) -> Result<(), Fail> {
         ["a.cs", "invert", "o", "p"].as_slice(),
         ["--help"].as_slice(),
     ] {
-        expect_answer(&rt, words, 2, b"", USAGE)?;
+        expect_answer(&rt, words, 2, b"", USAGE);
     }
-    Ok(())
-}
-
-/// Asserts that a script ends with status 1, and what is reported.
-fn expect_report<R: Read + Drop, W: Write + Drop>(
-    rt: &(impl Files + AllocGlobal + Abort),
-    script: R,
-    out: W,
-    reported: &[u8],
-) {
-    let mut err = Vec::new(rt.alloc());
-    let status = run_words(
-        rt,
-        &[],
-        &mut Told::new(script),
-        &mut Told::new(out),
-        &mut Told::new(&mut err),
-    );
-    assert_eq!(rt; status, 1);
-    assert_eq!(rt; err.as_slice(), reported);
 }
 
 #[test]
-fn reports_no_refused_line(rt: HostRuntime) {
-    let mut written = Vec::new(rt.alloc());
-    expect_report(&rt, b".hex q".as_slice(), &mut written, b"");
-    assert_eq!(rt; written.as_slice(), b"error 62 EmptySlot\n".as_slice());
+fn reports_a_refusal_on_the_output_alone(rt: HostRuntime) {
+    expect_status_1(&rt, false, b"error 62 EmptySlot\n", b"");
 }
 
 #[test]
 fn reports_a_failed_input(rt: HostRuntime) {
-    let script = Broken { bytes: b".hex q" };
-    let mut written = Vec::new(rt.alloc());
-    expect_report(&rt, script, &mut written, b"error 71 InputFault\n");
-    assert!(rt; written.is_empty());
+    expect_status_1(&rt, true, b"", b"error 71 InputFault\n");
+}
+
+/// Runs a script that is refused, or breaks in its first line, and asserts what is printed and
+/// reported.
+fn expect_status_1(
+    rt: &(impl Files + AllocGlobal + Abort),
+    breaks: bool,
+    printed: &[u8],
+    reported: &[u8],
+) {
+    let mut out = Vec::new(rt.alloc());
+    let mut err = Vec::new(rt.alloc());
+    let script = Script {
+        feeds: 0,
+        bytes: b".hex q",
+        step: 4096,
+        breaks,
+    };
+    let status = run_words(
+        rt,
+        &[],
+        &mut Told::new(script),
+        &mut Told::new(&mut out),
+        &mut Told::new(&mut err),
+    );
+    assert!(rt; status == 1);
+    assert!(rt; out.as_slice() == printed);
+    assert!(rt; err.as_slice() == reported);
 }
 
 #[test]
 fn reports_a_failed_output(rt: HostRuntime) {
-    let script = b".hex q".as_slice();
-    expect_report(&rt, script, Closed, b"error 72 OutputFault\n");
+    let mut err = Vec::new(rt.alloc());
+    let status = run_words(
+        &rt,
+        &[],
+        &mut Told::new(b".hex q".as_slice()),
+        &mut Told::new(Closed { fails: true }),
+        &mut Told::new(&mut err),
+    );
+    assert!(rt; status == 1);
+    assert!(rt; err.as_slice() == b"error 72 OutputFault\n".as_slice());
 }
