@@ -27,7 +27,7 @@ pub(crate) fn read_row(
         → drop at file.now ≡ record_bytes row ++ rest → Answers result (λ r. map Defined r.0 ≡ row) }
     ensures fault { Fails result (RecordRefused (row_wants flags.now) file.now at) }
 {
-    let mut values = Vec::new(alloc);
+    let mut values = Vec::with_capacity(alloc, room(file, at, flags))?;
     let mut end = at;
     for flag in flags {
         let (value, next) = read_value(alloc, file, end, *flag != 0)?;
@@ -50,7 +50,7 @@ pub(crate) fn read_old(
         → drop at file.now ≡ record_bytes old ++ rest → Answers result (λ r. r.0 ≡ old) }
     ensures fault { Fails result (RecordRefused (old_wants flags.now) file.now at) }
 {
-    let mut fields = Vec::new(alloc);
+    let mut fields = Vec::with_capacity(alloc, room(file, at, flags))?;
     let mut end = at;
     for flag in flags {
         let (field, next) = read_old_field(alloc, file, end, *flag != 0)?;
@@ -77,7 +77,7 @@ pub(crate) fn read_new(
     ensures fault { Fails result (RecordRefused (new_wants flags.now old.now) file.now at) }
 {
     let old = old.fields();
-    let mut fields = Vec::new(alloc);
+    let mut fields = Vec::with_capacity(alloc, room(file, at, flags))?;
     let mut end = at;
     for (column, flag) in flags.iter().enumerate() {
         let is_modified = is_modified(*flag, &old[column]);
@@ -86,6 +86,14 @@ pub(crate) fn read_new(
         end = next;
     }
     Ok((Image::new(fields), end))
+}
+
+/// How many fields are made room for: one for each column, but no more than the bytes that are left,
+/// since a field has one at least.
+fn room(file: &[u8], at: usize, flags: &[u8]) -> usize
+    requires { at ≤ length file.now }
+{
+    flags.len().min(file.len() - at)
 }
 
 /// Whether an update modifies a column with this flag and this old field.

@@ -8,14 +8,14 @@ use Rattle.cs_wire.proofs.FieldsLaws.{new_want_at, length-new_wants, FieldsSoFar
 use Rattle.cs_wire.proofs.reader.record.read_new.Goals as goal
 
 pub loop-column-init : goal.loop-column-init
-loop-column-init c = rw c.new-fields.ensures.items (FieldsSoFar-none (new_wants c.args.flags.now c.fields-old.result.now) c.args.file.now c.args.at c.requires.within)
+loop-column-init c = rw c.in_ok-fields.ensures.items (FieldsSoFar-none (new_wants c.args.flags.now c.fields-old.result.now) c.args.file.now c.args.at c.requires.within)
 
 pub read_new_field-requires : goal.read_new_field-requires
 read_new_field-requires c = c.loop-column.invariant.stands.within
 
 pub returns-in_err-field-clause-only : goal.returns-in_err-field-clause-only
 returns-in_err-field-clause-only c =
-    let p = err_from_is_err_and c.from_residual.result c.from_residual.ensures.1 in
+    let p = err_from_is_err_and c.from_residual-in_err-field.result c.from_residual-in_err-field.ensures.1 in
     let same = c.requires.columns ∙ sym (ap (λ (o : List OwnedField). length o) c.fields-old.ensures.same) in
     let here = new_want_at c.args.flags.now c.fields-old.result.now c.loop-column.column c.index-old-column.result same c.loop-column-test.true (sym c.index-old-column.is) ∙ ap in_new (sym c.is_modified-is_modified.ensures) in
     let within : c.loop-column.column < length (new_wants c.args.flags.now c.fields-old.result.now) = rw (length-new_wants c.args.flags.now c.fields-old.result.now same) c.loop-column-test.true in
@@ -25,7 +25,7 @@ returns-in_err-field-clause-only c =
 
 pub returns-in_err-field-clause-fault : goal.returns-in_err-field-clause-fault
 returns-in_err-field-clause-fault c =
-    let p = err_from_is_err_and c.from_residual.result c.from_residual.ensures.1 in
+    let p = err_from_is_err_and c.from_residual-in_err-field.result c.from_residual-in_err-field.ensures.1 in
     let same = c.requires.columns ∙ sym (ap (λ (o : List OwnedField). length o) c.fields-old.ensures.same) in
     let here = new_want_at c.args.flags.now c.fields-old.result.now c.loop-column.column c.index-old-column.result same c.loop-column-test.true (sym c.index-old-column.is) ∙ ap in_new (sym c.is_modified-is_modified.ensures) in
     let within : c.loop-column.column < length (new_wants c.args.flags.now c.fields-old.result.now) = rw (length-new_wants c.args.flags.now c.fields-old.result.now same) c.loop-column-test.true in

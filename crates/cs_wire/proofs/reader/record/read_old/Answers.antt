@@ -8,11 +8,11 @@ use Rattle.cs_wire.proofs.FieldsLaws.{want_at, FieldsSoFar-none, FieldsSoFar-pus
 use Rattle.cs_wire.proofs.reader.record.read_old.Goals as goal
 
 pub loop-flag-init : goal.loop-flag-init
-loop-flag-init c = rw c.new-fields.ensures.items (FieldsSoFar-none (old_wants c.args.flags.now) c.args.file.now c.args.at c.requires)
+loop-flag-init c = rw c.in_ok-fields.ensures.items (FieldsSoFar-none (old_wants c.args.flags.now) c.args.file.now c.args.at c.requires)
 
 pub returns-in_err-field-clause-only : goal.returns-in_err-field-clause-only
 returns-in_err-field-clause-only c =
-    let p = err_from_is_err_and c.from_residual.result c.from_residual.ensures.1 in
+    let p = err_from_is_err_and c.from_residual-in_err-field.result c.from_residual-in_err-field.ensures.1 in
     let flags = c.args.flags.now in
     let here = want_at (λ (flag : ℕ). in_old (is_key_flag flag)) flags c.loop-flag.flag-index c.loop-flag-test.true in
     let within : c.loop-flag.flag-index < length (old_wants flags) = rw length-map c.loop-flag-test.true in
@@ -22,7 +22,7 @@ returns-in_err-field-clause-only c =
 
 pub returns-in_err-field-clause-fault : goal.returns-in_err-field-clause-fault
 returns-in_err-field-clause-fault c =
-    let p = err_from_is_err_and c.from_residual.result c.from_residual.ensures.1 in
+    let p = err_from_is_err_and c.from_residual-in_err-field.result c.from_residual-in_err-field.ensures.1 in
     let flags = c.args.flags.now in
     let here = want_at (λ (flag : ℕ). in_old (is_key_flag flag)) flags c.loop-flag.flag-index c.loop-flag-test.true in
     let within : c.loop-flag.flag-index < length (old_wants flags) = rw length-map c.loop-flag-test.true in

@@ -10,11 +10,11 @@ use Rattle.cs_wire.proofs.FieldsLaws.{want_at, FieldsSoFar-none, FieldsSoFar-pus
 use Rattle.cs_wire.proofs.reader.record.read_row.Goals as goal
 
 pub loop-flag-init : goal.loop-flag-init
-loop-flag-init c = rw c.new-values.ensures.items (FieldsSoFar-none (row_wants c.args.flags.now) c.args.file.now c.args.at c.requires)
+loop-flag-init c = rw c.in_ok-values.ensures.items (FieldsSoFar-none (row_wants c.args.flags.now) c.args.file.now c.args.at c.requires)
 
 pub returns-in_err-value-clause-only : goal.returns-in_err-value-clause-only
 returns-in_err-value-clause-only c =
-    let p = err_from_is_err_and c.from_residual.result c.from_residual.ensures.1 in
+    let p = err_from_is_err_and c.from_residual-in_err-value.result c.from_residual-in_err-value.ensures.1 in
     let flags = c.args.flags.now in
     let here = want_at (λ (flag : ℕ). in_row (is_key_flag flag)) flags c.loop-flag.flag-index c.loop-flag-test.true in
     let within : c.loop-flag.flag-index < length (row_wants flags) = rw length-map c.loop-flag-test.true in
@@ -24,7 +24,7 @@ returns-in_err-value-clause-only c =
 
 pub returns-in_err-value-clause-fault : goal.returns-in_err-value-clause-fault
 returns-in_err-value-clause-fault c =
-    let p = err_from_is_err_and c.from_residual.result c.from_residual.ensures.1 in
+    let p = err_from_is_err_and c.from_residual-in_err-value.result c.from_residual-in_err-value.ensures.1 in
     let flags = c.args.flags.now in
     let here = want_at (λ (flag : ℕ). in_row (is_key_flag flag)) flags c.loop-flag.flag-index c.loop-flag-test.true in
     let within : c.loop-flag.flag-index < length (row_wants flags) = rw length-map c.loop-flag-test.true in
