@@ -1,7 +1,7 @@
 //! The `changeset` command: its words and standard streams, handed to the library.
 #![tactic(auto)]
 
-use cs_shell::{Told, run_words};
+use cs_shell::{Told, print_usage, run_words};
 use std::io::ErrorKind;
 use std::process::ExitCode;
 use std::{env, io};
@@ -12,20 +12,21 @@ fn words(rt: &HostRuntime) -> io::Result<Vec<String>> {
 }
 
 fn main(rt: HostRuntime) -> io::Result<ExitCode> {
-    let words = match words(&rt) {
-        Ok(words) => words,
+    let mut err = Told::new(rt.stderr());
+    let status = match words(&rt) {
+        Ok(words) => run_words(
+            &rt,
+            &words,
+            &mut Told::new(rt.stdin()),
+            &mut Told::new(rt.stdout()),
+            &mut err,
+        ),
         Err(error) if error.kind() == ErrorKind::OutOfMemory => {
             eprintln!(rt; "error 60 NoMemory")?;
-            return Ok(ExitCode::FAILURE);
+            1
         }
-        Err(error) => return Err(error),
+        // A word is not UTF-8.
+        Err(_) => print_usage(&mut err),
     };
-    let status = run_words(
-        &rt,
-        &words,
-        &mut Told::new(rt.stdin()),
-        &mut Told::new(rt.stdout()),
-        &mut Told::new(rt.stderr()),
-    );
     Ok(ExitCode::from(status))
 }

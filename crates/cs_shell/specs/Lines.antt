@@ -1,5 +1,6 @@
 -- The lines of a script and what they say. The grammar is this project's own.
-use Rattle.std.specs.Prelude.{◌≡◌, ◌≢◌, ℕ, ◌==◌, ◌||◌, ◌⊎◌, nat_le, ◌&&◌, Bool, true, List, [], ◌∷◌, ◌++◌, if◌then◌else◌, codes}
+use Rattle.std.specs.Prelude.{◌≡◌, ◌≢◌, ℕ, ◌==◌, ◌||◌, ◌⊎◌, nat_le, ◌&&◌, Bool, true, List, [], ◌∷◌, ◌++◌}
+use Rattle.std.specs.Prelude.{if◌then◌else◌, codes}
 use Rattle.std.specs.List.{flat_map, AllByRecursion}
 
 -- a line with its line feed
@@ -44,7 +45,8 @@ words_of (b ∷ bytes) =
 
 -- an ASCII letter, a digit or `_`
 abbrev pub is_name_byte : ℕ → Bool
-is_name_byte b = (nat_le 97 b && nat_le b 122) || (nat_le 65 b && nat_le b 90) || (nat_le 48 b && nat_le b 57) || (b == 95)
+is_name_byte b =
+    (nat_le 97 b && nat_le b 122) || (nat_le 65 b && nat_le b 90) || (nat_le 48 b && nat_le b 57) || (b == 95)
 
 -- the name of a slot: one or more of these
 abbrev pub IsSlot : List ℕ → Type 0
@@ -58,7 +60,8 @@ pub data CommandData : Type 0 where
 
 -- the words of a command
 abbrev pub IsCommand : List (List ℕ) → CommandData → Type 0
-IsCommand words (Load slot digits) = IsSlot slot × ((words ≡ codes ".load" ∷ slot ∷ digits ∷ []) ⊎ ((words ≡ codes ".load" ∷ slot ∷ []) × (digits ≡ [])))
+IsCommand words (Load slot digits) =
+    IsSlot slot × ((words ≡ codes ".load" ∷ slot ∷ digits ∷ []) ⊎ ((words ≡ codes ".load" ∷ slot ∷ []) × (digits ≡ [])))
 IsCommand words (Hex slot) = IsSlot slot × (words ≡ codes ".hex" ∷ slot ∷ [])
 IsCommand words (Invert from into) = IsSlot from × IsSlot into × (words ≡ codes ".invert" ∷ from ∷ into ∷ [])
 

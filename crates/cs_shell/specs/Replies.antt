@@ -1,12 +1,14 @@
 -- Commands and replies of the code, as the definitions of scripts see them.
-use Rattle.std.specs.Prelude.{◌≡◌, ℕ, ◌+◌, ◌≤◌, List, [], ◌∷◌, length, map, Bool, true, not, Option, None, Some, string_bytes}
+use Rattle.std.specs.Prelude.{◌≡◌, ℕ, ◌+◌, ◌≤◌, List, [], ◌∷◌, length, map, Bool, true, not, Option, None, Some}
+use Rattle.std.specs.Prelude.{string_bytes}
 use Rattle.std.specs.Borrow.{Bor}
 use Rattle.cs_shell.specs.declared.lines.Command.{Command}
 use Rattle.cs_shell.specs.declared.lines.Command.TheVariants as command
 use Rattle.cs_shell.specs.declared.lines.LineFault.{LineFault}
 use Rattle.cs_shell.specs.declared.lines.LineFault.TheVariants as fault
-use Rattle.cs_shell.specs.declared.fault.ToolFault.{ToolFault}
-use Rattle.cs_shell.specs.declared.fault.ToolFault.TheVariants as tool
+use Rattle.cs_value.specs.declared.refusal.OrNoMemory.{OrNoMemory}
+use Rattle.cs_value.specs.declared.refusal.OrNoMemory.TheVariants as tool
+use Rattle.cs_wire.specs.declared.fault.ReadFault.{ReadFault}
 use Rattle.cs_shell.specs.declared.reply.Refusal.{Refusal}
 use Rattle.cs_shell.specs.declared.reply.Refusal.TheVariants as refusal
 use Rattle.cs_shell.specs.declared.reply.Reply.{Reply}
@@ -36,7 +38,9 @@ Parses words (Some command) = lines.IsCommand words (command_of command)
 
 -- why a line is refused: it asks for nothing that there is, and the column is one of its; or memory was refused
 abbrev pub RefusesLine : List ℕ → LineFault → Type 0
-RefusesLine line (fault.Syntax column) = (lines.AsksNothing line → ⊥) × ((command : lines.CommandData) → lines.Asks line command → ⊥) × (1 ≤ column) × (column ≤ length line + 1)
+RefusesLine line (fault.Syntax column) =
+    (lines.AsksNothing line → ⊥) × ((command : lines.CommandData) → lines.Asks line command → ⊥)
+    × (1 ≤ column) × (column ≤ length line + 1)
 RefusesLine line (fault.NoMemory e) = Unit {0}
 
 -- a reply without where its text lies in memory
@@ -46,11 +50,11 @@ reply_of (reply.Text text) = script.Text (string_bytes text)
 reply_of (reply.Refused why) = script.Refused why
 
 -- why a line is refused whose call on a file is
-abbrev pub refusal_of : ToolFault → Refusal
-refusal_of (tool.Read f) = refusal.Fault f
+abbrev pub refusal_of : OrNoMemory ReadFault → Refusal
+refusal_of (tool.Fault f) = refusal.Fault f
 refusal_of tool.NoMemory = refusal.NoMemory
 
 -- the reply to a line whose file is refused for a read fault
-abbrev pub IsRefusalOf : ToolFault → script.Reply → Type 0
-IsRefusalOf (tool.Read f) answer = answer ≡ script.Refused (refusal.Fault f)
+abbrev pub IsRefusalOf : OrNoMemory ReadFault → script.Reply → Type 0
+IsRefusalOf (tool.Fault f) answer = answer ≡ script.Refused (refusal.Fault f)
 IsRefusalOf tool.NoMemory answer = ⊥

@@ -1,15 +1,21 @@
 -- What a script of lines answers: a relation from the text and the slots to the replies and the slots after them. The
 -- lines and the printed texts are this project's own.
-use Rattle.std.specs.Prelude.{◌≡◌, ◌≢◌, ℕ, ◌+◌, ◌≤◌, Bool, true, false, List, [], ◌∷◌, ◌++◌, length, None, Some, Ok, Err, codes, decimal, IsUtf8}
+use Rattle.std.specs.Prelude.{◌≡◌, ◌≢◌, ℕ, ◌+◌, ◌≤◌, Bool, true, false, IsTrue, List, [], ◌∷◌, ◌++◌, length}
+use Rattle.std.specs.Prelude.{Option, None, Some, Ok, Err, codes, decimal, IsUtf8}
 use Rattle.std.specs.List.{flat_map, list_any}
 use Rattle.std.specs.Ordering.{nat_cmp}
 use Rattle.std.specs.Cmp.Lexicographic.{slice_cmp}
-use Rattle.std.specs.FinMap.{FinMap, get, insert}
+use Rattle.std.specs.FinMap.{FinMap, empty, get, insert}
 use Rattle.hex.specs.Hex.{encode_lower, decode_of}
 use Rattle.hex.specs.declared.error.FromHexError.{FromHexError}
 use Rattle.cs_wire.specs.declared.fault.ReadFault.{ReadFault}
 use Rattle.cs_shell.specs.declared.reply.Refusal.{Refusal}
 use Rattle.cs_shell.specs.declared.reply.Refusal.TheVariants.{Fault, NoMemory, Syntax, EmptySlot, BadHex, LineText}
+use Rattle.cs_shell.specs.declared.script.Status.{Status}
+use Rattle.cs_shell.specs.declared.script.Status.TheVariants.{Done, LinesRefused, TooLong, InputFault, OutputFault}
+use Rattle.cs_shell.specs.declared.told.Told.{Told}
+use Rattle.cs_shell.specs.Told.{has_failed}
+use Rattle.cs_shell.specs.Calls.{WritesSome}
 use Rattle.cs_shell.specs.Inverse.{Inverts}
 use Rattle.cs_wire.specs.ReadFaults.{code_of, name_of, ReadFails}
 use Rattle.cs_shell.specs.Lines.{Splits, unended, CommandData, Load, Hex, Invert, Asks, AsksNothing}
@@ -47,13 +53,20 @@ reply_text (Refused refusal) = refusal_text refusal
 
 -- the reply to a command, and the slots after it
 pub data CommandGives : SlotMap → CommandData → Reply → SlotMap → Type 0 where
-  loaded : (old : SlotMap) (slot digits bytes : List ℕ) → decode_of digits ≡ Ok bytes → CommandGives old (Load slot digits) Silent (insert old slot bytes)
-  no_hex : (old : SlotMap) (slot digits : List ℕ) (e : FromHexError) → decode_of digits ≡ Err e → CommandGives old (Load slot digits) (Refused BadHex) old
-  shown : (old : SlotMap) (slot bytes : List ℕ) → get old slot ≡ Some bytes → CommandGives old (Hex slot) (Text (encode_lower bytes)) old
-  nothing_to_show : (old : SlotMap) (slot : List ℕ) → get old slot ≡ None → CommandGives old (Hex slot) (Refused EmptySlot) old
-  inverted : (old : SlotMap) (from into file out : List ℕ) → get old from ≡ Some file → Inverts file out → CommandGives old (Invert from into) Silent (insert old into out)
-  not_inverted : (old : SlotMap) (from into file : List ℕ) (f : ReadFault) → get old from ≡ Some file → ReadFails file f.kind f.place → CommandGives old (Invert from into) (Refused (Fault f)) old
-  nothing_to_invert : (old : SlotMap) (from into : List ℕ) → get old from ≡ None → CommandGives old (Invert from into) (Refused EmptySlot) old
+  loaded : (old : SlotMap) (slot digits bytes : List ℕ) → decode_of digits ≡ Ok bytes
+      → CommandGives old (Load slot digits) Silent (insert old slot bytes)
+  no_hex : (old : SlotMap) (slot digits : List ℕ) (e : FromHexError) → decode_of digits ≡ Err e
+      → CommandGives old (Load slot digits) (Refused BadHex) old
+  shown : (old : SlotMap) (slot bytes : List ℕ) → get old slot ≡ Some bytes
+      → CommandGives old (Hex slot) (Text (encode_lower bytes)) old
+  nothing_to_show : (old : SlotMap) (slot : List ℕ) → get old slot ≡ None
+      → CommandGives old (Hex slot) (Refused EmptySlot) old
+  inverted : (old : SlotMap) (from into file out : List ℕ) → get old from ≡ Some file → Inverts file out
+      → CommandGives old (Invert from into) Silent (insert old into out)
+  not_inverted : (old : SlotMap) (from into file : List ℕ) (f : ReadFault) → get old from ≡ Some file
+      → ReadFails file f.kind f.place → CommandGives old (Invert from into) (Refused (Fault f)) old
+  nothing_to_invert : (old : SlotMap) (from into : List ℕ) → get old from ≡ None
+      → CommandGives old (Invert from into) (Refused EmptySlot) old
 
 -- the reply to a line, and the slots after it; the column of Syntax may be any of the line's, and any line may be
 -- refused for memory and then changes nothing
@@ -70,7 +83,8 @@ pub data LineGives : SlotMap → List ℕ → Reply → SlotMap → Type 0 where
 -- the replies to lines in turn, and the slots after them
 abbrev pub LinesGive : SlotMap → List (List ℕ) → List Reply → SlotMap → Type 0
 LinesGive old [] [] new = new ≡ old
-LinesGive old (line ∷ lines) (reply ∷ replies) new = (mid : SlotMap) × LineGives old line reply mid × LinesGive mid lines replies new
+LinesGive old (line ∷ lines) (reply ∷ replies) new =
+    (mid : SlotMap) × LineGives old line reply mid × LinesGive mid lines replies new
 LinesGive old [] (reply ∷ replies) new = ⊥
 LinesGive old (line ∷ lines) [] new = ⊥
 
@@ -119,3 +133,21 @@ pub record OverrunGives (old : SlotMap) (text written : List ℕ) : Type 0 where
   pub full : length gives.front ≡ SCRIPT_LIMIT
   pub more : gives.rest ≢ []
   pub written_is : written ≡ answered ++ error_line 63 (codes "ScriptTooLong") []
+
+-- what was written for a text, by how its script ended: where a write failed nothing is said of it
+abbrev pub Ends : {W : Type 0} → (W → Option (List ℕ)) → Status → Told W → Told W → List ℕ → Type 0
+Ends contents Done before after text =
+    WritesSome contents before after (λ written. ScriptGives empty text written false)
+Ends contents LinesRefused before after text =
+    WritesSome contents before after (λ written. ScriptGives empty text written true)
+Ends contents TooLong before after text = WritesSome contents before after (OverrunGives empty text)
+Ends contents InputFault before after text = WritesSome contents before after (FrontGives empty text)
+Ends contents OutputFault before after text = Unit {0}
+
+-- where a read or a write failed that ended a script, the flag of its stream is set
+abbrev pub IsFlagged : {R W : Type 0} → Status → Told R → Told W → Type 0
+IsFlagged Done input out = Unit {0}
+IsFlagged LinesRefused input out = Unit {0}
+IsFlagged TooLong input out = Unit {0}
+IsFlagged InputFault input out = IsTrue (has_failed input)
+IsFlagged OutputFault input out = IsTrue (has_failed out)

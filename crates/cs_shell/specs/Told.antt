@@ -1,5 +1,5 @@
 -- A reader or a writer that remembers whether a call failed.
-use Rattle.std.specs.Prelude.{Bool}
+use Rattle.std.specs.Prelude.{ℕ, Bool, List, Option}
 use Rattle.cs_shell.specs.declared.told.Told.{Told}
 
 -- the reader or the writer inside
@@ -9,3 +9,7 @@ inner_of told = told.inner
 -- whether a call of it failed
 abbrev pub has_failed : {T : Type 0} → Told T → Bool
 has_failed told = told.failed
+
+-- the bytes that the reader inside has left, or that the writer inside holds, where those are known
+abbrev pub known : {T : Type 0} → (T → Option (List ℕ)) → Told T → Option (List ℕ)
+known bytes told = bytes (inner_of told)

@@ -23,7 +23,7 @@ mod words;
 
 pub use cs_wire::{ReadFault, ReadFaultKind};
 pub use fault::ToolFault;
-pub use invert::invert_bytes;
+pub use invert::{changeset_inverses_law, invert_bytes};
 pub use script::{Status, run_slots};
 pub use told::Told;
-pub use words::run_words;
+pub use words::{print_usage, run_words};

@@ -1,6 +1,8 @@
 //! What the lines of a script ask for.
-ghost use Rattle.std.specs.Prelude.{◌≡◌, ◌≤◌, ◌+◌, ◌∷◌, ◌++◌, ◌↔◌, [], All, codes, length, true, false, IsTrue, IfOk, IfErr, MatchOption};
-ghost use Rattle.cs_shell.specs.Lines.{is_blank as blank, is_name_byte as name_byte, words_of, ends_word, IsSlot, IsNoCommand, Asks, AsksNothing};
+ghost use Rattle.std.specs.Prelude.{◌≡◌, ◌≤◌, ◌+◌, ◌∷◌, ◌++◌, ◌↔◌, [], All, codes, length, true, false, IsTrue};
+ghost use Rattle.std.specs.Prelude.{IfOk, IfErr, MatchOption};
+ghost use Rattle.cs_shell.specs.Lines.{is_blank as blank, is_name_byte as name_byte, words_of, ends_word};
+ghost use Rattle.cs_shell.specs.Lines.{IsSlot, IsNoCommand, Asks, AsksNothing};
 ghost use Rattle.cs_shell.specs.Replies.{command_of, Parses, RefusesLine, texts, starts_word};
 
 use cs_value::NoMemory;

@@ -1,14 +1,13 @@
 //! How replies are printed.
-ghost use Rattle.std.specs.Prelude.{[], IsTrue, OnErr};
+ghost use Rattle.std.specs.Prelude.{[]};
 ghost use Rattle.std.specs.List.{flat_map};
-ghost use Rattle.cs_shell.specs.Told.{inner_of, has_failed};
-ghost use Rattle.cs_shell.specs.Calls.{Wrote};
+ghost use Rattle.cs_shell.specs.Calls.{Writes};
 ghost use Rattle.cs_shell.specs.Script.{error_line, number_detail, refusal_text, reply_text};
 ghost use Rattle.cs_shell.specs.Replies.{reply_of};
 
 use crate::reply::{Refusal, Reply};
 use crate::told::Told;
-use cs_value::NoMemory;
+use cs_value::{Fault, NoMemory};
 use itoa::Buffer;
 use std::io::Write;
 
@@ -19,10 +18,7 @@ pub(crate) struct OutputFault;
 /// Writes all of the bytes. It fails, with some front of them written, where a write fails or takes
 /// none.
 pub(crate) fn write_whole<W: Write>(out: &mut Told<W>, bytes: &[u8]) -> Result<(), OutputFault>
-    ensures wrote { Wrote result
-        (W.contents (inner_of out.old)) (W.contents (inner_of out.new))
-        bytes.now }
-    ensures told { OnErr result (IsTrue (has_failed out.new)) }
+    ensures { Writes W.contents result out.old out.new bytes.now }
 {
     let mut rest = bytes;
     while !rest.is_empty() {
@@ -36,10 +32,7 @@ pub(crate) fn write_whole<W: Write>(out: &mut Told<W>, bytes: &[u8]) -> Result<(
 
 /// Writes pieces in turn, and fails as `write_whole` does.
 fn write_pieces<W: Write>(out: &mut Told<W>, pieces: &[&[u8]]) -> Result<(), OutputFault>
-    ensures wrote { Wrote result
-        (W.contents (inner_of out.old)) (W.contents (inner_of out.new))
-        (flat_map (λ piece. piece.now) pieces.now) }
-    ensures told { OnErr result (IsTrue (has_failed out.new)) }
+    ensures { Writes W.contents result out.old out.new (flat_map (λ piece. piece.now) pieces.now) }
 {
     for piece in pieces {
         write_whole(out, piece)?;
@@ -53,10 +46,7 @@ pub(crate) fn write_error<W: Write>(
     code: u8,
     name: &str,
 ) -> Result<(), OutputFault>
-    ensures wrote { Wrote result
-        (W.contents (inner_of out.old)) (W.contents (inner_of out.new))
-        (error_line code name.now []) }
-    ensures told { OnErr result (IsTrue (has_failed out.new)) }
+    ensures { Writes W.contents result out.old out.new (error_line code name.now []) }
 {
     let mut buffer = Buffer::new();
     let code = buffer.format(code);
@@ -73,10 +63,7 @@ fn write_error_at<W: Write>(
     name: &str,
     place: usize,
 ) -> Result<(), OutputFault>
-    ensures wrote { Wrote result
-        (W.contents (inner_of out.old)) (W.contents (inner_of out.new))
-        (error_line code name.now (number_detail place)) }
-    ensures told { OnErr result (IsTrue (has_failed out.new)) }
+    ensures { Writes W.contents result out.old out.new (error_line code name.now (number_detail place)) }
 {
     let mut code_buffer = Buffer::new();
     let code = code_buffer.format(code);
@@ -102,10 +89,7 @@ pub(crate) fn write_refusal<W: Write>(
     out: &mut Told<W>,
     refusal: Refusal,
 ) -> Result<(), OutputFault>
-    ensures wrote { Wrote result
-        (W.contents (inner_of out.old)) (W.contents (inner_of out.new))
-        (refusal_text refusal) }
-    ensures told { OnErr result (IsTrue (has_failed out.new)) }
+    ensures { Writes W.contents result out.old out.new (refusal_text refusal) }
 {
     match refusal {
         Refusal::Fault(fault) => write_error_at(out, fault.code(), fault.name(), fault.place),
@@ -121,10 +105,7 @@ pub(crate) fn write_refusal<W: Write>(
 /// fails or takes no byte.
 #[tactic(auto, unfolding(crate::specs::Script::reply_text))]
 pub(crate) fn write_reply<W: Write>(out: &mut Told<W>, reply: &Reply) -> Result<(), OutputFault>
-    ensures wrote { Wrote result
-        (W.contents (inner_of out.old)) (W.contents (inner_of out.new))
-        (reply_text (reply_of reply.now)) }
-    ensures told { OnErr result (IsTrue (has_failed out.new)) }
+    ensures { Writes W.contents result out.old out.new (reply_text (reply_of reply.now)) }
 {
     match reply {
         Reply::Silent => Ok(()),

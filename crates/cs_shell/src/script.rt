@@ -1,12 +1,14 @@
 //! Scripts: lines that are read, answered and printed in turn.
-ghost use Rattle.std.specs.Prelude.{◌≡◌, ◌<◌, ◌≤◌, ◌∷◌, [], ℕ, List, length, true, false, IsTrue, Err, IfOk, IfErr, IfSome, OnOk, OnErr};
+ghost use Rattle.std.specs.Prelude.{◌≡◌, ◌<◌, ◌≤◌, ◌∷◌, [], ℕ, List, length, true, false, IsTrue};
+ghost use Rattle.std.specs.Prelude.{IfOk, IfErr, IfSome, OnOk, OnErr};
 ghost use Rattle.std.specs.FinMap as map;
-ghost use Rattle.std.specs.Io.KnownBytes.{Appends, Consumes, IsAtEnd};
+ghost use Rattle.std.specs.Io.KnownBytes.{Consumes, IsAtEnd};
 ghost use Rattle.cs_shell.specs.declared.script.Stop.TheVariants.{Output};
-ghost use Rattle.cs_shell.specs.Told.{inner_of, has_failed};
-ghost use Rattle.cs_shell.specs.Script.{LineGives, ScriptGives, OverrunGives, FrontGives};
+ghost use Rattle.cs_shell.specs.Told.{has_failed, known};
+ghost use Rattle.cs_shell.specs.Script.{LineGives, Ends, IsFlagged};
 ghost use Rattle.cs_shell.specs.Replies.{reply_of};
-ghost use Rattle.cs_shell.specs.Progress.{HoldsLine, AddsByte, EndsLine, Advances, Finishes, RunsText, RunsScript, OverrunsText, RunsFront, IsTold};
+ghost use Rattle.cs_shell.specs.Progress.{HoldsLine, AddsByte, EndsLine, Advances, Finishes};
+ghost use Rattle.cs_shell.specs.Progress.{RunsText, RunsScript, StopsAt, status_of};
 
 use crate::print::{OutputFault, write_error, write_reply};
 use crate::reply::{Refusal, Reply, answer};
@@ -58,11 +60,12 @@ const CHUNK_LEN: usize = 4096;
 /// Reads the next bytes into some room: none only at the end, or where there is no room.
 fn next_piece<'a, R: Read>(input: &mut Told<R>, room: &'a mut [u8]) -> Result<&'a [u8], Stop>
     ensures piece { IfOk result (λ piece.
-        Consumes (R.remaining (inner_of input.old)) (R.remaining (inner_of input.new)) piece.now) }
+        Consumes (known R.remaining input.old) (known R.remaining input.new) piece.now) }
     ensures short { IfOk result (λ piece. length piece.now ≤ length room.entry.now) }
     ensures end { IfOk result (λ piece. length piece.now ≡ 0 → 0 < length room.entry.now →
-        IsAtEnd (R.remaining (inner_of input.new))) }
-    ensures told { IfErr result (λ stop. (stop ≡ Stop.Input) × IsTrue (has_failed input.new)) }
+        IsAtEnd (known R.remaining input.new)) }
+    ensures err { IfErr result (λ stop. stop ≡ Stop.Input) }
+    ensures flagged { OnErr result (IsTrue (has_failed input.new)) }
 {
     match input.read(room) {
         Ok(count) => Ok(&room[..count]),
@@ -123,9 +126,7 @@ impl Script {
 
     /// Answers the line, prints the reply and begins the next line.
     fn end_line<W: Write>(&mut self, alloc: Global, out: &mut Told<W>) -> Result<(), OutputFault>
-        ensures ended { EndsLine self.old self.new result
-            (W.contents (inner_of out.old)) (W.contents (inner_of out.new)) }
-        ensures told { OnErr result (IsTrue (has_failed out.new)) }
+        ensures { EndsLine W.contents self.old self.new result out.old out.new }
     {
         let reply = self.answer_line(alloc);
         self.has_refused |= reply.is_refused();
@@ -141,9 +142,9 @@ impl Script {
         byte: u8,
         out: &mut Told<W>,
     ) -> Result<(), OutputFault>
-        ensures ok { OnOk result (Advances self.old self.new
-            (W.contents (inner_of out.old)) (W.contents (inner_of out.new)) (byte ∷ [])) }
-        ensures told { OnErr result (IsTrue (has_failed out.new)) }
+        ensures ok { OnOk result
+            (Advances W.contents self.old self.new out.old out.new (byte ∷ [])) }
+        ensures flagged { OnErr result (IsTrue (has_failed out.new)) }
     {
         if byte == b'\n' {
             return self.end_line(alloc, out);
@@ -159,9 +160,9 @@ impl Script {
         bytes: &[u8],
         out: &mut Told<W>,
     ) -> Result<(), OutputFault>
-        ensures ok { OnOk result (Advances self.old self.new
-            (W.contents (inner_of out.old)) (W.contents (inner_of out.new)) bytes.now) }
-        ensures told { OnErr result (IsTrue (has_failed out.new)) }
+        ensures ok { OnOk result
+            (Advances W.contents self.old self.new out.old out.new bytes.now) }
+        ensures flagged { OnErr result (IsTrue (has_failed out.new)) }
     {
         for byte in bytes {
             self.take(alloc, *byte, out)?;
@@ -171,9 +172,9 @@ impl Script {
 
     /// Runs a last line that no line feed ends, if it has a byte.
     fn finish<W: Write>(&mut self, alloc: Global, out: &mut Told<W>) -> Result<(), OutputFault>
-        ensures ok { OnOk result (Finishes self.old self.new
-            (W.contents (inner_of out.old)) (W.contents (inner_of out.new))) }
-        ensures told { OnErr result (IsTrue (has_failed out.new)) }
+        ensures ok { OnOk result
+            (Finishes W.contents self.old self.new out.old out.new) }
+        ensures flagged { OnErr result (IsTrue (has_failed out.new)) }
     {
         if self.is_lost || !self.line.is_empty() {
             return self.end_line(alloc, out);
@@ -189,16 +190,11 @@ impl Script {
         input: &mut Told<R>,
         out: &mut Told<W>,
     ) -> Result<(), Stop>
-        ensures ok { OnOk result (IfSome (R.remaining (inner_of input.old))
-            (RunsText self.old self.new
-            (W.contents (inner_of out.old)) (W.contents (inner_of out.new)))) }
-        ensures too_long { result ≡ Err Stop.TooLong → IfSome (R.remaining (inner_of input.old))
-            (OverrunsText self.old
-            (W.contents (inner_of out.old)) (W.contents (inner_of out.new))) }
-        ensures broken { result ≡ Err Stop.Input → IfSome (R.remaining (inner_of input.old))
-            (RunsFront self.old
-            (W.contents (inner_of out.old)) (W.contents (inner_of out.new))) }
-        ensures told { IfErr result (IsTold (has_failed input.new) (has_failed out.new)) }
+        ensures ok { OnOk result (IfSome (known R.remaining input.old)
+            (RunsText W.contents self.old self.new out.old out.new)) }
+        ensures stopped { IfErr result (λ stop. IfSome (known R.remaining input.old)
+            (StopsAt W.contents stop self.old out.old out.new)) }
+        ensures flagged { IfErr result (λ stop. IsFlagged (status_of stop) input.new out.new) }
     {
         let mut chunk = [0; CHUNK_LEN];
         let mut count = 0;
@@ -226,16 +222,11 @@ impl Script {
         input: &mut Told<R>,
         out: &mut Told<W>,
     ) -> Result<(), Stop>
-        ensures ok { OnOk result (IfSome (R.remaining (inner_of input.old))
-            (RunsScript self.old self.new
-            (W.contents (inner_of out.old)) (W.contents (inner_of out.new)))) }
-        ensures too_long { result ≡ Err Stop.TooLong → IfSome (R.remaining (inner_of input.old))
-            (OverrunsText self.old
-            (W.contents (inner_of out.old)) (W.contents (inner_of out.new))) }
-        ensures broken { result ≡ Err Stop.Input → IfSome (R.remaining (inner_of input.old))
-            (RunsFront self.old
-            (W.contents (inner_of out.old)) (W.contents (inner_of out.new))) }
-        ensures told { IfErr result (IsTold (has_failed input.new) (has_failed out.new)) }
+        ensures ok { OnOk result (IfSome (known R.remaining input.old)
+            (RunsScript W.contents self.old self.new out.old out.new)) }
+        ensures stopped { IfErr result (λ stop. IfSome (known R.remaining input.old)
+            (StopsAt W.contents stop self.old out.old out.new)) }
+        ensures flagged { IfErr result (λ stop. IsFlagged (status_of stop) input.new out.new) }
     {
         self.take_input(alloc, input, out)?;
         self.finish(alloc, out)?;
@@ -247,21 +238,9 @@ impl Script {
 /// line that memory is refused for is refused. It stops at a byte after 16777216, once the whole
 /// lines of those are run and an error line is printed, and where a read or a write fails.
 pub fn run_slots<R: Read, W: Write>(alloc: Global, input: &mut Told<R>, out: &mut Told<W>) -> Status
-    ensures done { result ≡ Status.Done → IfSome (R.remaining (inner_of input.old)) (λ text.
-        (written : List ℕ) × ScriptGives map.empty text written false
-        × Appends (W.contents (inner_of out.old)) (W.contents (inner_of out.new)) written) }
-    ensures refused { result ≡ Status.LinesRefused →
-        IfSome (R.remaining (inner_of input.old)) (λ text.
-        (written : List ℕ) × ScriptGives map.empty text written true
-        × Appends (W.contents (inner_of out.old)) (W.contents (inner_of out.new)) written) }
-    ensures too_long { result ≡ Status.TooLong → IfSome (R.remaining (inner_of input.old)) (λ text.
-        (written : List ℕ) × OverrunGives map.empty text written
-        × Appends (W.contents (inner_of out.old)) (W.contents (inner_of out.new)) written) }
-    ensures broken { result ≡ Status.InputFault → IfSome (R.remaining (inner_of input.old)) (λ text.
-        (written : List ℕ) × FrontGives map.empty text written
-        × Appends (W.contents (inner_of out.old)) (W.contents (inner_of out.new)) written) }
-    ensures input_failed { result ≡ Status.InputFault → IsTrue (has_failed input.new) }
-    ensures output_failed { result ≡ Status.OutputFault → IsTrue (has_failed out.new) }
+    ensures ended { IfSome (known R.remaining input.old)
+        (Ends W.contents result out.old out.new) }
+    ensures flagged { IsFlagged result input.new out.new }
 {
     let mut script = Script::new(alloc);
     match script.run(alloc, input, out) {

@@ -1,9 +1,9 @@
 //! Readers and writers that tell afterwards whether a call of them failed.
 ghost use Rattle.std.specs.Prelude.{◌≡◌, ◌||◌, is_err, false};
 ghost use Rattle.std.specs.Io.{ReadsAtMost, WritesAtMost};
-ghost use Rattle.std.specs.Io.KnownBytes.{ReadConsumes, WriteAppends};
+ghost use Rattle.std.specs.Io.KnownBytes.{Keeps, ReadConsumes, WriteAppends};
 ghost use Rattle.cs_shell.specs.Calls.{is_failed_write};
-ghost use Rattle.cs_shell.specs.Told.{inner_of, has_failed};
+ghost use Rattle.cs_shell.specs.Told.{inner_of, has_failed, known};
 
 use std::io;
 use std::io::{Read, Write};
@@ -37,12 +37,12 @@ impl<T> Told<T> {
 }
 
 impl<R: Read> Read for Told<R> {
-    ghost remaining = { λ told. R.remaining (inner_of told) };
+    ghost remaining = { λ told. known R.remaining told };
 
     fn read(&mut self, buf: &mut [u8]) -> io::Result<usize>
         ensures bound { ReadsAtMost result buf.new }
         ensures bytes { ReadConsumes
-            (R.remaining (inner_of self.old)) (R.remaining (inner_of self.new)) result buf.new }
+            (known R.remaining self.old) (known R.remaining self.new) result buf.new }
         ensures flag { has_failed self.new ≡ (has_failed self.old || is_err result) }
     {
         let result = self.inner.read(buf);
@@ -54,12 +54,12 @@ impl<R: Read> Read for Told<R> {
 }
 
 impl<W: Write> Write for Told<W> {
-    ghost contents = { λ told. W.contents (inner_of told) };
+    ghost contents = { λ told. known W.contents told };
 
     fn write(&mut self, buf: &[u8]) -> io::Result<usize>
         ensures bound { WritesAtMost result buf.now }
         ensures bytes { WriteAppends
-            (W.contents (inner_of self.old)) (W.contents (inner_of self.new)) result buf.now }
+            (known W.contents self.old) (known W.contents self.new) result buf.now }
         ensures flag { has_failed self.new
             ≡ (has_failed self.old || is_failed_write result buf.now) }
     {
@@ -72,7 +72,10 @@ impl<W: Write> Write for Told<W> {
         result
     }
 
-    fn flush(&mut self) -> io::Result<()> {
+    fn flush(&mut self) -> io::Result<()>
+        ensures bytes { Keeps (known W.contents self.old) (known W.contents self.new) }
+        ensures flag { has_failed self.new ≡ has_failed self.old }
+    {
         self.inner.flush()
     }
 }

@@ -1,9 +1,9 @@
 //! The words of a command line, and what they are answered.
-ghost use Rattle.std.specs.Prelude.{◌≡◌, ◌≤◌, ℕ, List, Some, length, false, IfOk, IfSome};
-ghost use Rattle.std.specs.FinMap as map;
+ghost use Rattle.std.specs.Prelude.{◌≡◌, ◌≤◌, Some, length, false, IfOk, IfSome};
 ghost use Rattle.std.specs.Io.KnownBytes.{Appends};
-ghost use Rattle.cs_shell.specs.Told.{inner_of};
-ghost use Rattle.cs_shell.specs.Script.{ScriptGives};
+ghost use Rattle.cs_shell.specs.Told.{has_failed, known};
+ghost use Rattle.cs_shell.specs.Calls.{AppendsFront};
+ghost use Rattle.cs_shell.specs.Script.{Ends};
 
 use crate::fault::ToolFault;
 use crate::invert::invert_bytes;
@@ -116,6 +116,18 @@ fn end_script<E: Write>(err: &mut Told<E>, status: Status) -> u8
     1
 }
 
+/// Writes the usage text, and answers the exit status of words that fit no command. It writes some
+/// front of the text where a write fails or takes no byte, and then the flag of the stream is set.
+pub fn print_usage<E: Write>(err: &mut Told<E>) -> u8
+    ensures status { result ≡ 2 }
+    ensures front { AppendsFront (known E.contents err.old) (known E.contents err.new) USAGE.now }
+    ensures whole { has_failed err.new ≡ false →
+        Appends (known E.contents err.old) (known E.contents err.new) USAGE.now }
+{
+    let _ = write_whole(err, USAGE.as_bytes());
+    2
+}
+
 /// Does what the words of a command line ask for, the program's name first, and answers the exit
 /// status: 0 where that is done, 1 where it is refused and 2 where the words fit no command.
 ///
@@ -132,9 +144,10 @@ pub fn run_words<H: Files + AllocGlobal, R: Read, W: Write, E: Write>(
 ) -> u8
     ensures status { result ≤ 2 }
     ensures script { length words.now ≤ 1 → result ≡ 0 →
-        IfSome (R.remaining (inner_of input.old)) (λ text.
-        (written : List ℕ) × ScriptGives map.empty text written false
-        × Appends (W.contents (inner_of out.old)) (W.contents (inner_of out.new)) written) }
+        IfSome (known R.remaining input.old) (Ends W.contents Status.Done out.old out.new) }
+    ensures usage { result ≡ 2 → has_failed err.new ≡ false →
+        Appends (known E.contents err.old) (known E.contents err.new) USAGE.now }
+    ensures unprinted { result ≡ 2 → out.new ≡ out.old }
 {
     match parse_words(words) {
         Some(Action::Script) => end_script(err, run_slots(rt.alloc(), input, out)),
@@ -145,9 +158,6 @@ pub fn run_words<H: Files + AllocGlobal, R: Read, W: Write, E: Write>(
                 1
             }
         },
-        None => {
-            let _ = write_whole(err, USAGE.as_bytes());
-            2
-        }
+        None => print_usage(err),
     }
 }

@@ -9,10 +9,11 @@ use Rattle.cs_value.specs.declared.fault.FieldFaultKind.TheVariants.{Truncated, 
 use Rattle.cs_value.specs.declared.value.OwnedValue.TheVariants.{Int, Text, Blob, Null}
 use Rattle.cs_value.specs.declared.value.OwnedField.{OwnedField}
 use Rattle.cs_value.specs.declared.value.OwnedField.TheVariants.{Undefined, Defined}
-use Rattle.cs_value.specs.Value.{IsValue, IsRow, key_columns}
+use Rattle.cs_value.specs.Value.{IsValue, IsRow}
+use Rattle.cs_value.specs.Key.{key_columns}
 use Rattle.cs_value.specs.Varint.{leading_digits, varint}
 use Rattle.cs_value.specs.Spelling.{counted, value_bytes, field_bytes, row_bytes, record_bytes, BeginsWith}
-use Rattle.cs_value.specs.FieldFaults.{IsCutVarint, VarintFails, FieldFails}
+use Rattle.cs_value.specs.FieldFaults.{IsCutVarint, HasContent, VarintFails, FieldFails}
 use Rattle.cs_value.specs.ImageFaults.{RecordFails}
 use Rattle.cs_value.specs.Reading.{fault, number_from, number_at}
 use Rattle.cs_value.proofs.VarintLaws.{number_faults}
@@ -198,24 +199,31 @@ no_field_is_truncated = (inl refl, refl)
 
 -- an integer of two bytes
 short_integer_is_truncated : FieldFails (0x01 ∷ 0x00 ∷ 0x00 ∷ []) Truncated 3
-short_integer_is_truncated = (inr (inl (0x00 ∷ 0x00 ∷ [], refl, omega arith)), refl)
+short_integer_is_truncated = (inr (inl (record { content = 0x00 ∷ 0x00 ∷ []; spelled = refl; fewer = omega arith })), refl)
 
 -- a text whose count is cut off
 cut_count_is_truncated : FieldFails (0x03 ∷ 0x81 ∷ []) Truncated 2
-cut_count_is_truncated = (inr (inr (0x81 ∷ [], inl refl, inl cut_is)), refl)
+cut_count_is_truncated = (inr (inr (record { content = 0x81 ∷ []; has_content = inl refl; cut = inl cut_is })), refl)
 
 -- a blob of two bytes, of which one is there
 short_blob_is_truncated : FieldFails (0x04 ∷ 0x02 ∷ 0xff ∷ []) Truncated 3
 unfolding computing
-short_blob_is_truncated = (inr (inr (0x02 ∷ 0xff ∷ [], inr refl, inr (2, 0xff ∷ [], omega arith, refl, omega arith))), refl)
+short_blob_is_truncated = (
+  inr (inr (record {
+    content = 0x02 ∷ 0xff ∷ [];
+    has_content = inr refl;
+    cut = inr (record { count = 2; rest = 0xff ∷ []; is_number = omega arith; spelled = refl; fewer = omega arith });
+  })),
+  refl,
+)
 
 -- a text whose count has a leading zero: the place is that of the count
 bad_count_is_bad : FieldFails (0x03 ∷ 0x80 ∷ 0x01 ∷ 0x78 ∷ []) BadVarint 1
-bad_count_is_bad = ((0x80 ∷ 0x01 ∷ 0x78 ∷ [], inl refl, inl refl), refl)
+bad_count_is_bad = (record { content = 0x80 ∷ 0x01 ∷ 0x78 ∷ []; has_content = inl refl; no_count = inl refl }, refl)
 
 -- the type 06, which is none
 type_six_is_bad : FieldFails (0x06 ∷ []) BadType 0
-type_six_is_bad = ((6, [], refl, omega arith), refl)
+type_six_is_bad = (record { kind = 6; rest = []; spelled = refl; no_type = omega arith }, refl)
 
 -- the type 02 of reals, whose bytes are not looked at
 real_is_refused : FieldFails (0x02 ∷ []) RealValue 0
@@ -236,16 +244,20 @@ ff_is_bad_text = record {
 first_byte : List ℕ → ℕ
 first_byte bytes = get_or bytes 0 0
 
+-- NULL has no content
+null_has_no_content : (content : List ℕ) → HasContent (0x05 ∷ []) content → ⊥
+unfolding first_byte
+null_has_no_content content (inl text) = absurd (omega (arith, ap first_byte text))
+null_has_no_content content (inr blob) = absurd (omega (arith, ap first_byte blob))
+
 -- NULL has no fault
 null_is_no_fault : (kind : FieldFaultKind) (place : ℕ) → FieldFails (0x05 ∷ []) kind place → ⊥
 unfolding first_byte
 null_is_no_fault Truncated place (inl none, at) = cc none
-null_is_no_fault Truncated place (inr (inl integer), at) = absurd (omega (arith, ap first_byte integer.1))
-null_is_no_fault Truncated place (inr (inr (content, inl text, cut)), at) = absurd (omega (arith, ap first_byte text))
-null_is_no_fault Truncated place (inr (inr (content, inr blob, cut)), at) = absurd (omega (arith, ap first_byte blob))
-null_is_no_fault BadVarint place ((content, inl text, bad), at) = absurd (omega (arith, ap first_byte text))
-null_is_no_fault BadVarint place ((content, inr blob, bad), at) = absurd (omega (arith, ap first_byte blob))
-null_is_no_fault BadType place ((kind, rest, is, above), at) = absurd (omega (arith, ap first_byte is))
+null_is_no_fault Truncated place (inr (inl integer), at) = absurd (omega (arith, ap first_byte integer.spelled))
+null_is_no_fault Truncated place (inr (inr cut), at) = null_has_no_content cut.content cut.has_content
+null_is_no_fault BadVarint place (bad, at) = null_has_no_content bad.content bad.has_content
+null_is_no_fault BadType place (bad, at) = absurd (omega (arith, ap first_byte bad.spelled, bad.no_type))
 null_is_no_fault RealValue place (is, at) = absurd (omega (arith, ap (λ o. unwrap_or o 0) is))
 null_is_no_fault BadText place h = absurd (omega (arith, ap first_byte h.spelled))
 

@@ -12,7 +12,7 @@ use Rattle.cs_value.specs.declared.value.OwnedField.TheVariants.{Undefined, Defi
 use Rattle.cs_value.specs.Value.{AreBytes}
 use Rattle.cs_value.specs.Varint.{varint}
 use Rattle.cs_value.specs.Spelling.{counted}
-use Rattle.cs_value.specs.FieldFaults.{VarintFails, HasContent, FieldFails}
+use Rattle.cs_value.specs.FieldFaults.{VarintFails, HasContent, IsCutContent, FieldFails}
 use Rattle.cs_value.specs.Reading.{fault, behind_type, number_at, integer_at, counted_at, text_at, blob_at, field_at}
 use Rattle.cs_value.proofs.Steps.{err_is, not_both, bind_err, guard_err, behind_ok, behind_err}
 use Rattle.cs_value.proofs.Integers.{integer_of}
@@ -26,8 +26,8 @@ Fails bytes d = FieldFails bytes d.kind d.place
 
 -- a count that fails makes a text or a blob fail, one byte further on
 count_fails : (bytes content : List ℕ) (kind : FieldFaultKind) (place : ℕ) → HasContent bytes content → length bytes ≡ 1 + length content → VarintFails content kind place → FieldFails bytes kind (1 + place)
-count_fails bytes content Truncated place has len why = (inr (inr (content, has, inl why.0)), omega (arith, why.1))
-count_fails bytes content BadVarint place has len why = ((content, has, why.0), omega (arith, why.1))
+count_fails bytes content Truncated place has len why = (inr (inr (record { content = content; has_content = has; cut = inl why.0 })), omega (arith, why.1))
+count_fails bytes content BadVarint place has len why = (record { content = content; has_content = has; no_count = why.0 }, omega (arith, why.1))
 count_fails bytes content BadType place has len why = absurd why
 count_fails bytes content RealValue place has len why = absurd why
 count_fails bytes content BadText place has len why = absurd why
@@ -48,7 +48,8 @@ counted_faults bytes content d has len fits e =
           let t = number_takes content n used fits (behind_ok (number_at content) read.0 read.1) in
           let g = guard_err (ltb (length behind) n) (fault Truncated (1 + length content)) d (take n behind, 1 + used + n) read.2 in
           let short : length behind < n = ltb-true (length behind) n g.0 in
-          subst (Fails bytes) g.1 (inr (inr (content, has, inr (n, behind, t.0, t.1.whole, short))), omega arith)
+          let cut : IsCutContent content = record { count = n; rest = behind; is_number = t.0; spelled = t.1.whole; fewer = short } in
+          subst (Fails bytes) g.1 (inr (inr (record { content = content; has_content = has; cut = inr cut })), omega arith)
     ]
 
 -- an integer is cut off
@@ -56,7 +57,7 @@ integer_faults : (content : List ℕ) (d : FieldFault) → integer_at content �
 unfolding integer_at Fails
 integer_faults content d e =
     let g = guard_err (ltb (length content) 8) (fault Truncated (1 + length content)) d (Defined (Int (integer_of (take 8 content))), 9) e in
-    subst (Fails (1 ∷ content)) g.1 (inr (inl (content, refl, ltb-true (length content) 8 g.0)), omega arith)
+    subst (Fails (1 ∷ content)) g.1 (inr (inl (record { content = content; spelled = refl; fewer = ltb-true (length content) 8 g.0 })), omega arith)
 
 -- a text fails as what is counted, or is not UTF-8
 text_faults : (content : List ℕ) (d : FieldFault) → AreBytes content → text_at content ≡ Err d → Fails (3 ∷ content) d
@@ -107,5 +108,5 @@ field_faults (kind ∷ content) d fits e =
       | inr (inr (inr (inl k3))) ↦ rw k3 (text_faults content d fits.1 (sym (field_at-text content) ∙ rw k3 at e))
       | inr (inr (inr (inr (inl k4)))) ↦ rw k4 (blob_faults content d fits.1 (sym (field_at-blob content) ∙ rw k4 at e))
       | inr (inr (inr (inr (inr (inl k5))))) ↦ absurd (not_both (Defined Null, 1) d (sym (rw k5 (field_at-null content)) ∙ e))
-      | inr (inr (inr (inr (inr (inr other))))) ↦ subst (Fails (kind ∷ content)) (err_is (fault BadType 0) d (sym (field_at-other kind content other) ∙ e)) ((kind, content, refl, other), refl)
+      | inr (inr (inr (inr (inr (inr other))))) ↦ subst (Fails (kind ∷ content)) (err_is (fault BadType 0) d (sym (field_at-other kind content other) ∙ e)) (record { kind = kind; rest = content; spelled = refl; no_type = other }, refl)
     ]

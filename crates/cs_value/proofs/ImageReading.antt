@@ -1,14 +1,17 @@
 -- Images that are read field by field.
-use Rattle.std.proofs.Common.{◌≡◌, ℕ, ◌+◌, ◌<◌, ◌≤◌, List, [], ◌∷◌, ◌++◌, length, drop, refl, sym, ap, ◌∙◌, append_assoc, arith, length-append, Err}
+use Rattle.std.proofs.Common.{◌≡◌, ℕ, ◌+◌, ◌<◌, ◌≤◌, List, [], ◌∷◌, ◌++◌, length, drop, refl, sym, ap, ◌∙◌, append_assoc, arith, length-append}
 use Rattle.std.proofs.lemmas.List.{append-nil, drop-drop}
 use Rattle.std.proofs.lemmas.List.Concat.{flat_map-append}
-use Rattle.cs_value.specs.declared.fault.ImageFault.{ImageFault}
-use Rattle.cs_value.specs.declared.fault.ImageFault.TheVariants.{Fault, NoMemory}
+use Rattle.cs_value.specs.declared.fault.FieldFault.{FieldFault}
+use Rattle.cs_value.specs.declared.refusal.OrNoMemory.{OrNoMemory}
+use Rattle.cs_value.specs.declared.refusal.OrNoMemory.TheVariants.{Fault, NoMemory}
 use Rattle.cs_value.specs.declared.value.OwnedField.{OwnedField}
 use Rattle.cs_value.specs.Value.{IsField, IsRecord}
 use Rattle.cs_value.specs.Spelling.{field_bytes, record_bytes, BeginsWith}
-use Rattle.cs_value.specs.ImageFaults.{ImageFails, ReadsImage}
+use Rattle.cs_value.specs.ImageFaults.{RecordFails}
 use Rattle.cs_value.specs.Reading.{NoFieldAt}
+use Rattle.cs_value.specs.Refusals.{Refuses}
+use Rattle.cs_value.proofs.Lists.{AllByRecursion-push}
 use Rattle.cs_value.proofs.Spellings.{field_spellings, record_spellings}
 
 -- the fields that were read, and where they end
@@ -22,11 +25,6 @@ pub record FieldsSoFar (bytes : List ℕ) (i : ℕ) (fields : List OwnedField) (
 pub FieldsSoFar-none : (bytes : List ℕ) → FieldsSoFar bytes 0 [] 0
 FieldsSoFar-none bytes = record { count = refl; are_fields = tt; begins = record { whole = refl; count = refl }; within = omega arith }
 
--- one more field
-IsRecord-push : (fields : List OwnedField) (field : OwnedField) → IsRecord fields → IsField field → IsRecord (fields ++ field ∷ [])
-IsRecord-push [] field are is = (is, tt)
-IsRecord-push (f ∷ fields) field are is = (are.0, IsRecord-push fields field are.1 is)
-
 -- the bytes of a record and of one more field
 record_bytes-push : (fields : List OwnedField) (field : OwnedField) → record_bytes (fields ++ field ∷ []) ≡ record_bytes fields ++ field_bytes field
 record_bytes-push fields field = flat_map-append field_bytes fields (field ∷ []) ∙ ap (λ (x : List ℕ). record_bytes fields ++ x) (append-nil (field_bytes field))
@@ -36,7 +34,7 @@ pub FieldsSoFar-push : (bytes : List ℕ) (i : ℕ) (fields : List OwnedField) (
     → IsField field → BeginsWith (drop end bytes) (field_bytes field) used → end + used ≤ length bytes → FieldsSoFar bytes (i + 1) (fields ++ field ∷ []) (end + used)
 FieldsSoFar-push bytes i fields end field used so is begins within = record {
   count = omega (arith, length-append fields (field ∷ []), so.count);
-  are_fields = IsRecord-push fields field so.are_fields is;
+  are_fields = AllByRecursion-push IsField fields field so.are_fields is;
   begins = rw (record_bytes-push fields field) (record {
     whole =
         so.begins.whole ∙ ap (λ (x : List ℕ). record_bytes fields ++ x) (begins.whole ∙ ap (λ (x : List ℕ). field_bytes field ++ x) (drop-drop used end bytes))
@@ -47,8 +45,8 @@ FieldsSoFar-push bytes i fields end field used so is begins within = record {
 }
 
 -- no field stands where one is left to be read
-pub no_field : (bytes : List ℕ) (columns i : ℕ) (fields : List OwnedField) (end : ℕ) (fault : ImageFault) → FieldsSoFar bytes i fields end → i < columns
-    → NoFieldAt bytes end fault → ImageFails bytes columns fault
+pub no_field : (bytes : List ℕ) (columns i : ℕ) (fields : List OwnedField) (end : ℕ) (refusal : OrNoMemory FieldFault)
+    → FieldsSoFar bytes i fields end → i < columns → Refuses (NoFieldAt bytes end) refusal → Refuses (λ f. RecordFails bytes columns f.kind f.place) refusal
 no_field bytes columns i fields end (Fault f) so lt none = record {
   fields = fields;
   at = end;
@@ -87,8 +85,3 @@ pub all_fields : (bytes : List ℕ) (columns i : ℕ) (fields : List OwnedField)
 all_fields bytes columns i fields end so done all rest is len e =
     let same = record_spellings fields all (drop end bytes) rest so.are_fields is (omega (arith, so.count)) (sym so.begins.whole ∙ e) in
     (same.0, so.begins.count ∙ ap (λ (x : List OwnedField). length (record_bytes x)) same.0)
-
--- a refusal for memory passes on, and no other is one where something is wanted
-pub ReadsImage-err : {X Y : Type 0} (e : ImageFault) (P : X → Type 0) (Q : Y → Type 0) → ReadsImage (Err e) P → ReadsImage (Err e) Q
-ReadsImage-err (Fault f) P Q h = h
-ReadsImage-err NoMemory P Q h = tt

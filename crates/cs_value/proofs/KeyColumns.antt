@@ -3,7 +3,7 @@ use Rattle.std.proofs.Common.{◌≡◌, ℕ, zero, suc, ◌+◌, ◌<◌, List,
 use Rattle.std.specs.List.{flat_map}
 use Rattle.std.proofs.lemmas.List.{append-nil, take_more, length-take-le}
 use Rattle.std.proofs.lemmas.List.Concat.{flat_map-append}
-use Rattle.cs_value.specs.Value.{key_columns}
+use Rattle.cs_value.specs.Key.{key_columns}
 
 -- one column more
 key_columns-push : {X : Type 0} (flags : List ℕ) (xs : List X) (flag : ℕ) (x : X) → length flags ≡ length xs → key_columns (flags ++ flag ∷ []) (xs ++ x ∷ []) ≡ key_columns flags xs ++ key_columns (flag ∷ []) (x ∷ [])

@@ -1,4 +1,6 @@
+pub mod Lists
 pub mod ByteLists
+pub mod ByteMaps
 pub mod Digits
 pub mod VarintLaws
 pub mod VarintLoops
@@ -13,3 +15,4 @@ pub mod FieldReading
 pub mod Spellings
 pub mod KeyColumns
 pub mod ImageReading
+pub mod RefusalLaws

@@ -1,6 +1,7 @@
 -- Why bytes do not begin with a varint or a field, one case for each kind of fault, said of the bytes and not of the
 -- steps of a reader. The names and numbers are this project's own.
-use Rattle.std.specs.Prelude.{◌≡◌, ◌≢◌, ℕ, ◌+◌, ◌<◌, ◌≤◌, ◌⊎◌, List, [], ◌∷◌, ◌++◌, length, take, slice_get, Some, IsUtf8, codes}
+use Rattle.std.specs.Prelude.{◌≡◌, ◌≢◌, ℕ, ◌+◌, ◌<◌, ◌≤◌, ◌⊎◌, List, [], ◌∷◌, ◌++◌, length, take, slice_get, Some}
+use Rattle.std.specs.Prelude.{IsUtf8, codes}
 use Rattle.std.specs.List.{AllByRecursion}
 use Rattle.cs_value.specs.declared.TheConstants.{MAX_CONTENT_LEN}
 use Rattle.cs_value.specs.declared.fault.FieldFaultKind.{FieldFaultKind}
@@ -51,14 +52,42 @@ VarintFails bytes BadText place = ⊥
 abbrev pub HasContent : List ℕ → List ℕ → Type 0
 HasContent bytes content = (bytes ≡ 3 ∷ content) ⊎ (bytes ≡ 4 ∷ content)
 
--- a count, and fewer bytes than it says
-abbrev pub IsCutContent : List ℕ → Type 0
-IsCutContent content = (n : ℕ) × (rest : List ℕ) × (n ≤ MAX_CONTENT_LEN) × (content ≡ varint n ++ rest) × (length rest < n)
+-- 0x01, and fewer than eight bytes behind it
+pub record IsCutInteger (bytes : List ℕ) : Type 0 where
+  pub content : List ℕ
+  pub spelled : bytes ≡ 1 ∷ content
+  pub fewer : length content < 8
 
--- nothing; or 0x01 and fewer than eight bytes; or a text or a blob, cut in its count or behind it
+-- a count, and fewer bytes than it says
+pub record IsCutContent (content : List ℕ) : Type 0 where
+  pub count : ℕ
+  pub rest : List ℕ
+  pub is_number : count ≤ MAX_CONTENT_LEN
+  pub spelled : content ≡ varint count ++ rest
+  pub fewer : length rest < count
+
+-- a text or a blob that is cut in its count or behind it
+pub record IsCutTextOrBlob (bytes : List ℕ) : Type 0 where
+  pub content : List ℕ
+  pub has_content : HasContent bytes content
+  pub cut : IsCutVarint content ⊎ IsCutContent content
+
+-- nothing; or an integer, a text or a blob that an end cuts off
 abbrev pub IsCutField : List ℕ → Type 0
-IsCutField bytes = (bytes ≡ []) ⊎ ((rest : List ℕ) × (bytes ≡ 1 ∷ rest) × (length rest < 8))
-    ⊎ ((content : List ℕ) × HasContent bytes content × (IsCutVarint content ⊎ IsCutContent content))
+IsCutField bytes = (bytes ≡ []) ⊎ IsCutInteger bytes ⊎ IsCutTextOrBlob bytes
+
+-- a text or a blob that begins with no count
+pub record HasNoContentCount (bytes : List ℕ) : Type 0 where
+  pub content : List ℕ
+  pub has_content : HasContent bytes content
+  pub no_count : BeginsNoVarint content
+
+-- a type above 5
+pub record HasBadType (bytes : List ℕ) : Type 0 where
+  pub kind : ℕ
+  pub rest : List ℕ
+  pub spelled : bytes ≡ kind ∷ rest
+  pub no_type : 5 < kind
 
 -- a text that is not UTF-8, behind its count
 pub record HasBadText (bytes : List ℕ) (place : ℕ) : Type 0 where
@@ -72,7 +101,7 @@ pub record HasBadText (bytes : List ℕ) (place : ℕ) : Type 0 where
 -- the fault of bytes that begin with no field, and its place, from the first of the bytes
 abbrev pub FieldFails : List ℕ → FieldFaultKind → ℕ → Type 0
 FieldFails bytes Truncated place = IsCutField bytes × (place ≡ length bytes)
-FieldFails bytes BadVarint place = ((content : List ℕ) × HasContent bytes content × BeginsNoVarint content) × (place ≡ 1)
-FieldFails bytes BadType place = ((kind : ℕ) × (rest : List ℕ) × (bytes ≡ kind ∷ rest) × (5 < kind)) × (place ≡ 0)
+FieldFails bytes BadVarint place = HasNoContentCount bytes × (place ≡ 1)
+FieldFails bytes BadType place = HasBadType bytes × (place ≡ 0)
 FieldFails bytes RealValue place = (slice_get bytes 0 ≡ Some 2) × (place ≡ 0)
 FieldFails bytes BadText place = HasBadText bytes place

@@ -1,6 +1,11 @@
 pub mod Value
 pub mod Varint
 pub mod Spelling
+pub mod Key
+pub mod Maps
+pub mod Table
 pub mod FieldFaults
 pub mod ImageFaults
+pub mod Refusals
+pub mod Laws
 pub mod Reading

@@ -7,8 +7,6 @@ use Rattle.cs_value.specs.declared.TheConstants.{MAX_CONTENT_LEN}
 use Rattle.cs_value.specs.declared.fault.FieldFault.{FieldFault}
 use Rattle.cs_value.specs.declared.fault.FieldFaultKind.{FieldFaultKind}
 use Rattle.cs_value.specs.declared.fault.FieldFaultKind.TheVariants.{Truncated, BadVarint, BadType, RealValue, BadText}
-use Rattle.cs_value.specs.declared.fault.ImageFault.{ImageFault}
-use Rattle.cs_value.specs.declared.fault.ImageFault.TheVariants.{Fault, NoMemory}
 use Rattle.cs_value.specs.declared.value.OwnedValue.TheVariants.{Int, Text, Blob, Null}
 use Rattle.cs_value.specs.declared.value.OwnedField.{OwnedField}
 use Rattle.cs_value.specs.declared.value.OwnedField.TheVariants.{Undefined, Defined}
@@ -79,7 +77,6 @@ field_at (kind ∷ content) =
     else if kind == 5 then Ok (Defined Null, 1)
     else Err (fault BadType 0)
 
--- from a place on there is no field, or memory is refused
-abbrev pub NoFieldAt : List ℕ → ℕ → ImageFault → Type 0
-NoFieldAt bytes at (Fault f) = (behind : ℕ) × FieldFails (drop at bytes) f.kind behind × (f.place ≡ at + behind)
-NoFieldAt bytes at NoMemory = Unit {0}
+-- from a place on there is no field
+abbrev pub NoFieldAt : List ℕ → ℕ → FieldFault → Type 0
+NoFieldAt bytes at f = (behind : ℕ) × FieldFails (drop at bytes) f.kind behind × (f.place ≡ at + behind)

@@ -1,7 +1,7 @@
 -- Values, fields and rows, after the format comment of SQLite's sqlite3session.c: what of the declared types is a
 -- value of a changeset. There an integer has 64 bits, a text is UTF-8, and the count of the bytes of a text or a blob
 -- is at most 2147483647.
-use Rattle.std.specs.Prelude.{ℕ, zero, suc, ◌<◌, ◌≤◌, List, [], ◌∷◌, length, FitsSigned, IsUtf8}
+use Rattle.std.specs.Prelude.{ℕ, ◌<◌, ◌≤◌, List, length, FitsSigned, IsUtf8}
 use Rattle.std.specs.Int.{w64}
 use Rattle.std.specs.List.{AllByRecursion}
 use Rattle.cs_value.specs.declared.TheConstants.{MAX_CONTENT_LEN}
@@ -60,10 +60,3 @@ IsRecord fields = AllByRecursion IsField fields
 -- a row: a record without an undefined field, given by its values
 abbrev pub IsRow : List OwnedValue → Type 0
 IsRow values = AllByRecursion IsValue values
-
--- what stands in the key columns, in column order: those with a flag other than 0
-abbrev pub key_columns : {X : Type 0} → List ℕ → List X → List X
-key_columns [] xs = []
-key_columns (flag ∷ flags) [] = []
-key_columns (zero ∷ flags) (x ∷ xs) = key_columns flags xs
-key_columns (suc flag ∷ flags) (x ∷ xs) = x ∷ key_columns flags xs

@@ -2,7 +2,7 @@
 ghost use Rattle.std.specs.Prelude.{◌≡◌, ◌≤◌, ℕ, List, length, vec_len, IfOk};
 ghost use Rattle.cs_value.specs.declared.TheConstants.{MAX_CONTENT_LEN};
 
-use crate::no_memory::NoMemory;
+use crate::refusal::NoMemory;
 use std::alloc::Global;
 use std::marker::Model;
 

@@ -1,11 +1,8 @@
 //! Why bytes do not begin with a field or an image.
 ghost use Rattle.std.specs.Prelude.{◌≡◌, ◌+◌, ◌<◌, ◌^◌};
-ghost use Rattle.cs_value.specs.declared.fault.ImageFault.TheVariants.{NoMemory as OutOfMemory};
 ghost use Rattle.cs_value.specs.FieldFaults.{code_of, name_of};
-ghost use Rattle.cs_value.specs.ImageFaults.{image_fault_code, image_fault_class, image_fault_name};
 
-use crate::no_memory::NoMemory;
-use std::alloc::{AllocError, AllocFailed};
+use crate::refusal::{Fault, OrNoMemory};
 use thiserror::Error;
 
 /// What is wrong with bytes that were to begin with a field or a varint.
@@ -64,103 +61,39 @@ pub struct FieldFault {
     pub place: usize,
 }
 
-impl FieldFault {
-    /// The number of this fault among the faults of the product.
-    pub fn code(self) -> u8
-        ensures { result ≡ code_of self.kind }
-    {
+impl Fault for FieldFault {
+    ghost code_of = { λ fault. code_of fault.kind };
+
+    ghost class_of = { λ _. 11 };
+
+    ghost name_of = { λ fault. name_of fault.kind };
+
+    fn code(&self) -> u8 {
         self.kind.code()
     }
 
-    /// SQLite's result code for it, `SQLITE_CORRUPT`.
-    pub fn class(self) -> u8
-        ensures { result ≡ 11 }
-    {
+    fn class(&self) -> u8 {
         11
     }
 
-    /// The name that error lines print.
-    pub fn name(self) -> &'static str
-        ensures { result.now ≡ name_of self.kind }
-    {
+    fn name(&self) -> &'static str {
         self.kind.name()
     }
 }
 
-/// Why an image is not read.
-#[derive(Clone, Copy, Debug, PartialEq, Eq, Error)]
-pub enum ImageFault {
-    /// The bytes do not begin with as many fields as there are columns.
-    #[error("{0}")]
-    Fault(FieldFault),
-    /// Memory was refused.
-    #[error("out of memory")]
-    NoMemory,
-}
-
-impl ImageFault {
-    /// The fault of a field that was read from `start` on.
-    pub(crate) fn behind(start: usize, fault: FieldFault) -> ImageFault
-        requires { start + fault.place < 2 ^ 64 }
-        ensures { result ≡ ImageFault.Fault (record { kind = fault.kind; place = start + fault.place }) }
+impl FieldFault {
+    /// The fault of a field that was read from `start` on, placed from where `start` is counted.
+    pub fn behind(self, start: usize) -> FieldFault
+        requires { start + self.place < 2 ^ 64 }
+        ensures { result ≡ record { kind = self.kind; place = start + self.place } }
     {
-        ImageFault::Fault(FieldFault {
-            kind: fault.kind,
-            place: start + fault.place,
-        })
-    }
-
-    /// The number of this fault among the faults of the product, 60 for memory.
-    pub fn code(self) -> u8
-        ensures { result ≡ image_fault_code self }
-    {
-        match self {
-            ImageFault::Fault(fault) => fault.code(),
-            ImageFault::NoMemory => NoMemory.code(),
-        }
-    }
-
-    /// SQLite's result code for it, `SQLITE_CORRUPT` or `SQLITE_NOMEM`.
-    pub fn class(self) -> u8
-        ensures { result ≡ image_fault_class self }
-    {
-        match self {
-            ImageFault::Fault(fault) => fault.class(),
-            ImageFault::NoMemory => NoMemory.class(),
-        }
-    }
-
-    /// The name that error lines print.
-    pub fn name(self) -> &'static str
-        ensures { result.now ≡ image_fault_name self }
-    {
-        match self {
-            ImageFault::Fault(fault) => fault.name(),
-            ImageFault::NoMemory => NoMemory.name(),
+        FieldFault {
+            kind: self.kind,
+            place: start + self.place,
         }
     }
 }
 
-impl From<NoMemory> for ImageFault {
-    ghost from_gives = { λ _ e. e ≡ OutOfMemory };
-
-    fn from(_refusal: NoMemory) -> ImageFault {
-        ImageFault::NoMemory
-    }
-}
-
-impl From<AllocError> for ImageFault {
-    ghost from_gives = { λ _ e. e ≡ OutOfMemory };
-
-    fn from(_refusal: AllocError) -> ImageFault {
-        ImageFault::NoMemory
-    }
-}
-
-impl<T: Drop> From<AllocFailed<T>> for ImageFault {
-    ghost from_gives = { λ _ e. e ≡ OutOfMemory };
-
-    fn from(_refusal: AllocFailed<T>) -> ImageFault {
-        ImageFault::NoMemory
-    }
-}
+/// Why an image is not read: the bytes do not begin with as many fields as there are columns, or
+/// memory was refused.
+pub type ImageFault = OrNoMemory<FieldFault>;

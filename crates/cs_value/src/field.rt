@@ -8,7 +8,7 @@ ghost use Rattle.cs_value.specs.Reading.{field_at, integer_at, counted_at, text_
 ghost use Rattle.cs_value.specs.declared.value.OwnedField.{OwnedField};
 
 use crate::fault::{FieldFault, FieldFaultKind};
-use crate::no_memory::NoMemory;
+use crate::refusal::NoMemory;
 use crate::value::{Field, Value};
 use crate::varint::{read_number, varint_write};
 use std::str;

@@ -3,13 +3,14 @@ ghost use Rattle.std.specs.Prelude.{◌≡◌, ◌+◌, ◌≤◌, ◌++◌, ℕ
 ghost use Rattle.cs_value.specs.declared.value.OwnedField.{OwnedField};
 ghost use Rattle.cs_value.specs.Value.{IsField, IsRecord};
 ghost use Rattle.cs_value.specs.Spelling.{field_bytes, record_bytes, BeginsWith};
-ghost use Rattle.cs_value.specs.ImageFaults.{ImageFails, ReadsImage};
+ghost use Rattle.cs_value.specs.ImageFaults.{RecordFails};
 ghost use Rattle.cs_value.specs.Reading.{NoFieldAt};
+ghost use Rattle.cs_value.specs.Refusals.{Answers, Refuses};
 
 use crate::fault::ImageFault;
 use crate::field::field_read;
-use crate::no_memory::NoMemory;
-use crate::parts::{parts_copy, parts_write};
+use crate::parts::{parts_copy, parts_write, see_parts};
+use crate::refusal::NoMemory;
 use crate::value::OwnedField;
 use std::alloc::Global;
 use std::marker::Model;
@@ -24,6 +25,8 @@ impl Model for Image {
     ghost Value = { List OwnedField };
 
     ghost view = { λ i. i.fields.items };
+
+    ghost invariant = { λ i. IsRecord i.fields.items };
 }
 
 impl Image {
@@ -31,12 +34,14 @@ impl Image {
     pub fn new(fields: Vec<OwnedField>) -> Image
         ensures { result ≡ fields.items }
     {
+        see_parts(&fields);
         Image { fields }
     }
 
     /// The fields, in column order.
     pub fn fields(&self) -> &[OwnedField]
-        ensures { result.now ≡ self.now }
+        ensures same { result.now ≡ self.now }
+        ensures are_fields { IsRecord self.now }
     {
         &self.fields
     }
@@ -46,6 +51,14 @@ impl Image {
         ensures { IfOk result (λ i. i ≡ self.now) }
     {
         Ok(Image::new(parts_copy(alloc, self.fields())?))
+    }
+
+    /// Gives the fields back, and takes no memory.
+    pub fn into_fields(self) -> Vec<OwnedField>
+        ensures { result.items ≡ self }
+    {
+        let Image { fields } = self;
+        fields
     }
 }
 
@@ -87,8 +100,8 @@ pub fn image_read(alloc: Global, bytes: &[u8], columns: usize) -> Result<(Image,
     ensures found { IfOk result (λ r. IsRecord r.0 × (length r.0 ≡ columns) × BeginsWith bytes.now (record_bytes r.0) r.1) }
     ensures only { (fields : List OwnedField) (rest : List ℕ) → IsRecord fields → length fields ≡ columns
         → bytes.now ≡ record_bytes fields ++ rest
-        → ReadsImage result (λ r. (r.0 ≡ fields) × (r.1 ≡ length (record_bytes fields))) }
-    ensures fault { IfErr result (ImageFails bytes.now columns) }
+        → Answers result (λ r. (r.0 ≡ fields) × (r.1 ≡ length (record_bytes fields))) }
+    ensures fault { IfErr result (Refuses (λ f. RecordFails bytes.now columns f.kind f.place)) }
 {
     let mut fields = Vec::new(alloc);
     let mut end = 0;
@@ -106,11 +119,11 @@ fn read_at(alloc: Global, bytes: &[u8], at: usize) -> Result<(OwnedField, usize)
     ensures found { IfOk result (λ r. IsField r.0 × BeginsWith (drop at bytes.now) (field_bytes r.0) r.1) }
     ensures within { IfOk result (λ r. at + r.1 ≤ length bytes.now) }
     ensures only { (f : OwnedField) (rest : List ℕ) → IsField f → drop at bytes.now ≡ field_bytes f ++ rest
-        → ReadsImage result (λ r. r.0 ≡ f) }
-    ensures fault { IfErr result (NoFieldAt bytes.now at) }
+        → Answers result (λ r. r.0 ≡ f) }
+    ensures fault { IfErr result (Refuses (NoFieldAt bytes.now at)) }
 {
     match field_read(&bytes[at..]) {
         Ok((field, used)) => Ok((field.to_owned(alloc)?, used)),
-        Err(fault) => Err(ImageFault::behind(at, fault)),
+        Err(fault) => Err(ImageFault::Fault(fault.behind(at))),
     }
 }

@@ -1,10 +1,9 @@
 //! Keys: what tells the rows of a table apart.
 ghost use Rattle.std.specs.Prelude.{◌≡◌, length, IfOk};
-ghost use Rattle.cs_value.specs.Value.{key_columns};
-ghost use Rattle.cs_value.specs.Spelling.{row_bytes, record_bytes};
+ghost use Rattle.cs_value.specs.Key.{row_key, image_key};
 
 use crate::image::Image;
-use crate::no_memory::NoMemory;
+use crate::refusal::NoMemory;
 use crate::parts::key_parts;
 use crate::row::Row;
 use std::alloc::Global;
@@ -31,7 +30,7 @@ impl Key {
     /// the key columns.
     pub fn of_row(alloc: Global, flags: &[u8], row: &Row) -> Result<Key, NoMemory>
         requires { length flags.now ≡ length row.now }
-        ensures { IfOk result (λ key. key ≡ row_bytes (key_columns flags.now row.now)) }
+        ensures { IfOk result (λ key. key ≡ row_key flags.now row.now) }
     {
         Ok(Key {
             bytes: key_parts(alloc, flags, row.values())?,
@@ -41,7 +40,7 @@ impl Key {
     /// The key of an image, in the same way: the bytes of the fields in its key columns.
     pub fn of_image(alloc: Global, flags: &[u8], image: &Image) -> Result<Key, NoMemory>
         requires { length flags.now ≡ length image.now }
-        ensures { IfOk result (λ key. key ≡ record_bytes (key_columns flags.now image.now)) }
+        ensures { IfOk result (λ key. key ≡ image_key flags.now image.now) }
     {
         Ok(Key {
             bytes: key_parts(alloc, flags, image.fields())?,
@@ -62,6 +61,14 @@ impl Key {
         Ok(Key {
             bytes: Vec::from_slice(alloc, self.bytes())?,
         })
+    }
+
+    /// Gives the bytes back, and takes no memory.
+    pub fn into_bytes(self) -> Vec<u8>
+        ensures { result.items ≡ self }
+    {
+        let Key { bytes } = self;
+        bytes
     }
 }
 

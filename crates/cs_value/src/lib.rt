@@ -12,7 +12,7 @@
 //!
 //! `value` has the values, `text` and `bytes` what they hold, `varint` the numbers of the format,
 //! `field` the reader and the writer of fields, `row` lists of values, `image` lists of fields,
-//! `parts` what both are made of, `key` what tells rows apart, `fault` and `no_memory` what calls
+//! `parts` what both are made of, `key` what tells rows apart, `fault` and `refusal` what calls
 //! refuse with, and `laws` what holds of all spellings.
 #![tactic(auto)]
 
@@ -22,8 +22,8 @@ mod field;
 mod image;
 mod key;
 mod laws;
-mod no_memory;
 mod parts;
+mod refusal;
 mod row;
 mod text;
 mod value;
@@ -35,7 +35,7 @@ pub use field::{field_read, field_write};
 pub use image::{Image, image_read, image_write};
 pub use key::Key;
 pub use laws::{field_spellings_law, key_bytes_law, record_spellings_law, varint_spellings_law};
-pub use no_memory::NoMemory;
+pub use refusal::{Fault, NoMemory, OrNoMemory};
 pub use row::{Row, row_write};
 pub use text::Text;
 pub use value::{Field, OwnedField, OwnedValue, Value};
@@ -44,3 +44,6 @@ pub use varint::{varint_len, varint_read, varint_write};
 /// The most bytes that a text or a blob of a changeset can have: SQLite writes their count as a
 /// varint of 31 bits.
 pub const MAX_CONTENT_LEN: usize = 2_147_483_647;
+
+/// The most columns that a table has: no SQLite can be built with more.
+pub const MAX_COLUMNS: usize = 32_767;

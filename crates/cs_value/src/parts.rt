@@ -1,17 +1,24 @@
 //! What rows and images are made of, one part after another: values and fields.
 ghost use Rattle.std.specs.Prelude.{◌≡◌, ◌++◌, ℕ, List, length, IfOk, OnOk, OnErr, take};
-ghost use Rattle.std.specs.List.{flat_map};
-ghost use Rattle.cs_value.specs.Value.{key_columns};
+ghost use Rattle.std.specs.List.{flat_map, AllByRecursion};
+ghost use Rattle.cs_value.specs.Value.{IsValue, IsField};
+ghost use Rattle.cs_value.specs.Key.{key_columns};
 ghost use Rattle.cs_value.specs.Spelling.{value_bytes, field_bytes};
 
 use crate::field::{field_write, value_write};
-use crate::no_memory::NoMemory;
+use crate::refusal::NoMemory;
 use crate::value::{OwnedField, OwnedValue};
 use std::alloc::Global;
 
 /// A value or a field: what can be written and copied.
 pub(crate) trait Part: Drop {
+    ghost IsPart: { Self → Type 0 };
+
     ghost spelled: { Self → List ℕ };
+
+    /// Does nothing. What is here is what the type says.
+    fn see(&self)
+        ensures { IsPart self.now };
 
     /// Appends the bytes of the part. [`NoMemory`] leaves `out` as it was.
     fn write(&self, out: &mut Vec<u8>) -> Result<(), NoMemory>
@@ -24,7 +31,13 @@ pub(crate) trait Part: Drop {
 }
 
 impl Part for OwnedValue {
+    ghost IsPart = { IsValue };
+
     ghost spelled = { value_bytes };
+
+    fn see(&self) {
+        self.as_value();
+    }
 
     fn write(&self, out: &mut Vec<u8>) -> Result<(), NoMemory> {
         value_write(out, self.as_value())
@@ -36,7 +49,13 @@ impl Part for OwnedValue {
 }
 
 impl Part for OwnedField {
+    ghost IsPart = { IsField };
+
     ghost spelled = { field_bytes };
+
+    fn see(&self) {
+        self.as_field();
+    }
 
     fn write(&self, out: &mut Vec<u8>) -> Result<(), NoMemory> {
         field_write(out, &self.as_field())
@@ -44,6 +63,15 @@ impl Part for OwnedField {
 
     fn duplicate(&self, alloc: Global) -> Result<OwnedField, NoMemory> {
         self.copy(alloc)
+    }
+}
+
+/// Does nothing. Each of the parts is what its type says.
+pub(crate) fn see_parts<T: Part>(parts: &[T])
+    ensures { AllByRecursion T.IsPart parts.now }
+{
+    for part in parts {
+        part.see();
     }
 }
 

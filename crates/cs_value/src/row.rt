@@ -1,9 +1,10 @@
 //! Rows: records without an undefined field.
 ghost use Rattle.std.specs.Prelude.{◌≡◌, ◌++◌, IfOk, OnOk, OnErr};
+ghost use Rattle.cs_value.specs.Value.{IsRow};
 ghost use Rattle.cs_value.specs.Spelling.{row_bytes};
 
-use crate::no_memory::NoMemory;
-use crate::parts::{parts_copy, parts_write};
+use crate::refusal::NoMemory;
+use crate::parts::{parts_copy, parts_write, see_parts};
 use crate::value::OwnedValue;
 use std::alloc::Global;
 use std::marker::Model;
@@ -17,10 +18,13 @@ pub struct Row {
 impl Model for Row {
     ghost use Rattle.std.specs.Prelude.{List};
     ghost use Rattle.cs_value.specs.declared.value.OwnedValue.{OwnedValue};
+    ghost use Rattle.cs_value.specs.Value.{IsRow};
 
     ghost Value = { List OwnedValue };
 
     ghost view = { λ r. r.values.items };
+
+    ghost invariant = { λ r. IsRow r.values.items };
 }
 
 impl Row {
@@ -28,12 +32,14 @@ impl Row {
     pub fn new(values: Vec<OwnedValue>) -> Row
         ensures { result ≡ values.items }
     {
+        see_parts(&values);
         Row { values }
     }
 
     /// The values, in column order.
     pub fn values(&self) -> &[OwnedValue]
-        ensures { result.now ≡ self.now }
+        ensures same { result.now ≡ self.now }
+        ensures are_values { IsRow self.now }
     {
         &self.values
     }
@@ -43,6 +49,14 @@ impl Row {
         ensures { IfOk result (λ x. x ≡ self.now) }
     {
         Ok(Row::new(parts_copy(alloc, self.values())?))
+    }
+
+    /// Gives the values back, and takes no memory.
+    pub fn into_values(self) -> Vec<OwnedValue>
+        ensures { result.items ≡ self }
+    {
+        let Row { values } = self;
+        values
     }
 }
 

@@ -3,7 +3,7 @@ ghost use Rattle.std.specs.Prelude.{◌≡◌, ◌≤◌, ℕ, List, length, str
 ghost use Rattle.std.specs.String.{string_bytes};
 ghost use Rattle.cs_value.specs.declared.TheConstants.{MAX_CONTENT_LEN};
 
-use crate::no_memory::NoMemory;
+use crate::refusal::NoMemory;
 use std::alloc::Global;
 use std::marker::Model;
 

@@ -5,7 +5,7 @@ ghost use Rattle.cs_value.specs.Value.{value_of, field_of, Fits, FieldFits, IsVa
 
 use crate::MAX_CONTENT_LEN;
 use crate::bytes::Bytes;
-use crate::no_memory::NoMemory;
+use crate::refusal::NoMemory;
 use crate::text::Text;
 use std::alloc::Global;
 

@@ -8,7 +8,7 @@ ghost use Rattle.cs_value.specs.Reading.{number_at};
 
 use crate::MAX_CONTENT_LEN;
 use crate::fault::{FieldFault, FieldFaultKind};
-use crate::no_memory::NoMemory;
+use crate::refusal::NoMemory;
 
 /// How many bytes the varint of `number` has, 1 to 5. The number is at most 2147483647.
 pub fn varint_len(number: u32) -> usize

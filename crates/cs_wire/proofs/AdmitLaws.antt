@@ -5,7 +5,8 @@ use Rattle.cs_value.specs.declared.value.OwnedValue.TheVariants.{Null}
 use Rattle.cs_value.specs.declared.value.OwnedField.{OwnedField}
 use Rattle.cs_value.specs.declared.value.OwnedField.TheVariants.{Undefined}
 use Rattle.cs_value.specs.Value.{IsValue, IsField, IsRow, IsRecord}
-use Rattle.cs_wire.specs.Entry.{IsKeyedRow, IsKeyedUpdate}
+use Rattle.cs_value.specs.Table.{IsKeyedRow}
+use Rattle.cs_wire.specs.Entry.{IsKeyedUpdate}
 
 -- ---- rows
 

@@ -12,7 +12,8 @@ use Rattle.cs_value.specs.Spelling.{field_bytes, record_bytes}
 use Rattle.cs_wire.specs.declared.entry.Change.{Change}
 use Rattle.cs_wire.specs.declared.entry.Change.TheVariants.{Insert, Delete, Update}
 use Rattle.cs_wire.specs.declared.fault.ReadFaultKind.{ReadFaultKind}
-use Rattle.cs_wire.specs.Entry.{IsPaired, IsKeyPair, IsKeyedRow, IsKeyedUpdate, IsChange, operation, fields_of}
+use Rattle.cs_value.specs.Table.{IsKeyedRow}
+use Rattle.cs_wire.specs.Entry.{IsPaired, IsKeyPair, IsKeyedUpdate, IsChange, operation, fields_of}
 use Rattle.cs_wire.specs.ReadFaults.{Stands}
 use Rattle.cs_wire.specs.Reading.{Want, KeyValue, AnyValue, AnyField, NewValue, Nothing, refusal, is_key_flag, in_row, in_old, in_new, is_modified, row_wants, old_wants, new_wants, wants_of, Meets, IsRecordAt, RecordRefused, ChangeRefused}
 use Rattle.cs_wire.proofs.ReadingLaws.{Stands-then, rest_is}

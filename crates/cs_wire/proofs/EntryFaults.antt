@@ -18,7 +18,7 @@ use Rattle.cs_wire.specs.declared.fault.ReadFaultKind.{ReadFaultKind}
 use Rattle.cs_wire.specs.declared.fault.ReadFaultKind.TheVariants.{UndefinedField, Unpaired, NullKey}
 use Rattle.cs_wire.specs.Entry.{IsChange, operation, fields_of}
 use Rattle.cs_wire.specs.Changeset.{HeaderData}
-use Rattle.cs_wire.specs.ReadFaults.{kind_of, Stands, EntryStart, FieldStart, HasNoField, IsWhole, IsKeyColumn, IsAlike, ReadCase}
+use Rattle.cs_wire.specs.ReadFaults.{kind_of, Stands, EntryStart, FieldStart, HasNoField, IsWhole, IsKeyColumn, IsAlike, StandsBefore, StandsUnpaired, ReadCase}
 use Rattle.cs_wire.specs.Reading.{Want, KeyValue, AnyValue, AnyField, NewValue, Nothing, refusal, is_key_flag, in_row, in_old, in_new, is_modified, row_wants, old_wants, new_wants, wants_of, Meets, NoField, OtherField, ChangeRefused}
 use Rattle.cs_wire.proofs.ReadingLaws.{Stands-then}
 use Rattle.cs_wire.proofs.EntryLaws.{length-IsKeyedRow, length-IsKeyedUpdate}
@@ -119,24 +119,35 @@ unlike_nothing : (v : OwnedValue) (f : OwnedField) → refusal Nothing f ≡ Non
 unlike_nothing v Undefined met same = same
 unlike_nothing v (Defined w) met same = cc
 
+-- a field that stands in a row or in an old record
+before : {file : List ℕ} {place : ℕ} {found : OwnedField} {Holds : List ℕ → Change → ℕ → Type 0} (flags : List ℕ) (change : Change) (column to : ℕ) → FieldStart file place flags change column
+    → column < length flags → Stands file place (field_bytes found) to → Holds flags change column → StandsBefore file place found Holds
+before flags change column to start in_row stands holds = record { flags = flags; change = change; column = column; to = to; start = start; in_row = in_row; stands = stands; holds = holds }
+
+-- a field of a new record that is defined where none is wanted, or the reverse
+unpaired : {file : List ℕ} {place : ℕ} (flags : List ℕ) (change : Change) (count : ℕ) (found : OwnedField) (to : ℕ) → FieldStart file place flags change count → length flags ≤ count → IsField found
+    → Stands file place (field_bytes found) to → (IsAlike found (get_or (fields_of change) count Undefined) → ⊥) → StandsUnpaired file place
+unpaired flags change count found to start in_new is stands unlike =
+    record { flags = flags; change = change; count = count; found = found; to = to; start = start; in_new = in_new; is_field = is; stands = stands; unlike = unlike }
+
 -- a field that is not wanted stands where one is to begin
 other_field_case : (file : List ℕ) (place : ℕ) (flags : List ℕ) (change : Change) (count : ℕ) (want : Want) (f : OwnedField) (to : ℕ) (kind : ReadFaultKind) → FieldStart file place flags change count
     → Means flags change count want → IsField f → Stands file place (field_bytes f) to → refusal want f ≡ Some kind → ReadCase file kind place
 unfolding Means
-other_field_case file place flags change count KeyValue Undefined to kind start m is stands why = subst (λ (k : ReadFaultKind). ReadCase file k place) (some_is UndefinedField kind why) (flags, change, count, to, start, m.0, stands, inr m.1)
+other_field_case file place flags change count KeyValue Undefined to kind start m is stands why = subst (λ (k : ReadFaultKind). ReadCase file k place) (some_is UndefinedField kind why) (before flags change count to start m.0 stands (inr m.1))
 other_field_case file place flags change count KeyValue (Defined (Int z)) to kind start m is stands why = absurd (not_some kind why)
 other_field_case file place flags change count KeyValue (Defined (Text t)) to kind start m is stands why = absurd (not_some kind why)
 other_field_case file place flags change count KeyValue (Defined (Blob b)) to kind start m is stands why = absurd (not_some kind why)
-other_field_case file place flags change count KeyValue (Defined Null) to kind start m is stands why = subst (λ (k : ReadFaultKind). ReadCase file k place) (some_is NullKey kind why) (flags, change, count, to, start, m.0, stands, m.1)
-other_field_case file place flags change count AnyValue Undefined to kind start m is stands why = subst (λ (k : ReadFaultKind). ReadCase file k place) (some_is UndefinedField kind why) (flags, change, count, to, start, m.0, stands, inl m.1)
+other_field_case file place flags change count KeyValue (Defined Null) to kind start m is stands why = subst (λ (k : ReadFaultKind). ReadCase file k place) (some_is NullKey kind why) (before flags change count to start m.0 stands m.1)
+other_field_case file place flags change count AnyValue Undefined to kind start m is stands why = subst (λ (k : ReadFaultKind). ReadCase file k place) (some_is UndefinedField kind why) (before flags change count to start m.0 stands (inl m.1))
 other_field_case file place flags change count AnyValue (Defined v) to kind start m is stands why = absurd (not_some kind why)
 other_field_case file place flags change count AnyField f to kind start m is stands why = absurd (not_some kind why)
 other_field_case file place flags change count NewValue Undefined to kind start m is stands why =
-    subst (λ (k : ReadFaultKind). ReadCase file k place) (some_is Unpaired kind why) (flags, change, count, Undefined, to, start, m.0, is, stands, unlike_value (get_or (fields_of change) count Undefined) m.1)
+    subst (λ (k : ReadFaultKind). ReadCase file k place) (some_is Unpaired kind why) (unpaired flags change count Undefined to start m.0 is stands (unlike_value (get_or (fields_of change) count Undefined) m.1))
 other_field_case file place flags change count NewValue (Defined v) to kind start m is stands why = absurd (not_some kind why)
 other_field_case file place flags change count Nothing Undefined to kind start m is stands why = absurd (not_some kind why)
 other_field_case file place flags change count Nothing (Defined v) to kind start m is stands why =
-    subst (λ (k : ReadFaultKind). ReadCase file k place) (some_is Unpaired kind why) (flags, change, count, Defined v, to, start, m.0, is, stands, unlike_nothing v (get_or (fields_of change) count Undefined) m.1)
+    subst (λ (k : ReadFaultKind). ReadCase file k place) (some_is Unpaired kind why) (unpaired flags change count (Defined v) to start m.0 is stands (unlike_nothing v (get_or (fields_of change) count Undefined) m.1))
 
 -- a change that is refused behind an operation and an indirect flag
 pub change_case : (file : List ℕ) (from at : ℕ) (header : HeaderData) (entries : List Entry) (byte : ℕ) (indirect : Bool) (flags : List ℕ) → flags ≡ header.flags → EntryStart file from header entries
@@ -157,6 +168,6 @@ change_case file from at header entries byte indirect flags same start stands ki
     by_why begun r.why
   where
     by_why : FieldStart file r.end flags r.change r.count → NoField file r.end kind place ⊎ OtherField (get_or (wants_of flags r.change) r.count AnyField) file r.end kind place → ReadCase file kind place
-    by_why begun (inl none) = subst (λ (k : ReadFaultKind). ReadCase file k place) (sym none.kind_is) (no_field_case file place none.why (r.end, none.behind, flags, r.change, r.count, begun, none.fails, none.place_is))
+    by_why begun (inl none) = subst (λ (k : ReadFaultKind). ReadCase file k place) (sym none.kind_is) (no_field_case file place none.why (record { at = r.end; behind = none.behind; flags = flags; change = r.change; count = r.count; start = begun; fails = none.fails; place_is = none.place_is }))
     by_why begun (inr other) =
         subst (λ (p : ℕ). ReadCase file kind p) (sym other.place_is) (other_field_case file r.end flags r.change r.count (get_or (wants_of flags r.change) r.count AnyField) other.field other.end kind begun (means flags r.change r.count r.is_change r.fewer) other.is_field other.stands other.refused)

@@ -1,16 +1,18 @@
 -- Entries: their fields and keys.
-use Rattle.std.proofs.Common.{◌≡◌, ℕ, zero, suc, ◌<◌, Bool, cond, List, [], ◌∷◌, ◌++◌, length, map, refl, sym, ap, ◌∙◌, arith, inl, inr}
+use Rattle.std.proofs.Common.{◌≡◌, ℕ, zero, suc, ◌<◌, Bool, cond, List, [], ◌∷◌, ◌++◌, length, map, refl, sym, ap, arith, inl, inr}
 use Rattle.std.specs.Prelude.{◌⊎◌}
 use Rattle.cs_value.specs.declared.value.OwnedValue.{OwnedValue}
 use Rattle.cs_value.specs.declared.value.OwnedField.{OwnedField}
 use Rattle.cs_value.specs.declared.value.OwnedField.TheVariants.{Defined}
-use Rattle.cs_value.specs.Value.{key_columns, IsRow, IsRecord}
+use Rattle.cs_value.specs.Key.{row_key}
+use Rattle.cs_value.specs.Value.{IsRow, IsRecord}
 use Rattle.cs_value.specs.Spelling.{field_bytes, record_bytes, row_bytes}
 use Rattle.cs_wire.specs.declared.entry.Change.{Change}
 use Rattle.cs_wire.specs.declared.entry.Entry.{Entry}
 use Rattle.cs_wire.specs.ReadFaults.{Stands}
 use Rattle.cs_wire.specs.declared.entry.Change.TheVariants.{Insert, Delete, Update}
-use Rattle.cs_wire.specs.Entry.{IsKeyedRow, IsKeyedUpdate, IsChange, fields_of, operation, key_of, key_bytes, entry_bytes}
+use Rattle.cs_value.specs.Table.{IsKeyedRow}
+use Rattle.cs_wire.specs.Entry.{IsKeyedUpdate, IsChange, fields_of, operation, key_of, entry_bytes}
 
 -- a row has a value for each flag
 pub length-IsKeyedRow : (flags : List ℕ) (row : List OwnedValue) → IsKeyedRow flags row → length flags ≡ length row
@@ -41,17 +43,6 @@ unfolding field_bytes
 record_bytes-map [] = refl
 record_bytes-map (v ∷ values) = ap (λ (bytes : List ℕ). field_bytes (Defined v) ++ bytes) (record_bytes-map values)
 
-pub key_columns-map : {X Y : Type 0} (f : X → Y) (flags : List ℕ) (xs : List X) → key_columns flags (map f xs) ≡ map f (key_columns flags xs)
-key_columns-map f [] xs = refl
-key_columns-map f (zero ∷ flags) [] = refl
-key_columns-map f (suc flag ∷ flags) [] = refl
-key_columns-map f (zero ∷ flags) (x ∷ xs) = key_columns-map f flags xs
-key_columns-map {Y = Y} f (suc flag ∷ flags) (x ∷ xs) = ap (λ (ys : List Y). f x ∷ ys) (key_columns-map f flags xs)
-
--- the bytes of a row's key are those of its key values
-pub row_key : (flags : List ℕ) (row : List OwnedValue) → row_bytes (key_columns flags row) ≡ record_bytes (key_columns flags (map Defined row))
-row_key flags row = sym (ap record_bytes (key_columns-map Defined flags row) ∙ record_bytes-map (key_columns flags row))
-
 pub IsRecord-map : (values : List OwnedValue) → IsRow values → IsRecord (map Defined values)
 IsRecord-map [] h = tt
 IsRecord-map (v ∷ values) h = (h.0, IsRecord-map values h.1)
@@ -70,9 +61,9 @@ pub length-IsOf : (flags : List ℕ) (change : Change) (row : List OwnedValue) �
 length-IsOf flags change row (inl is) h = length-IsKeyedRow flags row (rw is at h).1
 length-IsOf flags change row (inr is) h = length-IsKeyedRow flags row (rw is at h).1
 
-pub key_bytes-IsOf : (flags : List ℕ) (entry : Entry) (row : List OwnedValue) → IsOf entry.change row → row_bytes (key_columns flags row) ≡ key_bytes flags entry
-key_bytes-IsOf flags entry row (inl is) = row_key flags row ∙ sym (ap (λ (c : Change). record_bytes (key_of flags c)) is)
-key_bytes-IsOf flags entry row (inr is) = row_key flags row ∙ sym (ap (λ (c : Change). record_bytes (key_of flags c)) is)
+pub key_of-IsOf : (flags : List ℕ) (change : Change) (row : List OwnedValue) → IsOf change row → row_key flags row ≡ key_of flags change
+key_of-IsOf flags change row (inl is) = sym (ap (key_of flags) is)
+key_of-IsOf flags change row (inr is) = sym (ap (key_of flags) is)
 
 pub length-Update : (flags : List ℕ) (change : Change) (old new : List OwnedField) → change ≡ Update old new → IsChange flags change → length flags ≡ length old
 length-Update flags change old new is h = (length-IsKeyedUpdate flags old new (rw is at h).2).0

@@ -1,7 +1,7 @@
 -- The definitions of changesets, their files and their faults, on a table `t` of two columns, of which the first is
 -- the key.
-use Rattle.std.proofs.Common.{◌≡◌, ◌≢◌, ℕ, zero, suc, ◌<◌, pos, negsuc, true, false, List, [], ◌∷◌, ◌++◌, map, All, slice_index_or}
-use Rattle.std.proofs.Common.{get_or, unwrap_or, true≢false, codes, refl, sym, ap, inl, inr, arith}
+use Rattle.std.proofs.Common.{◌≡◌, ◌≢◌, ℕ, zero, suc, ◌+◌, ◌<◌, pos, negsuc, true, false, List, [], ◌∷◌, ◌++◌, map, All, slice_index_or}
+use Rattle.std.proofs.Common.{get_or, true≢false, codes, refl, sym, ap, inl, inr, arith}
 use Rattle.std.specs.Char.{encode_utf8}
 use Rattle.std.specs.Str.{chars, is_utf8}
 use Rattle.std.proofs.lemmas.List.Elements.{All-nil, All-cons}
@@ -12,15 +12,18 @@ use Rattle.cs_value.specs.declared.value.OwnedField.TheVariants.{Undefined, Defi
 use Rattle.cs_value.specs.Value.{IsRow}
 use Rattle.cs_value.specs.Varint.{leading_digits, varint}
 use Rattle.cs_value.specs.Spelling.{counted, value_bytes, field_bytes}
-use Rattle.cs_value.specs.FieldFaults.{HasBadText}
+use Rattle.cs_value.specs.declared.fault.FieldFaultKind.{FieldFaultKind}
+use Rattle.cs_value.specs.declared.fault.FieldFaultKind.TheVariants as field
+use Rattle.cs_value.specs.FieldFaults.{HasBadText, FieldFails}
 use Rattle.cs_wire.specs.declared.entry.Change.{Change}
 use Rattle.cs_wire.specs.declared.entry.Change.TheVariants.{Insert, Delete, Update}
 use Rattle.cs_wire.specs.declared.entry.Entry.{Entry}
 use Rattle.cs_wire.specs.declared.fault.ReadFaultKind.{ReadFaultKind}
 use Rattle.cs_wire.specs.declared.fault.ReadFaultKind.TheVariants.{Truncated, NotTable, Patchset, BadVarint, ColumnCount, NoKey, BadName, DuplicateTable, EmptyGroup, BadOp, BadFlag, BadType, RealValue, BadText, UndefinedField, Unpaired, NullKey, DuplicateKey}
-use Rattle.cs_wire.specs.Entry.{IsFlags, IsKeyedRow, IsKeyedUpdate, IsEntry, IsChange, entry_bytes}
-use Rattle.cs_wire.specs.Changeset.{HeaderData, IsName, IsHeader, GroupData, IsGroup, IsChangeset, flags_bytes, header_bytes, group_bytes, file_bytes, IsAccepted}
-use Rattle.cs_wire.specs.ReadFaults.{Stands, TableStart, HeaderPart, EntryStart, FieldStart, IsOperation, ReadCase, ReadFails}
+use Rattle.cs_value.specs.Table.{IsName, IsFlags, IsKeyedRow}
+use Rattle.cs_wire.specs.Entry.{IsKeyedUpdate, IsEntry, IsChange, entry_bytes}
+use Rattle.cs_wire.specs.Changeset.{HeaderData, IsHeader, GroupData, IsGroup, IsChangeset, flags_bytes, header_bytes, group_bytes, file_bytes, IsAccepted}
+use Rattle.cs_wire.specs.ReadFaults.{Stands, TableStart, HeaderPart, EntryStart, FieldStart, IsOperation, HasNoField, ReadCase, ReadFails}
 use Rattle.cs_wire.proofs.GroupsLaws.{EntryStart-none}
 
 computing : Unit {0}
@@ -338,11 +341,11 @@ no_flag_is_none h = no_flag_at h.some_key.0 h.some_key.1 h.some_key.2 h.some_key
 -- faults
 
 -- the header of the table `t`
-abbrev header_file : List ℕ
+abbrev pub header_file : List ℕ
 header_file = 0x54 ∷ 0x02 ∷ 0x01 ∷ 0x00 ∷ 0x74 ∷ 0x00 ∷ []
 
 -- the field 1
-abbrev one_field : List ℕ
+abbrev pub one_field : List ℕ
 one_field = 0x01 ∷ 0 ∷ 0 ∷ 0 ∷ 0 ∷ 0 ∷ 0 ∷ 0 ∷ 1 ∷ []
 
 -- the field 'x'
@@ -425,19 +428,25 @@ new_field rest = record {
 
 -- behind 54 stands no count
 no_count_is_truncated : ReadCase (0x54 ∷ []) Truncated 1
-no_count_is_truncated = inl (inl (
-  1,
-  0,
-  in_header (0x54 ∷ []) [] 1 (record { spelled = refl; within = omega arith }),
-  (record { few = omega arith; go_on = tt; shortest = λ same. cc }, refl),
-  refl,
-))
+no_count_is_truncated = inl (inl (record {
+  at = 1;
+  behind = 0;
+  part = in_header (0x54 ∷ []) [] 1 (record { spelled = refl; within = omega arith });
+  fails = (record { few = omega arith; go_on = tt; shortest = λ same. cc }, refl);
+  place_is = refl;
+}))
 
 -- of two columns one has a flag
 one_flag_is_truncated : ReadCase (0x54 ∷ 0x02 ∷ 0x01 ∷ []) Truncated 3
 unfolding computing
 one_flag_is_truncated = inr (
-  inl (2, 2, in_header (0x54 ∷ 0x02 ∷ 0x01 ∷ []) (0x02 ∷ []) 2 (record { spelled = refl; within = omega arith }), (omega arith, omega arith), omega arith),
+  inl (record {
+    count = 2;
+    at = 2;
+    part = in_header (0x54 ∷ 0x02 ∷ 0x01 ∷ []) (0x02 ∷ []) 2 (record { spelled = refl; within = omega arith });
+    is_count = (omega arith, omega arith);
+    fewer = omega arith;
+  }),
   refl,
 )
 
@@ -445,26 +454,43 @@ one_flag_is_truncated = inr (
 open_name_is_truncated : ReadCase (0x54 ∷ 0x02 ∷ 0x01 ∷ 0x00 ∷ 0x74 ∷ []) Truncated 5
 unfolding computing
 open_name_is_truncated = inr (
-  inr (inl (
-    flags,
-    4,
-    flags_are,
-    in_header (0x54 ∷ 0x02 ∷ 0x01 ∷ 0x00 ∷ 0x74 ∷ []) (0x02 ∷ 0x01 ∷ 0x00 ∷ []) 4 (record { spelled = refl; within = omega arith }),
-    (λ same. absurd (omega (arith, same)), tt),
-  )),
+  inr (inl (record {
+    flags = flags;
+    at = 4;
+    are_flags = flags_are;
+    part = in_header (0x54 ∷ 0x02 ∷ 0x01 ∷ 0x00 ∷ 0x74 ∷ []) (0x02 ∷ 0x01 ∷ 0x00 ∷ []) 4 (record { spelled = refl; within = omega arith });
+    no_end = (λ same. absurd (omega (arith, same)), tt);
+  })),
   refl,
 )
 
 -- behind an operation stands no indirect flag
 no_flag_byte_is_truncated : ReadCase (header_file ++ 0x12 ∷ []) Truncated 7
 no_flag_byte_is_truncated = inr (
-  inr (inr (6, header, [], 0x12, after_header (0x12 ∷ []), inl refl, record { spelled = refl; within = omega arith })),
+  inr (inr (record {
+    at = 6;
+    header = header;
+    entries = [];
+    byte = 0x12;
+    start = after_header (0x12 ∷ []);
+    is_operation = inl refl;
+    stands = record { spelled = refl; within = omega arith };
+  })),
   refl,
 )
 
 -- a row ends behind its first field
 no_second_field_is_truncated : ReadCase (header_file ++ 0x12 ∷ 0x00 ∷ (one_field ++ [])) Truncated 17
-no_second_field_is_truncated = inl (inr (17, 0, flags, Insert row, 1, second_insert_field [], (inl refl, refl), refl))
+no_second_field_is_truncated = inl (inr (record {
+  at = 17;
+  behind = 0;
+  flags = flags;
+  change = Insert row;
+  count = 1;
+  start = second_insert_field [];
+  fails = (inl refl, refl);
+  place_is = refl;
+}))
 
 -- a file begins with the byte 41
 letter_is_no_table : ReadCase (0x41 ∷ []) NotTable 0
@@ -476,66 +502,76 @@ letter_is_refused = record { refused = other_begin_is_none 0x41 [] (λ same. abs
 
 -- a file begins with the byte of a patchset
 p_is_patchset : ReadCase (0x50 ∷ []) Patchset 0
-p_is_patchset = ([], no_table (0x50 ∷ []), refl)
+p_is_patchset = record { groups = []; start = no_table (0x50 ∷ []); byte = refl }
 
 -- the count of columns has a leading zero
 long_count_is_bad : ReadCase (0x54 ∷ 0x80 ∷ 0x01 ∷ []) BadVarint 1
-long_count_is_bad = inl (1, 0, in_header (0x54 ∷ 0x80 ∷ 0x01 ∷ []) [] 1 (record { spelled = refl; within = omega arith }), (inl refl, refl), refl)
+long_count_is_bad = inl (record {
+  at = 1;
+  behind = 0;
+  part = in_header (0x54 ∷ 0x80 ∷ 0x01 ∷ []) [] 1 (record { spelled = refl; within = omega arith });
+  fails = (inl refl, refl);
+  place_is = refl;
+})
 
 -- a table has no column
 no_column_is_counted : ReadCase (0x54 ∷ 0x00 ∷ []) ColumnCount 1
 unfolding computing
-no_column_is_counted = (
-  0,
-  2,
-  in_header (0x54 ∷ 0x00 ∷ []) [] 1 (record { spelled = refl; within = omega arith }),
-  record { spelled = refl; within = omega arith },
-  omega arith,
-  λ count. absurd (omega (arith, count.0)),
-)
+no_column_is_counted = record {
+  count = 0;
+  to = 2;
+  part = in_header (0x54 ∷ 0x00 ∷ []) [] 1 (record { spelled = refl; within = omega arith });
+  stands = record { spelled = refl; within = omega arith };
+  is_number = omega arith;
+  no_column_count = λ count. absurd (omega (arith, count.0));
+}
 
 -- the one column of a table is none of the key
 no_key_is_marked : ReadCase (0x54 ∷ 0x01 ∷ 0x00 ∷ []) NoKey 2
 unfolding computing
-no_key_is_marked = (
-  0 ∷ [],
-  3,
-  in_header (0x54 ∷ 0x01 ∷ 0x00 ∷ []) (0x01 ∷ []) 2 (record { spelled = refl; within = omega arith }),
-  (omega arith, omega arith),
-  record { spelled = refl; within = omega arith },
-  (refl, tt),
-)
+no_key_is_marked = record {
+  flags = 0 ∷ [];
+  to = 3;
+  part = in_header (0x54 ∷ 0x01 ∷ 0x00 ∷ []) (0x01 ∷ []) 2 (record { spelled = refl; within = omega arith });
+  is_count = (omega arith, omega arith);
+  stand = record { spelled = refl; within = omega arith };
+  all_zero = (refl, tt);
+}
 
 -- the name of a table is empty
 empty_name_is_bad : ReadCase (0x54 ∷ 0x01 ∷ 0x01 ∷ 0x00 ∷ []) BadName 3
 unfolding computing
-empty_name_is_bad = (
-  1 ∷ [],
-  [],
-  4,
-  record { bytes = (omega arith, tt); few = omega arith; some_key = (0, 1, omega arith, refl, omega arith) },
-  in_header (0x54 ∷ 0x01 ∷ 0x01 ∷ 0x00 ∷ []) (0x01 ∷ 0x01 ∷ []) 3 (record { spelled = refl; within = omega arith }),
-  record { spelled = refl; within = omega arith },
-  tt,
-  inl refl,
-)
+empty_name_is_bad = record {
+  flags = 1 ∷ [];
+  name = [];
+  to = 4;
+  are_flags = record { bytes = (omega arith, tt); few = omega arith; some_key = (0, 1, omega arith, refl, omega arith) };
+  part = in_header (0x54 ∷ 0x01 ∷ 0x01 ∷ 0x00 ∷ []) (0x01 ∷ 0x01 ∷ []) 3 (record { spelled = refl; within = omega arith });
+  stands = record { spelled = refl; within = omega arith };
+  no_zero = tt;
+  bad = inl refl;
+}
 
 -- the table `t` stands twice
 second_table_is_duplicate : ReadCase (insert_file ++ insert_file) DuplicateTable 20
 unfolding computing
-second_table_is_duplicate = (
-  one_change (Insert row),
-  header,
-  26,
-  record { are = insert_is_changeset; stand = record { spelled = refl; within = omega arith } },
-  header_is,
-  record { spelled = refl; within = omega arith },
-  λ fresh. fresh 0 (group []) (omega arith) refl,
-)
+second_table_is_duplicate = record {
+  groups = one_change (Insert row);
+  header = header;
+  to = 26;
+  start = record { are = insert_is_changeset; stand = record { spelled = refl; within = omega arith } };
+  is_header = header_is;
+  stands = record { spelled = refl; within = omega arith };
+  not_new = λ fresh. fresh 0 (group []) (omega arith) refl;
+}
 
 -- a table has no change
 no_change_is_empty : ReadCase header_file EmptyGroup 6
-no_change_is_empty = (header, after_header [], λ entry. absurd (omega (arith, entry.within)))
+no_change_is_empty = record { header = header; start = after_header []; no_entry = λ entry. absurd (omega (arith, entry.within)) }
+
+-- and neither has one that a patchset follows
+patchset_behind_header_is_empty : ReadCase (header_file ++ 0x50 ∷ []) EmptyGroup 6
+patchset_behind_header_is_empty = record { header = header; start = after_header (0x50 ∷ []); no_entry = λ entry. entry.no_patchset refl }
 
 -- no operation is 13
 thirteen_is_no_operation : IsOperation 0x13 → ⊥
@@ -544,25 +580,48 @@ thirteen_is_no_operation (inr (inl same)) = absurd (omega (arith, same))
 thirteen_is_no_operation (inr (inr same)) = absurd (omega (arith, same))
 
 thirteen_is_bad : ReadCase (header_file ++ 0x13 ∷ []) BadOp 6
-thirteen_is_bad = (
-  header,
-  [],
-  after_header (0x13 ∷ []),
-  record { within = omega arith; no_table = λ same. absurd (omega (arith, same)); no_patchset = λ same. absurd (omega (arith, same)) },
-  thirteen_is_no_operation,
-)
+thirteen_is_bad = record {
+  header = header;
+  entries = [];
+  start = after_header (0x13 ∷ []);
+  entry = record { within = omega arith; no_table = λ same. absurd (omega (arith, same)); no_patchset = λ same. absurd (omega (arith, same)) };
+  no_operation = thirteen_is_no_operation;
+}
 
 -- no indirect flag is 2
 two_is_bad_flag : ReadCase (header_file ++ 0x12 ∷ 0x02 ∷ []) BadFlag 7
-two_is_bad_flag = (6, header, [], 0x12, after_header (0x12 ∷ 0x02 ∷ []), inl refl, record { spelled = refl; within = omega arith }, omega arith, omega arith)
+two_is_bad_flag = record {
+  at = 6;
+  header = header;
+  entries = [];
+  byte = 0x12;
+  start = after_header (0x12 ∷ 0x02 ∷ []);
+  is_operation = inl refl;
+  stands = record { spelled = refl; within = omega arith };
+  within = omega arith;
+  above_one = omega arith;
+}
+
+-- the first field of an insert is none, for this reason
+no_insert_field : (rest : List ℕ) (kind : FieldFaultKind) (behind : ℕ) → FieldFails rest kind behind → HasNoField (header_file ++ 0x12 ∷ 0x00 ∷ rest) kind (8 + behind)
+no_insert_field rest kind behind fails = record {
+  at = 8;
+  behind = behind;
+  flags = flags;
+  change = Insert row;
+  count = 0;
+  start = insert_field rest;
+  fails = fails;
+  place_is = refl;
+}
 
 -- no type is 06
 six_is_bad_type : ReadCase (header_file ++ 0x12 ∷ 0x00 ∷ 0x06 ∷ []) BadType 8
-six_is_bad_type = (8, 0, flags, Insert row, 0, insert_field (0x06 ∷ []), ((6, [], refl, omega arith), refl), refl)
+six_is_bad_type = no_insert_field (0x06 ∷ []) field.BadType 0 (record { kind = 6; rest = []; spelled = refl; no_type = omega arith }, refl)
 
 -- the type 02 is that of reals
 two_is_real : ReadCase (header_file ++ 0x12 ∷ 0x00 ∷ 0x02 ∷ []) RealValue 8
-two_is_real = (8, 0, flags, Insert row, 0, insert_field (0x02 ∷ []), (refl, refl), refl)
+two_is_real = no_insert_field (0x02 ∷ []) field.RealValue 0 (refl, refl)
 
 ff_is_no_text : HasBadText (0x03 ∷ 0x01 ∷ 0xff ∷ []) 2
 unfolding computing
@@ -575,50 +634,90 @@ ff_is_no_text = record {
   behind_count = refl;
 }
 
+-- the text in the first column is the byte ff
+ff_is_bad_text : ReadCase (header_file ++ 0x12 ∷ 0x00 ∷ 0x03 ∷ 0x01 ∷ 0xff ∷ []) BadText 10
+ff_is_bad_text = no_insert_field (0x03 ∷ 0x01 ∷ 0xff ∷ []) field.BadText 2 ff_is_no_text
+
 -- the text in the second column is the byte ff
-ff_is_bad_text : ReadCase (header_file ++ 0x12 ∷ 0x00 ∷ (one_field ++ 0x03 ∷ 0x01 ∷ 0xff ∷ [])) BadText 19
-ff_is_bad_text = (17, 2, flags, Insert row, 1, second_insert_field (0x03 ∷ 0x01 ∷ 0xff ∷ []), ff_is_no_text, refl)
+second_ff_is_bad_text : ReadCase (header_file ++ 0x12 ∷ 0x00 ∷ (one_field ++ 0x03 ∷ 0x01 ∷ 0xff ∷ [])) BadText 19
+second_ff_is_bad_text = record {
+  at = 17;
+  behind = 2;
+  flags = flags;
+  change = Insert row;
+  count = 1;
+  start = second_insert_field (0x03 ∷ 0x01 ∷ 0xff ∷ []);
+  fails = ff_is_no_text;
+  place_is = refl;
+}
 
 -- the first field of a row is undefined
 row_is_undefined : ReadCase (header_file ++ 0x12 ∷ 0x00 ∷ 0x00 ∷ []) UndefinedField 8
 unfolding computing
-row_is_undefined = (flags, Insert row, 0, 9, insert_field (0x00 ∷ []), omega arith, record { spelled = refl; within = omega arith }, inl tt)
+row_is_undefined = record {
+  flags = flags;
+  change = Insert row;
+  column = 0;
+  to = 9;
+  start = insert_field (0x00 ∷ []);
+  in_row = omega arith;
+  stands = record { spelled = refl; within = omega arith };
+  holds = inl tt;
+}
 
 -- and so is the key of an old record
 key_is_undefined : ReadCase (header_file ++ 0x17 ∷ 0x00 ∷ 0x00 ∷ []) UndefinedField 8
 unfolding computing
-key_is_undefined = (flags, update x y, 0, 9, old_field (0x00 ∷ []), omega arith, record { spelled = refl; within = omega arith }, inr (omega arith))
+key_is_undefined = record {
+  flags = flags;
+  change = update x y;
+  column = 0;
+  to = 9;
+  start = old_field (0x00 ∷ []);
+  in_row = omega arith;
+  stands = record { spelled = refl; within = omega arith };
+  holds = inr (omega arith);
+}
 
 -- a new record has the key
 new_key_is_unpaired : ReadCase (header_file ++ 0x17 ∷ 0x00 ∷ (one_field ++ x_field ++ one_field)) Unpaired 20
 unfolding computing
-new_key_is_unpaired = (
-  flags,
-  update x y,
-  2,
-  Defined (Int (pos 1)),
-  29,
-  new_field one_field,
-  omega arith,
-  row_is.0,
-  record { spelled = refl; within = omega arith },
-  λ alike. alike,
-)
+new_key_is_unpaired = record {
+  flags = flags;
+  change = update x y;
+  count = 2;
+  found = Defined (Int (pos 1));
+  to = 29;
+  start = new_field one_field;
+  in_new = omega arith;
+  is_field = row_is.0;
+  stands = record { spelled = refl; within = omega arith };
+  unlike = λ alike. alike;
+}
 
 -- the key of a row is NULL
 null_is_no_key : ReadCase (header_file ++ 0x12 ∷ 0x00 ∷ 0x05 ∷ []) NullKey 8
 unfolding computing
-null_is_no_key = (flags, Insert row, 0, 9, insert_field (0x05 ∷ []), omega arith, record { spelled = refl; within = omega arith }, omega arith)
+null_is_no_key = record {
+  flags = flags;
+  change = Insert row;
+  column = 0;
+  to = 9;
+  start = insert_field (0x05 ∷ []);
+  in_row = omega arith;
+  stands = record { spelled = refl; within = omega arith };
+  holds = omega arith;
+}
 
 -- a second change has the key of the first
 second_change_is_duplicate : ReadCase (insert_file ++ 0x09 ∷ 0x00 ∷ (one_field ++ x_field)) DuplicateKey 20
 unfolding computing
-second_change_is_duplicate = (
-  header,
-  direct (Insert row) ∷ [],
-  direct (Delete row),
-  34,
-  record {
+second_change_is_duplicate = record {
+  header = header;
+  entries = direct (Insert row) ∷ [];
+  entry = direct (Delete row);
+  to = 34;
+  start = record {
     from = 0;
     groups = [];
     start = no_table (insert_file ++ 0x09 ∷ 0x00 ∷ (one_field ++ x_field));
@@ -627,29 +726,11 @@ second_change_is_duplicate = (
     each = one (IsEntry flags) (direct (Insert row)) (row_is, row_is_keyed);
     once = λ i j d lt in_list. absurd (omega arith);
     stand = record { spelled = refl; within = omega arith };
-  },
-  (row_is, row_is_keyed),
-  record { spelled = refl; within = omega arith },
-  λ fresh. fresh 0 (direct (Insert row)) (omega arith) refl,
-)
-
--- what is no fault
-
--- the byte of a patchset is no other byte
-patchset_is_not_other : ReadCase (0x50 ∷ []) NotTable 0 → ⊥
-patchset_is_not_other h = h.1.no_patchset refl
-
--- and no other byte is that of a patchset
-letter_is_no_patchset : ReadCase (0x41 ∷ []) Patchset 0 → ⊥
-letter_is_no_patchset (groups, start, is) = absurd (omega (arith, ap (λ o. unwrap_or o 0) is))
-
--- the place of a patchset is that of its byte, and not the one behind it
-patchset_behind_is_none : ReadCase (0x50 ∷ []) Patchset 1 → ⊥
-patchset_behind_is_none (groups, start, is) = cc is
-
--- and likewise with an operation
-operation_behind_is_none : ReadCase (header_file ++ 0x13 ∷ []) BadOp 7 → ⊥
-operation_behind_is_none (header, entries, start, entry, none) = absurd (omega (arith, entry.within))
+  };
+  is_entry = (row_is, row_is_keyed);
+  stands = record { spelled = refl; within = omega arith };
+  not_new = λ fresh. fresh 0 (direct (Insert row)) (omega arith) refl;
+}
 
 -- what is accepted has no fault
 accepted_is_not_refused : (kind : ReadFaultKind) (place : ℕ) → ReadFails insert_file kind place → ⊥

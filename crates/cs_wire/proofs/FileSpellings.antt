@@ -11,7 +11,8 @@ use Rattle.cs_value.specs.Spelling.{record_bytes}
 use Rattle.cs_wire.specs.declared.entry.Change.{Change}
 use Rattle.cs_wire.specs.declared.entry.Change.TheVariants.{Insert, Delete, Update}
 use Rattle.cs_wire.specs.declared.entry.Entry.{Entry}
-use Rattle.cs_wire.specs.Entry.{IsFlags, IsChange, IsEntry, operation, fields_of, entry_bytes}
+use Rattle.cs_value.specs.Table.{IsFlags}
+use Rattle.cs_wire.specs.Entry.{IsChange, IsEntry, operation, fields_of, entry_bytes}
 use Rattle.cs_wire.specs.Changeset.{HeaderData, GroupData, IsHeader, IsGroup, IsChangeset, flags_bytes, header_bytes, entries_bytes, group_bytes, file_bytes}
 use Rattle.cs_wire.specs.Reading.{EndsGroup}
 use Rattle.cs_wire.proofs.ReadingLaws.{flags_bytes-append, header_bytes-append, same_header}
@@ -19,7 +20,7 @@ use Rattle.cs_wire.proofs.EntryLaws.{length-IsKeyedRow, length-IsKeyedUpdate, Is
 use Rattle.cs_wire.proofs.ChangeLaws.{IsRecord-append, same_values}
 use Rattle.cs_wire.proofs.EntriesLaws.{operation_no_header}
 use Rattle.cs_wire.proofs.GroupsLaws.{group_bytes-append, group_bytes_some, same_group, ends_group}
-use Rattle.cs_wire.proofs.KeyLaws.{RecordSpellings}
+use Rattle.cs_value.specs.Laws.{RecordSpellings}
 
 -- no varint begins another's spelling
 abbrev pub VarintSpellings : Type 0

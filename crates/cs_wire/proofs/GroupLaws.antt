@@ -1,12 +1,10 @@
 -- Groups that grow by an entry.
-use Rattle.std.proofs.Common.{◌≡◌, ◌≢◌, ℕ, List, [], ◌∷◌, ◌++◌, All, sym, arith, length-append}
+use Rattle.std.proofs.Common.{◌≢◌, ℕ, List, [], ◌∷◌, ◌++◌, arith, length-append}
 use Rattle.std.proofs.lemmas.List.Elements.{All-push, All-nil}
 use Rattle.std.proofs.lemmas.List.Quantifiers.{all_pairs_push}
-use Rattle.cs_wire.specs.Entry.{IsEntry, key_of, key_bytes}
-use Rattle.std.proofs.lemmas.List.{map-append}
+use Rattle.cs_wire.specs.Entry.{IsEntry, key_of}
 use Rattle.cs_wire.specs.declared.entry.Entry.{Entry}
-use Rattle.cs_wire.specs.Changeset.{HeaderData, GroupData, IsHeader, IsGroup, IsChangeset}
-use Rattle.cs_wire.specs.Views.{group_keys}
+use Rattle.cs_wire.specs.Changeset.{HeaderData, GroupData, IsNewKey, IsNewName, IsHeader, IsGroup, IsChangeset}
 
 -- two entries of one group have keys of their own
 abbrev pub HasOtherKey : List ℕ → Entry → Entry → Type 0
@@ -23,7 +21,7 @@ IsGroup-one header entry h e = record {
 
 -- a group with one more entry, of a key that it had not
 pub IsGroup-push : (group : GroupData) (entry : Entry) → IsGroup group → IsEntry group.header.flags entry
-    → All (λ e. key_of group.header.flags e.change ≢ key_of group.header.flags entry.change) group.entries
+    → IsNewKey group.header.flags group.entries (key_of group.header.flags entry.change)
     → IsGroup (record { header = group.header; entries = group.entries ++ entry ∷ [] })
 IsGroup-push group entry g e fresh = record {
   header = g.header;
@@ -32,14 +30,9 @@ IsGroup-push group entry g e fresh = record {
   once = all_pairs_push (HasOtherKey group.header.flags) group.entries entry g.once (λ k d lt. fresh k d lt);
 }
 
--- what a group keeps beside its header and entries, for the keys that it kept before and one more
-pub kept_keys : (flags : List ℕ) (entries : List Entry) (keys : List (List ℕ)) (entry : Entry) (key : List ℕ)
-    → keys ≡ group_keys flags entries → key ≡ key_bytes flags entry → keys ++ key ∷ [] ≡ group_keys flags (entries ++ entry ∷ [])
-kept_keys flags entries keys entry key kept new = rw (kept, new) (sym (map-append (key_bytes flags) entries (entry ∷ [])))
-
 -- a changeset with the group of one more table
 pub IsChangeset-push : (groups : List GroupData) (group : GroupData) → IsChangeset groups → IsGroup group
-    → All (λ g. g.header.name ≢ group.header.name) groups → IsChangeset (groups ++ group ∷ [])
+    → IsNewName groups group.header.name → IsChangeset (groups ++ group ∷ [])
 IsChangeset-push groups group c g fresh = record {
   each = All-push IsGroup groups group c.each g;
   once = all_pairs_push (λ (g h : GroupData). g.header.name ≢ h.header.name) groups group c.once (λ k d lt. fresh k d lt);

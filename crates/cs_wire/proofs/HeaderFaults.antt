@@ -6,7 +6,7 @@ use Rattle.std.proofs.lemmas.Bool.{cases_lt}
 use Rattle.std.proofs.lemmas.List.{length-drop, length-take, get_or_default, nil_from_length}
 use Rattle.std.proofs.lemmas.List.Elements.{recursion_from_All}
 use Rattle.cs_value.specs.Varint.{varint}
-use Rattle.cs_wire.specs.Entry.{IsFlags}
+use Rattle.cs_value.specs.Table.{IsFlags}
 use Rattle.cs_wire.specs.Changeset.{GroupData, flags_bytes}
 use Rattle.cs_wire.specs.ReadFaults.{Stands, TableStart, HeaderPart, IsColumnCount, HasNoKey, HasBadName}
 use Rattle.cs_wire.proofs.ReadingLaws.{Stands-then, Stands-take, Stands-ended, no_zero_before}
@@ -32,16 +32,39 @@ pub no_key : (file : List ℕ) (at start count : ℕ) → HeaderPart file [] at 
 no_key file at start count part head few le none =
     let flags = take count (drop start file) in
     let len : length flags ≡ count = omega (arith, length-take count (drop start file), length-drop start file) in
-    (flags, start + count, rw len (HeaderPart-more file at start (varint count) part head), rw len few, Stands-take file start count le, all_zero flags none)
+    record {
+      flags = flags;
+      to = start + count;
+      part = rw len (HeaderPart-more file at start (varint count) part head);
+      is_count = rw len few;
+      stand = Stands-take file start count le;
+      all_zero = all_zero flags none;
+    }
 
 -- a name that is empty
 pub empty_name : (file : List ℕ) (at n : ℕ) (flags : List ℕ) → IsFlags flags → HeaderPart file (flags_bytes flags) at → n < length (drop at file) → get_or (drop at file) n 0 ≡ 0
     → ((k : ℕ) → k < n → get_or (drop at file) k 0 ≡ 0 → ⊥) → length (take n (drop at file)) ≡ 0 → HasBadName file at
-empty_name file at n flags h part within at_end before none =
-    (flags, take n (drop at file), at + n + 1, h, part, Stands-ended file at n within at_end, no_zero_before (drop at file) n before, inl (nil_from_length (take n (drop at file)) none))
+empty_name file at n flags h part within at_end before none = record {
+  flags = flags;
+  name = take n (drop at file);
+  to = at + n + 1;
+  are_flags = h;
+  part = part;
+  stands = Stands-ended file at n within at_end;
+  no_zero = no_zero_before (drop at file) n before;
+  bad = inl (nil_from_length (take n (drop at file)) none);
+}
 
 -- a name that is not UTF-8
 pub bad_name : (file : List ℕ) (at n : ℕ) (flags : List ℕ) → IsFlags flags → HeaderPart file (flags_bytes flags) at → n < length (drop at file) → get_or (drop at file) n 0 ≡ 0
     → ((k : ℕ) → k < n → get_or (drop at file) k 0 ≡ 0 → ⊥) → (IsUtf8 (take n (drop at file)) → ⊥) → HasBadName file at
-bad_name file at n flags h part within at_end before not =
-    (flags, take n (drop at file), at + n + 1, h, part, Stands-ended file at n within at_end, no_zero_before (drop at file) n before, inr not)
+bad_name file at n flags h part within at_end before not = record {
+  flags = flags;
+  name = take n (drop at file);
+  to = at + n + 1;
+  are_flags = h;
+  part = part;
+  stands = Stands-ended file at n within at_end;
+  no_zero = no_zero_before (drop at file) n before;
+  bad = inr not;
+}

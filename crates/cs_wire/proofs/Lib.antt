@@ -2,12 +2,16 @@ pub mod AdmitLaws
 pub mod ChangeLaws
 pub mod EntriesLaws
 pub mod EntryFaults
+pub mod EntryInverses
 pub mod EntryLaws
 pub mod Examples
+pub mod FaultExamples
 pub mod FieldsLaws
 pub mod FileSpellings
 pub mod GroupLaws
 pub mod GroupsLaws
 pub mod HeaderFaults
+pub mod IndexLaws
+pub mod InverseLaws
 pub mod KeyLaws
 pub mod ReadingLaws

@@ -1,5 +1,5 @@
 -- What stands in a file, one part after another.
-use Rattle.std.proofs.Common.{◌≡◌, ℕ, ◌+◌, ◌<◌, ◌≤◌, List, [], ◌∷◌, ◌++◌, length, take, drop, get_or, Any, Err, refl, sym, ap, ◌∙◌, append_assoc, arith, length-append, inl, inr, ◌≢◌, add-zero}
+use Rattle.std.proofs.Common.{◌≡◌, ℕ, ◌+◌, ◌<◌, ◌≤◌, List, [], ◌∷◌, ◌++◌, length, take, drop, get_or, Any, refl, sym, ap, ◌∙◌, append_assoc, arith, length-append, inl, inr, ◌≢◌, add-zero}
 use Rattle.std.specs.Prelude.{IsUtf8}
 use Rattle.std.specs.List.{AllByRecursion}
 use Rattle.std.proofs.lemmas.Bool.{cases_order}
@@ -9,21 +9,18 @@ use Rattle.cs_value.specs.declared.TheConstants.{MAX_CONTENT_LEN}
 use Rattle.cs_value.specs.Value.{AreBytes}
 use Rattle.cs_value.specs.Varint.{varint}
 use Rattle.cs_value.specs.Spelling.{BeginsWith}
-use Rattle.cs_wire.specs.declared.fault.ReadError.{ReadError}
-use Rattle.cs_wire.specs.declared.fault.ReadError.TheVariants.{Fault, NoMemory}
+use Rattle.cs_value.specs.declared.refusal.OrNoMemory.{OrNoMemory}
+use Rattle.cs_value.specs.declared.refusal.OrNoMemory.TheVariants.{Fault, NoMemory}
+use Rattle.cs_wire.specs.declared.fault.ReadFault.{ReadFault}
 use Rattle.cs_wire.specs.declared.fault.ReadFaultKind.{ReadFaultKind}
-use Rattle.cs_wire.specs.Entry.{IsFlags}
-use Rattle.cs_wire.specs.Changeset.{HeaderData, IsName, flags_bytes, header_bytes}
+use Rattle.cs_value.specs.Table.{IsFlags}
+use Rattle.cs_value.specs.Table.{IsName}
+use Rattle.cs_wire.specs.Changeset.{HeaderData, flags_bytes, header_bytes}
 use Rattle.cs_wire.specs.ReadFaults.{Stands}
-use Rattle.cs_wire.specs.Reading.{Reads, IsBecause}
+use Rattle.cs_wire.specs.Reading.{IsBecause}
 
--- a refusal for memory passes on, and no other is one where something is wanted
-pub Reads-err : {X Y : Type 0} (e : ReadError) (P : X → Type 0) (Q : Y → Type 0) → Reads (Err e) P → Reads (Err e) Q
-Reads-err (Fault f) P Q h = h
-Reads-err NoMemory P Q h = tt
-
--- and a fault is as it was said
-pub because : (e : ReadError) (P Q : ReadFaultKind → ℕ → Type 0) → ((kind : ReadFaultKind) (place : ℕ) → P kind place → Q kind place) → IsBecause e P → IsBecause e Q
+-- a fault is as it was said
+pub because : (e : OrNoMemory ReadFault) (P Q : ReadFaultKind → ℕ → Type 0) → ((kind : ReadFaultKind) (place : ℕ) → P kind place → Q kind place) → IsBecause e P → IsBecause e Q
 because (Fault f) P Q weaker h = weaker f.kind f.place h
 because NoMemory P Q weaker h = tt
 

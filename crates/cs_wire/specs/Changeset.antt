@@ -1,22 +1,19 @@
 -- Changesets and their files: the format comment of SQLite's sqlite3session.c, under "changeset format". That each
 -- table and each key stands once is this project's own.
-use Rattle.std.specs.Prelude.{◌≡◌, ◌≢◌, ℕ, ◌<◌, List, [], ◌∷◌, ◌++◌, length, map, All, AllPairs, Option, IsUtf8}
-use Rattle.std.specs.List.{flat_map, AllByRecursion}
+use Rattle.std.specs.Prelude.{◌≡◌, ◌≢◌, ℕ, ◌<◌, List, [], ◌∷◌, ◌++◌, length, map, All, AllPairs, Option}
+use Rattle.std.specs.List.{flat_map}
+use Rattle.std.specs.FinMap.{from_entries}
 use Rattle.cs_value.specs.declared.value.OwnedField.{OwnedField}
 use Rattle.cs_value.specs.Varint.{varint}
 use Rattle.cs_wire.specs.declared.entry.Entry.{Entry}
-use Rattle.cs_wire.specs.Entry.{IsFlags, IsEntry, before_image, after_image, key_of, entry_bytes}
+use Rattle.cs_value.specs.Table.{IsName, IsFlags}
+use Rattle.cs_value.specs.Maps.{ByBytes}
+use Rattle.cs_wire.specs.Entry.{IsEntry, before_image, after_image, key_of, entry_bytes}
 
 -- what heads the changes of a table: its name and its flags
 pub record HeaderData : Type 0 where
   pub name : List ℕ
   pub flags : List ℕ
-
--- a table's name has a byte and is UTF-8 without a zero byte
-pub record IsName (name : List ℕ) : Type 0 where
-  pub some : 0 < length name
-  pub text : IsUtf8 name
-  pub no_zero : AllByRecursion (λ b. b ≢ 0) name
 
 pub record IsHeader (header : HeaderData) : Type 0 where
   pub name : IsName header.name
@@ -27,12 +24,20 @@ pub record GroupData : Type 0 where
   pub header : HeaderData
   pub entries : List Entry
 
+-- none of the entries has the key
+abbrev pub IsNewKey : List ℕ → List Entry → List ℕ → Type 0
+IsNewKey flags entries key = All (λ e. key_of flags e.change ≢ key) entries
+
 -- one entry at least, each well formed, and no key twice
 pub record IsGroup (group : GroupData) : Type 0 where
   pub header : IsHeader group.header
   pub some : 0 < length group.entries
   pub each : All (IsEntry group.header.flags) group.entries
   pub once : AllPairs (λ d e. key_of group.header.flags d.change ≢ key_of group.header.flags e.change) group.entries
+
+-- none of the groups is of a table of this name
+abbrev pub IsNewName : List GroupData → List ℕ → Type 0
+IsNewName groups name = All (λ g. g.header.name ≢ name) groups
 
 -- a changeset: the changes of tables, no table twice
 pub record IsChangeset (changeset : List GroupData) : Type 0 where
@@ -64,17 +69,17 @@ IsAccepted bytes = (changeset : List GroupData) × IsChangeset changeset × (byt
 
 -- what an entry says of the row with its key, before and after the change
 pub record ImageData : Type 0 where
-  pub key : List OwnedField
   pub before : Option (List OwnedField)
   pub after : Option (List OwnedField)
 
 abbrev pub image_of : List ℕ → Entry → ImageData
-image_of flags entry = record {
-  key = key_of flags entry.change;
-  before = before_image entry.change;
-  after = after_image flags entry.change;
-}
+image_of flags entry = record { before = before_image entry.change; after = after_image flags entry.change }
 
--- what a group says of its table, each key once
-abbrev pub images : GroupData → List ImageData
-images group = map (image_of group.header.flags) group.entries
+-- what the entries of a group say: by the key of the row
+abbrev pub group_images : GroupData → ByBytes ImageData
+group_images group =
+    from_entries (map (λ e. (key_of group.header.flags e.change, image_of group.header.flags e)) group.entries)
+
+-- what a changeset says: by the name of the table, and then by the key of the row
+abbrev pub images : List GroupData → ByBytes (ByBytes ImageData)
+images changeset = from_entries (map (λ g. (g.header.name, group_images g)) changeset)

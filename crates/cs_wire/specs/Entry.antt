@@ -1,29 +1,15 @@
 -- The changes of a changeset: the format comment of SQLite's sqlite3session.c, under "changeset format".
-use Rattle.std.specs.Prelude.{◌≢◌, ℕ, zero, suc, ◌<◌, ◌≤◌, if◌then◌else◌, List, [], ◌∷◌, ◌++◌, length, map, Any, Option, None, Some}
-use Rattle.cs_value.specs.declared.value.OwnedValue.{OwnedValue}
+use Rattle.std.specs.Prelude.{◌≢◌, ℕ, zero, suc, if◌then◌else◌, List, [], ◌∷◌, ◌++◌, map, Option, None, Some}
 use Rattle.cs_value.specs.declared.value.OwnedValue.TheVariants.{Null}
 use Rattle.cs_value.specs.declared.value.OwnedField.{OwnedField}
 use Rattle.cs_value.specs.declared.value.OwnedField.TheVariants.{Undefined, Defined}
-use Rattle.cs_value.specs.Value.{AreBytes, IsRow, IsRecord, key_columns}
+use Rattle.cs_value.specs.Value.{IsRow, IsRecord}
+use Rattle.cs_value.specs.Key.{row_key, image_key}
+use Rattle.cs_value.specs.Table.{IsKeyedRow}
 use Rattle.cs_value.specs.Spelling.{record_bytes}
 use Rattle.cs_wire.specs.declared.entry.Change.{Change}
 use Rattle.cs_wire.specs.declared.entry.Change.TheVariants.{Insert, Delete, Update}
 use Rattle.cs_wire.specs.declared.entry.Entry.{Entry}
-
--- the flags of a table: a byte for each of 1 to 32767 columns; those other than 0, of which there are some, mark the
--- columns of the primary key
-pub record IsFlags (flags : List ℕ) : Type 0 where
-  pub bytes : AreBytes flags
-  pub few : length flags ≤ 32767
-  pub some_key : Any (λ flag. 0 < flag) flags
-
--- a row with a value for each flag, and none of them NULL in a key column
-abbrev pub IsKeyedRow : List ℕ → List OwnedValue → Type 0
-IsKeyedRow [] [] = Unit {0}
-IsKeyedRow (zero ∷ flags) (value ∷ values) = IsKeyedRow flags values
-IsKeyedRow (suc flag ∷ flags) (value ∷ values) = (value ≢ Null) × IsKeyedRow flags values
-IsKeyedRow [] (value ∷ values) = ⊥
-IsKeyedRow (flag ∷ flags) [] = ⊥
 
 -- both fields of a column outside the key are defined, which modifies the column, or both undefined
 abbrev pub IsPaired : OwnedField → OwnedField → Type 0
@@ -77,11 +63,11 @@ after_image flags (Insert row) = Some (map Defined row)
 after_image flags (Delete row) = None
 after_image flags (Update old new) = Some (with_key flags old new)
 
--- the key: what stands in the key columns of the row before the change or, where there is none, after it
-abbrev pub key_of : List ℕ → Change → List OwnedField
-key_of flags (Insert row) = key_columns flags (map Defined row)
-key_of flags (Delete row) = key_columns flags (map Defined row)
-key_of flags (Update old new) = key_columns flags old
+-- the key of the row that is changed, which is that of the row before the change and of the row after it
+abbrev pub key_of : List ℕ → Change → List ℕ
+key_of flags (Insert row) = row_key flags row
+key_of flags (Delete row) = row_key flags row
+key_of flags (Update old new) = image_key flags old
 
 -- the byte that says what a change does
 abbrev pub operation : Change → ℕ
@@ -98,7 +84,3 @@ fields_of (Update old new) = old ++ new
 -- an entry: its operation, the indirect flag, the fields of its records
 unfoldable pub entry_bytes : Entry → List ℕ
 entry_bytes entry = operation entry.change ∷ (if entry.indirect then 1 else 0) ∷ record_bytes (fields_of entry.change)
-
--- the bytes of an entry's key
-abbrev pub key_bytes : List ℕ → Entry → List ℕ
-key_bytes flags entry = record_bytes (key_of flags entry.change)

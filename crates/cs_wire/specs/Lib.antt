@@ -1,9 +1,15 @@
 pub mod Entry
 pub mod Changeset
+pub mod Inverse
+pub mod Laws
 pub mod ReadFaults
 pub mod Views
 pub mod Reading
 pub use Rattle.cs_value.specs.Value
 pub use Rattle.cs_value.specs.Varint
 pub use Rattle.cs_value.specs.Spelling
+pub use Rattle.cs_value.specs.Key
+pub use Rattle.cs_value.specs.Maps
+pub use Rattle.cs_value.specs.Table
+pub use Rattle.cs_value.specs.Refusals
 pub use Rattle.cs_value.specs.FieldFaults

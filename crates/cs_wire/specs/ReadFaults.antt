@@ -1,7 +1,8 @@
 -- Why bytes are no changeset's file: one case for each kind of fault, said of what the bytes begin with and not of the
 -- steps of a reader. The order of the format is that of the format comment of SQLite's sqlite3session.c; the faults,
 -- their numbers and their names are this project's own.
-use Rattle.std.specs.Prelude.{◌≡◌, ◌≢◌, ℕ, ◌+◌, ◌<◌, ◌≤◌, ◌⊎◌, Bool, if◌then◌else◌, List, [], ◌∷◌, ◌++◌, length, take, drop, slice_index, slice_index_or, slice_get, Some, All, AllPairs, IsUtf8, codes}
+use Rattle.std.specs.Prelude.{◌≡◌, ◌≢◌, ℕ, ◌+◌, ◌<◌, ◌≤◌, ◌⊎◌, Bool, if◌then◌else◌, List, [], ◌∷◌, ◌++◌, length}
+use Rattle.std.specs.Prelude.{take, drop, slice_index, slice_index_or, slice_get, Some, All, AllPairs, IsUtf8, codes}
 use Rattle.std.specs.List.{AllByRecursion}
 use Rattle.cs_value.specs.declared.TheConstants.{MAX_CONTENT_LEN}
 use Rattle.cs_value.specs.declared.fault.FieldFaultKind.{FieldFaultKind}
@@ -11,17 +12,20 @@ use Rattle.cs_value.specs.declared.value.OwnedField.{OwnedField}
 use Rattle.cs_value.specs.declared.value.OwnedField.TheVariants.{Undefined, Defined}
 use Rattle.cs_value.specs.Value.{IsField}
 use Rattle.cs_value.specs.Varint.{varint}
+use Rattle.cs_value.specs.Table.{IsFlags}
 use Rattle.cs_value.specs.Spelling.{field_bytes, record_bytes}
 use Rattle.cs_value.specs.FieldFaults.{VarintFails, FieldFails}
 use Rattle.cs_wire.specs.declared.entry.Change.{Change}
 use Rattle.cs_wire.specs.declared.entry.Change.TheVariants.{Insert, Delete, Update}
 use Rattle.cs_wire.specs.declared.entry.Entry.{Entry}
-use Rattle.cs_wire.specs.declared.fault.ReadError.{ReadError}
-use Rattle.cs_wire.specs.declared.fault.ReadError.TheVariants.{Fault, NoMemory}
 use Rattle.cs_wire.specs.declared.fault.ReadFaultKind.{ReadFaultKind}
-use Rattle.cs_wire.specs.declared.fault.ReadFaultKind.TheVariants.{Truncated, NotTable, Patchset, BadVarint, ColumnCount, NoKey, BadName, DuplicateTable, EmptyGroup, BadOp, BadFlag, BadType, RealValue, BadText, UndefinedField, Unpaired, NullKey, DuplicateKey}
-use Rattle.cs_wire.specs.Entry.{IsFlags, IsChange, IsEntry, key_of, operation, fields_of, entry_bytes}
-use Rattle.cs_wire.specs.Changeset.{HeaderData, GroupData, IsHeader, IsChangeset, flags_bytes, header_bytes, entries_bytes, file_bytes, IsAccepted}
+use Rattle.cs_wire.specs.declared.fault.ReadFaultKind.TheVariants.{Truncated, NotTable, Patchset, BadVarint}
+use Rattle.cs_wire.specs.declared.fault.ReadFaultKind.TheVariants.{ColumnCount, NoKey, BadName, DuplicateTable}
+use Rattle.cs_wire.specs.declared.fault.ReadFaultKind.TheVariants.{EmptyGroup, BadOp, BadFlag, BadType, RealValue, BadText}
+use Rattle.cs_wire.specs.declared.fault.ReadFaultKind.TheVariants.{UndefinedField, Unpaired, NullKey, DuplicateKey}
+use Rattle.cs_wire.specs.Entry.{IsChange, IsEntry, key_of, operation, fields_of, entry_bytes}
+use Rattle.cs_wire.specs.Changeset.{HeaderData, GroupData, IsNewKey, IsNewName, IsHeader, IsChangeset, IsAccepted}
+use Rattle.cs_wire.specs.Changeset.{flags_bytes, header_bytes, entries_bytes, file_bytes}
 
 -- the number of a kind
 abbrev pub code_of : ReadFaultKind → ℕ
@@ -65,21 +69,6 @@ name_of Unpaired = codes "Unpaired"
 name_of NullKey = codes "NullKey"
 name_of DuplicateKey = codes "DuplicateKey"
 
--- the number of a refusal
-abbrev pub error_code : ReadError → ℕ
-error_code (Fault f) = code_of f.kind
-error_code NoMemory = 60
-
--- SQLite's result code for it: SQLITE_CORRUPT or SQLITE_NOMEM
-abbrev pub error_class : ReadError → ℕ
-error_class (Fault f) = 11
-error_class NoMemory = 7
-
--- the name of a refusal
-abbrev pub error_name : ReadError → List ℕ
-error_name (Fault f) = name_of f.kind
-error_name NoMemory = codes "NoMemory"
-
 -- the kind of a fault of a field
 abbrev pub kind_of : FieldFaultKind → ReadFaultKind
 kind_of field.Truncated = Truncated
@@ -119,10 +108,15 @@ pub record EntryStart (file : List ℕ) (at : ℕ) (header : HeaderData) (entrie
   pub groups : List GroupData
   pub start : TableStart file from groups
   pub is_header : IsHeader header
-  pub new_table : All (λ g. g.header.name ≢ header.name) groups
+  pub new_table : IsNewName groups header.name
   pub each : All (IsEntry header.flags) entries
   pub once : AllPairs (λ d e. key_of header.flags d.change ≢ key_of header.flags e.change) entries
   pub stand : Stands file from (header_bytes header ++ entries_bytes entries) at
+
+-- the bytes of a change up to so many of its fields: its operation, its indirect flag and these
+abbrev pub change_front : Change → Bool → ℕ → List ℕ
+change_front change indirect count =
+    operation change ∷ (if indirect then 1 else 0) ∷ record_bytes (take count (fields_of change))
 
 -- a field is to begin at this place: behind an operation, an indirect flag and so many fields of a change, which has
 -- more of them
@@ -135,68 +129,146 @@ pub record FieldStart (file : List ℕ) (at : ℕ) (flags : List ℕ) (change : 
   pub is_change : IsChange flags change
   pub more : count < length (fields_of change)
   pub indirect : Bool
-  pub stand : Stands file from (operation change ∷ (if indirect then 1 else 0) ∷ record_bytes (take count (fields_of change))) at
+  pub stand : Stands file from (change_front change indirect count) at
 
--- ---- what is met there
-
-abbrev pub IsOperation : ℕ → Type 0
-IsOperation byte = (byte ≡ 0x12) ⊎ (byte ≡ 0x09) ⊎ (byte ≡ 0x17)
+-- ---- what is met in a header
 
 abbrev pub IsColumnCount : ℕ → Type 0
 IsColumnCount count = (0 < count) × (count ≤ 32767)
 
--- behind 0x54 stands no varint
-abbrev pub HasNoCount : List ℕ → FieldFaultKind → ℕ → Type 0
-HasNoCount file kind place = (at : ℕ) × (behind : ℕ) × HeaderPart file [] at × VarintFails (drop at file) kind behind × (place ≡ at + behind)
+-- a patchset begins where a table is to begin
+pub record HasPatchset (file : List ℕ) (place : ℕ) : Type 0 where
+  pub groups : List GroupData
+  pub start : TableStart file place groups
+  pub byte : slice_get file place ≡ Some 0x50
+
+-- behind 0x54 stands no varint, and the place is that of its fault
+pub record HasNoCount (file : List ℕ) (kind : FieldFaultKind) (place : ℕ) : Type 0 where
+  pub at : ℕ
+  pub behind : ℕ
+  pub part : HeaderPart file [] at
+  pub fails : VarintFails (drop at file) kind behind
+  pub place_is : place ≡ at + behind
 
 -- behind 0x54 stands the varint of no column, or of too many
-abbrev pub HasBadCount : List ℕ → ℕ → Type 0
-HasBadCount file place = (count : ℕ) × (to : ℕ) × HeaderPart file [] place × Stands file place (varint count) to
-    × (count ≤ MAX_CONTENT_LEN) × (IsColumnCount count → ⊥)
+pub record HasBadCount (file : List ℕ) (place : ℕ) : Type 0 where
+  pub count : ℕ
+  pub to : ℕ
+  pub part : HeaderPart file [] place
+  pub stands : Stands file place (varint count) to
+  pub is_number : count ≤ MAX_CONTENT_LEN
+  pub no_column_count : IsColumnCount count → ⊥
 
 -- behind the count of columns stand fewer flags
-abbrev pub IsCutFlags : List ℕ → Type 0
-IsCutFlags file = (count : ℕ) × (at : ℕ) × HeaderPart file (varint count) at × IsColumnCount count × (length file < at + count)
+pub record IsCutFlags (file : List ℕ) : Type 0 where
+  pub count : ℕ
+  pub at : ℕ
+  pub part : HeaderPart file (varint count) at
+  pub is_count : IsColumnCount count
+  pub fewer : length file < at + count
 
 -- behind the count of columns stand as many flags, and each is 0
-abbrev pub HasNoKey : List ℕ → ℕ → Type 0
-HasNoKey file place = (flags : List ℕ) × (to : ℕ) × HeaderPart file (varint (length flags)) place × IsColumnCount (length flags)
-    × Stands file place flags to × AllByRecursion (λ flag. flag ≡ 0) flags
+pub record HasNoKey (file : List ℕ) (place : ℕ) : Type 0 where
+  pub flags : List ℕ
+  pub to : ℕ
+  pub part : HeaderPart file (varint (length flags)) place
+  pub is_count : IsColumnCount (length flags)
+  pub stand : Stands file place flags to
+  pub all_zero : AllByRecursion (λ flag. flag ≡ 0) flags
 
 -- behind the flags stands no zero byte
-abbrev pub IsCutName : List ℕ → Type 0
-IsCutName file = (flags : List ℕ) × (at : ℕ) × IsFlags flags × HeaderPart file (flags_bytes flags) at × AllByRecursion (λ b. b ≢ 0) (drop at file)
+pub record IsCutName (file : List ℕ) : Type 0 where
+  pub flags : List ℕ
+  pub at : ℕ
+  pub are_flags : IsFlags flags
+  pub part : HeaderPart file (flags_bytes flags) at
+  pub no_end : AllByRecursion (λ b. b ≢ 0) (drop at file)
 
 -- behind the flags stands a name that is empty or not UTF-8
-abbrev pub HasBadName : List ℕ → ℕ → Type 0
-HasBadName file place = (flags : List ℕ) × (name : List ℕ) × (to : ℕ) × IsFlags flags × HeaderPart file (flags_bytes flags) place
-    × Stands file place (name ++ 0 ∷ []) to × AllByRecursion (λ b. b ≢ 0) name × ((name ≡ []) ⊎ (IsUtf8 name → ⊥))
+pub record HasBadName (file : List ℕ) (place : ℕ) : Type 0 where
+  pub flags : List ℕ
+  pub name : List ℕ
+  pub to : ℕ
+  pub are_flags : IsFlags flags
+  pub part : HeaderPart file (flags_bytes flags) place
+  pub stands : Stands file place (name ++ 0 ∷ []) to
+  pub no_zero : AllByRecursion (λ b. b ≢ 0) name
+  pub bad : (name ≡ []) ⊎ (IsUtf8 name → ⊥)
 
 -- the header of a table that was there before
-abbrev pub RepeatsTable : List ℕ → ℕ → Type 0
-RepeatsTable file place = (groups : List GroupData) × (header : HeaderData) × (to : ℕ) × TableStart file place groups × IsHeader header
-    × Stands file place (header_bytes header) to × (All (λ g. g.header.name ≢ header.name) groups → ⊥)
+pub record RepeatsTable (file : List ℕ) (place : ℕ) : Type 0 where
+  pub groups : List GroupData
+  pub header : HeaderData
+  pub to : ℕ
+  pub start : TableStart file place groups
+  pub is_header : IsHeader header
+  pub stands : Stands file place (header_bytes header) to
+  pub not_new : IsNewName groups header.name → ⊥
+
+-- ---- what is met where an entry may begin
+
+abbrev pub IsOperation : ℕ → Type 0
+IsOperation byte = (byte ≡ 0x12) ⊎ (byte ≡ 0x09) ⊎ (byte ≡ 0x17)
+
+-- behind a header stands no entry: the file ends, or another table or a patchset begins
+pub record HasNoEntry (file : List ℕ) (place : ℕ) : Type 0 where
+  pub header : HeaderData
+  pub start : EntryStart file place header []
+  pub no_entry : HasEntry file place → ⊥
+
+-- an entry begins with a byte that is no operation
+pub record HasBadOperation (file : List ℕ) (place : ℕ) : Type 0 where
+  pub header : HeaderData
+  pub entries : List Entry
+  pub start : EntryStart file place header entries
+  pub entry : HasEntry file place
+  pub no_operation : IsOperation (slice_index file place) → ⊥
 
 -- the file ends behind an operation
-abbrev pub IsCutEntry : List ℕ → Type 0
-IsCutEntry file = (at : ℕ) × (header : HeaderData) × (entries : List Entry) × (byte : ℕ) × EntryStart file at header entries × IsOperation byte
-    × Stands file at (byte ∷ []) (length file)
+pub record IsCutEntry (file : List ℕ) : Type 0 where
+  pub at : ℕ
+  pub header : HeaderData
+  pub entries : List Entry
+  pub byte : ℕ
+  pub start : EntryStart file at header entries
+  pub is_operation : IsOperation byte
+  pub stands : Stands file at (byte ∷ []) (length file)
 
 -- behind an operation stands a byte above 1
-abbrev pub HasBadFlag : List ℕ → ℕ → Type 0
-HasBadFlag file place = (at : ℕ) × (header : HeaderData) × (entries : List Entry) × (byte : ℕ) × EntryStart file at header entries × IsOperation byte
-    × Stands file at (byte ∷ []) place × (place < length file) × (1 < slice_index file place)
+pub record HasBadFlag (file : List ℕ) (place : ℕ) : Type 0 where
+  pub at : ℕ
+  pub header : HeaderData
+  pub entries : List Entry
+  pub byte : ℕ
+  pub start : EntryStart file at header entries
+  pub is_operation : IsOperation byte
+  pub stands : Stands file at (byte ∷ []) place
+  pub within : place < length file
+  pub above_one : 1 < slice_index file place
 
 -- an entry of a key that was there before in its table
-abbrev pub RepeatsKey : List ℕ → ℕ → Type 0
-RepeatsKey file place = (header : HeaderData) × (entries : List Entry) × (entry : Entry) × (to : ℕ) × EntryStart file place header entries
-    × IsEntry header.flags entry × Stands file place (entry_bytes entry) to
-    × (All (λ e. key_of header.flags e.change ≢ key_of header.flags entry.change) entries → ⊥)
+pub record RepeatsKey (file : List ℕ) (place : ℕ) : Type 0 where
+  pub header : HeaderData
+  pub entries : List Entry
+  pub entry : Entry
+  pub to : ℕ
+  pub start : EntryStart file place header entries
+  pub is_entry : IsEntry header.flags entry
+  pub stands : Stands file place (entry_bytes entry) to
+  pub not_new : IsNewKey header.flags entries (key_of header.flags entry.change) → ⊥
 
--- where a field is to begin stands none
-abbrev pub HasNoField : List ℕ → FieldFaultKind → ℕ → Type 0
-HasNoField file kind place = (at : ℕ) × (behind : ℕ) × (flags : List ℕ) × (change : Change) × (count : ℕ) × FieldStart file at flags change count
-    × FieldFails (drop at file) kind behind × (place ≡ at + behind)
+-- ---- what is met where a field is to begin
+
+-- where a field is to begin stands none, and the place is that of its fault
+pub record HasNoField (file : List ℕ) (kind : FieldFaultKind) (place : ℕ) : Type 0 where
+  pub at : ℕ
+  pub behind : ℕ
+  pub flags : List ℕ
+  pub change : Change
+  pub count : ℕ
+  pub start : FieldStart file at flags change count
+  pub fails : FieldFails (drop at file) kind behind
+  pub place_is : place ≡ at + behind
 
 -- the change is that of a whole row, and no update
 abbrev pub IsWhole : Change → Type 0
@@ -208,10 +280,17 @@ IsWhole (Update old new) = ⊥
 abbrev pub IsKeyColumn : List ℕ → ℕ → Type 0
 IsKeyColumn flags column = 0 < slice_index flags column
 
--- a field stands in a column of a row or of an old record
-abbrev pub StandsBefore : List ℕ → ℕ → OwnedField → (List ℕ → Change → ℕ → Type 0) → Type 0
-StandsBefore file place f Where = (flags : List ℕ) × (change : Change) × (column : ℕ) × (to : ℕ) × FieldStart file place flags change column
-    × (column < length flags) × Stands file place (field_bytes f) to × Where flags change column
+-- this field stands in a row or in an old record, in a column of which Holds is said
+pub record StandsBefore (file : List ℕ) (place : ℕ) (found : OwnedField) (Holds : List ℕ → Change → ℕ → Type 0)
+    : Type 0 where
+  pub flags : List ℕ
+  pub change : Change
+  pub column : ℕ
+  pub to : ℕ
+  pub start : FieldStart file place flags change column
+  pub in_row : column < length flags
+  pub stands : Stands file place (field_bytes found) to
+  pub holds : Holds flags change column
 
 -- both are defined, or both undefined
 abbrev pub IsAlike : OwnedField → OwnedField → Type 0
@@ -221,9 +300,17 @@ IsAlike Undefined (Defined w) = ⊥
 IsAlike (Defined v) Undefined = ⊥
 
 -- in a new record stands a field that is defined where none is wanted, or the reverse
-abbrev pub StandsUnpaired : List ℕ → ℕ → Type 0
-StandsUnpaired file place = (flags : List ℕ) × (change : Change) × (count : ℕ) × (f : OwnedField) × (to : ℕ) × FieldStart file place flags change count
-    × (length flags ≤ count) × IsField f × Stands file place (field_bytes f) to × (IsAlike f (slice_index_or (fields_of change) count Undefined) → ⊥)
+pub record StandsUnpaired (file : List ℕ) (place : ℕ) : Type 0 where
+  pub flags : List ℕ
+  pub change : Change
+  pub count : ℕ
+  pub found : OwnedField
+  pub to : ℕ
+  pub start : FieldStart file place flags change count
+  pub in_new : length flags ≤ count
+  pub is_field : IsField found
+  pub stands : Stands file place (field_bytes found) to
+  pub unlike : IsAlike found (slice_index_or (fields_of change) count Undefined) → ⊥
 
 -- ---- the cases
 
@@ -232,20 +319,20 @@ abbrev pub ReadCase : List ℕ → ReadFaultKind → ℕ → Type 0
 ReadCase file Truncated place = (HasNoCount file field.Truncated place ⊎ HasNoField file field.Truncated place)
     ⊎ ((IsCutFlags file ⊎ IsCutName file ⊎ IsCutEntry file) × (place ≡ length file))
 ReadCase file NotTable place = (place ≡ 0) × HasEntry file 0
-ReadCase file Patchset place = (groups : List GroupData) × TableStart file place groups × (slice_get file place ≡ Some 0x50)
+ReadCase file Patchset place = HasPatchset file place
 ReadCase file BadVarint place = HasNoCount file field.BadVarint place ⊎ HasNoField file field.BadVarint place
 ReadCase file ColumnCount place = HasBadCount file place
 ReadCase file NoKey place = HasNoKey file place
 ReadCase file BadName place = HasBadName file place
 ReadCase file DuplicateTable place = RepeatsTable file place
-ReadCase file EmptyGroup place = (header : HeaderData) × EntryStart file place header [] × (HasEntry file place → ⊥)
-ReadCase file BadOp place = (header : HeaderData) × (entries : List Entry) × EntryStart file place header entries × HasEntry file place
-    × (IsOperation (slice_index file place) → ⊥)
+ReadCase file EmptyGroup place = HasNoEntry file place
+ReadCase file BadOp place = HasBadOperation file place
 ReadCase file BadFlag place = HasBadFlag file place
 ReadCase file BadType place = HasNoField file field.BadType place
 ReadCase file RealValue place = HasNoField file field.RealValue place
 ReadCase file BadText place = HasNoField file field.BadText place
-ReadCase file UndefinedField place = StandsBefore file place Undefined (λ flags change column. IsWhole change ⊎ IsKeyColumn flags column)
+ReadCase file UndefinedField place =
+    StandsBefore file place Undefined (λ flags change column. IsWhole change ⊎ IsKeyColumn flags column)
 ReadCase file Unpaired place = StandsUnpaired file place
 ReadCase file NullKey place = StandsBefore file place (Defined Null) (λ flags change column. IsKeyColumn flags column)
 ReadCase file DuplicateKey place = RepeatsKey file place
@@ -254,8 +341,3 @@ ReadCase file DuplicateKey place = RepeatsKey file place
 pub record ReadFails (file : List ℕ) (kind : ReadFaultKind) (place : ℕ) : Type 0 where
   pub refused : IsAccepted file → ⊥
   pub case : ReadCase file kind place
-
--- why a file is not read: a fault of the bytes, or memory that was refused
-abbrev pub RefusesFile : List ℕ → ReadError → Type 0
-RefusesFile file (Fault f) = ReadFails file f.kind f.place
-RefusesFile file NoMemory = Unit {0}

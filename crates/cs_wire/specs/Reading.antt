@@ -1,6 +1,8 @@
 -- What the private readers answer. No public contract names these: what reading is for is said by Changeset and
 -- ReadFaults.
-use Rattle.std.specs.Prelude.{◌≡◌, ℕ, ◌+◌, ◌<◌, ◌==◌, ◌⊎◌, Bool, true, false, not, if◌then◌else◌, List, [], ◌∷◌, ◌++◌, length, map, take, drop, slice_index, slice_index_or, slice_get, Option, Some, None, Result, Ok, Err}
+use Rattle.std.specs.Prelude.{◌≡◌, ℕ, ◌+◌, ◌<◌, ◌==◌, ◌⊎◌, Bool, true, false, not, if◌then◌else◌}
+use Rattle.std.specs.Prelude.{List, [], ◌∷◌, ◌++◌, length, map, take, drop, slice_index, slice_index_or, slice_get}
+use Rattle.std.specs.Prelude.{Option, Some, None, Result, Ok, Err}
 use Rattle.cs_value.specs.declared.fault.FieldFaultKind.{FieldFaultKind}
 use Rattle.cs_value.specs.declared.value.OwnedValue.TheVariants.{Int, Text, Blob, Null}
 use Rattle.cs_value.specs.declared.value.OwnedField.{OwnedField}
@@ -10,26 +12,21 @@ use Rattle.cs_value.specs.Spelling.{field_bytes, record_bytes}
 use Rattle.cs_value.specs.FieldFaults.{VarintFails, FieldFails}
 use Rattle.cs_wire.specs.declared.entry.Change.{Change}
 use Rattle.cs_wire.specs.declared.entry.Change.TheVariants.{Insert, Delete, Update}
-use Rattle.cs_wire.specs.declared.fault.ReadError.{ReadError}
-use Rattle.cs_wire.specs.declared.fault.ReadError.TheVariants.{Fault, NoMemory}
+use Rattle.cs_value.specs.declared.refusal.OrNoMemory.{OrNoMemory}
+use Rattle.cs_value.specs.Refusals.{Refuses}
+use Rattle.cs_wire.specs.declared.fault.ReadFault.{ReadFault}
 use Rattle.cs_wire.specs.declared.fault.ReadFaultKind.{ReadFaultKind}
-use Rattle.cs_wire.specs.declared.fault.ReadFaultKind.TheVariants.{Truncated, BadFlag, BadOp, UndefinedField, Unpaired, NullKey}
+use Rattle.cs_wire.specs.declared.fault.ReadFaultKind.TheVariants.{Truncated, BadFlag, BadOp}
+use Rattle.cs_wire.specs.declared.fault.ReadFaultKind.TheVariants.{UndefinedField, Unpaired, NullKey}
 use Rattle.cs_wire.specs.Entry.{IsChange, operation, fields_of}
 use Rattle.cs_wire.specs.ReadFaults.{kind_of, Stands, IsOperation}
 
--- what is wanted is read, or memory is refused
-abbrev pub Reads : {X : Type 0} → Result X ReadError → (X → Type 0) → Type 0
-Reads (Ok x) Wanted = Wanted x
-Reads (Err (Fault f)) Wanted = ⊥
-Reads (Err NoMemory) Wanted = Unit {0}
-
 -- memory is refused, or Why holds of the fault's kind and place
-abbrev pub IsBecause : ReadError → (ReadFaultKind → ℕ → Type 0) → Type 0
-IsBecause (Fault f) Why = Why f.kind f.place
-IsBecause NoMemory Why = Unit {0}
+abbrev pub IsBecause : OrNoMemory ReadFault → (ReadFaultKind → ℕ → Type 0) → Type 0
+IsBecause refusal Why = Refuses (λ f. Why f.kind f.place) refusal
 
 -- a fault is as Why says of its kind and place
-abbrev pub Fails : {X : Type 0} → Result X ReadError → (ReadFaultKind → ℕ → Type 0) → Type 0
+abbrev pub Fails : {X : Type 0} → Result X (OrNoMemory ReadFault) → (ReadFaultKind → ℕ → Type 0) → Type 0
 Fails (Ok x) Why = Unit {0}
 Fails (Err e) Why = IsBecause e Why
 
@@ -162,7 +159,8 @@ pub record RecordRefused (wants : List Want) (file : List ℕ) (at : ℕ) (kind 
   pub why : FieldRefused (slice_index_or wants (length fields) AnyField) file end kind place
 
 -- some of the fields of a change with this operation, and then none
-pub record ChangeRefused (byte : ℕ) (flags : List ℕ) (file : List ℕ) (at : ℕ) (kind : ReadFaultKind) (place : ℕ) : Type 0 where
+pub record ChangeRefused (byte : ℕ) (flags file : List ℕ) (at : ℕ) (kind : ReadFaultKind) (place : ℕ)
+    : Type 0 where
   pub change : Change
   pub count : ℕ
   pub end : ℕ

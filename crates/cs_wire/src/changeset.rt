@@ -1,9 +1,10 @@
 //! Changesets: the changes of several tables.
-ghost use Rattle.std.specs.Prelude.{◌≡◌, ◌≢◌, ◌++◌, ◌∷◌, [], All, IfSome, IfNone, OnOk, OnErr};
+ghost use Rattle.std.specs.Prelude.{◌≡◌, ◌++◌, ◌∷◌, [], ◌↔◌, IfSome, IsTrue, OnOk, OnErr, is_none};
 ghost use Rattle.cs_wire.specs.Views.{IsPlaceOf};
-ghost use Rattle.cs_wire.specs.Changeset.{GroupData, IsChangeset};
+ghost use Rattle.cs_wire.specs.Changeset.{IsNewName, IsChangeset};
 
 use crate::group::Group;
+use crate::places::Places;
 use cs_value::NoMemory;
 use std::alloc::Global;
 use std::marker::Model;
@@ -12,17 +13,20 @@ use std::marker::Model;
 #[derive(Debug, Drop)]
 pub struct Changeset {
     groups: Vec<Group>,
+    // Where the group of each table stands, by its name.
+    places: Places,
 }
 
 impl Model for Changeset {
     ghost use Rattle.std.specs.Prelude.{List};
     ghost use Rattle.cs_wire.specs.Changeset.{GroupData, IsGroup, IsChangeset};
+    ghost use Rattle.cs_wire.specs.Views.{group_names, IsIndex};
 
     ghost Value = { List GroupData };
 
     ghost view = { λ c. c.groups.items };
 
-    ghost invariant = { λ c. IsChangeset c.groups.items };
+    ghost invariant = { λ c. IsChangeset c.groups.items × IsIndex c.places (group_names c.groups.items) };
 }
 
 impl Changeset {
@@ -32,6 +36,7 @@ impl Changeset {
     {
         Changeset {
             groups: Vec::new(alloc),
+            places: Places::new(alloc),
         }
     }
 
@@ -43,23 +48,61 @@ impl Changeset {
         &self.groups
     }
 
-    /// The place of the group of a table. It walks through the groups.
+    /// The place of the group of a table, from 0, or None where there is none. It takes no memory,
+    /// and time in proportion to the logarithm of the count of groups.
     pub fn find(&self, name: &str) -> Option<usize>
         ensures found { IfSome result (IsPlaceOf (λ g. g.header.name ≡ name.now) self.now) }
-        ensures absent { IfNone result (All (λ g. g.header.name ≢ name.now) self.now) }
+        ensures absent { IsTrue (is_none result) ↔ IsNewName self.now name.now }
     {
-        self.groups.iter().position(|g| g.header().name() == name)
+        self.places.get(name.as_bytes())
     }
 
-    /// Appends a group of a table that is not yet there.
-    /// [`NoMemory`] leaves the changeset as it was.
+    /// Appends a group of a table that is not yet there ([`Changeset::find`]).
+    /// [`NoMemory`] leaves the changeset as it was, and drops the group.
     pub fn push(&mut self, group: Group) -> Result<(), NoMemory>
-        requires { All (λ g. g.header.name ≢ group.header.name) self.old }
+        requires { IsNewName self.old group.header.name }
         ensures ok { OnOk result (self.new ≡ self.old ++ group ∷ []) }
         ensures well_formed { OnOk result (IsChangeset self.new) }
         ensures err { OnErr result (self.new ≡ self.old) }
     {
+        let name = Vec::from_slice(*self.groups.allocator(), group.header().name().as_bytes())?;
+        let place = self.groups.len();
         self.groups.push(group)?;
-        Ok(())
+        match self.places.insert(name, place) {
+            Ok(()) => Ok(()),
+            Err(refusal) => {
+                self.groups.pop();
+                Err(refusal)
+            }
+        }
     }
+
+    /// Gives the groups back, and takes no memory.
+    pub fn into_groups(self) -> Vec<Group>
+        ensures same { result.items ≡ self }
+        ensures well_formed { IsChangeset self }
+    {
+        let Changeset { groups, .. } = self;
+        groups
+    }
+}
+
+impl PartialEq for Changeset {
+    ghost use Rattle.std.specs.Cmp.Lexicographic.{pointwise, lists_per};
+    ghost use Rattle.cs_wire.specs.contracts.group.GroupPartialEq.TheImpl.Laws.{laws-law};
+
+    ghost eq = { pointwise ⟦<Group as PartialEq>⟧.eq };
+
+    ghost laws = { lists_per laws-law };
+
+    fn eq(&self, other: &Changeset) -> bool {
+        self.groups == other.groups
+    }
+}
+
+impl Eq for Changeset {
+    ghost use Rattle.std.specs.Cmp.Lexicographic.{lists_equiv};
+    ghost use Rattle.cs_wire.specs.contracts.group.GroupEq.TheImpl.Laws.{laws-law};
+
+    ghost laws = { lists_equiv laws-law };
 }

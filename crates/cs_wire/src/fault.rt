@@ -1,10 +1,8 @@
 //! Why a file is refused.
 ghost use Rattle.std.specs.Prelude.{◌≡◌, ◌+◌, ◌≤◌, ◌<◌, ◌^◌};
-ghost use Rattle.cs_wire.specs.ReadFaults.{code_of, name_of, kind_of, error_code, error_class, error_name};
-ghost use Rattle.cs_wire.specs.declared.fault.ReadError.TheVariants.{NoMemory as OutOfMemory};
+ghost use Rattle.cs_wire.specs.ReadFaults.{code_of, name_of, kind_of};
 
-use cs_value::{FieldFault, FieldFaultKind, NoMemory};
-use std::alloc::{AllocError, AllocFailed};
+use cs_value::{Fault, FieldFault, FieldFaultKind, OrNoMemory};
 use thiserror::Error;
 
 /// What is wrong with bytes that are no changeset's file.
@@ -111,115 +109,47 @@ pub struct ReadFault {
     pub place: usize,
 }
 
-impl ReadFault {
-    /// The number of this fault among the faults of the product, 1 to 18.
-    pub fn code(self) -> u8
-        ensures { result ≡ code_of self.kind }
-    {
+impl Fault for ReadFault {
+    ghost code_of = { λ fault. code_of fault.kind };
+
+    ghost class_of = { λ _. 11 };
+
+    ghost name_of = { λ fault. name_of fault.kind };
+
+    fn code(&self) -> u8 {
         self.kind.code()
     }
 
-    /// SQLite's result code for it, `SQLITE_CORRUPT`.
-    pub fn class(self) -> u8
-        ensures { result ≡ 11 }
-    {
+    fn class(&self) -> u8 {
         11
     }
 
-    /// The name that error lines print.
-    pub fn name(self) -> &'static str
-        ensures { result.now ≡ name_of self.kind }
-    {
+    fn name(&self) -> &'static str {
         self.kind.name()
     }
 }
 
-/// Why a file is not read.
-#[derive(Clone, Copy, Debug, PartialEq, Eq, Error)]
-pub enum ReadError {
-    /// It is no changeset's file.
-    #[error("{0}")]
-    Fault(ReadFault),
-    /// Memory was refused.
-    #[error("out of memory")]
-    NoMemory,
+/// Why a file is not read: it is no changeset's, or memory was refused.
+pub type ReadError = OrNoMemory<ReadFault>;
+
+/// A fault at a place of the file.
+pub(crate) fn fault_at(kind: ReadFaultKind, place: usize) -> ReadError
+    ensures { result ≡ OrNoMemory.Fault (record { kind = kind; place = place }) }
+{
+    ReadError::Fault(ReadFault { kind, place })
 }
 
-impl ReadError {
-    /// The number of this refusal among the faults of the product: 1 to 18 for a file, 60 for
-    /// memory.
-    pub fn code(self) -> u8
-        ensures { result ≡ error_code self }
-    {
-        match self {
-            ReadError::Fault(fault) => fault.code(),
-            ReadError::NoMemory => NoMemory.code(),
-        }
-    }
-
-    /// SQLite's result code for it, `SQLITE_CORRUPT` or `SQLITE_NOMEM`.
-    pub fn class(self) -> u8
-        ensures { result ≡ error_class self }
-    {
-        match self {
-            ReadError::Fault(fault) => fault.class(),
-            ReadError::NoMemory => NoMemory.class(),
-        }
-    }
-
-    /// The name that error lines print.
-    pub fn name(self) -> &'static str
-        ensures { result.now ≡ error_name self }
-    {
-        match self {
-            ReadError::Fault(fault) => fault.name(),
-            ReadError::NoMemory => NoMemory.name(),
-        }
-    }
-
-    /// A fault at a place of the file.
-    pub(crate) fn fault(kind: ReadFaultKind, place: usize) -> ReadError
-        ensures { result ≡ ReadError.Fault (record { kind = kind; place = place }) }
-    {
-        ReadError::Fault(ReadFault { kind, place })
-    }
-
-    /// The fault of a field or a varint that was read from `start` on.
-    pub(crate) fn behind(start: usize, fault: FieldFault) -> ReadError
-        requires { start + fault.place < 2 ^ 64 }
-        ensures { result ≡ ReadError.Fault (record { kind = kind_of fault.kind; place = start + fault.place }) }
-    {
-        let kind = match fault.kind {
-            FieldFaultKind::Truncated => ReadFaultKind::Truncated,
-            FieldFaultKind::BadVarint => ReadFaultKind::BadVarint,
-            FieldFaultKind::BadType => ReadFaultKind::BadType,
-            FieldFaultKind::RealValue => ReadFaultKind::RealValue,
-            FieldFaultKind::BadText => ReadFaultKind::BadText,
-        };
-        ReadError::fault(kind, start + fault.place)
-    }
-}
-
-impl From<NoMemory> for ReadError {
-    ghost from_gives = { λ _ e. e ≡ OutOfMemory };
-
-    fn from(_refusal: NoMemory) -> ReadError {
-        ReadError::NoMemory
-    }
-}
-
-impl From<AllocError> for ReadError {
-    ghost from_gives = { λ _ e. e ≡ OutOfMemory };
-
-    fn from(_refusal: AllocError) -> ReadError {
-        ReadError::NoMemory
-    }
-}
-
-impl<T: Drop> From<AllocFailed<T>> for ReadError {
-    ghost from_gives = { λ _ e. e ≡ OutOfMemory };
-
-    fn from(_refusal: AllocFailed<T>) -> ReadError {
-        ReadError::NoMemory
-    }
+/// The fault of a field or a varint that was read from `start` on.
+pub(crate) fn fault_behind(start: usize, fault: FieldFault) -> ReadError
+    requires { start + fault.place < 2 ^ 64 }
+    ensures { result ≡ OrNoMemory.Fault (record { kind = kind_of fault.kind; place = start + fault.place }) }
+{
+    let kind = match fault.kind {
+        FieldFaultKind::Truncated => ReadFaultKind::Truncated,
+        FieldFaultKind::BadVarint => ReadFaultKind::BadVarint,
+        FieldFaultKind::BadType => ReadFaultKind::BadType,
+        FieldFaultKind::RealValue => ReadFaultKind::RealValue,
+        FieldFaultKind::BadText => ReadFaultKind::BadText,
+    };
+    fault_at(kind, start + fault.place)
 }

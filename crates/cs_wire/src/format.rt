@@ -14,6 +14,3 @@ pub(crate) const DELETE: u8 = 0x09;
 
 /// Begins an entry that updates a row.
 pub(crate) const UPDATE: u8 = 0x17;
-
-/// The most columns that a table has.
-pub(crate) const MAX_COLUMNS: usize = 32767;

@@ -1,8 +1,10 @@
 //! The changes of a table.
-ghost use Rattle.std.specs.Prelude.{◌≡◌, ◌≢◌, ◌++◌, ◌∷◌, [], All, IfOk, IfSome, IfNone, OnOk, OnErr};
+ghost use Rattle.std.specs.Prelude.{◌≡◌, ◌++◌, ◌∷◌, [], ◌↔◌, IfOk, IfSome, IsTrue, OnOk, OnErr, is_none};
 
 use crate::entry::Entry;
 use crate::header::Header;
+use crate::inverse::invert_entries;
+use crate::places::Places;
 use cs_value::{Key, NoMemory};
 use std::alloc::Global;
 use std::marker::Model;
@@ -12,27 +14,27 @@ use std::marker::Model;
 pub struct Group {
     header: Header,
     entries: Vec<Entry>,
-    // The key of each entry, in their order.
-    keys: Vec<Key>,
+    // Where the entry of each key stands.
+    places: Places,
 }
 
 impl Model for Group {
-    ghost use Rattle.std.specs.Prelude.{◌≡◌};
     ghost use Rattle.cs_wire.specs.Changeset.{GroupData, IsGroup};
-    ghost use Rattle.cs_wire.specs.Views.{group_keys};
+    ghost use Rattle.cs_wire.specs.Views.{group_keys, IsIndex};
 
     ghost Value = { GroupData };
 
     ghost view = { λ g. record { header = g.header; entries = g.entries.items } };
 
     ghost invariant = { λ g. IsGroup (record { header = g.header; entries = g.entries.items })
-        × (g.keys.items ≡ group_keys g.header.flags g.entries.items) };
+        × IsIndex g.places (group_keys g.header.flags g.entries.items) };
 }
 
 impl Group {
-    ghost use Rattle.cs_wire.specs.Entry.{IsEntry, key_of, key_bytes};
-    ghost use Rattle.cs_wire.specs.Changeset.{IsGroup};
-    ghost use Rattle.cs_wire.specs.Views.{group_keys, IsPlaceOf};
+    ghost use Rattle.cs_wire.specs.Entry.{IsEntry, key_of};
+    ghost use Rattle.cs_wire.specs.Changeset.{IsNewKey, IsGroup};
+    ghost use Rattle.cs_wire.specs.Inverse.{IsInverseGroup};
+    ghost use Rattle.cs_wire.specs.Views.{IsPlaceOf};
 
     /// A group of one entry, which fits the header's flags ([`Header::admits`]).
     pub fn new(alloc: Global, header: Header, first: Entry) -> Result<Group, NoMemory>
@@ -41,10 +43,12 @@ impl Group {
         ensures well_formed { IfOk result IsGroup }
     {
         let key = header.key_of(alloc, &first)?;
+        let mut places = Places::new(alloc);
+        places.insert(key.into_bytes(), 0)?;
         Ok(Group {
             header,
             entries: vec![in alloc; first]?,
-            keys: vec![in alloc; key]?,
+            places,
         })
     }
 
@@ -56,6 +60,14 @@ impl Group {
         &self.header
     }
 
+    /// The flags of the table's columns.
+    pub fn flags(&self) -> &[u8]
+        ensures same { result.now ≡ self.now.header.flags }
+        ensures well_formed { IsGroup self.now }
+    {
+        self.header.flags()
+    }
+
     /// The entries, in the order of the file.
     pub fn entries(&self) -> &[Entry]
         ensures same { result.now ≡ self.now.entries }
@@ -64,43 +76,108 @@ impl Group {
         &self.entries
     }
 
-    /// The place of the entry with a key, from 0. It walks through the entries, and takes no memory.
-    pub fn find(&self, key: &Key) -> Option<usize>
-        ensures found { IfSome result (IsPlaceOf (λ k. k ≡ key.now) (group_keys self.now.header.flags self.now.entries)) }
-        ensures absent { IfNone result (All (λ k. k ≢ key.now) (group_keys self.now.header.flags self.now.entries)) }
+    /// The key of an entry that fits the header's flags ([`Header::admits`]).
+    pub fn key_of(&self, alloc: Global, entry: &Entry) -> Result<Key, NoMemory>
+        requires { IsEntry self.now.header.flags entry.now }
+        ensures { IfOk result (λ key. key ≡ key_of self.now.header.flags entry.now.change) }
     {
-        self.keys.iter().position(|k| k == key)
+        self.header.key_of(alloc, entry)
     }
 
-    /// Appends an entry that fits the header's flags ([`Header::admits`]), whose key is not yet
-    /// there ([`Group::find`]). [`NoMemory`] leaves the group as it was, and drops the entry.
+    /// The place of the entry with a key, from 0, or None where the key is new. It takes no memory,
+    /// and time in proportion to the logarithm of the count of entries.
+    pub fn find(&self, key: &Key) -> Option<usize>
+        ensures found { IfSome result (IsPlaceOf (λ e. key_of self.now.header.flags e.change ≡ key.now) self.now.entries) }
+        ensures absent { IsTrue (is_none result) ↔ IsNewKey self.now.header.flags self.now.entries key.now }
+    {
+        self.places.get(key.bytes())
+    }
+
+    /// Appends an entry that fits the header's flags ([`Header::admits`]), whose key is new
+    /// ([`Group::find`]). [`NoMemory`] leaves the group as it was, and drops the entry.
     pub fn push(&mut self, entry: Entry) -> Result<(), NoMemory>
         requires fits { IsEntry self.old.header.flags entry }
-        requires fresh { All (λ e. key_of self.old.header.flags e.change ≢ key_of self.old.header.flags entry.change) self.old.entries }
+        requires fresh { IsNewKey self.old.header.flags self.old.entries (key_of self.old.header.flags entry.change) }
         ensures header { self.new.header ≡ self.old.header }
         ensures well_formed { OnOk result (IsGroup self.new) }
         ensures ok { OnOk result (self.new.entries ≡ self.old.entries ++ entry ∷ []) }
         ensures err { OnErr result (self.new ≡ self.old) }
     {
-        let key = self.header().key_of(*self.keys.allocator(), &entry)?;
+        let key = self.key_of(*self.entries.allocator(), &entry)?;
         self.push_with_key(key, entry)
     }
 
-    /// The same, of an entry with this key.
-    pub(crate) fn push_with_key(&mut self, key: Key, entry: Entry) -> Result<(), NoMemory>
+    /// The same, where the key is there already: it is the entry's ([`Group::key_of`]).
+    pub fn push_with_key(&mut self, key: Key, entry: Entry) -> Result<(), NoMemory>
         requires fits { IsEntry self.old.header.flags entry }
-        requires key { key ≡ key_bytes self.old.header.flags entry }
-        requires fresh { All (λ e. key_of self.old.header.flags e.change ≢ key_of self.old.header.flags entry.change) self.old.entries }
+        requires key { key ≡ key_of self.old.header.flags entry.change }
+        requires fresh { IsNewKey self.old.header.flags self.old.entries key }
         ensures header { self.new.header ≡ self.old.header }
         ensures well_formed { OnOk result (IsGroup self.new) }
         ensures ok { OnOk result (self.new.entries ≡ self.old.entries ++ entry ∷ []) }
         ensures err { OnErr result (self.new ≡ self.old) }
     {
-        self.keys.push(key)?;
-        if self.entries.push(entry).is_err() {
-            self.keys.pop();
-            return Err(NoMemory);
+        let place = self.entries.len();
+        self.entries.push(entry)?;
+        match self.places.insert(key.into_bytes(), place) {
+            Ok(()) => Ok(()),
+            Err(refusal) => {
+                self.entries.pop();
+                Err(refusal)
+            }
         }
-        Ok(())
     }
+
+    /// Makes of the group the one that undoes it, and takes no memory: each insert becomes the
+    /// delete of its row and each delete the insert, and in updates the two values of each modified
+    /// column are exchanged. Header, indirect flags and order stay.
+    pub fn invert(&mut self)
+        ensures inverse { IsInverseGroup self.old self.new }
+        ensures well_formed { IsGroup self.new }
+    {
+        invert_entries(
+            *self.entries.allocator(),
+            self.header.flags(),
+            &mut self.entries,
+        );
+    }
+
+    /// Gives the header and the entries back, and takes no memory.
+    pub fn into_parts(self) -> (Header, Vec<Entry>)
+        ensures header { result.0 ≡ self.header }
+        ensures entries { result.1.items ≡ self.entries }
+        ensures well_formed { IsGroup self }
+    {
+        let Group {
+            header, entries, ..
+        } = self;
+        (header, entries)
+    }
+}
+
+impl PartialEq for Group {
+    ghost use Rattle.std.specs.Ordering.{on, eq_of_both};
+    ghost use Rattle.std.specs.Cmp.Lexicographic.{pointwise};
+    ghost use Rattle.std.specs.Cmp.Rules.{comparing};
+    ghost use Rattle.std.proofs.Common.{rules};
+    ghost use Rattle.cs_wire.specs.contracts.entry.EntryPartialEq.TheImpl.Laws.{laws-law};
+    ghost use Rattle.cs_wire.specs.contracts.header.HeaderPartialEq.TheImpl.Laws.{laws-law as header_laws};
+
+    ghost eq = { eq_of_both (on (λ g. g.header) ⟦<Header as PartialEq>⟧.eq)
+        (on (λ g. g.entries) (pointwise ⟦<Entry as PartialEq>⟧.eq)) };
+
+    ghost laws = { Prim.search (comparing, laws-law, header_laws, rules) };
+
+    fn eq(&self, other: &Group) -> bool {
+        self.header == other.header && self.entries == other.entries
+    }
+}
+
+impl Eq for Group {
+    ghost use Rattle.std.specs.Cmp.Rules.{comparing};
+    ghost use Rattle.std.proofs.Common.{rules};
+    ghost use Rattle.cs_wire.specs.contracts.entry.EntryEq.TheImpl.Laws.{laws-law};
+    ghost use Rattle.cs_wire.specs.contracts.header.HeaderEq.TheImpl.Laws.{laws-law as header_laws};
+
+    ghost laws = { Prim.search (comparing, laws-law, header_laws, rules) };
 }

@@ -1,12 +1,12 @@
 //! What heads the changes of a table.
 ghost use Rattle.std.specs.Prelude.{◌≡◌, ◌<◌, ◌↔◌, ◌∷◌, [], IfOk, IsTrue, Any, string_bytes};
 ghost use Rattle.cs_value.specs.Value.{IsValue, IsField, IsRow, IsRecord};
-ghost use Rattle.cs_wire.specs.Entry.{IsKeyedRow, IsKeyedUpdate};
+ghost use Rattle.cs_value.specs.Table.{IsKeyedRow};
+ghost use Rattle.cs_wire.specs.Entry.{IsKeyedUpdate};
 ghost use Rattle.cs_wire.specs.Changeset.{HeaderData, IsHeader};
 
 use crate::entry::{Change, Entry};
-use crate::format::MAX_COLUMNS;
-use cs_value::{Field, Key, NoMemory, OwnedField, OwnedValue, Value};
+use cs_value::{Field, Key, MAX_COLUMNS, NoMemory, OwnedField, OwnedValue, Value};
 use std::alloc::Global;
 use std::marker::Model;
 
@@ -30,7 +30,7 @@ impl Model for Header {
 }
 
 impl Header {
-    ghost use Rattle.cs_wire.specs.Entry.{IsEntry, key_bytes};
+    ghost use Rattle.cs_wire.specs.Entry.{IsEntry, key_of};
 
     /// Whether a name and flags make a header: the name has a byte and none that is zero; there are
     /// 1 to 32767 flags, and one is not 0. It takes no memory.
@@ -79,13 +79,14 @@ impl Header {
     /// The key of an entry that fits the flags ([`Header::admits`]).
     pub fn key_of(&self, alloc: Global, entry: &Entry) -> Result<Key, NoMemory>
         requires { IsEntry self.now.flags entry.now }
-        ensures { IfOk result (λ key. key ≡ key_bytes self.now.flags entry.now) }
+        ensures { IfOk result (λ key. key ≡ key_of self.now.flags entry.now.change) }
     {
         match &entry.change {
             Change::Insert(row) | Change::Delete(row) => Key::of_row(alloc, self.flags(), row),
             Change::Update { old, .. } => Key::of_image(alloc, self.flags(), old),
         }
     }
+
     /// Whether an entry fits the flags: each record has a field for each flag; the row of an insert
     /// or a delete has no NULL in a key column; an update's old record has a value other than NULL
     /// in each key column and its new one nothing there; elsewhere both fields are defined or both
@@ -98,6 +99,29 @@ impl Header {
             Change::Update { old, new } => admits_update(self.flags(), old.fields(), new.fields()),
         }
     }
+}
+
+impl PartialEq for Header {
+    ghost use Rattle.std.specs.Prelude.{nat_eq};
+    ghost use Rattle.std.specs.Ordering.{on, eq_of_both};
+    ghost use Rattle.std.specs.Cmp.Lexicographic.{pointwise};
+    ghost use Rattle.std.specs.Cmp.Rules.{comparing};
+    ghost use Rattle.std.proofs.Common.{rules};
+
+    ghost eq = { eq_of_both (on (λ h. h.name) (pointwise nat_eq)) (on (λ h. h.flags) (pointwise nat_eq)) };
+
+    ghost laws = { Prim.search (comparing, rules) };
+
+    fn eq(&self, other: &Header) -> bool {
+        self.name == other.name && self.flags == other.flags
+    }
+}
+
+impl Eq for Header {
+    ghost use Rattle.std.specs.Cmp.Rules.{comparing};
+    ghost use Rattle.std.proofs.Common.{rules};
+
+    ghost laws = { Prim.search (comparing, rules) };
 }
 
 /// Whether a row has a value for each flag, and none of them NULL in a key column.

@@ -13,7 +13,7 @@
 //!
 //! `header`, `entry`, `group` and `changeset` are what a file holds, `reader` and `writer` go from
 //! bytes to that and back, `fault` says why a file is refused, `format` has the bytes that tell its
-//! parts apart, and `laws` what holds of all files.
+//! parts apart, `places` finds entries and groups, `inverse` undoes entries, and `laws` has what holds of all files.
 #![tactic(auto)]
 
 mod changeset;
@@ -22,7 +22,9 @@ mod fault;
 mod format;
 mod group;
 mod header;
+mod inverse;
 mod laws;
+mod places;
 mod reader;
 mod writer;
 
@@ -31,6 +33,6 @@ pub use entry::{Change, Entry};
 pub use fault::{ReadError, ReadFault, ReadFaultKind};
 pub use group::Group;
 pub use header::Header;
-pub use laws::changeset_files_law;
+pub use laws::{changeset_files_law, entry_inverses_law, row_keys_law};
 pub use reader::read;
 pub use writer::write;

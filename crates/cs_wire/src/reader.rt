@@ -7,21 +7,21 @@ ghost use Rattle.cs_value.specs.Spelling.{record_bytes};
 ghost use Rattle.cs_wire.specs.declared.entry.Change.{Change as ChangeData};
 ghost use Rattle.cs_wire.specs.declared.entry.Entry.{Entry as EntryData};
 ghost use Rattle.cs_wire.specs.Entry.{IsChange, IsEntry, operation, fields_of, key_of, entry_bytes};
-ghost use Rattle.cs_wire.specs.Changeset.{HeaderData, GroupData, IsGroup, IsChangeset, entries_bytes, group_bytes, file_bytes};
-ghost use Rattle.cs_wire.specs.ReadFaults.{Stands, HasEntry, TableStart, EntryStart, ReadCase, RefusesFile};
+ghost use Rattle.cs_wire.specs.Changeset.{HeaderData, GroupData, IsNewKey, IsNewName, IsGroup, IsChangeset, entries_bytes, group_bytes, file_bytes};
+ghost use Rattle.cs_wire.specs.ReadFaults.{Stands, HasEntry, TableStart, EntryStart, ReadCase, ReadFails};
 ghost use Rattle.cs_wire.specs.Views.{byte_of};
-ghost use Rattle.cs_wire.specs.Reading.{Reads, Fails, EndsGroup, ChangeRefused, NoOperation, NoFlag};
+ghost use Rattle.cs_value.specs.Refusals.{Answers, Refuses};
+ghost use Rattle.cs_wire.specs.Reading.{Fails, EndsGroup, ChangeRefused, NoOperation, NoFlag};
 
 mod header;
 mod record;
 
 use crate::changeset::Changeset;
 use crate::entry::{Change, Entry, Operation};
-use crate::fault::{ReadError, ReadFaultKind};
+use crate::fault::{ReadError, ReadFaultKind, fault_at};
 use crate::format::{DELETE, INSERT, PATCHSET, TABLE, UPDATE};
 use crate::group::Group;
 use crate::header::Header;
-use cs_value::record_spellings_law;
 use header::read_header;
 use record::{read_new, read_old, read_row};
 use std::alloc::Global;
@@ -34,7 +34,7 @@ use std::alloc::Global;
 /// `NoMemory` where memory is refused.
 pub fn read(alloc: Global, file: &[u8]) -> Result<Changeset, ReadError>
     ensures found { IfOk result (λ c. IsChangeset c × (file.now ≡ file_bytes c)) }
-    ensures refused { IfErr result (RefusesFile file.now) }
+    ensures refused { IfErr result (Refuses (λ f. ReadFails file.now f.kind f.place)) }
 {
     read_groups(alloc, file)
 }
@@ -42,7 +42,7 @@ pub fn read(alloc: Global, file: &[u8]) -> Result<Changeset, ReadError>
 /// The groups of a file.
 fn read_groups(alloc: Global, file: &[u8]) -> Result<Changeset, ReadError>
     ensures found { IfOk result (λ c. IsChangeset c × (file.now ≡ file_bytes c)) }
-    ensures only { (c : List GroupData) → IsChangeset c → file.now ≡ file_bytes c → Reads result (λ r. r ≡ c) }
+    ensures only { (c : List GroupData) → IsChangeset c → file.now ≡ file_bytes c → Answers result (λ r. r ≡ c) }
     ensures fault { Fails result (ReadCase file.now) }
 {
     let mut changeset = Changeset::new(alloc);
@@ -64,15 +64,15 @@ fn push_group(
     ensures found { IfOk result (λ end. (group : GroupData) × IsGroup group
         × Stands file.now at (group_bytes group) end × (changeset.new ≡ changeset.old ++ group ∷ [])) }
     ensures only { (group : GroupData) (rest : List ℕ) → IsGroup group
-        → All (λ g. g.header.name ≢ group.header.name) changeset.old → EndsGroup rest
-        → drop at file.now ≡ group_bytes group ++ rest → Reads result (λ _. changeset.new ≡ changeset.old ++ group ∷ []) }
+        → IsNewName changeset.old group.header.name → EndsGroup rest
+        → drop at file.now ≡ group_bytes group ++ rest → Answers result (λ _. changeset.new ≡ changeset.old ++ group ∷ []) }
     ensures ends { IfOk result (λ end. HasEntry file.now end → ⊥) }
     ensures fault { TableStart file.now at changeset.old → (HasEntry file.now at → at ≡ 0) → Fails result (ReadCase file.now) }
     ensures well_formed { OnOk result (IsChangeset changeset.new) }
 {
     let (header, start) = read_header(alloc, file, at)?;
     if changeset.find(header.name()).is_some() {
-        return Err(ReadError::fault(ReadFaultKind::DuplicateTable, at));
+        return Err(fault_at(ReadFaultKind::DuplicateTable, at));
     }
     let (group, end) = read_group(alloc, file, start, header)?;
     changeset.push(group)?;
@@ -90,12 +90,12 @@ fn read_group(
     ensures found { IfOk result (λ r. (r.0.header ≡ header) × IsGroup r.0
         × Stands file.now at (entries_bytes r.0.entries) r.1) }
     ensures only { (entries : List EntryData) (rest : List ℕ) → IsGroup (record { header = header; entries = entries })
-        → EndsGroup rest → drop at file.now ≡ entries_bytes entries ++ rest → Reads result (λ r. r.0.entries ≡ entries) }
+        → EndsGroup rest → drop at file.now ≡ entries_bytes entries ++ rest → Answers result (λ r. r.0.entries ≡ entries) }
     ensures ends { IfOk result (λ r. HasEntry file.now r.1 → ⊥) }
     ensures fault { EntryStart file.now at header [] → Fails result (ReadCase file.now) }
 {
     if !has_entry(file, at) {
-        return Err(ReadError::fault(ReadFaultKind::EmptyGroup, at));
+        return Err(fault_at(ReadFaultKind::EmptyGroup, at));
     }
     let (first, next) = read_entry(alloc, file, at, header.flags())?;
     let mut group = Group::new(alloc, header, first)?;
@@ -119,19 +119,16 @@ fn push_entry(alloc: Global, file: &[u8], at: usize, group: &mut Group) -> Resul
     ensures found { IfOk result (λ end. (entry : EntryData) × Stands file.now at (entry_bytes entry) end
         × (group.new.entries ≡ group.old.entries ++ entry ∷ [])) }
     ensures only { (entry : EntryData) (rest : List ℕ) → IsEntry group.old.header.flags entry
-        → All (λ e. key_of group.old.header.flags e.change ≢ key_of group.old.header.flags entry.change) group.old.entries
-        → drop at file.now ≡ entry_bytes entry ++ rest → Reads result (λ _. group.new.entries ≡ group.old.entries ++ entry ∷ []) }
+        → IsNewKey group.old.header.flags group.old.entries (key_of group.old.header.flags entry.change)
+        → drop at file.now ≡ entry_bytes entry ++ rest → Answers result (λ _. group.new.entries ≡ group.old.entries ++ entry ∷ []) }
     ensures fault { EntryStart file.now at group.old.header group.old.entries → Fails result (ReadCase file.now) }
     ensures header { group.new.header ≡ group.old.header }
     ensures well_formed { OnOk result (IsGroup group.new) }
 {
-    let header = group.header();
-    let (entry, end) = read_entry(alloc, file, at, header.flags())?;
-    let key = header.key_of(alloc, &entry)?;
-    // Keys that are spelled alike are one.
-    record_spellings_law();
+    let (entry, end) = read_entry(alloc, file, at, group.flags())?;
+    let key = group.key_of(alloc, &entry)?;
     if group.find(&key).is_some() {
-        return Err(ReadError::fault(ReadFaultKind::DuplicateKey, at));
+        return Err(fault_at(ReadFaultKind::DuplicateKey, at));
     }
     group.push_with_key(key, entry)?;
     Ok(end)
@@ -147,7 +144,7 @@ fn read_entry(
     requires { HasEntry file.now at }
     ensures found { IfOk result (λ r. IsEntry flags.now r.0 × Stands file.now at (entry_bytes r.0) r.1) }
     ensures only { (entry : EntryData) (rest : List ℕ) → IsEntry flags.now entry
-        → drop at file.now ≡ entry_bytes entry ++ rest → Reads result (λ r. r.0 ≡ entry) }
+        → drop at file.now ≡ entry_bytes entry ++ rest → Answers result (λ r. r.0 ≡ entry) }
     ensures fault { (header : HeaderData) (entries : List EntryData) → flags.now ≡ header.flags
         → EntryStart file.now at header entries → Fails result (ReadCase file.now) }
 {
@@ -162,14 +159,14 @@ fn read_operation(file: &[u8], at: usize) -> Result<(Operation, usize), ReadErro
     requires { at < length file.now }
     ensures found { IfOk result (λ r. Stands file.now at (byte_of r.0 ∷ []) r.1) }
     ensures only { (change : ChangeData) (rest : List ℕ) → drop at file.now ≡ operation change ∷ rest
-        → Reads result (λ r. byte_of r.0 ≡ operation change) }
+        → Answers result (λ r. byte_of r.0 ≡ operation change) }
     ensures fault { Fails result (NoOperation file.now at) }
 {
     match file[at] {
         INSERT => Ok((Operation::Insert, at + 1)),
         DELETE => Ok((Operation::Delete, at + 1)),
         UPDATE => Ok((Operation::Update, at + 1)),
-        _ => Err(ReadError::fault(ReadFaultKind::BadOp, at)),
+        _ => Err(fault_at(ReadFaultKind::BadOp, at)),
     }
 }
 
@@ -178,14 +175,14 @@ fn read_indirect(file: &[u8], at: usize) -> Result<(bool, usize), ReadError>
     requires { at ≤ length file.now }
     ensures found { IfOk result (λ r. Stands file.now at ((if r.0 then 1 else 0) ∷ []) r.1) }
     ensures only { (indirect : Bool) (rest : List ℕ) → drop at file.now ≡ (if indirect then 1 else 0) ∷ rest
-        → Reads result (λ r. r.0 ≡ indirect) }
+        → Answers result (λ r. r.0 ≡ indirect) }
     ensures fault { Fails result (NoFlag file.now at) }
 {
     match file.get(at) {
         Some(0) => Ok((false, at + 1)),
         Some(1) => Ok((true, at + 1)),
-        Some(_) => Err(ReadError::fault(ReadFaultKind::BadFlag, at)),
-        None => Err(ReadError::fault(ReadFaultKind::Truncated, file.len())),
+        Some(_) => Err(fault_at(ReadFaultKind::BadFlag, at)),
+        None => Err(fault_at(ReadFaultKind::Truncated, file.len())),
     }
 }
 
@@ -201,7 +198,7 @@ fn read_change(
     ensures found { IfOk result (λ r. IsChange flags.now r.0 × (operation r.0 ≡ byte_of what)
         × Stands file.now at (record_bytes (fields_of r.0)) r.1) }
     ensures only { (change : ChangeData) (rest : List ℕ) → IsChange flags.now change → operation change ≡ byte_of what
-        → drop at file.now ≡ record_bytes (fields_of change) ++ rest → Reads result (λ r. r.0 ≡ change) }
+        → drop at file.now ≡ record_bytes (fields_of change) ++ rest → Answers result (λ r. r.0 ≡ change) }
     ensures fault { Fails result (ChangeRefused (byte_of what) flags.now file.now at) }
 {
     match what {

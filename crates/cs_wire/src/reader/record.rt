@@ -6,9 +6,10 @@ ghost use Rattle.cs_value.specs.declared.value.OwnedField.TheVariants.{Defined};
 ghost use Rattle.cs_value.specs.Value.{IsField, IsRecord, field_of, value_of};
 ghost use Rattle.cs_value.specs.Spelling.{field_bytes, record_bytes};
 ghost use Rattle.cs_wire.specs.ReadFaults.{Stands};
-ghost use Rattle.cs_wire.specs.Reading.{Reads, Fails, Meets, IsFieldAt, IsRecordAt, FieldRefused, RecordRefused, NoField, row_wants, old_wants, new_wants, in_row, in_old, in_new, refusal, is_modified, is_defined};
+ghost use Rattle.cs_value.specs.Refusals.{Answers};
+ghost use Rattle.cs_wire.specs.Reading.{Fails, Meets, IsFieldAt, IsRecordAt, FieldRefused, RecordRefused, NoField, row_wants, old_wants, new_wants, in_row, in_old, in_new, refusal, is_modified, is_defined};
 
-use crate::fault::{ReadError, ReadFaultKind};
+use crate::fault::{ReadError, ReadFaultKind, fault_at, fault_behind};
 use crate::reader::rest_from;
 use cs_value::{Field, Image, OwnedField, OwnedValue, Row, Value, field_read};
 use std::alloc::Global;
@@ -23,7 +24,7 @@ pub(crate) fn read_row(
     requires { at ≤ length file.now }
     ensures found { IfOk result (λ r. IsRecordAt (row_wants flags.now) file.now at (map Defined r.0) r.1) }
     ensures only { (row : List OwnedField) (rest : List ℕ) → IsRecord row → Meets (row_wants flags.now) row
-        → drop at file.now ≡ record_bytes row ++ rest → Reads result (λ r. map Defined r.0 ≡ row) }
+        → drop at file.now ≡ record_bytes row ++ rest → Answers result (λ r. map Defined r.0 ≡ row) }
     ensures fault { Fails result (RecordRefused (row_wants flags.now) file.now at) }
 {
     let mut values = Vec::new(alloc);
@@ -46,7 +47,7 @@ pub(crate) fn read_old(
     requires { at ≤ length file.now }
     ensures found { IfOk result (λ r. IsRecordAt (old_wants flags.now) file.now at r.0 r.1) }
     ensures only { (old : List OwnedField) (rest : List ℕ) → IsRecord old → Meets (old_wants flags.now) old
-        → drop at file.now ≡ record_bytes old ++ rest → Reads result (λ r. r.0 ≡ old) }
+        → drop at file.now ≡ record_bytes old ++ rest → Answers result (λ r. r.0 ≡ old) }
     ensures fault { Fails result (RecordRefused (old_wants flags.now) file.now at) }
 {
     let mut fields = Vec::new(alloc);
@@ -72,7 +73,7 @@ pub(crate) fn read_new(
     requires columns { length flags.now ≡ length old.now }
     ensures found { IfOk result (λ r. IsRecordAt (new_wants flags.now old.now) file.now at r.0 r.1) }
     ensures only { (new : List OwnedField) (rest : List ℕ) → IsRecord new → Meets (new_wants flags.now old.now) new
-        → drop at file.now ≡ record_bytes new ++ rest → Reads result (λ r. r.0 ≡ new) }
+        → drop at file.now ≡ record_bytes new ++ rest → Answers result (λ r. r.0 ≡ new) }
     ensures fault { Fails result (RecordRefused (new_wants flags.now old.now) file.now at) }
 {
     let old = old.fields();
@@ -104,15 +105,15 @@ fn read_value(
     requires { at ≤ length file.now }
     ensures found { IfOk result (λ r. IsFieldAt (in_row is_key) file.now at (Defined r.0) r.1) }
     ensures only { (f : OwnedField) (rest : List ℕ) → IsField f → refusal (in_row is_key) f ≡ None
-        → drop at file.now ≡ field_bytes f ++ rest → Reads result (λ r. Defined r.0 ≡ f) }
+        → drop at file.now ≡ field_bytes f ++ rest → Answers result (λ r. Defined r.0 ≡ f) }
     ensures fault { Fails result (FieldRefused (in_row is_key) file.now at) }
 {
     let (field, end) = read_field(file, at)?;
     let Field::Defined(value) = field else {
-        return Err(ReadError::fault(ReadFaultKind::UndefinedField, at));
+        return Err(fault_at(ReadFaultKind::UndefinedField, at));
     };
     if is_key && is_null(value) {
-        return Err(ReadError::fault(ReadFaultKind::NullKey, at));
+        return Err(fault_at(ReadFaultKind::NullKey, at));
     }
     Ok((value.to_owned(alloc)?, end))
 }
@@ -127,7 +128,7 @@ fn read_old_field(
     requires { at ≤ length file.now }
     ensures found { IfOk result (λ r. IsFieldAt (in_old is_key) file.now at r.0 r.1) }
     ensures only { (f : OwnedField) (rest : List ℕ) → IsField f → refusal (in_old is_key) f ≡ None
-        → drop at file.now ≡ field_bytes f ++ rest → Reads result (λ r. r.0 ≡ f) }
+        → drop at file.now ≡ field_bytes f ++ rest → Answers result (λ r. r.0 ≡ f) }
     ensures fault { Fails result (FieldRefused (in_old is_key) file.now at) }
 {
     if is_key {
@@ -148,12 +149,12 @@ fn read_new_field(
     requires { at ≤ length file.now }
     ensures found { IfOk result (λ r. IsFieldAt (in_new is_modified) file.now at r.0 r.1) }
     ensures only { (f : OwnedField) (rest : List ℕ) → IsField f → refusal (in_new is_modified) f ≡ None
-        → drop at file.now ≡ field_bytes f ++ rest → Reads result (λ r. r.0 ≡ f) }
+        → drop at file.now ≡ field_bytes f ++ rest → Answers result (λ r. r.0 ≡ f) }
     ensures fault { Fails result (FieldRefused (in_new is_modified) file.now at) }
 {
     let (field, end) = read_field(file, at)?;
     if is_defined(field) != is_modified {
-        return Err(ReadError::fault(ReadFaultKind::Unpaired, at));
+        return Err(fault_at(ReadFaultKind::Unpaired, at));
     }
     Ok((field.to_owned(alloc)?, end))
 }
@@ -163,12 +164,12 @@ fn read_field(file: &[u8], at: usize) -> Result<(Field<'_>, usize), ReadError>
     requires { at ≤ length file.now }
     ensures found { IfOk result (λ r. IsField (field_of r.0) × Stands file.now at (field_bytes (field_of r.0)) r.1) }
     ensures only { (f : OwnedField) (rest : List ℕ) → IsField f → drop at file.now ≡ field_bytes f ++ rest
-        → Reads result (λ r. field_of r.0 ≡ f) }
+        → Answers result (λ r. field_of r.0 ≡ f) }
     ensures fault { Fails result (NoField file.now at) }
 {
     match field_read(rest_from(file, at)) {
         Ok((field, used)) => Ok((field, at + used)),
-        Err(fault) => Err(ReadError::behind(at, fault)),
+        Err(fault) => Err(fault_behind(at, fault)),
     }
 }
 

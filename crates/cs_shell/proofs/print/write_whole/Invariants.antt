@@ -1,11 +1,11 @@
 use Rattle.std.proofs.Common.{◌≡◌, ◌++◌, List, ℕ, length}
 use Rattle.std.specs.Io.KnownBytes.{Appends}
-use Rattle.cs_shell.specs.Told.{inner_of}
+use Rattle.cs_shell.specs.Told.{known}
 use Rattle.cs_shell.proofs.print.write_whole.Given as goal
 
 abbrev pub invariant-loop-rest : goal.invariant-loop-rest
 invariant-loop-rest g l =
-    (front : List ℕ) × (l.bytes ≡ front ++ l.rest) × Appends (g.W.Write.contents (inner_of l.initial.out)) (g.W.Write.contents (inner_of l.out)) front
+    (front : List ℕ) × (l.bytes ≡ front ++ l.rest) × Appends (known g.W.Write.contents l.initial.out) (known g.W.Write.contents l.out) front
 
 abbrev pub decreases-loop-rest : goal.decreases-loop-rest
 decreases-loop-rest g l = length l.rest

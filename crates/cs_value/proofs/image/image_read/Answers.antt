@@ -1,6 +1,7 @@
 use Rattle.std.proofs.Common.{arith}
 use Rattle.std.proofs.lemmas.Result.{err_from_is_err_and}
-use Rattle.cs_value.proofs.ImageReading.{ReadsImage-err, no_field, has_field, all_fields}
+use Rattle.cs_value.proofs.ImageReading.{no_field, has_field, all_fields}
+use Rattle.cs_value.proofs.RefusalLaws.{Answers-err}
 use Rattle.cs_value.proofs.image.image_read.Goals as goal
 
 pub returns-in_err-field-clause-only : goal.returns-in_err-field-clause-only
@@ -8,7 +9,7 @@ returns-in_err-field-clause-only c =
     let p = err_from_is_err_and c.from_residual.result c.from_residual.ensures.1 in
     λ fields rest is len e.
     let next = has_field c.args.bytes.now c.args.columns c.columns.counter c.columns.fields.items c.columns.end c.columns.invariant c.columns-test.true fields rest is len e in
-    rw (p.1, p.2) (ReadsImage-err c.in_err-field.field-0.0 _ _ (c.in_err-field.ensures.only next.field next.rest next.is_field next.spelled))
+    rw (p.1, p.2) (Answers-err c.in_err-field.field-0.0 _ _ (c.in_err-field.ensures.only next.field next.rest next.is_field next.spelled))
 
 pub returns-in_err-field-clause-fault : goal.returns-in_err-field-clause-fault
 returns-in_err-field-clause-fault c =

@@ -1,21 +1,16 @@
 use Rattle.std.proofs.Common.{◌∷◌, [], ◌++◌, ap, sym, ◌∙◌}
 use Rattle.std.proofs.lemmas.Result.{err_from_is_err_and}
 use Rattle.cs_wire.specs.Changeset.{HeaderData, GroupData, header_bytes}
-use Rattle.cs_wire.proofs.ReadingLaws.{Reads-err, rest_is}
-use Rattle.cs_wire.proofs.KeyLaws.{found_place, not_found}
-use Rattle.cs_wire.proofs.GroupsLaws.{group_bytes-append, Stands-group, same_group, under_header, not_new_table, not_new_name, EntryStart-none}
+use Rattle.cs_value.proofs.RefusalLaws.{Answers-err}
+use Rattle.cs_wire.proofs.ReadingLaws.{rest_is}
+use Rattle.cs_wire.proofs.GroupsLaws.{group_bytes-append, Stands-group, same_group, under_header}
+use Rattle.cs_wire.proofs.IndexLaws.{found_or_new}
 use Rattle.cs_wire.proofs.reader.push_group.Goals as goal
 
 pub returns-in_err-header-clause-only : goal.returns-in_err-header-clause-only
 returns-in_err-header-clause-only c =
     let p = err_from_is_err_and c.from_residual.result c.from_residual.ensures.1 in
-    λ group rest g fresh ends e. rw (p.1, p.2) (Reads-err c.in_err-header.field-0.0 _ _ (c.in_err-header.ensures.only group.header _ g.header (e ∙ group_bytes-append group rest)))
-
-pub returns-then-is_some-clause-only : goal.returns-then-is_some-clause-only
-returns-then-is_some-clause-only c = λ group rest g fresh ends e.
-    let same = c.in_ok-header.ensures.only group.header _ g.header (e ∙ group_bytes-append group rest) in
-    let place = found_place c.find.result _ (sym c.is_some.ensures ∙ c.if-is_some.true) c.find.ensures.found in
-    absurd (not_new_table c.args.changeset.now c.name.result.now place.0 group (c.name.ensures ∙ ap (λ (h : HeaderData). h.name) same) place.1 fresh)
+    λ group rest g fresh ends e. rw (p.1, p.2) (Answers-err c.in_err-header.field-0.0 _ _ (c.in_err-header.ensures.only group.header _ g.header (e ∙ group_bytes-append group rest)))
 
 pub returns-in_err-group-clause-only : goal.returns-in_err-group-clause-only
 returns-in_err-group-clause-only c =
@@ -24,7 +19,7 @@ returns-in_err-group-clause-only c =
     let spelled = e ∙ group_bytes-append group rest in
     let same = c.in_ok-header.ensures.only group.header _ g.header spelled in
     let entries = rest_is c.args.file.now c.args.at c.in_ok-header.start (header_bytes group.header) _ (rw (← same) c.in_ok-header.ensures.found.1) spelled in
-    rw (p.1, p.2) (Reads-err c.in_err-group.field-0.0 _ _ (c.in_err-group.ensures.only group.entries rest (under_header group c.in_ok-header.header same g) ends entries))
+    rw (p.1, p.2) (Answers-err c.in_err-group.field-0.0 _ _ (c.in_err-group.ensures.only group.entries rest (under_header group c.in_ok-header.header same g) ends entries))
 
 pub returns-clause-found : goal.returns-clause-found
 returns-clause-found c =
@@ -43,23 +38,9 @@ returns-clause-only c = λ group rest g fresh ends e.
     let read = c.in_ok-group.ensures.only group.entries rest (under_header group c.in_ok-header.header same g) ends entries in
     c.in_ok-push.ensures.ok ∙ ap (λ (x : GroupData). c.args.changeset.now ++ x ∷ []) (same_group c.in_ok-group.group group (c.in_ok-group.ensures.found.0 ∙ same) read)
 
-pub returns-then-is_some-clause-fault : goal.returns-then-is_some-clause-fault
-returns-then-is_some-clause-fault c = λ start only.
-    let header = c.in_ok-header.header in
-    let place = found_place c.find.result _ (sym c.is_some.ensures ∙ c.if-is_some.true) c.find.ensures.found in
-    rw c.fault.ensures (
-      c.args.changeset.now,
-      header,
-      c.in_ok-header.start,
-      start,
-      c.in_ok-header.ensures.found.0,
-      c.in_ok-header.ensures.found.1,
-      not_new_name c.args.changeset.now c.name.result.now place.0 header c.name.ensures place.1,
-    )
-
-pub returns-in_err-group-clause-fault : goal.returns-in_err-group-clause-fault
-returns-in_err-group-clause-fault c = λ start only.
-    let p = err_from_is_err_and c.from_residual-in_err-group.result c.from_residual-in_err-group.ensures.1 in
-    let header = c.in_ok-header.header in
-    let absent = not_found c.find.result _ (sym c.is_some.ensures ∙ c.if-is_some.false) c.find.ensures.absent in
-    rw (p.1, p.2) (c.in_err-group.ensures.fault (EntryStart-none c.args.file.now c.args.at c.in_ok-header.start c.args.changeset.now header start c.in_ok-header.ensures.found.0 (rw c.name.ensures at absent) c.in_ok-header.ensures.found.1))
+pub returns-then-is_some-clause-only : goal.returns-then-is_some-clause-only
+returns-then-is_some-clause-only c = λ group rest g fresh ends e.
+    let same = c.in_ok-header.ensures.only group.header _ g.header (e ∙ group_bytes-append group rest) in
+    let name = c.name.ensures ∙ ap (λ (h : HeaderData). h.name) same in
+    let none = c.find.ensures.absent.1 (rw name fresh) in
+    absurd (found_or_new c.find.result (sym c.is_some.ensures ∙ c.if-is_some.true) none)

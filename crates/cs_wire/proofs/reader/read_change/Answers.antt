@@ -7,7 +7,8 @@ use Rattle.cs_value.specs.declared.value.OwnedField.TheVariants.{Defined}
 use Rattle.cs_value.specs.Spelling.{field_bytes, record_bytes}
 use Rattle.cs_wire.specs.declared.entry.Change.TheVariants.{Insert, Delete, Update}
 use Rattle.cs_wire.specs.Views.{byte_of}
-use Rattle.cs_wire.proofs.ReadingLaws.{Reads-err, because, Stands-then}
+use Rattle.cs_value.proofs.RefusalLaws.{Answers-err}
+use Rattle.cs_wire.proofs.ReadingLaws.{because, Stands-then}
 use Rattle.cs_wire.proofs.EntryLaws.{IsRecord-map, IsRow-map}
 use Rattle.cs_wire.proofs.ChangeLaws.{row_met, keyed_row, old_met, new_met, keyed_update, row_refused, old_refused, new_refused, inserted, deleted, updated, same_values, spelled_update, behind_old, length-old}
 use Rattle.cs_wire.proofs.reader.read_change.Goals as goal
@@ -18,7 +19,7 @@ returns-in_err-row-in-Insert-clause-only c =
     λ change rest is does e.
     let row = inserted change (does ∙ ap byte_of c.in-Insert.is) in
     let whole = rw row.1 at is in
-    rw (p.1, p.2) (Reads-err c.in_err-row-in-Insert.field-0.0 _ _ (c.in_err-row-in-Insert.ensures.only (map Defined row.0) rest (IsRecord-map row.0 whole.0) (row_met c.args.flags.now row.0 whole.1) (rw row.1 at e)))
+    rw (p.1, p.2) (Answers-err c.in_err-row-in-Insert.field-0.0 _ _ (c.in_err-row-in-Insert.ensures.only (map Defined row.0) rest (IsRecord-map row.0 whole.0) (row_met c.args.flags.now row.0 whole.1) (rw row.1 at e)))
 
 pub returns-in_err-row-in-Insert-clause-fault : goal.returns-in_err-row-in-Insert-clause-fault
 returns-in_err-row-in-Insert-clause-fault c =
@@ -45,7 +46,7 @@ returns-in_err-row-in-Delete-clause-only c =
     λ change rest is does e.
     let row = deleted change (does ∙ ap byte_of c.in-Delete.is) in
     let whole = rw row.1 at is in
-    rw (p.1, p.2) (Reads-err c.in_err-row-in-Delete.field-0.0 _ _ (c.in_err-row-in-Delete.ensures.only (map Defined row.0) rest (IsRecord-map row.0 whole.0) (row_met c.args.flags.now row.0 whole.1) (rw row.1 at e)))
+    rw (p.1, p.2) (Answers-err c.in_err-row-in-Delete.field-0.0 _ _ (c.in_err-row-in-Delete.ensures.only (map Defined row.0) rest (IsRecord-map row.0 whole.0) (row_met c.args.flags.now row.0 whole.1) (rw row.1 at e)))
 
 pub returns-in_err-row-in-Delete-clause-fault : goal.returns-in_err-row-in-Delete-clause-fault
 returns-in_err-row-in-Delete-clause-fault c =
@@ -72,7 +73,7 @@ returns-in_err-old-in-Update-clause-only c =
     λ change rest is does e.
     let u = updated change (does ∙ ap byte_of c.in-Update.is) in
     let whole = rw u.2 at is in
-    rw (p.1, p.2) (Reads-err c.in_err-old-in-Update.field-0.0 _ _ (c.in_err-old-in-Update.ensures.only u.0 _ whole.0 (old_met c.args.flags.now u.0 u.1 whole.2) (spelled_update c.args.file.now c.args.at u.0 u.1 rest (rw u.2 at e))))
+    rw (p.1, p.2) (Answers-err c.in_err-old-in-Update.field-0.0 _ _ (c.in_err-old-in-Update.ensures.only u.0 _ whole.0 (old_met c.args.flags.now u.0 u.1 whole.2) (spelled_update c.args.file.now c.args.at u.0 u.1 rest (rw u.2 at e))))
 
 pub returns-in_err-old-in-Update-clause-fault : goal.returns-in_err-old-in-Update-clause-fault
 returns-in_err-old-in-Update-clause-fault c =
@@ -91,7 +92,7 @@ returns-in_err-new-in-Update-clause-only c =
     let spelled = spelled_update c.args.file.now c.args.at u.0 u.1 rest (rw u.2 at e) in
     let same = c.in_ok-old-in-Update.ensures.only u.0 _ whole.0 (old_met c.args.flags.now u.0 u.1 whole.2) spelled in
     let behind = behind_old c.args.file.now c.args.at c.in_ok-old-in-Update.middle c.in_ok-old-in-Update.old u.0 _ c.in_ok-old-in-Update.ensures.found.stands same spelled in
-    rw (p.1, p.2) (Reads-err c.in_err-new-in-Update.field-0.0 _ _ (c.in_err-new-in-Update.ensures.only u.1 rest whole.1 (rw same (new_met c.args.flags.now u.0 u.1 whole.2)) behind))
+    rw (p.1, p.2) (Answers-err c.in_err-new-in-Update.field-0.0 _ _ (c.in_err-new-in-Update.ensures.only u.1 rest whole.1 (rw same (new_met c.args.flags.now u.0 u.1 whole.2)) behind))
 
 pub returns-in_err-new-in-Update-clause-fault : goal.returns-in_err-new-in-Update-clause-fault
 returns-in_err-new-in-Update-clause-fault c =

@@ -1,6 +1,7 @@
 use Rattle.std.proofs.Common.{Bool, cond, ap, sym, ◌∙◌}
 use Rattle.std.proofs.lemmas.Result.{err_from_is_err_and}
-use Rattle.cs_wire.proofs.ReadingLaws.{Reads-err, because, Stands-then, behind_byte}
+use Rattle.cs_value.proofs.RefusalLaws.{Answers-err}
+use Rattle.cs_wire.proofs.ReadingLaws.{because, Stands-then, behind_byte}
 use Rattle.cs_wire.proofs.EntryLaws.{entry_bytes-append, Stands-entry, same_entry}
 use Rattle.cs_wire.proofs.EntryFaults.{change_case}
 use Rattle.cs_wire.proofs.reader.read_entry.Goals as goal
@@ -8,7 +9,7 @@ use Rattle.cs_wire.proofs.reader.read_entry.Goals as goal
 pub returns-in_err-operation-clause-only : goal.returns-in_err-operation-clause-only
 returns-in_err-operation-clause-only c =
     let p = err_from_is_err_and c.from_residual.result c.from_residual.ensures.1 in
-    λ entry rest h e. rw (p.1, p.2) (Reads-err c.in_err-operation.field-0.0 _ _ (c.in_err-operation.ensures.only entry.change _ (e ∙ entry_bytes-append entry rest)))
+    λ entry rest h e. rw (p.1, p.2) (Answers-err c.in_err-operation.field-0.0 _ _ (c.in_err-operation.ensures.only entry.change _ (e ∙ entry_bytes-append entry rest)))
 
 pub returns-in_err-indirect-clause-only : goal.returns-in_err-indirect-clause-only
 returns-in_err-indirect-clause-only c =
@@ -17,7 +18,7 @@ returns-in_err-indirect-clause-only c =
     let whole = e ∙ entry_bytes-append entry rest in
     let same = c.in_ok-operation.ensures.only entry.change _ whole in
     let behind = behind_byte c.args.file.now c.args.at c.in_ok-operation.start _ _ _ c.in_ok-operation.ensures.found same whole in
-    rw (p.1, p.2) (Reads-err c.in_err-indirect.field-0.0 _ _ (c.in_err-indirect.ensures.only entry.indirect _ behind))
+    rw (p.1, p.2) (Answers-err c.in_err-indirect.field-0.0 _ _ (c.in_err-indirect.ensures.only entry.indirect _ behind))
 
 pub returns-in_err-change-clause-only : goal.returns-in_err-change-clause-only
 returns-in_err-change-clause-only c =
@@ -28,7 +29,7 @@ returns-in_err-change-clause-only c =
     let behind = behind_byte c.args.file.now c.args.at c.in_ok-operation.start _ _ _ c.in_ok-operation.ensures.found same whole in
     let flag = c.in_ok-indirect.ensures.only entry.indirect _ behind in
     let records = behind_byte c.args.file.now c.in_ok-operation.start c.in_ok-indirect.start _ _ _ c.in_ok-indirect.ensures.found (ap (λ (b : Bool). cond b 1 0) flag) behind in
-    rw (p.1, p.2) (Reads-err c.in_err-change.field-0.0 _ _ (c.in_err-change.ensures.only entry.change rest h (sym same) records))
+    rw (p.1, p.2) (Answers-err c.in_err-change.field-0.0 _ _ (c.in_err-change.ensures.only entry.change rest h (sym same) records))
 
 pub returns-in_err-change-clause-fault : goal.returns-in_err-change-clause-fault
 returns-in_err-change-clause-fault c =

@@ -1,7 +1,8 @@
 use Rattle.std.proofs.Common.{[], arith}
 use Rattle.std.proofs.lemmas.Result.{err_from_is_err_and}
 use Rattle.std.proofs.lemmas.Bool.{iff_false}
-use Rattle.cs_wire.proofs.ReadingLaws.{Reads-err, Stands-moves}
+use Rattle.cs_value.proofs.RefusalLaws.{Answers-err}
+use Rattle.cs_wire.proofs.ReadingLaws.{Stands-moves}
 use Rattle.cs_wire.proofs.EntryLaws.{entry_bytes_some}
 use Rattle.cs_wire.proofs.EntriesLaws.{has_first, first_entry, next_of_entries, all_entries, EntriesSoFar-one, EntriesSoFar-push, EntryStart-more}
 use Rattle.cs_wire.proofs.reader.read_group.Goals as goal
@@ -15,7 +16,7 @@ returns-in_err-first-clause-only c =
     let p = err_from_is_err_and c.from_residual.result c.from_residual.ensures.1 in
     λ all rest g ends e.
     let n = first_entry c.args.file.now c.args.at c.args.header all rest c.requires g e in
-    rw (p.1, p.2) (Reads-err c.in_err-first.field-0.0 _ _ (c.in_err-first.ensures.only n.entry n.rest (rw c.flags.ensures.same n.is_entry) n.spelled))
+    rw (p.1, p.2) (Answers-err c.in_err-first.field-0.0 _ _ (c.in_err-first.ensures.only n.entry n.rest (rw c.flags.ensures.same n.is_entry) n.spelled))
 
 pub entries-init : goal.entries-init
 entries-init c =
@@ -27,7 +28,7 @@ returns-in_err-end-clause-only c =
     let p = err_from_is_err_and c.from_residual-in_err-end.result c.from_residual-in_err-end.ensures.1 in
     λ all rest g ends e.
     let n = next_of_entries c.args.file.now c.args.at c.args.header c.entries.group c.entries.end c.entries.invariant (c.has_entry-in-entries.ensures.0 c.entries-test.true) all rest g ends e in
-    rw (p.1, p.2) (Reads-err c.in_err-end.field-0.0 _ _ (c.in_err-end.ensures.only n.entry n.rest n.is_entry n.fresh n.spelled))
+    rw (p.1, p.2) (Answers-err c.in_err-end.field-0.0 _ _ (c.in_err-end.ensures.only n.entry n.rest n.is_entry n.fresh n.spelled))
 
 pub entries-smaller : goal.entries-smaller
 entries-smaller c =

@@ -1,6 +1,7 @@
 use Rattle.std.proofs.Common.{arith}
 use Rattle.std.proofs.lemmas.Result.{err_from_is_err_and}
-use Rattle.cs_wire.proofs.ReadingLaws.{Reads-err, Stands-moves}
+use Rattle.cs_value.proofs.RefusalLaws.{Answers-err}
+use Rattle.cs_wire.proofs.ReadingLaws.{Stands-moves}
 use Rattle.cs_wire.proofs.GroupsLaws.{GroupsSoFar-none, GroupsSoFar-push, next_of_groups, all_groups, is_file, group_bytes_some}
 use Rattle.cs_wire.proofs.reader.read_groups.Goals as goal
 
@@ -12,7 +13,7 @@ returns-in_err-end-clause-only c =
     let p = err_from_is_err_and c.from_residual.result c.from_residual.ensures.1 in
     λ all is_all e.
     let n = next_of_groups c.args.file.now c.groups.changeset c.groups.end c.groups.invariant c.groups-test.true all is_all e in
-    rw (p.1, p.2) (Reads-err c.in_err-end.field-0.0 _ _ (c.in_err-end.ensures.only n.group _ n.is_group n.fresh n.ends n.spelled))
+    rw (p.1, p.2) (Answers-err c.in_err-end.field-0.0 _ _ (c.in_err-end.ensures.only n.group _ n.is_group n.fresh n.ends n.spelled))
 
 pub groups-smaller : goal.groups-smaller
 groups-smaller c =

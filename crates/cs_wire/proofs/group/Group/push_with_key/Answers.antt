@@ -1,20 +1,18 @@
-use Rattle.std.proofs.Common.{◌≡◌, ◌∷◌, [], ◌++◌, true, arith}
-use Rattle.std.specs.Prelude.{is_ok}
-use Rattle.cs_wire.proofs.GroupLaws.{IsGroup-push, kept_keys}
+use Rattle.std.proofs.Common.{ℕ, List, ap, ◌∙◌, sym, arith}
+use Rattle.std.specs.FinMap.{insert}
+use Rattle.cs_wire.specs.declared.entry.Entry.{Entry}
+use Rattle.cs_wire.specs.Entry.{key_of}
+use Rattle.cs_wire.proofs.GroupLaws.{IsGroup-push}
+use Rattle.cs_wire.proofs.IndexLaws.{IsIndex-grown}
 use Rattle.cs_wire.proofs.group.Group.push_with_key.Goals as goal
 
-pub invariant_of-self-else-is_err : goal.invariant_of-self-else-is_err
-invariant_of-self-else-is_err c =
+pub invariant_of-self-in-Ok : goal.invariant_of-self-in-Ok
+invariant_of-self-in-Ok c =
     let inside = c.self.inside in
-    let ok : is_ok c.push-2.result ≡ true = grind arith in
-    let items : c.push-2.new.self.items ≡ inside.entries.items ++ c.args.entry ∷ [] = rw ok at c.push-2.ensures.items in (
-      rw items (IsGroup-push (record { header = inside.header; entries = inside.entries.items }) c.args.entry c.self.invariant.0 (rw (← c.self.view_is) at c.requires.fits) (rw (← c.self.view_is) at c.requires.fresh)),
-      rw (items, c.in_ok-push.ensures.items) (kept_keys inside.header.flags inside.entries.items inside.keys.items c.args.entry c.args.key c.self.invariant.1 (rw (← c.self.view_is) at c.requires.key)),
+    let fits = rw (← c.self.view_is) at c.requires.fits in
+    let key = rw (← c.self.view_is) at c.requires.key in
+    let fresh = rw (← c.self.view_is) at c.requires.fresh in
+    rw c.in_ok-push.ensures.items (
+      IsGroup-push (record { header = inside.header; entries = inside.entries.items }) c.args.entry c.self.invariant.0 fits (rw key at fresh),
+      IsIndex-grown (λ (e : Entry). key_of inside.header.flags e.change) inside.places c.insert.new.self inside.entries.items c.args.entry c.args.key c.len-place.result c.self.invariant.1 fresh (sym key) (omega arith) (c.in-Ok.ensures.ok ∙ ap (λ (k : List ℕ). insert inside.places k c.len-place.result) c.into_bytes.ensures),
     )
-
-pub returns-clause-well_formed : goal.returns-clause-well_formed
-returns-clause-well_formed c =
-    let inside = c.self.inside in
-    let ok : is_ok c.push-2.result ≡ true = grind arith in
-    let items : c.push-2.new.self.items ≡ inside.entries.items ++ c.args.entry ∷ [] = rw ok at c.push-2.ensures.items in
-    rw items (IsGroup-push (record { header = inside.header; entries = inside.entries.items }) c.args.entry c.self.invariant.0 (rw (← c.self.view_is) at c.requires.fits) (rw (← c.self.view_is) at c.requires.fresh))

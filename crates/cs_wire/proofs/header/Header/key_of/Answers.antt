@@ -1,9 +1,8 @@
 use Rattle.std.proofs.Common.{◌∙◌, ap}
 use Rattle.std.proofs.lemmas.Result.{IfOk-weaker}
 use Rattle.std.proofs.Common.{ℕ, List}
-use Rattle.cs_value.specs.Value.{key_columns}
-use Rattle.cs_value.specs.Spelling.{row_bytes}
-use Rattle.cs_wire.proofs.EntryLaws.{length-IsOf, key_bytes-IsOf, length-Update}
+use Rattle.cs_value.specs.Key.{row_key}
+use Rattle.cs_wire.proofs.EntryLaws.{length-IsOf, key_of-IsOf, length-Update}
 use Rattle.cs_wire.proofs.header.Header.key_of.Goals as goal
 
 pub of_image-requires : goal.of_image-requires
@@ -15,5 +14,5 @@ of_row-requires c = rw c.flags-in-Insert.ensures.same (length-IsOf c.args.self.n
 pub returns-in-Insert : goal.returns-in-Insert
 returns-in-Insert c =
     let row = c.in-Insert.row in
-    let same = ap (λ (f : List ℕ). row_bytes (key_columns f row)) c.flags-in-Insert.ensures.same ∙ key_bytes-IsOf c.args.self.now.flags c.args.entry.now row c.in-Insert.is in
+    let same = ap (λ (f : List ℕ). row_key f row) c.flags-in-Insert.ensures.same ∙ key_of-IsOf c.args.self.now.flags c.args.entry.now.change row c.in-Insert.is in
     IfOk-weaker c.of_row.result _ _ (λ key is. is ∙ same) c.of_row.ensures

@@ -3,13 +3,14 @@ use Rattle.std.proofs.lemmas.Result.{err_from_is_err_and}
 use Rattle.std.proofs.lemmas.List.{length-drop}
 use Rattle.std.proofs.lemmas.Bool.{iff_false}
 use Rattle.cs_wire.proofs.HeaderFaults.{no_key}
-use Rattle.cs_wire.proofs.ReadingLaws.{Reads-err, IsFlags-read, flags_some, flags_bytes-append, flags_counted, flags_taken, Stands-flags}
+use Rattle.cs_value.proofs.RefusalLaws.{Answers-err}
+use Rattle.cs_wire.proofs.ReadingLaws.{IsFlags-read, flags_some, flags_bytes-append, flags_counted, flags_taken, Stands-flags}
 use Rattle.cs_wire.proofs.reader.header.read_flags.Goals as goal
 
 pub returns-in_err-count-clause-only : goal.returns-in_err-count-clause-only
 returns-in_err-count-clause-only c =
     let p = err_from_is_err_and c.from_residual.result c.from_residual.ensures.1 in
-    λ flags rest h e. rw (p.1, p.2) (Reads-err c.in_err-count.field-0.0 _ _ (c.in_err-count.ensures.only (length flags) (flags ++ rest) (omega (arith, h.few)) (e ∙ flags_bytes-append flags rest)))
+    λ flags rest h e. rw (p.1, p.2) (Answers-err c.in_err-count.field-0.0 _ _ (c.in_err-count.ensures.only (length flags) (flags ++ rest) (omega (arith, h.few)) (e ∙ flags_bytes-append flags rest)))
 
 pub returns-then-count-eq0-clause-only : goal.returns-then-count-eq0-clause-only
 returns-then-count-eq0-clause-only c = λ flags rest h e.
@@ -49,4 +50,4 @@ returns-then-not-has_key-clause-fault c = λ part.
     let count = c.in_ok-count.count in
     let le : start + count ≤ length c.args.file.now = omega (arith, ap length c.rest_from-rest.ensures, length-drop start c.args.file.now, c.in_ok-count.ensures.found.1.within) in
     let none = iff_false c.has_key.ensures c.if-not-has_key.true in
-    rw c.fault-then-not-has_key.ensures (no_key c.args.file.now c.args.at start count part c.in_ok-count.ensures.found.1 (omega arith, c.if-count-gt-MAX_COLUMNS.false) le (rw c.rest_from-rest.ensures at none))
+    rw c.fault_at-then-not-has_key.ensures (no_key c.args.file.now c.args.at start count part c.in_ok-count.ensures.found.1 (omega arith, c.if-count-gt-MAX_COLUMNS.false) le (rw c.rest_from-rest.ensures at none))

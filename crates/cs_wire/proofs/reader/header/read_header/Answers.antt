@@ -3,7 +3,8 @@ use Rattle.std.proofs.lemmas.Result.{err_from_is_err_and}
 use Rattle.cs_wire.specs.Changeset.{flags_bytes}
 use Rattle.cs_wire.specs.ReadFaults.{Stands}
 use Rattle.cs_wire.proofs.HeaderFaults.{HeaderPart-more, HeaderPart-first}
-use Rattle.cs_wire.proofs.ReadingLaws.{Reads-err, behind_byte, rest_is, first_byte, Stands-byte, header_bytes-append, Stands-header, same_header}
+use Rattle.cs_value.proofs.RefusalLaws.{Answers-err}
+use Rattle.cs_wire.proofs.ReadingLaws.{behind_byte, rest_is, first_byte, Stands-byte, header_bytes-append, Stands-header, same_header}
 use Rattle.cs_wire.proofs.reader.header.read_header.Goals as goal
 
 pub returns-then-file-at-eq-PATCHSET-clause-only : goal.returns-then-file-at-eq-PATCHSET-clause-only
@@ -20,7 +21,7 @@ returns-in_err-flags-clause-only c =
     λ header rest h e.
     let whole = e ∙ header_bytes-append header rest in
     let flags = behind_byte c.args.file.now c.args.at (c.args.at + 1) _ _ _ (Stands-byte c.args.file.now c.args.at c.requires) (first_byte c.args.file.now c.args.at _ _ c.requires whole) whole in
-    rw (p.1, p.2) (Reads-err c.in_err-flags.field-0.0 _ _ (c.in_err-flags.ensures.only header.flags _ h.flags flags))
+    rw (p.1, p.2) (Answers-err c.in_err-flags.field-0.0 _ _ (c.in_err-flags.ensures.only header.flags _ h.flags flags))
 
 pub returns-in_err-name-clause-only : goal.returns-in_err-name-clause-only
 returns-in_err-name-clause-only c =
@@ -30,7 +31,7 @@ returns-in_err-name-clause-only c =
     let flags = behind_byte c.args.file.now c.args.at (c.args.at + 1) _ _ _ (Stands-byte c.args.file.now c.args.at c.requires) (first_byte c.args.file.now c.args.at _ _ c.requires whole) whole in
     let same = c.in_ok-flags.ensures.only header.flags _ h.flags flags in
     let name = rest_is c.args.file.now (c.args.at + 1) c.in_ok-flags.at (flags_bytes header.flags) _ (rw (← same) c.in_ok-flags.ensures.found.1) flags in
-    rw (p.1, p.2) (Reads-err c.in_err-name.field-0.0 _ _ (c.in_err-name.ensures.only header.name rest h.name name))
+    rw (p.1, p.2) (Answers-err c.in_err-name.field-0.0 _ _ (c.in_err-name.ensures.only header.name rest h.name name))
 
 pub returns-clause-found : goal.returns-clause-found
 returns-clause-found c =

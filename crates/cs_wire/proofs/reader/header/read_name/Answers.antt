@@ -38,9 +38,9 @@ pub returns-then-is_empty-clause-fault : goal.returns-then-is_empty-clause-fault
 returns-then-is_empty-clause-fault c = λ flags h part.
     let found = rw c.rest_from-rest.ensures at c.in-Some.ensures.found in
     let none = eqb-true (length (take c.in-Some.len (drop c.args.at c.args.file.now))) 0 (rw c.rest_from-rest.ensures at (sym c.is_empty.ensures ∙ c.if-is_empty.true)) in
-    rw c.fault-then-is_empty.ensures (empty_name c.args.file.now c.args.at c.in-Some.len flags h part found.0 found.1 found.2 none)
+    rw c.fault_at-then-is_empty.ensures (empty_name c.args.file.now c.args.at c.in-Some.len flags h part found.0 found.1 found.2 none)
 
 pub returns-in-Err-clause-fault : goal.returns-in-Err-clause-fault
 returns-in-Err-clause-fault c = λ flags h part.
     let found = rw c.rest_from-rest.ensures at c.in-Some.ensures.found in
-    rw c.fault-in-Err.ensures (bad_name c.args.file.now c.args.at c.in-Some.len flags h part found.0 found.1 found.2 (rw c.rest_from-rest.ensures at c.in-Err.ensures.cases.0))
+    rw c.fault_at-in-Err.ensures (bad_name c.args.file.now c.args.at c.in-Some.len flags h part found.0 found.1 found.2 (rw c.rest_from-rest.ensures at c.in-Err.ensures.cases.0))

@@ -2,7 +2,8 @@ use Rattle.std.proofs.Common.{◌<◌, ◌≤◌, ℕ, length}
 use Rattle.std.proofs.lemmas.Result.{err_from_is_err_and}
 use Rattle.std.proofs.lemmas.List.{length-map}
 use Rattle.cs_wire.specs.Reading.{old_wants, in_old, is_key_flag}
-use Rattle.cs_wire.proofs.ReadingLaws.{Reads-err, because}
+use Rattle.cs_value.proofs.RefusalLaws.{Answers-err}
+use Rattle.cs_wire.proofs.ReadingLaws.{because}
 use Rattle.cs_wire.proofs.FieldsLaws.{want_at, FieldsSoFar-none, FieldsSoFar-push, FieldsSoFar-all, FieldsSoFar-record, FieldsSoFar-refused, has_next}
 use Rattle.cs_wire.proofs.reader.record.read_old.Goals as goal
 
@@ -17,7 +18,7 @@ returns-in_err-field-clause-only c =
     let within : c.loop-flag.flag-index < length (old_wants flags) = rw length-map c.loop-flag-test.true in
     λ all rest h met e.
     let n = has_next (old_wants flags) c.args.file.now c.args.at c.loop-flag.flag-index c.loop-flag.fields.items c.loop-flag.end c.loop-flag.invariant _ here within all rest h met e in
-    rw (p.1, p.2) (Reads-err c.in_err-field.field-0.0 _ _ (c.in_err-field.ensures.only n.field n.rest n.is_field n.met n.spelled))
+    rw (p.1, p.2) (Answers-err c.in_err-field.field-0.0 _ _ (c.in_err-field.ensures.only n.field n.rest n.is_field n.met n.spelled))
 
 pub returns-in_err-field-clause-fault : goal.returns-in_err-field-clause-fault
 returns-in_err-field-clause-fault c =

@@ -4,7 +4,8 @@ use Rattle.std.proofs.lemmas.List.{length-map}
 use Rattle.std.proofs.lemmas.List.{map_push}
 use Rattle.cs_value.specs.declared.value.OwnedField.TheVariants.{Defined}
 use Rattle.cs_wire.specs.Reading.{row_wants, in_row, is_key_flag}
-use Rattle.cs_wire.proofs.ReadingLaws.{Reads-err, because}
+use Rattle.cs_value.proofs.RefusalLaws.{Answers-err}
+use Rattle.cs_wire.proofs.ReadingLaws.{because}
 use Rattle.cs_wire.proofs.FieldsLaws.{want_at, FieldsSoFar-none, FieldsSoFar-push, FieldsSoFar-all, FieldsSoFar-record, FieldsSoFar-refused, has_next}
 use Rattle.cs_wire.proofs.reader.record.read_row.Goals as goal
 
@@ -19,7 +20,7 @@ returns-in_err-value-clause-only c =
     let within : c.loop-flag.flag-index < length (row_wants flags) = rw length-map c.loop-flag-test.true in
     λ all rest h met e.
     let n = has_next (row_wants flags) c.args.file.now c.args.at c.loop-flag.flag-index (map Defined c.loop-flag.values.items) c.loop-flag.end c.loop-flag.invariant _ here within all rest h met e in
-    rw (p.1, p.2) (Reads-err c.in_err-value.field-0.0 _ _ (c.in_err-value.ensures.only n.field n.rest n.is_field n.met n.spelled))
+    rw (p.1, p.2) (Answers-err c.in_err-value.field-0.0 _ _ (c.in_err-value.ensures.only n.field n.rest n.is_field n.met n.spelled))
 
 pub returns-in_err-value-clause-fault : goal.returns-in_err-value-clause-fault
 returns-in_err-value-clause-fault c =

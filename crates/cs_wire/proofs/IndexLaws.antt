@@ -1,0 +1,106 @@
+-- Indexes: where each of some texts stands.
+use Rattle.std.proofs.Common.{◌≡◌, ◌≢◌, ℕ, ◌<◌, List, [], ◌∷◌, ◌++◌, length, map, Bool, true, false, cond, Option, Some, None, All, refl, sym, ap, ◌∙◌, subst, arith}
+use Rattle.std.specs.Prelude.{◌↔◌, is_none, is_some, IfSome, IsTrue, slice_get}
+use Rattle.std.specs.Ordering.{nat_cmp, eq_by_cmp}
+use Rattle.std.specs.Cmp.{Equal-is}
+use Rattle.std.specs.Cmp.Lexicographic.{slice_cmp, nat_list_cmp_total}
+use Rattle.std.specs.FinMap.{get, insert, empty, get-empty, get-insert, slice_cmp-IsAntisymmetric, nat_cmp-IsAntisymmetric}
+use Rattle.std.proofs.lemmas.Cmp.{eq_by_cmp_equiv}
+use Rattle.std.proofs.lemmas.List.Elements.{All-push, All-nil, All-map}
+use Rattle.std.proofs.lemmas.List.{map-append, get_or-map, get_or_at, get_or_append_left, length-map, length-append}
+use Rattle.std.proofs.lemmas.Option.{none-some, same_Some, slice_get_within, slice_get-get_or, get_or_from_slice_get}
+use Rattle.cs_value.specs.Maps.{ByBytes}
+use Rattle.cs_wire.specs.Views.{IsPlaceOf, IsIndex}
+
+-- whether two texts are one
+abbrev same : List ℕ → List ℕ → Bool
+same s t = eq_by_cmp (slice_cmp nat_cmp) s t
+
+same_is : (s t : List ℕ) → same s t ≡ true → s ≡ t
+same_is s t e = slice_cmp-IsAntisymmetric nat_cmp-IsAntisymmetric s t ((Equal-is (slice_cmp nat_cmp s t)).0 e)
+
+not_same : (s t : List ℕ) → same s t ≡ false → t ≢ s
+not_same s t e is =
+    let yes : same s s ≡ true = (eq_by_cmp_equiv nat_list_cmp_total).refl s in
+    let no : same s s ≡ false = ap (same s) (sym is) ∙ e in
+    cc
+
+-- no text has a place
+pub IsIndex-none : IsIndex empty []
+IsIndex-none = record {
+  found = λ text place e. absurd (none-some place (sym (get-empty (slice_cmp nat_cmp) text) ∙ e));
+  absent = λ text e. All-nil (λ t. t ≢ text);
+}
+
+slice_get_left : (texts : List (List ℕ)) (last text : List ℕ) (place : ℕ) → slice_get texts place ≡ Some text → slice_get (texts ++ last ∷ []) place ≡ Some text
+slice_get_left texts last text place e =
+    let within = slice_get_within texts place text e in
+    slice_get-get_or (texts ++ last ∷ []) place [] (omega (arith, length-append texts (last ∷ [])))
+    ∙ ap Some (get_or_append_left texts (last ∷ []) [] place within ∙ get_or_from_slice_get texts place text [] e)
+
+slice_get_last : (texts : List (List ℕ)) (last : List ℕ) → slice_get (texts ++ last ∷ []) (length texts) ≡ Some last
+slice_get_last texts last =
+    slice_get-get_or (texts ++ last ∷ []) (length texts) [] (omega (arith, length-append texts (last ∷ [])))
+    ∙ ap Some (get_or_at texts last [] [] (length texts) refl)
+
+-- one more text has the next place
+pub IsIndex-push : (places : ByBytes ℕ) (texts : List (List ℕ)) (last : List ℕ) → IsIndex places texts → All (λ t. t ≢ last) texts
+    → IsIndex (insert places last (length texts)) (texts ++ last ∷ [])
+IsIndex-push places texts last index new = record {
+  found = λ text place e. found_by text place (same text last) refl (sym (got text) ∙ e);
+  absent = λ text e. absent_by text (same text last) refl (sym (got text) ∙ e);
+}
+  where
+    got : (text : List ℕ) → get (insert places last (length texts)) text ≡ cond (same text last) (Some (length texts)) (get places text)
+    got text = get-insert nat_list_cmp_total places last (length texts) text
+
+    found_by : (text : List ℕ) (place : ℕ) (b : Bool) → same text last ≡ b → cond b (Some (length texts)) (get places text) ≡ Some place
+        → slice_get (texts ++ last ∷ []) place ≡ Some text
+    found_by text place true is e =
+        let at : length texts ≡ place = same_Some (length texts) place e in
+        subst (λ (p : ℕ). slice_get (texts ++ last ∷ []) p ≡ Some text) at (slice_get_last texts last ∙ ap Some (sym (same_is text last is)))
+    found_by text place false is e = slice_get_left texts last text place (index.found text place e)
+
+    absent_by : (text : List ℕ) (b : Bool) → same text last ≡ b → cond b (Some (length texts)) (get places text) ≡ None → All (λ t. t ≢ text) (texts ++ last ∷ [])
+    absent_by text true is e = absurd (none-some (length texts) (sym e))
+    absent_by text false is e = All-push (λ (t : List ℕ). t ≢ text) texts last (index.absent text e) (not_same text last is)
+
+-- what is found among things that are known by a text
+module _ {X : Type 0} (text_of : X → List ℕ) (places : ByBytes ℕ) (xs : List X) (text : List ℕ) (index : IsIndex places (map text_of xs)) where
+  at_place : (place : ℕ) → slice_get (map text_of xs) place ≡ Some text → IsPlaceOf (λ x. text_of x ≡ text) xs place
+  at_place place e = record {
+    within = omega (arith, slice_get_within (map text_of xs) place text e, length-map xs text_of);
+    holds = λ d.
+        let within : place < length xs = omega (arith, slice_get_within (map text_of xs) place text e, length-map xs text_of) in
+        sym (get_or-map text_of xs place d [] within) ∙ get_or_from_slice_get (map text_of xs) place text [] e;
+  }
+
+  is_known : (ys : List X) (place : ℕ) → IsPlaceOf (λ x. text_of x ≡ text) ys place → All (λ x. text_of x ≢ text) ys → ⊥
+  is_known [] place at new = absurd (omega (arith, at.within))
+  is_known (y ∷ ys) place at new = new place y at.within (at.holds y)
+
+  pub is_found : (found : Option ℕ) → found ≡ get places text → IfSome found (IsPlaceOf (λ x. text_of x ≡ text) xs)
+  is_found None e = tt
+  is_found (Some place) e = at_place place (index.found text place (sym e))
+
+  -- nothing is found just where the text is new
+  pub is_new : (found : Option ℕ) → found ≡ get places text → IsTrue (is_none found) ↔ All (λ x. text_of x ≢ text) xs
+  is_new None e =
+      let none = index.absent text (sym e) in
+      (λ h k d lt known. none k [] (omega (arith, length-map xs text_of)) (get_or-map text_of xs k d [] lt ∙ known), λ h. refl)
+  is_new (Some place) e = (λ h. absurd cc, λ h. absurd (is_known xs place (at_place place (index.found text place (sym e))) h))
+
+-- one more thing, known by a text that is new, has the next place
+pub IsIndex-grown : {X : Type 0} (text_of : X → List ℕ) (places new : ByBytes ℕ) (xs : List X) (x : X) (text : List ℕ) (place : ℕ)
+    → IsIndex places (map text_of xs) → All (λ y. text_of y ≢ text) xs → text_of x ≡ text → place ≡ length xs → new ≡ insert places text place
+    → IsIndex new (map text_of (xs ++ x ∷ []))
+IsIndex-grown text_of places new xs x text place index fresh is at grown =
+    let pushed = IsIndex-push places (map text_of xs) text index (All-map (λ (t : List ℕ). t ≢ text) text_of xs fresh) in
+    let texts : map text_of (xs ++ x ∷ []) ≡ map text_of xs ++ text ∷ [] = map-append text_of xs (x ∷ []) ∙ ap (λ (t : List ℕ). map text_of xs ++ t ∷ []) is in
+    let after : new ≡ insert places text (length (map text_of xs)) = grown ∙ ap (insert places text) (at ∙ sym (length-map xs text_of)) in
+    rw (texts, after) pushed
+
+-- what is found is not new
+pub found_or_new : (found : Option ℕ) → is_some found ≡ true → IsTrue (is_none found) → ⊥
+found_or_new None some none = cc
+found_or_new (Some place) some none = cc

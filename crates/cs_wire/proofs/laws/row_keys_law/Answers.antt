@@ -1,0 +1,5 @@
+use Rattle.cs_wire.proofs.KeyLaws.{row_keys}
+use Rattle.cs_wire.proofs.laws.row_keys_law.Goals as goal
+
+pub returns : goal.returns
+returns c = row_keys

@@ -1,0 +1,56 @@
+//! Where texts stand in a list.
+ghost use Rattle.std.specs.Prelude.{◌≡◌, OnOk, OnErr};
+ghost use Rattle.std.specs.FinMap as map;
+
+use cs_value::NoMemory;
+use std::alloc::Global;
+use std::collections::BTreeMap;
+use std::marker::Model;
+
+/// The place of each of some texts, which are lists of bytes, each there once. Contracts see the
+/// map from text to place. A look-up takes time in proportion to the logarithm of their count,
+/// whatever they are.
+#[derive(Debug, Drop)]
+pub(crate) struct Places {
+    places: BTreeMap<Vec<u8>, usize>,
+}
+
+impl Model for Places {
+    ghost use Rattle.std.specs.Prelude.{ℕ, map as map_list};
+    ghost use Rattle.std.specs.Coded.{coded_ℕ, coded_list};
+    ghost use Rattle.std.specs.FinMap as map;
+    ghost use Rattle.cs_value.specs.Maps.{ByBytes};
+
+    ghost Value = { ByBytes ℕ };
+
+    ghost coded = { map.code (coded_list coded_ℕ) coded_ℕ };
+
+    ghost view = { λ p. map.from_entries (map_list (λ e. (e.0.items, e.1)) p.places.entries) };
+}
+
+impl Places {
+    /// No text has a place.
+    pub(crate) fn new(alloc: Global) -> Places
+        ensures { result ≡ map.empty }
+    {
+        Places {
+            places: BTreeMap::new(alloc),
+        }
+    }
+
+    /// The place of a text.
+    pub(crate) fn get(&self, text: &[u8]) -> Option<usize>
+        ensures { result ≡ map.get self.now text.now }
+    {
+        self.places.get(text).copied()
+    }
+
+    /// Gives a text a place. [`NoMemory`] leaves all as it was.
+    pub(crate) fn insert(&mut self, text: Vec<u8>, place: usize) -> Result<(), NoMemory>
+        ensures ok { OnOk result (self.new ≡ map.insert self.old text.items place) }
+        ensures err { OnErr result (self.new ≡ self.old) }
+    {
+        self.places.insert(text, place)?;
+        Ok(())
+    }
+}
