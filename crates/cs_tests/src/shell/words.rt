@@ -2,7 +2,7 @@
 
 use super::streams::{Closed, Script, scripted};
 use crate::{DELETE, INSERT};
-use cs_shell::{Told, run_words};
+use cs_shell::{Told, print_usage, run_words};
 use std::fs;
 use std::process::Abort;
 use std::rt::Files;
@@ -130,6 +130,13 @@ fn prints_the_usage(rt: HostRuntime) {
     ] {
         expect_reported(&rt, words, 2, USAGE);
     }
+}
+
+#[test]
+fn prints_the_usage_for_other_words(rt: HostRuntime) {
+    let mut err = Vec::new(rt.alloc());
+    assert!(rt; print_usage(&mut Told::new(&mut err)) == 2);
+    assert!(rt; err.as_slice() == USAGE);
 }
 
 #[test]
