@@ -130,6 +130,12 @@ fn kinds_of_fields(rt: HostRuntime) {
 }
 
 #[test]
+fn faults_behind_a_start(rt: HostRuntime) {
+    let fault = FIELD_FAULT.behind(3);
+    assert!(rt; fault.kind == FieldFaultKind::BadText && fault.place == 12);
+}
+
+#[test]
 fn faults(rt: HostRuntime) {
     expect_named(&rt, &FIELD_FAULT, 14, 11, "BadText");
     expect_named(&rt, &ImageFault::Fault(FIELD_FAULT), 14, 11, "BadText");
