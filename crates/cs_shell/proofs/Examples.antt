@@ -20,7 +20,8 @@ use Rattle.cs_wire.specs.declared.fault.ReadFaultKind.TheVariants.{NotTable, Emp
 use Rattle.cs_wire.specs.Changeset.{ImageData}
 use Rattle.cs_wire.proofs.Examples.{header, group, one_change_of, one_change, x, y, row, update, insert_file, delete_file, update_file, update_back_file, insert_is_spelled, delete_is_spelled, update_is_spelled, update_back_is_spelled}
 use Rattle.cs_wire.proofs.Examples.{insert_is_changeset, delete_is_changeset, update_is_changeset, update_back_is_changeset, idle_update, no_group_is_changeset, keys_header, keys_row, keys_file, keys_insert_is_changeset, keys_delete_is_changeset, keys_insert_is_spelled, keys_delete_is_spelled, letter_is_refused}
-use Rattle.cs_shell.specs.Inverse.{IsInverseGroup, IsInverse, Inverts}
+use Rattle.cs_wire.specs.Inverse.{IsInverseGroup}
+use Rattle.cs_shell.specs.Inverse.{IsInverse, Inverts}
 use Rattle.cs_shell.specs.Lines.{HasNoFeed, words_of, IsSlot, CommandData, Load, Hex, Invert, Asks, AsksNothing}
 use Rattle.cs_shell.specs.Script.{SlotMap, error_line, refusal_text, reply_text, Silent, Text as Printed, Refused, CommandGives, loaded, no_hex}
 use Rattle.cs_shell.specs.Script.{shown, nothing_to_show, inverted, not_inverted, nothing_to_invert, LineGives, answered, not_text, malformed}
@@ -33,51 +34,50 @@ computing = tt
 
 -- inverses
 
--- whether a row stood before the first change
-abbrev first_stood : List ImageData → Bool
-first_stood [] = false
-first_stood (image ∷ images) = is_some image.before
+-- whether a row stood before
+abbrev stood : ImageData → Bool
+stood image = is_some image.before
 
 -- the deletion of (1, 'x') is the inverse of its insertion
 insert_is_deleted : IsInverse (one_change (Insert row)) (one_change (Delete row))
-insert_is_deleted = (record { header = refl; indirect = refl; images = refl }, tt)
+insert_is_deleted = (record { header = refl; entries = (record { indirect = refl; key = refl; image = refl }, tt) }, tt)
 
 -- and the insertion that of the deletion
 delete_is_inserted : IsInverse (one_change (Delete row)) (one_change (Insert row))
-delete_is_inserted = (record { header = refl; indirect = refl; images = refl }, tt)
+delete_is_inserted = (record { header = refl; entries = (record { indirect = refl; key = refl; image = refl }, tt) }, tt)
 
 -- the update of 'y' to 'x' is the inverse of that of 'x' to 'y'
 update_is_turned : IsInverseGroup (group (update x y ∷ [])) (group (update y x ∷ []))
-update_is_turned = record { header = refl; indirect = refl; images = refl }
+update_is_turned = record { header = refl; entries = (record { indirect = refl; key = refl; image = refl }, tt) }
 
 -- an update that modifies no column undoes itself
 idle_update_stays : IsInverseGroup (group (idle_update ∷ [])) (group (idle_update ∷ []))
-idle_update_stays = record { header = refl; indirect = refl; images = refl }
+idle_update_stays = record { header = refl; entries = (record { indirect = refl; key = refl; image = refl }, tt) }
 
 -- and so does one that leaves a value as it is
 update_of_same_stays : IsInverseGroup (group (update x x ∷ [])) (group (update x x ∷ []))
-update_of_same_stays = record { header = refl; indirect = refl; images = refl }
+update_of_same_stays = record { header = refl; entries = (record { indirect = refl; key = refl; image = refl }, tt) }
 
 abbrev other_row : List OwnedValue
 other_row = Int (pos 2) ∷ y ∷ []
 
 -- the changes of a table are undone each in its place
 changes_are_undone : IsInverseGroup (group (Insert row ∷ Delete other_row ∷ [])) (group (Delete row ∷ Insert other_row ∷ []))
-changes_are_undone = record { header = refl; indirect = refl; images = refl }
+changes_are_undone = record { header = refl; entries = (record { indirect = refl; key = refl; image = refl }, (record { indirect = refl; key = refl; image = refl }, tt)) }
 
 -- and not in the opposite order
 order_is_kept : IsInverseGroup (group (Insert row ∷ Delete other_row ∷ [])) (group (Insert other_row ∷ Delete row ∷ [])) → ⊥
-order_is_kept h = true≢false (sym (ap first_stood h.images))
+order_is_kept h = true≢false (sym (ap stood h.entries.0.image))
 
 -- a change does not undo itself
 insert_is_not_insert : IsInverse (one_change (Insert row)) (one_change (Insert row)) → ⊥
-insert_is_not_insert h = true≢false (sym (ap first_stood h.0.images))
+insert_is_not_insert h = true≢false (sym (ap stood h.0.entries.0.image))
 
 -- the inverse of an indirect change is indirect
 indirect_is_kept : (changes : List Change)
     → IsInverseGroup (record { header = header; entries = record { indirect = true; change = Insert row } ∷ [] }) (group changes) → ⊥
-indirect_is_kept [] h = cc (h.indirect)
-indirect_is_kept (change ∷ changes) h = cc (h.indirect)
+indirect_is_kept [] h = absurd h.entries
+indirect_is_kept (change ∷ changes) h = cc (h.entries.0.indirect)
 
 -- the file of the insertion is inverted to that of the deletion
 insert_file_inverts : Inverts insert_file delete_file
@@ -134,7 +134,7 @@ key_flags_are_kept = record {
   inverse = one_change_of keys_header (Delete keys_row);
   is_changeset = keys_insert_is_changeset;
   is_file = sym keys_insert_is_spelled;
-  is_inverse = (record { header = refl; indirect = refl; images = refl }, tt);
+  is_inverse = (record { header = refl; entries = (record { indirect = refl; key = refl; image = refl }, tt) }, tt);
   inverse_is_changeset = keys_delete_is_changeset;
   inverse_is_file = sym keys_delete_is_spelled;
 }

@@ -3,6 +3,5 @@ pub mod InverseLaws
 pub mod ProgressLemmas
 pub mod ReplyLemmas
 pub mod RunLemmas
-pub mod SlotEntries
 pub mod WordLemmas
 pub mod WriteLemmas

@@ -1,23 +1,19 @@
 -- Lemmas on a script that is run line by line.
 use Rattle.std.proofs.Common.{◌≡◌, ◌≢◌, ℕ, ◌+◌, ◌<◌, ◌≤◌, ◌||◌, ◌==◌, vec_len, Bool, true, false, List, [], ◌∷◌, ◌++◌, length, take, get_or, Option, Result, Ok, Err, OnOk, refl, sym, ap, subst, ◌∙◌, append_assoc, append-nil, arith, length-append}
-use Rattle.std.specs.List.{flat_map, list_any, AllByRecursion}
+use Rattle.std.specs.List.{flat_map, list_any}
 use Rattle.std.proofs.lemmas.Bool.{both_ways, eqb-true, eqb-false}
 use Rattle.std.proofs.lemmas.Grind.{flat_map-append}
 use Rattle.std.proofs.lemmas.List.{take_more, take_all, nil_from_length}
 use Rattle.std.specs.FinMap.{empty}
 use Rattle.std.specs.Io.KnownBytes.{Appends}
 use Rattle.std.proofs.KnownBytes.{Appends-nil, Appends-trans}
+use Rattle.cs_value.proofs.Lists.{AllByRecursion-push}
 use Rattle.cs_shell.specs.declared.script.Script.{Script}
 use Rattle.cs_shell.specs.declared.told.Told.{Told}
 use Rattle.cs_shell.specs.Told.{known}
 use Rattle.cs_shell.specs.Lines.{Splits, HasNoFeed, ended, unended}
 use Rattle.cs_shell.specs.Script.{SlotMap, Reply, LineGives, LinesGive, reply_text, replies_text, is_refused}
 use Rattle.cs_shell.specs.Progress.{HoldsLine, AddsByte, EndsLine, Progress, Advances, Finishes}
-
--- what holds of each element, one more at the end
-AllByRecursion-push : {X : Type 0} (P : X → Type 0) (xs : List X) (x : X) → AllByRecursion P xs → P x → AllByRecursion P (xs ++ x ∷ [])
-AllByRecursion-push P [] x h p = (p, tt)
-AllByRecursion-push P (y ∷ xs) x h p = (h.0, AllByRecursion-push P xs x h.1 p)
 
 list_any-push : {X : Type 0} (p : X → Bool) (xs : List X) (x : X) → list_any p (xs ++ x ∷ []) ≡ (list_any p xs || p x)
 list_any-push p [] x = elim (p x) as (λ b. (b || false) ≡ (false || b)) [ true ↦ refl | false ↦ refl ]

@@ -5,13 +5,15 @@ use Rattle.hex.specs.Hex.{encode_lower, decode_of}
 use Rattle.hex.specs.declared.error.FromHexError.{FromHexError}
 use Rattle.hex.specs.declared.error.FromHexError.TheVariants.{OutOfMemory}
 use Rattle.std.specs.FinMap.{get, insert}
-use Rattle.cs_value.specs.declared.no_memory.NoMemory.{NoMemory}
-use Rattle.cs_shell.specs.declared.fault.ToolFault.{ToolFault}
-use Rattle.cs_shell.specs.declared.fault.ToolFault.TheVariants as tool
+use Rattle.cs_value.specs.declared.refusal.NoMemory.{NoMemory}
+use Rattle.cs_value.specs.declared.refusal.OrNoMemory.{OrNoMemory}
+use Rattle.cs_value.specs.declared.refusal.OrNoMemory.TheVariants as tool
+use Rattle.cs_value.specs.Refusals.{Refuses}
+use Rattle.cs_wire.specs.declared.fault.ReadFault.{ReadFault}
+use Rattle.cs_wire.specs.ReadFaults.{ReadFails}
 use Rattle.cs_shell.specs.declared.reply.Reply.{Reply}
 use Rattle.cs_shell.specs.declared.reply.Refusal.TheVariants as refusal
 use Rattle.cs_shell.specs.Inverse.{Inverts}
-use Rattle.cs_shell.specs.Answers.{RefusesInverse}
 use Rattle.cs_shell.specs.Lines.{CommandData, Load, Hex, Invert, Asks}
 use Rattle.cs_shell.specs.Script.{SlotMap, Silent, Text, Refused, CommandGives, loaded, shown, inverted, not_inverted, LineGives, answered, no_memory}
 use Rattle.cs_shell.specs.Replies.{reply_of, IsRefusalOf}
@@ -31,8 +33,8 @@ gives_inverted old new from into file out is inverse stored =
     subst (λ m. CommandGives old (Invert from into) Silent m) (sym stored) (inverted old from into file out (sym is) inverse)
 
 -- a slot whose file is refused
-pub gives_refused : (old : SlotMap) (from into file : List ℕ) (fault : ToolFault) (reply : script.Reply) → Some file ≡ get old from → RefusesInverse file fault → IsRefusalOf fault reply → CommandGives old (Invert from into) reply old
-gives_refused old from into file (tool.Read f) reply is why same = subst (λ r. CommandGives old (Invert from into) r old) (sym same) (not_inverted old from into file f (sym is) why)
+pub gives_refused : (old : SlotMap) (from into file : List ℕ) (fault : OrNoMemory ReadFault) (reply : script.Reply) → Some file ≡ get old from → Refuses (λ f. ReadFails file f.kind f.place) fault → IsRefusalOf fault reply → CommandGives old (Invert from into) reply old
+gives_refused old from into file (tool.Fault f) reply is why same = subst (λ r. CommandGives old (Invert from into) r old) (sym same) (not_inverted old from into file f (sym is) why)
 gives_refused old from into file tool.NoMemory reply is why same = absurd same
 
 -- what a failed decoding says, unless memory ran out

@@ -1,21 +1,9 @@
 -- The inverse of a changeset: the introduction to SQLite's session extension, under "inverting a changeset". That the
--- order and the indirect flags stay is this project's own.
-use Rattle.std.specs.Prelude.{◌≡◌, ℕ, Bool, List, map}
+-- order stays is this project's own.
+use Rattle.std.specs.Prelude.{◌≡◌, ℕ, List}
 use Rattle.std.specs.List.{AllZip}
-use Rattle.cs_wire.specs.Changeset.{GroupData, IsChangeset, file_bytes, ImageData, images}
-
--- before and after exchanged
-abbrev pub exchanged : ImageData → ImageData
-exchanged image = record { key = image.key; before = image.after; after = image.before }
-
-abbrev pub indirect_flags : GroupData → List Bool
-indirect_flags group = map (λ entry. entry.indirect) group.entries
-
--- the same header, indirect flags and order, with the images exchanged
-pub record IsInverseGroup (group inverse : GroupData) : Type 0 where
-  pub header : inverse.header ≡ group.header
-  pub indirect : indirect_flags inverse ≡ indirect_flags group
-  pub images : images inverse ≡ map exchanged (images group)
+use Rattle.cs_wire.specs.Changeset.{GroupData, IsChangeset, file_bytes}
+use Rattle.cs_wire.specs.Inverse.{IsInverseGroup}
 
 -- the inverses of the groups, in their order
 abbrev pub IsInverse : List GroupData → List GroupData → Type 0
@@ -30,3 +18,8 @@ pub record Inverts (file out : List ℕ) : Type 0 where
   pub is_inverse : IsInverse changeset inverse
   pub inverse_is_changeset : IsChangeset inverse
   pub inverse_is_file : out ≡ file_bytes inverse
+
+-- a changeset has one inverse alone
+abbrev pub ChangesetInverses : Type 0
+ChangesetInverses = (changeset inverse other : List GroupData) → IsChangeset inverse → IsChangeset other
+    → IsInverse changeset inverse → IsInverse changeset other → inverse ≡ other

@@ -1,6 +1,4 @@
 pub mod Inverse
-pub mod Inverting
-pub mod Answers
 pub mod Calls
 pub mod Lines
 pub mod Told
@@ -10,6 +8,10 @@ pub mod Progress
 pub use Rattle.cs_value.specs.Value
 pub use Rattle.cs_value.specs.Varint
 pub use Rattle.cs_value.specs.Spelling
+pub use Rattle.cs_value.specs.Key
+pub use Rattle.cs_value.specs.Maps
+pub use Rattle.cs_value.specs.Table
+pub use Rattle.cs_value.specs.Refusals
 pub use Rattle.cs_value.specs.FieldFaults
 pub use Rattle.cs_wire.specs.Entry
 pub use Rattle.cs_wire.specs.Changeset

@@ -6,8 +6,9 @@ use Rattle.cs_shell.specs.declared.lines.Command.{Command}
 use Rattle.cs_shell.specs.declared.lines.Command.TheVariants as command
 use Rattle.cs_shell.specs.declared.lines.LineFault.{LineFault}
 use Rattle.cs_shell.specs.declared.lines.LineFault.TheVariants as fault
-use Rattle.cs_shell.specs.declared.fault.ToolFault.{ToolFault}
-use Rattle.cs_shell.specs.declared.fault.ToolFault.TheVariants as tool
+use Rattle.cs_value.specs.declared.refusal.OrNoMemory.{OrNoMemory}
+use Rattle.cs_value.specs.declared.refusal.OrNoMemory.TheVariants as tool
+use Rattle.cs_wire.specs.declared.fault.ReadFault.{ReadFault}
 use Rattle.cs_shell.specs.declared.reply.Refusal.{Refusal}
 use Rattle.cs_shell.specs.declared.reply.Refusal.TheVariants as refusal
 use Rattle.cs_shell.specs.declared.reply.Reply.{Reply}
@@ -49,11 +50,11 @@ reply_of (reply.Text text) = script.Text (string_bytes text)
 reply_of (reply.Refused why) = script.Refused why
 
 -- why a line is refused whose call on a file is
-abbrev pub refusal_of : ToolFault → Refusal
-refusal_of (tool.Read f) = refusal.Fault f
+abbrev pub refusal_of : OrNoMemory ReadFault → Refusal
+refusal_of (tool.Fault f) = refusal.Fault f
 refusal_of tool.NoMemory = refusal.NoMemory
 
 -- the reply to a line whose file is refused for a read fault
-abbrev pub IsRefusalOf : ToolFault → script.Reply → Type 0
-IsRefusalOf (tool.Read f) answer = answer ≡ script.Refused (refusal.Fault f)
+abbrev pub IsRefusalOf : OrNoMemory ReadFault → script.Reply → Type 0
+IsRefusalOf (tool.Fault f) answer = answer ≡ script.Refused (refusal.Fault f)
 IsRefusalOf tool.NoMemory answer = ⊥

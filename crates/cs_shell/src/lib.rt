@@ -18,14 +18,12 @@ mod print;
 mod reply;
 mod script;
 mod slots;
-#[cfg(test)]
-mod tests;
 mod told;
 mod words;
 
 pub use cs_wire::{ReadFault, ReadFaultKind};
 pub use fault::ToolFault;
-pub use invert::invert_bytes;
+pub use invert::{changeset_inverses_law, invert_bytes};
 pub use script::{Status, run_slots};
 pub use told::Told;
 pub use words::{print_usage, run_words};

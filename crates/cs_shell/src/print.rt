@@ -7,7 +7,7 @@ ghost use Rattle.cs_shell.specs.Replies.{reply_of};
 
 use crate::reply::{Refusal, Reply};
 use crate::told::Told;
-use cs_value::NoMemory;
+use cs_value::{Fault, NoMemory};
 use itoa::Buffer;
 use std::io::Write;
 

@@ -35,7 +35,7 @@ impl From<ToolFault> for Refusal {
 
     fn from(fault: ToolFault) -> Refusal {
         match fault {
-            ToolFault::Read(fault) => Refusal::Fault(fault),
+            ToolFault::Fault(fault) => Refusal::Fault(fault),
             ToolFault::NoMemory => Refusal::NoMemory,
         }
     }
@@ -95,7 +95,7 @@ fn refuse(fault: ToolFault) -> Result<Reply, NoMemory>
     ensures { IfOk result (λ reply. IsRefusalOf fault (reply_of reply)) }
 {
     match fault {
-        ToolFault::Read(fault) => Ok(Reply::Refused(Refusal::Fault(fault))),
+        ToolFault::Fault(fault) => Ok(Reply::Refused(Refusal::Fault(fault))),
         ToolFault::NoMemory => Err(NoMemory),
     }
 }

@@ -25,8 +25,6 @@ mod laws;
 mod parts;
 mod refusal;
 mod row;
-#[cfg(test)]
-mod tests;
 mod text;
 mod value;
 mod varint;

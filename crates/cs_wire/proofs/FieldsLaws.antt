@@ -6,6 +6,7 @@ use Rattle.std.proofs.lemmas.List.Concat.{flat_map-append}
 use Rattle.cs_value.specs.declared.value.OwnedField.{OwnedField}
 use Rattle.cs_value.specs.Value.{IsField, IsRecord}
 use Rattle.cs_value.specs.Spelling.{field_bytes, record_bytes}
+use Rattle.cs_value.proofs.Lists.{AllByRecursion-push}
 use Rattle.cs_wire.specs.declared.fault.ReadFaultKind.{ReadFaultKind}
 use Rattle.cs_wire.specs.ReadFaults.{Stands}
 use Rattle.cs_wire.specs.Reading.{Want, AnyField, in_new, is_modified, new_wants, refusal, Meets, IsFieldAt, IsRecordAt, FieldRefused, RecordRefused}
@@ -16,10 +17,6 @@ use Rattle.cs_wire.proofs.ReadingLaws.{Stands-then, rest_is}
 pub each-at : {X : Type 0} (P : X → Type 0) (xs : List X) (x : X) (ys : List X) → AllByRecursion P (xs ++ x ∷ ys) → P x
 each-at P [] x ys h = h.0
 each-at P (z ∷ xs) x ys h = each-at P xs x ys h.1
-
-pub each-push : {X : Type 0} (P : X → Type 0) (xs : List X) (x : X) → AllByRecursion P xs → P x → AllByRecursion P (xs ++ x ∷ [])
-each-push P [] x h p = (p, tt)
-each-push P (z ∷ xs) x h p = (h.0, each-push P xs x h.1 p)
 
 -- ---- what is wanted
 
@@ -128,7 +125,7 @@ module _ (wants : List Want) (file : List ℕ) (at i : ℕ) (fields : List Owned
       → FieldsSoFar wants file at (i + 1) (fields ++ field ∷ []) next
   FieldsSoFar-push lt field next read only = record {
     count = omega (arith, length-append fields (field ∷ []), so.count);
-    is_record = each-push IsField fields field so.is_record read.is_field;
+    is_record = AllByRecursion-push IsField fields field so.is_record read.is_field;
     met =
         let n : i + 1 ≡ suc (length fields) = omega (arith, so.count) in
         rw n (Meets-push wants fields field (omega (arith, so.count)) (rw so.count so.met) (rw (so.count, want_is) read.wanted));

@@ -12,5 +12,6 @@ pub mod GroupLaws
 pub mod GroupsLaws
 pub mod HeaderFaults
 pub mod IndexLaws
+pub mod InverseLaws
 pub mod KeyLaws
 pub mod ReadingLaws

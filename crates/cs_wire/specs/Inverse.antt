@@ -1,9 +1,10 @@
 -- The inverse of an entry: the introduction to SQLite's session extension, under "inverting a changeset". That the
 -- indirect flag stays is this project's own.
 use Rattle.std.specs.Prelude.{◌≡◌, ℕ, List}
+use Rattle.std.specs.List.{AllZip}
 use Rattle.cs_wire.specs.declared.entry.Entry.{Entry}
 use Rattle.cs_wire.specs.Entry.{key_of}
-use Rattle.cs_wire.specs.Changeset.{ImageData, image_of}
+use Rattle.cs_wire.specs.Changeset.{GroupData, ImageData, image_of}
 
 -- before and after exchanged
 abbrev pub exchanged : ImageData → ImageData
@@ -14,3 +15,8 @@ pub record IsInverseEntry (flags : List ℕ) (entry inverse : Entry) : Type 0 wh
   pub indirect : inverse.indirect ≡ entry.indirect
   pub key : key_of flags inverse.change ≡ key_of flags entry.change
   pub image : image_of flags inverse ≡ exchanged (image_of flags entry)
+
+-- the same header, and the inverses of the entries in their order
+pub record IsInverseGroup (group inverse : GroupData) : Type 0 where
+  pub header : inverse.header ≡ group.header
+  pub entries : AllZip (IsInverseEntry group.header.flags) group.entries inverse.entries

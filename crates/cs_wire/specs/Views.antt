@@ -2,10 +2,12 @@
 use Rattle.std.specs.Prelude.{◌≡◌, ◌≢◌, ℕ, ◌<◌, List, length, map, Some, None, slice_get, All, HoldsAt}
 use Rattle.std.specs.FinMap.{get}
 use Rattle.cs_value.specs.Maps.{ByBytes}
+use Rattle.cs_wire.specs.declared.entry.Change.{Change}
+use Rattle.cs_wire.specs.declared.entry.Change.TheVariants as change
 use Rattle.cs_wire.specs.declared.entry.Entry.{Entry}
 use Rattle.cs_wire.specs.declared.entry.Operation.{Operation}
 use Rattle.cs_wire.specs.declared.entry.Operation.TheVariants.{Insert, Delete, Update}
-use Rattle.cs_wire.specs.Entry.{key_of}
+use Rattle.cs_wire.specs.Entry.{with_key, key_of}
 use Rattle.cs_wire.specs.Changeset.{GroupData}
 
 -- the byte that says what an entry does
@@ -31,3 +33,12 @@ pub record IsIndex (places : ByBytes ℕ) (texts : List (List ℕ)) : Type 0 whe
 pub record IsPlaceOf {X : Type 0} (P : X → Type 0) (xs : List X) (place : ℕ) : Type 0 where
   pub within : place < length xs
   pub holds : HoldsAt P xs place
+
+-- what the code makes of an entry to undo it: what that is for is said by Inverse
+abbrev pub inverse_change : List ℕ → Change → Change
+inverse_change flags (change.Insert row) = change.Delete row
+inverse_change flags (change.Delete row) = change.Insert row
+inverse_change flags (change.Update old new) = change.Update (with_key flags old new) (with_key flags new old)
+
+abbrev pub inverse_entry : List ℕ → Entry → Entry
+inverse_entry flags entry = record { indirect = entry.indirect; change = inverse_change flags entry.change }

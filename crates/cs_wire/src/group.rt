@@ -3,6 +3,7 @@ ghost use Rattle.std.specs.Prelude.{◌≡◌, ◌++◌, ◌∷◌, [], ◌↔�
 
 use crate::entry::Entry;
 use crate::header::Header;
+use crate::inverse::invert_entries;
 use crate::places::Places;
 use cs_value::{Key, NoMemory};
 use std::alloc::Global;
@@ -32,6 +33,7 @@ impl Model for Group {
 impl Group {
     ghost use Rattle.cs_wire.specs.Entry.{IsEntry, key_of};
     ghost use Rattle.cs_wire.specs.Changeset.{IsNewKey, IsGroup};
+    ghost use Rattle.cs_wire.specs.Inverse.{IsInverseGroup};
     ghost use Rattle.cs_wire.specs.Views.{IsPlaceOf};
 
     /// A group of one entry, which fits the header's flags ([`Header::admits`]).
@@ -124,6 +126,20 @@ impl Group {
                 Err(refusal)
             }
         }
+    }
+
+    /// Makes of the group the one that undoes it, and takes no memory: each insert becomes the
+    /// delete of its row and each delete the insert, and in updates the two values of each modified
+    /// column are exchanged. Header, indirect flags and order stay.
+    pub fn invert(&mut self)
+        ensures inverse { IsInverseGroup self.old self.new }
+        ensures well_formed { IsGroup self.new }
+    {
+        invert_entries(
+            *self.entries.allocator(),
+            self.header.flags(),
+            &mut self.entries,
+        );
     }
 
     /// Gives the header and the entries back, and takes no memory.

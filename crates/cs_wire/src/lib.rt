@@ -13,7 +13,7 @@
 //!
 //! `header`, `entry`, `group` and `changeset` are what a file holds, `reader` and `writer` go from
 //! bytes to that and back, `fault` says why a file is refused, `format` has the bytes that tell its
-//! parts apart, `places` finds entries and groups, and `laws` has what holds of all files.
+//! parts apart, `places` finds entries and groups, `inverse` undoes entries, and `laws` has what holds of all files.
 #![tactic(auto)]
 
 mod changeset;
@@ -22,6 +22,7 @@ mod fault;
 mod format;
 mod group;
 mod header;
+mod inverse;
 mod laws;
 mod places;
 mod reader;

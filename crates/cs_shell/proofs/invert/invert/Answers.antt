@@ -1,21 +1,15 @@
-use Rattle.std.proofs.Common.{sym}
-use Rattle.std.proofs.lemmas.List.{take_all}
-use Rattle.cs_shell.proofs.InverseLaws.{no_changeset, next_table, InversesSoFar-push}
+use Rattle.std.proofs.Common.{◌∙◌, arith}
+use Rattle.cs_shell.proofs.InverseLaws.{InversesSoFar-none, InversesSoFar-push, InversesSoFar-all, next_table}
 use Rattle.cs_shell.proofs.invert.invert.Goals as goal
 
 pub loop-group-init : goal.loop-group-init
-loop-group-init c = rw (c.groups-group-items.ensures.same, c.new-inverse.ensures) (record { is_changeset = c.groups-group-items.ensures.well_formed; inverse_is_changeset = no_changeset; each = tt })
+loop-group-init c = InversesSoFar-none c.args.changeset c.new-inverse.result c.into_iter-group-iterator.result.rest.items (c.into_iter-group-iterator.ensures.into_iter_gives.0 ∙ c.into_groups-group-items.ensures.same) c.into_groups-group-items.ensures.well_formed c.new-inverse.ensures
 
 pub push-requires : goal.push-requires
-push-requires c = next_table c.groups-group-items.result.now c.loop-group.inverse c.loop-group.group-index c.loop-group.invariant c.group-item.result c.loop-group-test.true (sym c.group-item.is) c.in_ok-inverse_group.field-0 c.in_ok-inverse_group.ensures.inverse
+push-requires c = next_table c.args.changeset c.loop-group.inverse c.loop-group.yielded c.loop-group.group-iterator.rest.items c.next.new.self.rest.items c.in-Some.group c.loop-group.invariant c.in-Some.ensures.steps.0 c.invert.new.self c.invert.ensures.inverse
 
 pub loop-group-preserved : goal.loop-group-preserved
-loop-group-preserved c =
-    InversesSoFar-push c.groups-group-items.result.now c.loop-group.inverse c.loop-group.group-index c.loop-group.invariant c.group-item.result c.loop-group-test.true (sym c.group-item.is)
-    c.push.new.self c.in_ok-inverse_group.field-0 c.in_ok-push.ensures.well_formed c.in_ok-push.ensures.ok c.in_ok-inverse_group.ensures.inverse
+loop-group-preserved c = InversesSoFar-push c.args.changeset c.loop-group.inverse c.loop-group.yielded c.loop-group.group-iterator.rest.items c.next.new.self.rest.items c.in-Some.group c.loop-group.invariant c.in-Some.ensures.steps.0 c.push.new.self c.invert.new.self c.in_ok-push.ensures.well_formed c.in_ok-push.ensures.ok c.invert.ensures.inverse
 
 pub returns : goal.returns
-returns c =
-    let so = c.loop-group.invariant in
-    let all = take_all c.loop-group.group-index c.groups-group-items.result.now c.loop-group-test.false in
-    (rw (all, c.groups-group-items.ensures.same) at so.each, so.inverse_is_changeset)
+returns c = (InversesSoFar-all c.args.changeset c.loop-group.inverse c.loop-group.yielded c.loop-group.group-iterator.rest.items c.loop-group.invariant (omega (arith, c.in-None.ensures.steps.0)), c.loop-group.invariant.inverse_is_changeset)

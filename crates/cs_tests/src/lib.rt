@@ -1,0 +1,22 @@
+//! Tests of the public calls, of what no contract and no line of a script says.
+//!
+//! `value`, `wire` and `shell` have those of a crate each, and `refusals` the numbers, names and
+//! texts of what they refuse with.
+#![tactic(auto)]
+
+#[cfg(test)]
+mod refusals;
+#[cfg(test)]
+mod shell;
+#[cfg(test)]
+mod value;
+#[cfg(test)]
+mod wire;
+
+/// An INSERT of (1, 'x') into the table t, whose first column is its key.
+#[cfg(test)]
+const INSERT: &[u8] = b"T\x02\x01\x00t\x00\x12\x00\x01\x00\x00\x00\x00\x00\x00\x00\x01\x03\x01x";
+
+/// The DELETE of that row.
+#[cfg(test)]
+const DELETE: &[u8] = b"T\x02\x01\x00t\x00\x09\x00\x01\x00\x00\x00\x00\x00\x00\x00\x01\x03\x01x";

@@ -1,0 +1,151 @@
+//! Numbers, classes, names and texts of what calls refuse with.
+
+use cs_shell::ToolFault;
+use cs_value::{FieldFault, FieldFaultKind, ImageFault, NoMemory};
+use cs_wire::{ReadError, ReadFault, ReadFaultKind};
+use std::fmt::Display;
+use std::process::Abort;
+
+/// A fault of a field.
+const FIELD_FAULT: FieldFault = FieldFault {
+    kind: FieldFaultKind::BadText,
+    place: 9,
+};
+
+/// A fault of a file.
+const READ_FAULT: ReadFault = ReadFault {
+    kind: ReadFaultKind::Unpaired,
+    place: 20,
+};
+
+/// What the faults of fields are printed as.
+const FIELD_TEXTS: [(FieldFaultKind, &str); 5] = [
+    (FieldFaultKind::Truncated, "the bytes end inside a field"),
+    (
+        FieldFaultKind::BadVarint,
+        "a count is not spelled as a varint",
+    ),
+    (FieldFaultKind::BadType, "a field has no type of the format"),
+    (FieldFaultKind::RealValue, "a field is a real number"),
+    (FieldFaultKind::BadText, "a text is not UTF-8"),
+];
+
+/// What the faults of files are printed as.
+const FILE_TEXTS: [(ReadFaultKind, &str); 18] = [
+    (ReadFaultKind::Truncated, "the file ends inside a part"),
+    (
+        ReadFaultKind::NotTable,
+        "the file does not begin with a table",
+    ),
+    (ReadFaultKind::Patchset, "the file is a patchset"),
+    (
+        ReadFaultKind::BadVarint,
+        "a count is not spelled as a varint",
+    ),
+    (
+        ReadFaultKind::ColumnCount,
+        "a table has no column, or more than 32767",
+    ),
+    (ReadFaultKind::NoKey, "a table has no key column"),
+    (
+        ReadFaultKind::BadName,
+        "a table's name is empty or not UTF-8",
+    ),
+    (ReadFaultKind::DuplicateTable, "a table stands twice"),
+    (ReadFaultKind::EmptyGroup, "a table has no change"),
+    (
+        ReadFaultKind::BadOp,
+        "a change has no operation of the format",
+    ),
+    (
+        ReadFaultKind::BadFlag,
+        "an indirect flag is neither 0 nor 1",
+    ),
+    (ReadFaultKind::BadType, "a field has no type of the format"),
+    (ReadFaultKind::RealValue, "a field is a real number"),
+    (ReadFaultKind::BadText, "a text is not UTF-8"),
+    (
+        ReadFaultKind::UndefinedField,
+        "a field that has to be defined is not",
+    ),
+    (
+        ReadFaultKind::Unpaired,
+        "a field of an update is defined on one side alone",
+    ),
+    (ReadFaultKind::NullKey, "a key is NULL"),
+    (ReadFaultKind::DuplicateKey, "a key stands twice in a table"),
+];
+
+/// Asserts what is printed of a fault.
+fn expect_text(rt: &(impl Abort + AllocGlobal), fault: &impl Display, text: &str) {
+    let shown = format!(in rt.alloc(); "{fault}").expect(rt, "memory");
+    assert!(rt; shown.as_str() == text, "at {text}");
+}
+
+#[test]
+fn texts_of_kinds(rt: HostRuntime) {
+    for (kind, text) in FIELD_TEXTS {
+        expect_text(&rt, &kind, text);
+    }
+    for (kind, text) in FILE_TEXTS {
+        expect_text(&rt, &kind, text);
+    }
+}
+
+#[test]
+fn texts_with_places(rt: HostRuntime) {
+    let text = "a text is not UTF-8 at byte 9";
+    expect_text(&rt, &FIELD_FAULT, text);
+    expect_text(&rt, &ImageFault::Fault(FIELD_FAULT), text);
+    let text = "a field of an update is defined on one side alone at byte 20";
+    expect_text(&rt, &READ_FAULT, text);
+    expect_text(&rt, &ReadError::Fault(READ_FAULT), text);
+    expect_text(&rt, &ToolFault::Read(READ_FAULT), text);
+}
+
+#[test]
+fn texts_of_want_of_memory(rt: HostRuntime) {
+    expect_text(&rt, &NoMemory, "out of memory");
+    expect_text(&rt, &ImageFault::NoMemory, "out of memory");
+    expect_text(&rt, &ReadError::NoMemory, "out of memory");
+    expect_text(&rt, &ToolFault::NoMemory, "out of memory");
+}
+
+#[test]
+fn faults_of_fields(rt: HostRuntime) {
+    for (kind, code, name) in [
+        (FieldFaultKind::Truncated, 1, "Truncated"),
+        (FieldFaultKind::BadVarint, 4, "BadVarint"),
+        (FieldFaultKind::BadType, 12, "BadType"),
+        (FieldFaultKind::RealValue, 13, "RealValue"),
+        (FieldFaultKind::BadText, 14, "BadText"),
+    ] {
+        assert!(rt; kind.code() == code && kind.name() == name, "of {name}");
+    }
+    let fault = FIELD_FAULT;
+    assert!(rt; fault.code() == 14 && fault.class() == 11 && fault.name() == "BadText");
+    let fault = ImageFault::Fault(fault);
+    assert!(rt; fault.code() == 14 && fault.class() == 11 && fault.name() == "BadText");
+}
+
+#[test]
+fn faults_of_files(rt: HostRuntime) {
+    let fault = READ_FAULT;
+    assert!(rt; fault.kind.code() == 16 && fault.kind.name() == "Unpaired");
+    assert!(rt; fault.code() == 16 && fault.class() == 11 && fault.name() == "Unpaired");
+    let error = ReadError::Fault(fault);
+    assert!(rt; error.code() == 16 && error.class() == 11 && error.name() == "Unpaired");
+    let error = ToolFault::Read(fault);
+    assert!(rt; error.code() == 16 && error.class() == 11 && error.name() == "Unpaired");
+}
+
+#[test]
+fn want_of_memory(rt: HostRuntime) {
+    assert!(rt; NoMemory.code() == 60 && NoMemory.class() == 7 && NoMemory.name() == "NoMemory");
+    let fault = ImageFault::from(NoMemory);
+    assert!(rt; fault.code() == 60 && fault.class() == 7 && fault.name() == "NoMemory");
+    let error = ReadError::from(NoMemory);
+    assert!(rt; error.code() == 60 && error.class() == 7 && error.name() == "NoMemory");
+    let error = ToolFault::from(NoMemory);
+    assert!(rt; error.code() == 60 && error.class() == 7 && error.name() == "NoMemory");
+}

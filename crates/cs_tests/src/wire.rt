@@ -1,0 +1,147 @@
+//! Changesets, their parts and their files.
+
+use crate::INSERT;
+use cs_value::{OwnedField, OwnedValue, Row};
+use cs_wire::{
+    Change, Changeset, Entry, Group, Header, ReadError, ReadFault, ReadFaultKind,
+    changeset_files_law, read, write,
+};
+use std::process::Abort;
+
+/// An UPDATE of 'x' to the blob ff where the key of the table t is 1, made indirectly.
+const UPDATE: &[u8] =
+    b"T\x02\x01\x00t\x00\x17\x01\x01\x00\x00\x00\x00\x00\x00\x00\x01\x03\x01x\x00\x04\x01\xff";
+
+/// The first entry of a changeset.
+fn first_entry(changeset: &Changeset) -> Option<&Entry> {
+    changeset.groups().first()?.entries().first()
+}
+
+#[test]
+fn reads_an_insert(rt: HostRuntime) {
+    let changeset = read(rt.alloc(), INSERT).expect(&rt, "a changeset");
+    let entry = first_entry(&changeset).expect(&rt, "an entry");
+    assert!(rt; !entry.indirect);
+    let Change::Insert(row) = &entry.change else {
+        panic!(rt; "no insert");
+    };
+    assert!(rt; row.values().len() == 2 && row.values().first() == Some(&OwnedValue::Int(1)));
+}
+
+#[test]
+fn reads_an_update(rt: HostRuntime) {
+    let changeset = read(rt.alloc(), UPDATE).expect(&rt, "a changeset");
+    let entry = first_entry(&changeset).expect(&rt, "an entry");
+    assert!(rt; entry.indirect);
+    let Change::Update { old, new } = &entry.change else {
+        panic!(rt; "no update");
+    };
+    assert!(rt; old.fields().len() == 2 && old.fields().first() != Some(&OwnedField::Undefined));
+    assert!(rt; new.fields().len() == 2 && new.fields().first() == Some(&OwnedField::Undefined));
+}
+
+#[test]
+fn writes_what_was_read(rt: HostRuntime) {
+    let changeset = read(rt.alloc(), UPDATE).expect(&rt, "a changeset");
+    let file = write(rt.alloc(), &changeset).expect(&rt, "memory");
+    assert!(rt; file.as_slice() == UPDATE);
+}
+
+#[test]
+fn refuses_a_patchset(rt: HostRuntime) {
+    let error = read(rt.alloc(), b"P").expect_err(&rt, "a patchset");
+    let fault = ReadFault {
+        kind: ReadFaultKind::Patchset,
+        place: 0,
+    };
+    assert!(rt; error == ReadError::Fault(fault));
+}
+
+#[test]
+fn headers_that_fit(rt: HostRuntime) {
+    assert!(rt; Header::fits("t", &[1, 0]));
+    assert!(rt; !Header::fits("", &[1, 0]));
+    assert!(rt; !Header::fits("a\0", &[1, 0]));
+    assert!(rt; !Header::fits("t", &[]));
+    assert!(rt; !Header::fits("t", &[0, 0]));
+}
+
+/// The header of a table of this name, with a key of one column before another.
+fn header_of(rt: &(impl Abort + AllocGlobal), name: &str) -> Header {
+    let flags = [2, 0];
+    assert!(rt; Header::fits(name, &flags));
+    let name = String::from_str(rt.alloc(), name).expect(rt, "memory");
+    Header::new(
+        name,
+        Vec::from_slice(rt.alloc(), &flags).expect(rt, "memory"),
+    )
+}
+
+#[test]
+fn headers(rt: HostRuntime) {
+    let header = header_of(&rt, "t");
+    let copy = header.copy(rt.alloc()).expect(&rt, "memory");
+    assert!(rt; copy.name() == "t" && copy.flags() == [2, 0].as_slice());
+}
+
+/// The insertion of a value, with NULL behind it.
+fn insertion(rt: &(impl Abort + AllocGlobal), key: OwnedValue) -> Entry {
+    let values = vec![in rt.alloc(); key, OwnedValue::Null].expect(rt, "memory");
+    Entry {
+        indirect: false,
+        change: Change::Insert(Row::new(values)),
+    }
+}
+
+#[test]
+fn entries_that_fit(rt: HostRuntime) {
+    let header = header_of(&rt, "t");
+    let entry = insertion(&rt, OwnedValue::Int(2));
+    assert!(rt; header.admits(&entry));
+    let key = header.key_of(rt.alloc(), &entry).expect(&rt, "memory");
+    assert!(rt; key.bytes() == b"\x01\x00\x00\x00\x00\x00\x00\x00\x02".as_slice());
+    assert!(rt; !header.admits(&insertion(&rt, OwnedValue::Null)));
+}
+
+/// A group of a table of this name, with the insertion of 1.
+fn group_of(rt: &(impl Abort + AllocGlobal), name: &str) -> Group {
+    let header = header_of(rt, name);
+    let entry = insertion(rt, OwnedValue::Int(1));
+    assert!(rt; header.admits(&entry));
+    Group::new(rt.alloc(), header, entry).expect(rt, "memory")
+}
+
+#[test]
+fn groups(rt: HostRuntime) {
+    let mut group = group_of(&rt, "t");
+    let entry = insertion(&rt, OwnedValue::Int(2));
+    assert!(rt; group.header().admits(&entry));
+    let key = group
+        .header()
+        .key_of(rt.alloc(), &entry)
+        .expect(&rt, "memory");
+    if group.find(&key).is_some() {
+        panic!(rt; "the key is there before its entry");
+    }
+    group.push(entry).expect(&rt, "memory");
+    assert!(rt; group.find(&key) == Some(1) && group.entries().len() == 2);
+}
+
+#[test]
+fn changesets(rt: HostRuntime) {
+    let mut changeset = Changeset::new(rt.alloc());
+    let group = group_of(&rt, "t");
+    assert!(rt; changeset.find(group.header().name()).is_none());
+    changeset.push(group).expect(&rt, "memory");
+    assert!(rt; changeset.groups().len() == 1 && changeset.find("t") == Some(0));
+    let file = write(rt.alloc(), &changeset).expect(&rt, "memory");
+    assert!(rt;
+        file.as_slice()
+            == b"T\x02\x02\x00t\x00\x12\x00\x01\x00\x00\x00\x00\x00\x00\x00\x01\x05".as_slice()
+    );
+}
+
+#[test]
+fn laws() {
+    changeset_files_law();
+}

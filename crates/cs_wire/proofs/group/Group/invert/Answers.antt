@@ -1,0 +1,32 @@
+use Rattle.std.proofs.Common.{ℕ, List, map, ap, ◌∙◌, arith}
+use Rattle.cs_wire.specs.Changeset.{GroupData}
+use Rattle.cs_wire.specs.Views.{inverse_entry}
+use Rattle.cs_wire.proofs.InverseLaws.{written_back, IsGroup-inverse, IsInverseGroup-is, index-inverse}
+use Rattle.cs_wire.proofs.group.Group.invert.Goals as goal
+
+pub invariant_of-self : goal.invariant_of-self
+invariant_of-self c =
+    let inside = c.self.inside in
+    let group : GroupData = record { header = inside.header; entries = inside.entries.items } in
+    let inverse = inverse_entry inside.header.flags in
+    let changed = c.invert_entries.ensures ∙ ap (λ (f : List ℕ). map (inverse_entry f) c.deref_mut.result.now) c.flags.ensures.same ∙ ap (map inverse) c.deref_mut.ensures.value in
+    rw (written_back inverse inside.entries.items c.invert_entries.new.entries inside.entries.len changed (omega arith))
+    (IsGroup-inverse group c.self.invariant.0, index-inverse group inside.places c.self.invariant.0 c.self.invariant.1)
+
+pub returns-clause-inverse : goal.returns-clause-inverse
+returns-clause-inverse c =
+    let inside = c.self.inside in
+    let group : GroupData = record { header = inside.header; entries = inside.entries.items } in
+    let inverse = inverse_entry inside.header.flags in
+    let changed = c.invert_entries.ensures ∙ ap (λ (f : List ℕ). map (inverse_entry f) c.deref_mut.result.now) c.flags.ensures.same ∙ ap (map inverse) c.deref_mut.ensures.value in
+    rw (← c.self.view_is, written_back inverse inside.entries.items c.invert_entries.new.entries inside.entries.len changed (omega arith))
+    (IsInverseGroup-is group c.self.invariant.0)
+
+pub returns-clause-well_formed : goal.returns-clause-well_formed
+returns-clause-well_formed c =
+    let inside = c.self.inside in
+    let group : GroupData = record { header = inside.header; entries = inside.entries.items } in
+    let inverse = inverse_entry inside.header.flags in
+    let changed = c.invert_entries.ensures ∙ ap (λ (f : List ℕ). map (inverse_entry f) c.deref_mut.result.now) c.flags.ensures.same ∙ ap (map inverse) c.deref_mut.ensures.value in
+    rw (written_back inverse inside.entries.items c.invert_entries.new.entries inside.entries.len changed (omega arith))
+    (IsGroup-inverse group c.self.invariant.0)
