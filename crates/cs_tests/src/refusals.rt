@@ -1,7 +1,6 @@
 //! Numbers, classes, names and texts of what calls refuse with.
 
-use cs_shell::ToolFault;
-use cs_value::{FieldFault, FieldFaultKind, ImageFault, NoMemory};
+use cs_value::{Fault, FieldFault, FieldFaultKind, ImageFault, NoMemory};
 use cs_wire::{ReadError, ReadFault, ReadFaultKind};
 use std::fmt::Display;
 use std::process::Abort;
@@ -100,7 +99,6 @@ fn texts_with_places(rt: HostRuntime) {
     let text = "a field of an update is defined on one side alone at byte 20";
     expect_text(&rt, &READ_FAULT, text);
     expect_text(&rt, &ReadError::Fault(READ_FAULT), text);
-    expect_text(&rt, &ToolFault::Read(READ_FAULT), text);
 }
 
 #[test]
@@ -108,11 +106,16 @@ fn texts_of_want_of_memory(rt: HostRuntime) {
     expect_text(&rt, &NoMemory, "out of memory");
     expect_text(&rt, &ImageFault::NoMemory, "out of memory");
     expect_text(&rt, &ReadError::NoMemory, "out of memory");
-    expect_text(&rt, &ToolFault::NoMemory, "out of memory");
+}
+
+/// Asserts the number, the class and the name of a fault.
+fn expect_named(rt: &impl Abort, fault: &impl Fault, code: u8, class: u8, name: &str) {
+    assert!(rt; fault.code() == code && fault.class() == class, "of {name}");
+    assert!(rt; fault.name() == name, "in place of {name}");
 }
 
 #[test]
-fn faults_of_fields(rt: HostRuntime) {
+fn kinds_of_fields(rt: HostRuntime) {
     for (kind, code, name) in [
         (FieldFaultKind::Truncated, 1, "Truncated"),
         (FieldFaultKind::BadVarint, 4, "BadVarint"),
@@ -122,30 +125,27 @@ fn faults_of_fields(rt: HostRuntime) {
     ] {
         assert!(rt; kind.code() == code && kind.name() == name, "of {name}");
     }
-    let fault = FIELD_FAULT;
-    assert!(rt; fault.code() == 14 && fault.class() == 11 && fault.name() == "BadText");
-    let fault = ImageFault::Fault(fault);
-    assert!(rt; fault.code() == 14 && fault.class() == 11 && fault.name() == "BadText");
+    let kind = ReadFaultKind::Unpaired;
+    assert!(rt; kind.code() == 16 && kind.name() == "Unpaired");
 }
 
 #[test]
-fn faults_of_files(rt: HostRuntime) {
-    let fault = READ_FAULT;
-    assert!(rt; fault.kind.code() == 16 && fault.kind.name() == "Unpaired");
-    assert!(rt; fault.code() == 16 && fault.class() == 11 && fault.name() == "Unpaired");
-    let error = ReadError::Fault(fault);
-    assert!(rt; error.code() == 16 && error.class() == 11 && error.name() == "Unpaired");
-    let error = ToolFault::Read(fault);
-    assert!(rt; error.code() == 16 && error.class() == 11 && error.name() == "Unpaired");
+fn faults_behind_a_start(rt: HostRuntime) {
+    let fault = FIELD_FAULT.behind(3);
+    assert!(rt; fault.kind == FieldFaultKind::BadText && fault.place == 12);
+}
+
+#[test]
+fn faults(rt: HostRuntime) {
+    expect_named(&rt, &FIELD_FAULT, 14, 11, "BadText");
+    expect_named(&rt, &ImageFault::Fault(FIELD_FAULT), 14, 11, "BadText");
+    expect_named(&rt, &READ_FAULT, 16, 11, "Unpaired");
+    expect_named(&rt, &ReadError::Fault(READ_FAULT), 16, 11, "Unpaired");
 }
 
 #[test]
 fn want_of_memory(rt: HostRuntime) {
-    assert!(rt; NoMemory.code() == 60 && NoMemory.class() == 7 && NoMemory.name() == "NoMemory");
-    let fault = ImageFault::from(NoMemory);
-    assert!(rt; fault.code() == 60 && fault.class() == 7 && fault.name() == "NoMemory");
-    let error = ReadError::from(NoMemory);
-    assert!(rt; error.code() == 60 && error.class() == 7 && error.name() == "NoMemory");
-    let error = ToolFault::from(NoMemory);
-    assert!(rt; error.code() == 60 && error.class() == 7 && error.name() == "NoMemory");
+    expect_named(&rt, &NoMemory, 60, 7, "NoMemory");
+    expect_named(&rt, &ImageFault::from(NoMemory), 60, 7, "NoMemory");
+    expect_named(&rt, &ReadError::from(NoMemory), 60, 7, "NoMemory");
 }

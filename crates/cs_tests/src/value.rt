@@ -120,6 +120,7 @@ fn rows(rt: HostRuntime) {
     let mut out = Vec::new(rt.alloc());
     row_write(&mut out, &row).expect(&rt, "memory");
     assert!(rt; out.as_slice() == &IMAGE[..10]);
+    assert!(rt; row.into_values().len() == 2);
 }
 
 #[test]
@@ -130,6 +131,7 @@ fn images(rt: HostRuntime) {
     let mut out = Vec::new(rt.alloc());
     image_write(&mut out, &image).expect(&rt, "memory");
     assert!(rt; out.as_slice() == &IMAGE[..10]);
+    assert!(rt; image.into_fields().len() == 2);
 }
 
 #[test]
@@ -171,6 +173,7 @@ fn keys_of_rows(rt: HostRuntime) {
     assert!(rt; key.bytes() == TWO);
     let copy = key.copy(rt.alloc()).expect(&rt, "memory");
     assert!(rt; copy == key);
+    assert!(rt; key.into_bytes().as_slice() == TWO);
 }
 
 /// The key of an image of a column.

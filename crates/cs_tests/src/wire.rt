@@ -4,7 +4,7 @@ use crate::INSERT;
 use cs_value::{OwnedField, OwnedValue, Row};
 use cs_wire::{
     Change, Changeset, Entry, Group, Header, ReadError, ReadFault, ReadFaultKind,
-    changeset_files_law, read, write,
+    changeset_files_law, entry_inverses_law, read, row_keys_law, write,
 };
 use std::process::Abort;
 
@@ -82,6 +82,7 @@ fn headers(rt: HostRuntime) {
     let header = header_of(&rt, "t");
     let copy = header.copy(rt.alloc()).expect(&rt, "memory");
     assert!(rt; copy.name() == "t" && copy.flags() == [2, 0].as_slice());
+    assert!(rt; copy == header && header != header_of(&rt, "u"));
 }
 
 /// The insertion of a value, with NULL behind it.
@@ -103,6 +104,15 @@ fn entries_that_fit(rt: HostRuntime) {
     assert!(rt; !header.admits(&insertion(&rt, OwnedValue::Null)));
 }
 
+#[test]
+fn copies_of_entries(rt: HostRuntime) {
+    let entry = insertion(&rt, OwnedValue::Int(2));
+    let copy = entry.copy(rt.alloc()).expect(&rt, "memory");
+    assert!(rt; copy == entry && copy != insertion(&rt, OwnedValue::Null));
+    let change = entry.change.copy(rt.alloc()).expect(&rt, "memory");
+    assert!(rt; change == entry.change);
+}
+
 /// A group of a table of this name, with the insertion of 1.
 fn group_of(rt: &(impl Abort + AllocGlobal), name: &str) -> Group {
     let header = header_of(rt, name);
@@ -116,15 +126,31 @@ fn groups(rt: HostRuntime) {
     let mut group = group_of(&rt, "t");
     let entry = insertion(&rt, OwnedValue::Int(2));
     assert!(rt; group.header().admits(&entry));
-    let key = group
-        .header()
-        .key_of(rt.alloc(), &entry)
-        .expect(&rt, "memory");
-    if group.find(&key).is_some() {
-        panic!(rt; "the key is there before its entry");
-    }
+    let key = group.key_of(rt.alloc(), &entry).expect(&rt, "memory");
+    assert!(rt; group.find(&key).is_none());
     group.push(entry).expect(&rt, "memory");
     assert!(rt; group.find(&key) == Some(1) && group.entries().len() == 2);
+}
+
+#[test]
+fn groups_with_a_key_at_hand(rt: HostRuntime) {
+    let mut group = group_of(&rt, "t");
+    let entry = insertion(&rt, OwnedValue::Int(2));
+    assert!(rt; group.header().admits(&entry));
+    let key = group.key_of(rt.alloc(), &entry).expect(&rt, "memory");
+    assert!(rt; group.find(&key).is_none());
+    group.push_with_key(key, entry).expect(&rt, "memory");
+    assert!(rt; group.entries().len() == 2 && group != group_of(&rt, "t"));
+}
+
+#[test]
+fn inverses_of_groups(rt: HostRuntime) {
+    let mut group = group_of(&rt, "t");
+    group.invert();
+    assert!(rt; group.flags() == [2, 0].as_slice());
+    let (header, entries) = group.into_parts();
+    assert!(rt; header.name() == "t" && entries.len() == 1);
+    assert!(rt; entries.first() != Some(&insertion(&rt, OwnedValue::Int(1))));
 }
 
 #[test]
@@ -135,13 +161,21 @@ fn changesets(rt: HostRuntime) {
     changeset.push(group).expect(&rt, "memory");
     assert!(rt; changeset.groups().len() == 1 && changeset.find("t") == Some(0));
     let file = write(rt.alloc(), &changeset).expect(&rt, "memory");
-    assert!(rt;
-        file.as_slice()
-            == b"T\x02\x02\x00t\x00\x12\x00\x01\x00\x00\x00\x00\x00\x00\x00\x01\x05".as_slice()
-    );
+    let wanted = b"T\x02\x02\x00t\x00\x12\x00\x01\x00\x00\x00\x00\x00\x00\x00\x01\x05";
+    assert!(rt; file.as_slice() == wanted.as_slice());
+    assert!(rt; changeset.into_groups().len() == 1);
+}
+
+#[test]
+fn equal_changesets(rt: HostRuntime) {
+    let changeset = read(rt.alloc(), INSERT).expect(&rt, "a changeset");
+    assert!(rt; changeset == read(rt.alloc(), INSERT).expect(&rt, "a changeset"));
+    assert!(rt; changeset != read(rt.alloc(), UPDATE).expect(&rt, "a changeset"));
 }
 
 #[test]
 fn laws() {
     changeset_files_law();
+    entry_inverses_law();
+    row_keys_law();
 }

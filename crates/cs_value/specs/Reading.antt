@@ -1,6 +1,7 @@
 -- What the private readers answer, by what they meet first. No public contract names these: what the readers are for
 -- is said by Spelling and FieldFaults.
-use Rattle.std.specs.Prelude.{◌≡◌, ℕ, ◌+◌, ◌*◌, ◌-◌, ◌%◌, ◌==◌, nat_lt, if◌then◌else◌, List, [], ◌∷◌, length, take, drop, Result, Ok, Err}
+use Rattle.std.specs.Prelude.{◌≡◌, ℕ, ◌+◌, ◌*◌, ◌-◌, ◌%◌, ◌==◌, nat_lt, if◌then◌else◌, List, [], ◌∷◌, length}
+use Rattle.std.specs.Prelude.{take, drop, Result, Ok, Err}
 use Rattle.std.specs.Int.{w64, cast_signed, from_be_bytes}
 use Rattle.std.specs.Str.{is_utf8}
 use Rattle.cs_value.specs.declared.TheConstants.{MAX_CONTENT_LEN}

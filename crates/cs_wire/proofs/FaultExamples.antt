@@ -1,24 +1,29 @@
 -- What is no fault: for each kind of read fault a file that has none of that kind at any place, and files that differ
 -- from those of the examples of faults in the one byte that matters.
-use Rattle.std.proofs.Common.{◌≡◌, ◌≢◌, ℕ, zero, suc, ◌<◌, Some, List, [], ◌∷◌, ◌++◌, length, drop, get_or, unwrap_or, codes, refl, sym, ap, subst, inl, inr, arith, length-append, length-drop}
+use Rattle.std.proofs.Common.{◌≡◌, ◌≢◌, ℕ, zero, suc, ◌/◌, ◌%◌, ◌<◌, ◌≤◌, Some, List, [], ◌∷◌, ◌++◌, length, drop, get_or, unwrap_or, codes, refl, sym, ap, subst, inl, inr, arith, length-append, length-drop}
 use Rattle.std.specs.Prelude.{◌⊎◌, IsUtf8, slice_get}
 use Rattle.std.specs.List.{AllByRecursion}
 use Rattle.std.specs.Str.{chars, is_utf8}
 use Rattle.std.specs.Char.{encode_utf8}
 use Rattle.std.proofs.lemmas.List.Elements.{All-nil}
 use Rattle.std.proofs.lemmas.Str.{IsUtf8-from_is_utf8}
+use Rattle.cs_value.specs.declared.value.OwnedValue.TheVariants.{Int, Text, Blob, Null}
+use Rattle.cs_value.specs.declared.value.OwnedField.{OwnedField}
+use Rattle.cs_value.specs.declared.value.OwnedField.TheVariants.{Undefined, Defined}
 use Rattle.cs_value.specs.Varint.{leading_digits, varint}
 use Rattle.cs_value.specs.Spelling.{value_bytes, field_bytes}
 use Rattle.cs_value.specs.FieldFaults.{HasContent, BeginsNoVarint, HasBadType}
 use Rattle.cs_value.proofs.Spellings.{varint_spellings}
+use Rattle.cs_value.proofs.VarintLoops.{last_digit}
 use Rattle.cs_wire.specs.declared.entry.Change.{Change}
 use Rattle.cs_wire.specs.declared.entry.Entry.{Entry}
 use Rattle.cs_wire.specs.declared.fault.ReadFaultKind.{ReadFaultKind}
 use Rattle.cs_wire.specs.declared.fault.ReadFaultKind.TheVariants.{Truncated, NotTable, Patchset, BadVarint, ColumnCount, NoKey, BadName, DuplicateTable, EmptyGroup, BadOp, BadFlag, BadType, RealValue, BadText, UndefinedField, Unpaired, NullKey, DuplicateKey}
-use Rattle.cs_wire.specs.Changeset.{HeaderData, GroupData, IsNewName, flags_bytes, header_bytes, entries_bytes, group_bytes, file_bytes}
+use Rattle.cs_wire.specs.Entry.{key_of, entry_bytes}
+use Rattle.cs_wire.specs.Changeset.{HeaderData, GroupData, IsHeader, IsNewKey, IsNewName, flags_bytes, header_bytes, entries_bytes, group_bytes, file_bytes}
 use Rattle.cs_wire.specs.ReadFaults.{Stands, TableStart, HeaderPart, EntryStart, FieldStart, ReadCase}
 use Rattle.cs_wire.proofs.GroupsLaws.{group_bytes_some}
-use Rattle.cs_wire.proofs.Examples.{header_file, one_field}
+use Rattle.cs_wire.proofs.Examples.{header_file, one_field, insert_file}
 
 -- files that begin with another byte than 54
 
@@ -105,7 +110,13 @@ patchset_has_one_fault kind place h =
           elim (table_first (0x50 ∷ []) place p.groups p.start) [ inl zero_is ↦ (patchset, zero_is) | inr same ↦ absurd (omega (arith, same)) ]
     ]
 
--- the one byte that matters
+-- the place and the one byte that matter
+
+-- Truncated has its place at the end
+pub truncated_at_end : (file : List ℕ) (place : ℕ) → ReadCase file Truncated place → place ≡ length file
+truncated_at_end file place (inl (inl h)) = omega (arith, h.place_is, h.fails.1, length-drop h.at file, h.part.stands.within)
+truncated_at_end file place (inl (inr h)) = omega (arith, h.place_is, h.fails.1, length-drop h.at file, h.start.stand.within)
+truncated_at_end file place (inr h) = h.1
 
 -- 2 is a count of columns
 two_is_a_count : ReadCase (0x54 ∷ 0x02 ∷ []) ColumnCount 1 → ⊥
@@ -161,6 +172,32 @@ first_table_is_new file h = h.not_new (no_group h.groups h.start)
     no_group (g ∷ groups) start =
         let bytes = group_bytes g ++ file_bytes groups in
         absurd (omega (arith, ap length start.stand.spelled, length-append bytes (drop 0 file), length-append (group_bytes g) (file_bytes groups), group_bytes_some g))
+
+varint_some : (n : ℕ) → 0 < length (varint n)
+varint_some n = omega (arith, ap length (last_digit n), length-append (leading_digits 4 (n / 128)) ((n % 128) ∷ []))
+
+-- a header has five bytes at least, and an entry two
+header_five : (header : HeaderData) → IsHeader header → 5 ≤ length (header_bytes header)
+unfolding header_bytes flags_bytes
+header_five header is =
+    omega (arith, length-append (varint (length header.flags) ++ header.flags) (header.name ++ 0 ∷ []), length-append (varint (length header.flags)) header.flags, length-append header.name (0 ∷ []), varint_some (length header.flags), is.flags.some_key.2, is.name.some)
+
+entry_two : (entry : Entry) → 2 ≤ length (entry_bytes entry)
+unfolding entry_bytes
+entry_two entry = omega arith
+
+-- in front of the seventh byte stands no entry
+no_entry_yet : (file : List ℕ) (header : HeaderData) (entries : List Entry) → EntryStart file 6 header entries → entries ≡ []
+no_entry_yet file header [] start = refl
+no_entry_yet file header (entry ∷ entries) start =
+    let text = header_bytes header ++ entries_bytes (entry ∷ entries) in
+    absurd (omega (arith, ap length start.stand.spelled, start.stand.within, length-drop start.from file, length-drop 6 file, length-append text (drop 6 file), length-append (header_bytes header) (entries_bytes (entry ∷ entries)), length-append (entry_bytes entry) (entries_bytes entries), header_five header start.is_header, entry_two entry))
+
+-- the first entry of the table `t` repeats no key
+first_entry_is_new : ReadCase insert_file DuplicateKey 6 → ⊥
+first_entry_is_new h =
+    let none = no_entry_yet insert_file h.header h.entries h.start in
+    h.not_new (subst (λ (entries : List Entry). IsNewKey h.header.flags entries (key_of h.header.flags h.entry.change)) (sym none) (All-nil (λ e. key_of h.header.flags e.change ≢ key_of h.header.flags h.entry.change)))
 
 -- 13 is met where an entry may begin: the table is not empty
 thirteen_is_no_empty_table : ReadCase (header_file ++ 0x13 ∷ []) EmptyGroup 6 → ⊥
@@ -261,3 +298,16 @@ one_is_defined h = absurd (omega (arith, ap first h.stands.spelled))
 one_is_not_null : ReadCase (header_file ++ 0x12 ∷ 0x00 ∷ one_field) NullKey 8 → ⊥
 unfolding value_bytes field_bytes
 one_is_not_null h = absurd (omega (arith, ap first h.stands.spelled))
+
+-- each field has a byte
+field_some : (f : OwnedField) → 0 < length (field_bytes f)
+unfolding value_bytes field_bytes
+field_some Undefined = omega arith
+field_some (Defined (Int z)) = omega arith
+field_some (Defined (Text t)) = omega arith
+field_some (Defined (Blob b)) = omega arith
+field_some (Defined Null) = omega arith
+
+-- and so none stands at the end, which an unpaired one would
+end_is_not_unpaired : ReadCase header_file Unpaired 6 → ⊥
+end_is_not_unpaired h = absurd (omega (arith, ap length h.stands.spelled, length-append (field_bytes h.found) (drop h.to header_file), field_some h.found))

@@ -21,8 +21,9 @@ use Rattle.cs_wire.specs.declared.entry.Entry.{Entry}
 use Rattle.cs_wire.specs.declared.fault.ReadFaultKind.{ReadFaultKind}
 use Rattle.cs_wire.specs.declared.fault.ReadFaultKind.TheVariants.{Truncated, NotTable, Patchset, BadVarint}
 use Rattle.cs_wire.specs.declared.fault.ReadFaultKind.TheVariants.{ColumnCount, NoKey, BadName, DuplicateTable}
-use Rattle.cs_wire.specs.declared.fault.ReadFaultKind.TheVariants.{EmptyGroup, BadOp, BadFlag, BadType, RealValue, BadText}
-use Rattle.cs_wire.specs.declared.fault.ReadFaultKind.TheVariants.{UndefinedField, Unpaired, NullKey, DuplicateKey}
+use Rattle.cs_wire.specs.declared.fault.ReadFaultKind.TheVariants.{EmptyGroup, BadOp, BadFlag, BadType}
+use Rattle.cs_wire.specs.declared.fault.ReadFaultKind.TheVariants.{RealValue, BadText, UndefinedField}
+use Rattle.cs_wire.specs.declared.fault.ReadFaultKind.TheVariants.{Unpaired, NullKey, DuplicateKey}
 use Rattle.cs_wire.specs.Entry.{IsChange, IsEntry, key_of, operation, fields_of, entry_bytes}
 use Rattle.cs_wire.specs.Changeset.{HeaderData, GroupData, IsNewKey, IsNewName, IsHeader, IsChangeset, IsAccepted}
 use Rattle.cs_wire.specs.Changeset.{flags_bytes, header_bytes, entries_bytes, file_bytes}

@@ -1,7 +1,7 @@
 //! From a file to that of its inverse.
 
 use crate::{DELETE, INSERT};
-use cs_shell::{ReadFault, ReadFaultKind, ToolFault, invert_bytes};
+use cs_shell::{ReadFault, ReadFaultKind, ToolFault, changeset_inverses_law, invert_bytes};
 
 #[test]
 fn inverts_an_insert(rt: HostRuntime) {
@@ -16,5 +16,10 @@ fn refuses_a_patchset(rt: HostRuntime) {
         kind: ReadFaultKind::Patchset,
         place: 0,
     };
-    assert!(rt; error == ToolFault::Read(fault));
+    assert!(rt; error == ToolFault::Fault(fault));
+}
+
+#[test]
+fn laws() {
+    changeset_inverses_law();
 }

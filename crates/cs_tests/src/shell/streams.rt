@@ -63,6 +63,16 @@ fn expect_run(rt: &(impl Abort + AllocGlobal), script: Script, status: Status, p
     assert!(rt; written.as_slice() == printed);
 }
 
+/// A script of these bytes, behind which it ends or fails.
+pub(super) fn scripted(bytes: &[u8], breaks: bool) -> Script<'_> {
+    Script {
+        feeds: 0,
+        bytes,
+        step: 4096,
+        breaks,
+    }
+}
+
 /// A script of line feeds, and some bytes behind them.
 fn long(feeds: usize, bytes: &[u8]) -> Script<'_> {
     Script {
@@ -75,8 +85,9 @@ fn long(feeds: usize, bytes: &[u8]) -> Script<'_> {
 
 #[test]
 fn runs_a_script_without_a_refusal(rt: HostRuntime) {
-    expect_run(&rt, long(0, b""), Status::Done, b"");
-    expect_run(&rt, long(0, b".load a 0f\n.hex a"), Status::Done, b"0f\n");
+    expect_run(&rt, scripted(b"", false), Status::Done, b"");
+    let script = scripted(b".load a 0f\n.hex a", false);
+    expect_run(&rt, script, Status::Done, b"0f\n");
 }
 
 #[test]
@@ -92,12 +103,7 @@ fn joins_pieces_of_a_line(rt: HostRuntime) {
 
 #[test]
 fn reports_a_broken_input(rt: HostRuntime) {
-    let script = Script {
-        feeds: 0,
-        bytes: b".hex q\n.hex",
-        step: 4096,
-        breaks: true,
-    };
+    let script = scripted(b".hex q\n.hex", true);
     expect_run(&rt, script, Status::InputFault, b"error 62 EmptySlot\n");
 }
 

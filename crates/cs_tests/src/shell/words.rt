@@ -1,8 +1,8 @@
 //! What the words of a command line are answered.
 
-use super::streams::{Closed, Script};
+use super::streams::{Closed, Script, scripted};
 use crate::{DELETE, INSERT};
-use cs_shell::{Told, run_words};
+use cs_shell::{Told, print_usage, run_words};
 use std::fs;
 use std::process::Abort;
 use std::rt::Files;
@@ -34,22 +34,30 @@ fn words_of(rt: &(impl Abort + AllocGlobal), words: &[&str]) -> Vec<String> {
 fn expect_answer(
     rt: &(impl Files + AllocGlobal + Abort),
     words: &[&str],
-    status: u8,
-    printed: &[u8],
-    reported: &[u8],
+    script: Script,
+    wanted: (u8, &[u8], &[u8]),
 ) {
     let mut out = Vec::new(rt.alloc());
     let mut err = Vec::new(rt.alloc());
-    let answered = run_words(
+    let status = run_words(
         rt,
         &words_of(rt, words),
-        &mut Told::new(b".load a 0f\n.hex a\n".as_slice()),
+        &mut Told::new(script),
         &mut Told::new(&mut out),
         &mut Told::new(&mut err),
     );
-    assert!(rt; answered == status, "{answered} in place of {status}");
-    assert!(rt; out.as_slice() == printed);
-    assert!(rt; err.as_slice() == reported);
+    assert!(rt; (status, out.as_slice(), err.as_slice()) == wanted);
+}
+
+/// Runs words without a line of script, and asserts the exit status, and what is reported alone.
+fn expect_reported(
+    rt: &(impl Files + AllocGlobal + Abort),
+    words: &[&str],
+    status: u8,
+    reported: &[u8],
+) {
+    let wanted = (status, b"".as_slice(), reported);
+    expect_answer(rt, words, scripted(b"", false), wanted);
 }
 
 /// Makes a file of these bytes, in the folder that the tests run in.
@@ -68,7 +76,7 @@ fn expect_removed(rt: &(impl Files + AllocGlobal + Abort), name: &str, bytes: &[
 fn writes_the_inverse(rt: HostRuntime) {
     make(&rt, "insert.cs", INSERT);
     let words = ["insert.cs", "invert", "insert.inverse.cs"];
-    expect_answer(&rt, &words, 0, b"", b"");
+    expect_reported(&rt, &words, 0, b"");
     expect_removed(&rt, "insert.cs", INSERT);
     expect_removed(&rt, "insert.inverse.cs", DELETE);
 }
@@ -76,14 +84,14 @@ fn writes_the_inverse(rt: HostRuntime) {
 #[test]
 fn replaces_what_the_other_file_held(rt: HostRuntime) {
     make(&rt, "in_place.cs", INSERT);
-    expect_answer(&rt, &["in_place.cs", "invert", "in_place.cs"], 0, b"", b"");
+    expect_reported(&rt, &["in_place.cs", "invert", "in_place.cs"], 0, b"");
     expect_removed(&rt, "in_place.cs", DELETE);
 }
 
 #[test]
 fn reports_a_missing_file(rt: HostRuntime) {
     let words = ["missing.cs", "invert", "missing.inverse.cs"];
-    expect_answer(&rt, &words, 1, b"", b"error 71 InputFault\n");
+    expect_reported(&rt, &words, 1, b"error 71 InputFault\n");
     assert!(rt; !fs::exists(&rt, "missing.inverse.cs").expect(&rt, "an answer"));
 }
 
@@ -91,7 +99,7 @@ fn reports_a_missing_file(rt: HostRuntime) {
 fn reports_a_refused_file(rt: HostRuntime) {
     make(&rt, "patchset.cs", b"P");
     let words = ["patchset.cs", "invert", "patchset.inverse.cs"];
-    expect_answer(&rt, &words, 1, b"", b"error 3 Patchset 0\n");
+    expect_reported(&rt, &words, 1, b"error 3 Patchset 0\n");
     expect_removed(&rt, "patchset.cs", b"P");
     assert!(rt; !fs::exists(&rt, "patchset.inverse.cs").expect(&rt, "an answer"));
 }
@@ -100,13 +108,14 @@ fn reports_a_refused_file(rt: HostRuntime) {
 fn reports_a_file_that_is_not_written(rt: HostRuntime) {
     make(&rt, "unwritten.cs", INSERT);
     let words = ["unwritten.cs", "invert", "no_folder/out.cs"];
-    expect_answer(&rt, &words, 1, b"", b"error 72 OutputFault\n");
+    expect_reported(&rt, &words, 1, b"error 72 OutputFault\n");
     expect_removed(&rt, "unwritten.cs", INSERT);
 }
 
 #[test]
 fn runs_the_input_as_a_script(rt: HostRuntime) {
-    expect_answer(&rt, &[], 0, b"0f\n", b"");
+    let script = scripted(b".load a 0f\n.hex a\n", false);
+    expect_answer(&rt, &[], script, (0, b"0f\n".as_slice(), b"".as_slice()));
 }
 
 #[test]
@@ -119,46 +128,27 @@ fn prints_the_usage(rt: HostRuntime) {
         ["a.cs", "invert", "o", "p"].as_slice(),
         ["--help"].as_slice(),
     ] {
-        expect_answer(&rt, words, 2, b"", USAGE);
+        expect_reported(&rt, words, 2, USAGE);
     }
 }
 
 #[test]
+fn prints_the_usage_for_other_words(rt: HostRuntime) {
+    let mut err = Vec::new(rt.alloc());
+    assert!(rt; print_usage(&mut Told::new(&mut err)) == 2);
+    assert!(rt; err.as_slice() == USAGE);
+}
+
+#[test]
 fn reports_a_refusal_on_the_output_alone(rt: HostRuntime) {
-    expect_status_1(&rt, false, b"error 62 EmptySlot\n", b"");
+    let wanted = (1, b"error 62 EmptySlot\n".as_slice(), b"".as_slice());
+    expect_answer(&rt, &[], scripted(b".hex a", false), wanted);
 }
 
 #[test]
 fn reports_a_failed_input(rt: HostRuntime) {
-    expect_status_1(&rt, true, b"", b"error 71 InputFault\n");
-}
-
-/// Runs a script that is refused, or breaks in its first line, and asserts what is printed and
-/// reported.
-fn expect_status_1(
-    rt: &(impl Files + AllocGlobal + Abort),
-    breaks: bool,
-    printed: &[u8],
-    reported: &[u8],
-) {
-    let mut out = Vec::new(rt.alloc());
-    let mut err = Vec::new(rt.alloc());
-    let script = Script {
-        feeds: 0,
-        bytes: b".hex q",
-        step: 4096,
-        breaks,
-    };
-    let status = run_words(
-        rt,
-        &[],
-        &mut Told::new(script),
-        &mut Told::new(&mut out),
-        &mut Told::new(&mut err),
-    );
-    assert!(rt; status == 1);
-    assert!(rt; out.as_slice() == printed);
-    assert!(rt; err.as_slice() == reported);
+    let wanted = (1, b"".as_slice(), b"error 71 InputFault\n".as_slice());
+    expect_answer(&rt, &[], scripted(b".hex a", true), wanted);
 }
 
 #[test]
