@@ -110,8 +110,10 @@ fn texts_of_want_of_memory(rt: HostRuntime) {
 
 /// Asserts the number, the class and the name of a fault.
 fn expect_named(rt: &impl Abort, fault: &impl Fault, code: u8, class: u8, name: &str) {
-    assert!(rt; fault.code() == code && fault.class() == class, "of {name}");
-    assert!(rt; fault.name() == name, "in place of {name}");
+    assert!(rt;
+        fault.code() == code && fault.class() == class && fault.name() == name,
+        "of {name}"
+    );
 }
 
 #[test]
@@ -130,13 +132,8 @@ fn kinds_of_fields(rt: HostRuntime) {
 }
 
 #[test]
-fn faults_behind_a_start(rt: HostRuntime) {
-    let fault = FIELD_FAULT.behind(3);
-    assert!(rt; fault.kind == FieldFaultKind::BadText && fault.place == 12);
-}
-
-#[test]
 fn faults(rt: HostRuntime) {
+    assert!(rt; FIELD_FAULT.behind(3).place == 12);
     expect_named(&rt, &FIELD_FAULT, 14, 11, "BadText");
     expect_named(&rt, &ImageFault::Fault(FIELD_FAULT), 14, 11, "BadText");
     expect_named(&rt, &READ_FAULT, 16, 11, "Unpaired");

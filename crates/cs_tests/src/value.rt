@@ -131,13 +131,7 @@ fn images(rt: HostRuntime) {
     let mut out = Vec::new(rt.alloc());
     image_write(&mut out, &image).expect(&rt, "memory");
     assert!(rt; out.as_slice() == &IMAGE[..10]);
-    assert!(rt; image.into_fields().len() == 2);
-}
-
-#[test]
-fn no_image(rt: HostRuntime) {
-    let none = Image::new(Vec::new(rt.alloc()));
-    assert!(rt; image_read(rt.alloc(), IMAGE, 0) == Ok((none, 0)));
+    assert!(rt; Image::new(image.into_fields()) == copy);
 }
 
 #[test]

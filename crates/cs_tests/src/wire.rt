@@ -1,10 +1,9 @@
 //! Changesets, their parts and their files.
 
-use crate::INSERT;
 use cs_value::{OwnedField, OwnedValue, Row};
 use cs_wire::{
-    Change, Changeset, Entry, Group, Header, ReadError, ReadFault, ReadFaultKind,
-    changeset_files_law, entry_inverses_law, read, row_keys_law, write,
+    Change, Changeset, Entry, Group, Header, changeset_files_law, entry_inverses_law, read,
+    row_keys_law, write,
 };
 use std::process::Abort;
 
@@ -12,26 +11,11 @@ use std::process::Abort;
 const UPDATE: &[u8] =
     b"T\x02\x01\x00t\x00\x17\x01\x01\x00\x00\x00\x00\x00\x00\x00\x01\x03\x01x\x00\x04\x01\xff";
 
-/// The first entry of a changeset.
-fn first_entry(changeset: &Changeset) -> Option<&Entry> {
-    changeset.groups().first()?.entries().first()
-}
-
-#[test]
-fn reads_an_insert(rt: HostRuntime) {
-    let changeset = read(rt.alloc(), INSERT).expect(&rt, "a changeset");
-    let entry = first_entry(&changeset).expect(&rt, "an entry");
-    assert!(rt; !entry.indirect);
-    let Change::Insert(row) = &entry.change else {
-        panic!(rt; "no insert");
-    };
-    assert!(rt; row.values().len() == 2 && row.values().first() == Some(&OwnedValue::Int(1)));
-}
-
 #[test]
 fn reads_an_update(rt: HostRuntime) {
     let changeset = read(rt.alloc(), UPDATE).expect(&rt, "a changeset");
-    let entry = first_entry(&changeset).expect(&rt, "an entry");
+    let group = changeset.groups().first().expect(&rt, "a group");
+    let entry = group.entries().first().expect(&rt, "an entry");
     assert!(rt; entry.indirect);
     let Change::Update { old, new } = &entry.change else {
         panic!(rt; "no update");
@@ -45,16 +29,7 @@ fn writes_what_was_read(rt: HostRuntime) {
     let changeset = read(rt.alloc(), UPDATE).expect(&rt, "a changeset");
     let file = write(rt.alloc(), &changeset).expect(&rt, "memory");
     assert!(rt; file.as_slice() == UPDATE);
-}
-
-#[test]
-fn refuses_a_patchset(rt: HostRuntime) {
-    let error = read(rt.alloc(), b"P").expect_err(&rt, "a patchset");
-    let fault = ReadFault {
-        kind: ReadFaultKind::Patchset,
-        place: 0,
-    };
-    assert!(rt; error == ReadError::Fault(fault));
+    assert!(rt; changeset != Changeset::new(rt.alloc()));
 }
 
 #[test]
@@ -133,17 +108,6 @@ fn groups(rt: HostRuntime) {
 }
 
 #[test]
-fn groups_with_a_key_at_hand(rt: HostRuntime) {
-    let mut group = group_of(&rt, "t");
-    let entry = insertion(&rt, OwnedValue::Int(2));
-    assert!(rt; group.header().admits(&entry));
-    let key = group.key_of(rt.alloc(), &entry).expect(&rt, "memory");
-    assert!(rt; group.find(&key).is_none());
-    group.push_with_key(key, entry).expect(&rt, "memory");
-    assert!(rt; group.entries().len() == 2 && group != group_of(&rt, "t"));
-}
-
-#[test]
 fn inverses_of_groups(rt: HostRuntime) {
     let mut group = group_of(&rt, "t");
     group.invert();
@@ -164,13 +128,6 @@ fn changesets(rt: HostRuntime) {
     let wanted = b"T\x02\x02\x00t\x00\x12\x00\x01\x00\x00\x00\x00\x00\x00\x00\x01\x05";
     assert!(rt; file.as_slice() == wanted.as_slice());
     assert!(rt; changeset.into_groups().len() == 1);
-}
-
-#[test]
-fn equal_changesets(rt: HostRuntime) {
-    let changeset = read(rt.alloc(), INSERT).expect(&rt, "a changeset");
-    assert!(rt; changeset == read(rt.alloc(), INSERT).expect(&rt, "a changeset"));
-    assert!(rt; changeset != read(rt.alloc(), UPDATE).expect(&rt, "a changeset"));
 }
 
 #[test]

@@ -141,18 +141,8 @@ fn leaves_out_the_line_that_a_script_is_cut_in(rt: HostRuntime) {
 }
 
 #[test]
-fn tells_what_was_read(rt: HostRuntime) {
-    let mut input = Told::new(b"abc".as_slice());
-    let mut buf = [0; 2];
-    assert!(rt; input.read(&mut buf).expect(&rt, "bytes") == 2);
-    assert!(rt; buf == *b"ab" && !input.failed());
-}
-
-#[test]
-fn tells_what_was_written(rt: HostRuntime) {
-    let mut written = Vec::new(rt.alloc());
-    let mut out = Told::new(&mut written);
-    assert!(rt; out.write(b"ab").expect(&rt, "room") == 2);
+fn hands_a_flush_on(rt: HostRuntime) {
+    let mut out = Told::new(Closed { fails: true });
     out.flush().expect(&rt, "nothing to hand on");
-    assert!(rt; !out.failed() && written.as_slice() == b"ab".as_slice());
+    assert!(rt; !out.failed());
 }

@@ -4,6 +4,7 @@ use super::streams::{Closed, Script, scripted};
 use crate::{DELETE, INSERT};
 use cs_shell::{Told, print_usage, run_words};
 use std::fs;
+use std::io::Write;
 use std::process::Abort;
 use std::rt::Files;
 
@@ -30,23 +31,23 @@ fn words_of(rt: &(impl Abort + AllocGlobal), words: &[&str]) -> Vec<String> {
     all
 }
 
-/// Runs words over a script, and asserts the exit status, and what is printed and reported.
-fn expect_answer(
+/// Runs words over a script, and asserts the exit status, and what is reported.
+fn expect_end<W: Write + Drop>(
     rt: &(impl Files + AllocGlobal + Abort),
     words: &[&str],
     script: Script,
-    wanted: (u8, &[u8], &[u8]),
+    out: W,
+    wanted: (u8, &[u8]),
 ) {
-    let mut out = Vec::new(rt.alloc());
     let mut err = Vec::new(rt.alloc());
     let status = run_words(
         rt,
         &words_of(rt, words),
         &mut Told::new(script),
-        &mut Told::new(&mut out),
+        &mut Told::new(out),
         &mut Told::new(&mut err),
     );
-    assert!(rt; (status, out.as_slice(), err.as_slice()) == wanted);
+    assert!(rt; (status, err.as_slice()) == wanted);
 }
 
 /// Runs words without a line of script, and asserts the exit status, and what is reported alone.
@@ -56,8 +57,10 @@ fn expect_reported(
     status: u8,
     reported: &[u8],
 ) {
-    let wanted = (status, b"".as_slice(), reported);
-    expect_answer(rt, words, scripted(b"", false), wanted);
+    let mut out = Vec::new(rt.alloc());
+    let script = scripted(b"", false);
+    expect_end(rt, words, script, &mut out, (status, reported));
+    assert!(rt; out.is_empty());
 }
 
 /// Makes a file of these bytes, in the folder that the tests run in.
@@ -70,6 +73,11 @@ fn expect_removed(rt: &(impl Files + AllocGlobal + Abort), name: &str, bytes: &[
     let had = fs::read(rt, name).expect(rt, "a file");
     assert!(rt; had.as_slice() == bytes);
     fs::remove_file(rt, name).expect(rt, "a file");
+}
+
+/// Asserts that there is no file of this name.
+fn expect_none(rt: &(impl Files + AllocGlobal + Abort), name: &str) {
+    assert!(rt; !fs::exists(rt, name).expect(rt, "an answer"));
 }
 
 #[test]
@@ -92,7 +100,7 @@ fn replaces_what_the_other_file_held(rt: HostRuntime) {
 fn reports_a_missing_file(rt: HostRuntime) {
     let words = ["missing.cs", "invert", "missing.inverse.cs"];
     expect_reported(&rt, &words, 1, b"error 71 InputFault\n");
-    assert!(rt; !fs::exists(&rt, "missing.inverse.cs").expect(&rt, "an answer"));
+    expect_none(&rt, "missing.inverse.cs");
 }
 
 #[test]
@@ -101,7 +109,7 @@ fn reports_a_refused_file(rt: HostRuntime) {
     let words = ["patchset.cs", "invert", "patchset.inverse.cs"];
     expect_reported(&rt, &words, 1, b"error 3 Patchset 0\n");
     expect_removed(&rt, "patchset.cs", b"P");
-    assert!(rt; !fs::exists(&rt, "patchset.inverse.cs").expect(&rt, "an answer"));
+    expect_none(&rt, "patchset.inverse.cs");
 }
 
 #[test]
@@ -110,12 +118,6 @@ fn reports_a_file_that_is_not_written(rt: HostRuntime) {
     let words = ["unwritten.cs", "invert", "no_folder/out.cs"];
     expect_reported(&rt, &words, 1, b"error 72 OutputFault\n");
     expect_removed(&rt, "unwritten.cs", INSERT);
-}
-
-#[test]
-fn runs_the_input_as_a_script(rt: HostRuntime) {
-    let script = scripted(b".load a 0f\n.hex a\n", false);
-    expect_answer(&rt, &[], script, (0, b"0f\n".as_slice(), b"".as_slice()));
 }
 
 #[test]
@@ -140,27 +142,50 @@ fn prints_the_usage_for_other_words(rt: HostRuntime) {
 }
 
 #[test]
-fn reports_a_refusal_on_the_output_alone(rt: HostRuntime) {
-    let wanted = (1, b"error 62 EmptySlot\n".as_slice(), b"".as_slice());
-    expect_answer(&rt, &[], scripted(b".hex a", false), wanted);
-}
-
-#[test]
-fn reports_a_failed_input(rt: HostRuntime) {
-    let wanted = (1, b"".as_slice(), b"error 71 InputFault\n".as_slice());
-    expect_answer(&rt, &[], scripted(b".hex a", true), wanted);
+fn runs_the_input_as_a_script(rt: HostRuntime) {
+    for (bytes, breaks, status, printed, reported) in [
+        (
+            b".load a 0f\n.hex a".as_slice(),
+            false,
+            0,
+            b"0f\n".as_slice(),
+            b"".as_slice(),
+        ),
+        (
+            b".hex a".as_slice(),
+            false,
+            1,
+            b"error 62 EmptySlot\n".as_slice(),
+            b"".as_slice(),
+        ),
+        (
+            b".hex a".as_slice(),
+            true,
+            1,
+            b"".as_slice(),
+            b"error 71 InputFault\n".as_slice(),
+        ),
+    ] {
+        let mut out = Vec::new(rt.alloc());
+        expect_end(
+            &rt,
+            &[],
+            scripted(bytes, breaks),
+            &mut out,
+            (status, reported),
+        );
+        assert!(rt; out.as_slice() == printed);
+    }
 }
 
 #[test]
 fn reports_a_failed_output(rt: HostRuntime) {
-    let mut err = Vec::new(rt.alloc());
-    let status = run_words(
+    let wanted = (1, b"error 72 OutputFault\n".as_slice());
+    expect_end(
         &rt,
         &[],
-        &mut Told::new(b".hex q".as_slice()),
-        &mut Told::new(Closed { fails: true }),
-        &mut Told::new(&mut err),
+        scripted(b".hex a", false),
+        Closed { fails: true },
+        wanted,
     );
-    assert!(rt; status == 1);
-    assert!(rt; err.as_slice() == b"error 72 OutputFault\n".as_slice());
 }
