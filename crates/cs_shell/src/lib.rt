@@ -2,8 +2,11 @@
 //! lines of a script and by the words of a command line.
 //!
 //! ```rust
-//! let inverse = invert_bytes(alloc, &file)?;
-//! let status = run_slots(alloc, &mut Told::new(input), &mut Told::new(output));
+//! // An INSERT of ('x') into the table t of one column, and the DELETE of that row.
+//! let inverse = invert_bytes(alloc, b"\x54\x01\x01t\x00\x12\x00\x03\x01x")?;
+//! assert_eq!(rt; inverse, b"\x54\x01\x01t\x00\x09\x00\x03\x01x");
+//! let status = run_slots(alloc, &mut Told::new(b".hex a\n".as_slice()), &mut Told::new(&mut output));
+//! assert_eq!(rt; output, b"error 62 EmptySlot\n");
 //! ```
 //!
 //! `invert` inverts, and `fault` says why a file is not inverted. `lines` is the

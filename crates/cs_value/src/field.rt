@@ -25,7 +25,7 @@ pub fn field_read(bytes: &[u8]) -> Result<(Field<'_>, usize), FieldFault>
         → IsOkAnd result (λ r. (field_of r.0 ≡ f) × (r.1 ≡ length (field_bytes f))) }
     ensures fault { IfErr result (λ f. FieldFails bytes.now f.kind f.place) }
 {
-    read_field(bytes)
+    read_by_type(bytes)
 }
 
 fn fault<T: Drop>(kind: FieldFaultKind, place: usize) -> Result<T, FieldFault>
@@ -36,7 +36,7 @@ fn fault<T: Drop>(kind: FieldFaultKind, place: usize) -> Result<T, FieldFault>
 
 // The field at the front, by its type byte.
 #[tactic(auto, unfolding(crate::specs::Reading::field_at))]
-fn read_field(bytes: &[u8]) -> Result<(Field<'_>, usize), FieldFault>
+fn read_by_type(bytes: &[u8]) -> Result<(Field<'_>, usize), FieldFault>
     ensures { Reads (λ r. (field_of r.0, r.1)) result (field_at bytes.now) }
 {
     let [kind, content @ ..] = bytes else {

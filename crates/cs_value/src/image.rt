@@ -97,7 +97,8 @@ pub fn image_write(out: &mut Vec<u8>, image: &Image) -> Result<(), NoMemory>
 /// Refuses with the fault of the first field that is none, whose place is counted from the start
 /// of `bytes`, and where memory is refused.
 pub fn image_read(alloc: Global, bytes: &[u8], columns: usize) -> Result<(Image, usize), ImageFault>
-    ensures found { IfOk result (λ r. IsRecord r.0 × (length r.0 ≡ columns) × BeginsWith bytes.now (record_bytes r.0) r.1) }
+    ensures found { IfOk result (λ r. IsRecord r.0 × (length r.0 ≡ columns)
+        × BeginsWith bytes.now (record_bytes r.0) r.1) }
     ensures only { (fields : List OwnedField) (rest : List ℕ) → IsRecord fields → length fields ≡ columns
         → bytes.now ≡ record_bytes fields ++ rest
         → Answers result (λ r. (r.0 ≡ fields) × (r.1 ≡ length (record_bytes fields))) }

@@ -3,8 +3,8 @@ ghost use Rattle.std.specs.Prelude.{◌≡◌, length, IfOk};
 ghost use Rattle.cs_value.specs.Key.{row_key, image_key};
 
 use crate::image::Image;
-use crate::refusal::NoMemory;
 use crate::parts::key_parts;
+use crate::refusal::NoMemory;
 use crate::row::Row;
 use std::alloc::Global;
 use std::cmp::Ordering;

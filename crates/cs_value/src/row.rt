@@ -3,8 +3,8 @@ ghost use Rattle.std.specs.Prelude.{◌≡◌, ◌++◌, IfOk, OnOk, OnErr};
 ghost use Rattle.cs_value.specs.Value.{IsRow};
 ghost use Rattle.cs_value.specs.Spelling.{row_bytes};
 
-use crate::refusal::NoMemory;
 use crate::parts::{parts_copy, parts_write, see_parts};
+use crate::refusal::NoMemory;
 use crate::value::OwnedValue;
 use std::alloc::Global;
 use std::marker::Model;

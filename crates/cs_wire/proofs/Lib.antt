@@ -11,6 +11,7 @@ pub mod FileSpellings
 pub mod GroupLaws
 pub mod GroupsLaws
 pub mod HeaderFaults
+pub mod ImageExamples
 pub mod IndexLaws
 pub mod InverseLaws
 pub mod KeyLaws

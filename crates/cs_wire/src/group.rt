@@ -87,7 +87,8 @@ impl Group {
     /// The place of the entry with a key, from 0, or None where the key is new. It takes no memory,
     /// and time in proportion to the logarithm of the count of entries.
     pub fn find(&self, key: &Key) -> Option<usize>
-        ensures found { IfSome result (IsPlaceOf (λ e. key_of self.now.header.flags e.change ≡ key.now) self.now.entries) }
+        ensures found { IfSome result (IsPlaceOf
+            (λ e. key_of self.now.header.flags e.change ≡ key.now) self.now.entries) }
         ensures absent { IsTrue (is_none result) ↔ IsNewKey self.now.header.flags self.now.entries key.now }
     {
         self.places.get(key.bytes())
@@ -149,7 +150,9 @@ impl Group {
         ensures well_formed { IsGroup self }
     {
         let Group {
-            header, entries, ..
+            header,
+            entries,
+            ..
         } = self;
         (header, entries)
     }

@@ -6,14 +6,17 @@
 //! a changeset, and why another is not is told by kind and place.
 //!
 //! ```rust
-//! let changeset = read(alloc, &file)?;
+//! // An INSERT of ('x') into the table t of one column.
+//! let file = b"\x54\x01\x01t\x00\x12\x00\x03\x01x";
+//! let changeset = read(alloc, file)?;
 //! assert_eq!(rt; changeset.groups().len(), 1);
 //! assert_eq!(rt; write(alloc, &changeset)?, file);
 //! ```
 //!
 //! `header`, `entry`, `group` and `changeset` are what a file holds, `reader` and `writer` go from
-//! bytes to that and back, `fault` says why a file is refused, `format` has the bytes that tell its
-//! parts apart, `places` finds entries and groups, `inverse` undoes entries, and `laws` has what holds of all files.
+//! bytes to that and back, `fault` says why a file is refused, and `format` has the bytes that tell
+//! its parts apart. `places` finds entries and groups, `inverse` undoes entries, and `laws` has what
+//! holds of all changesets. `CALLING.md`, beside this folder, shows a caller.
 #![tactic(auto)]
 
 mod changeset;

@@ -2,12 +2,14 @@
 //!
 //! Each reader takes the file and the place where to begin, and answers what stands there and the
 //! place behind it. A fault has the place that section "Read faults" of `docs/FORMAT.md` gives it.
-ghost use Rattle.std.specs.Prelude.{◌≡◌, ◌≢◌, ◌≤◌, ◌<◌, ◌++◌, ◌∷◌, ◌↔◌, ◌+◌, [], ℕ, List, Bool, length, drop, All, IfOk, IfErr, OnOk, IsTrue, if◌then◌else◌};
+ghost use Rattle.std.specs.Prelude.{◌≡◌, ◌≢◌, ◌≤◌, ◌<◌, ◌++◌, ◌∷◌, ◌↔◌, ◌+◌, [], ℕ};
+ghost use Rattle.std.specs.Prelude.{List, Bool, length, drop, All, IfOk, IfErr, OnOk, IsTrue, if◌then◌else◌};
 ghost use Rattle.cs_value.specs.Spelling.{record_bytes};
 ghost use Rattle.cs_wire.specs.declared.entry.Change.{Change as ChangeData};
 ghost use Rattle.cs_wire.specs.declared.entry.Entry.{Entry as EntryData};
 ghost use Rattle.cs_wire.specs.Entry.{IsChange, IsEntry, operation, fields_of, key_of, entry_bytes};
-ghost use Rattle.cs_wire.specs.Changeset.{HeaderData, GroupData, IsNewKey, IsNewName, IsGroup, IsChangeset, entries_bytes, group_bytes, file_bytes};
+ghost use Rattle.cs_wire.specs.Changeset.{HeaderData, GroupData, IsNewKey, IsNewName, IsGroup};
+ghost use Rattle.cs_wire.specs.Changeset.{IsChangeset, entries_bytes, group_bytes, file_bytes};
 ghost use Rattle.cs_wire.specs.ReadFaults.{Stands, HasEntry, TableStart, EntryStart, ReadCase, ReadFails};
 ghost use Rattle.cs_wire.specs.Views.{byte_of};
 ghost use Rattle.cs_value.specs.Refusals.{Answers, Refuses};
@@ -65,9 +67,11 @@ fn push_group(
         × Stands file.now at (group_bytes group) end × (changeset.new ≡ changeset.old ++ group ∷ [])) }
     ensures only { (group : GroupData) (rest : List ℕ) → IsGroup group
         → IsNewName changeset.old group.header.name → EndsGroup rest
-        → drop at file.now ≡ group_bytes group ++ rest → Answers result (λ _. changeset.new ≡ changeset.old ++ group ∷ []) }
+        → drop at file.now ≡ group_bytes group ++ rest
+        → Answers result (λ _. changeset.new ≡ changeset.old ++ group ∷ []) }
     ensures ends { IfOk result (λ end. HasEntry file.now end → ⊥) }
-    ensures fault { TableStart file.now at changeset.old → (HasEntry file.now at → at ≡ 0) → Fails result (ReadCase file.now) }
+    ensures fault { TableStart file.now at changeset.old → (HasEntry file.now at → at ≡ 0)
+        → Fails result (ReadCase file.now) }
     ensures well_formed { OnOk result (IsChangeset changeset.new) }
 {
     let (header, start) = read_header(alloc, file, at)?;
@@ -90,7 +94,8 @@ fn read_group(
     ensures found { IfOk result (λ r. (r.0.header ≡ header) × IsGroup r.0
         × Stands file.now at (entries_bytes r.0.entries) r.1) }
     ensures only { (entries : List EntryData) (rest : List ℕ) → IsGroup (record { header = header; entries = entries })
-        → EndsGroup rest → drop at file.now ≡ entries_bytes entries ++ rest → Answers result (λ r. r.0.entries ≡ entries) }
+        → EndsGroup rest → drop at file.now ≡ entries_bytes entries ++ rest
+        → Answers result (λ r. r.0.entries ≡ entries) }
     ensures ends { IfOk result (λ r. HasEntry file.now r.1 → ⊥) }
     ensures fault { EntryStart file.now at header [] → Fails result (ReadCase file.now) }
 {
@@ -120,7 +125,8 @@ fn push_entry(alloc: Global, file: &[u8], at: usize, group: &mut Group) -> Resul
         × (group.new.entries ≡ group.old.entries ++ entry ∷ [])) }
     ensures only { (entry : EntryData) (rest : List ℕ) → IsEntry group.old.header.flags entry
         → IsNewKey group.old.header.flags group.old.entries (key_of group.old.header.flags entry.change)
-        → drop at file.now ≡ entry_bytes entry ++ rest → Answers result (λ _. group.new.entries ≡ group.old.entries ++ entry ∷ []) }
+        → drop at file.now ≡ entry_bytes entry ++ rest
+        → Answers result (λ _. group.new.entries ≡ group.old.entries ++ entry ∷ []) }
     ensures fault { EntryStart file.now at group.old.header group.old.entries → Fails result (ReadCase file.now) }
     ensures header { group.new.header ≡ group.old.header }
     ensures well_formed { OnOk result (IsGroup group.new) }

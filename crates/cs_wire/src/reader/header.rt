@@ -1,5 +1,6 @@
 //! Reading the headers of tables.
-ghost use Rattle.std.specs.Prelude.{◌≡◌, ◌≢◌, ◌≤◌, ◌<◌, ◌++◌, ◌∷◌, ◌+◌, [], ℕ, List, length, drop, IfOk, IfSome, IfNone, EachIndex, slice_index, string_bytes};
+ghost use Rattle.std.specs.Prelude.{◌≡◌, ◌≢◌, ◌≤◌, ◌<◌, ◌++◌, ◌∷◌, ◌+◌, [], ℕ};
+ghost use Rattle.std.specs.Prelude.{List, length, drop, IfOk, IfSome, IfNone, EachIndex, slice_index, string_bytes};
 ghost use Rattle.cs_value.specs.declared.TheConstants.{MAX_CONTENT_LEN};
 ghost use Rattle.cs_value.specs.Varint.{varint};
 ghost use Rattle.cs_value.specs.Table.{IsFlags};
@@ -84,7 +85,8 @@ fn read_name(alloc: Global, file: &[u8], at: usize) -> Result<(String, usize), R
     ensures found { IfOk result (λ r. IsName (string_bytes r.0) × Stands file.now at (string_bytes r.0 ++ 0 ∷ []) r.1) }
     ensures only { (name rest : List ℕ) → IsName name → drop at file.now ≡ name ++ 0 ∷ rest
         → Answers result (λ r. string_bytes r.0 ≡ name) }
-    ensures fault { (flags : List ℕ) → IsFlags flags → HeaderPart file.now (flags_bytes flags) at → Fails result (ReadCase file.now) }
+    ensures fault { (flags : List ℕ) → IsFlags flags → HeaderPart file.now (flags_bytes flags) at
+        → Fails result (ReadCase file.now) }
 {
     let rest = rest_from(file, at);
     let Some(len) = zero_at(rest) else {
@@ -102,7 +104,8 @@ fn read_name(alloc: Global, file: &[u8], at: usize) -> Result<(String, usize), R
 
 /// The place of the first zero byte.
 fn zero_at(bytes: &[u8]) -> Option<usize>
-    ensures found { IfSome result (λ n. (n < length bytes.now) × (slice_index bytes.now n ≡ 0) × ((k : ℕ) → k < n → slice_index bytes.now k ≢ 0)) }
+    ensures found { IfSome result (λ n. (n < length bytes.now) × (slice_index bytes.now n ≡ 0)
+        × ((k : ℕ) → k < n → slice_index bytes.now k ≢ 0)) }
     ensures none { IfNone result (EachIndex bytes.now (λ k. slice_index bytes.now k ≢ 0)) }
 {
     bytes.iter().position(|byte| *byte == 0)

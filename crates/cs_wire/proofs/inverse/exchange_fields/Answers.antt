@@ -31,11 +31,11 @@ loop-column-preserved c =
             new_width = so.new_width ∙ sym (length-set c.loop-column.new i x);
           })
       | else-flag-eq0 w ↦ rw (w.old-is, w.new-is) (record {
-          old = ExchangedSoFar-key flags c.args.old.now c.args.new.now i c.loop-column.old c.loop-column.new so.old so.old_width so.new_width lt w.if-flag-eq0.false;
-          new = ExchangedSoFar-key flags c.args.new.now c.args.old.now i c.loop-column.new c.loop-column.old so.new so.new_width so.old_width lt w.if-flag-eq0.false;
-          old_width = so.old_width;
-          new_width = so.new_width;
-        })
+        old = ExchangedSoFar-key flags c.args.old.now c.args.new.now i c.loop-column.old c.loop-column.new so.old so.old_width so.new_width lt w.if-flag-eq0.false;
+        new = ExchangedSoFar-key flags c.args.new.now c.args.old.now i c.loop-column.new c.loop-column.old so.new so.new_width so.old_width lt w.if-flag-eq0.false;
+        old_width = so.old_width;
+        new_width = so.new_width;
+      })
     ]
 
 pub returns-clause-old : goal.returns-clause-old

@@ -1,0 +1,43 @@
+//! A caller of `cs_wire`, as `CALLING.md` of that crate shows it.
+
+use cs_wire::{Changeset, Entry, ReadError, read, write};
+use std::alloc::Global;
+use std::process::Abort;
+
+/// The file with one more entry in each table whose columns it fits and that has not its key yet.
+fn add_to_each(alloc: Global, file: &[u8], entry: &Entry) -> Result<Vec<u8>, ReadError> {
+    let mut all = Changeset::new(alloc);
+    for mut group in read(alloc, file)?.into_groups() {
+        if group.header().admits(entry) {
+            let key = group.key_of(alloc, entry)?;
+            if group.find(&key).is_none() {
+                group.push_with_key(key, entry.copy(alloc)?)?;
+            }
+        }
+        if all.find(group.header().name()).is_none() {
+            all.push(group)?;
+        }
+    }
+    Ok(write(alloc, &all)?)
+}
+
+/// The entry of a file that has one.
+fn only_entry(rt: &(impl Abort + AllocGlobal), file: &[u8]) -> Entry {
+    let changeset = read(rt.alloc(), file).expect(rt, "a changeset");
+    let group = changeset.groups().first().expect(rt, "a table");
+    let entry = group.entries().first().expect(rt, "an entry");
+    entry.copy(rt.alloc()).expect(rt, "memory")
+}
+
+#[test]
+fn adds_an_entry(rt: HostRuntime) {
+    let entry = only_entry(&rt, b"\x54\x01\x01t\x00\x12\x00\x03\x01b");
+    let both = add_to_each(rt.alloc(), b"\x54\x01\x01u\x00\x12\x00\x03\x01a", &entry).expect(
+        &rt, "memory",
+    );
+    assert!(rt;
+        both.as_slice() == b"\x54\x01\x01u\x00\x12\x00\x03\x01a\x12\x00\x03\x01b".as_slice()
+    );
+    let same = add_to_each(rt.alloc(), &both, &entry).expect(&rt, "memory");
+    assert!(rt; same == both);
+}
