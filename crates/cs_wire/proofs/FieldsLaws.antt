@@ -1,15 +1,18 @@
 -- Records that are read field by field.
 use Rattle.std.proofs.Common.{◌≡◌, ℕ, zero, suc, ◌+◌, ◌<◌, ◌≤◌, List, [], ◌∷◌, ◌++◌, length, map, take, drop, get_or, None, refl, sym, ap, ◌∙◌, append_assoc, arith, length-append}
 use Rattle.std.specs.List.{AllByRecursion}
-use Rattle.std.proofs.lemmas.List.{append-nil, nil_from_length, take_all, get_or-map}
+use Rattle.std.proofs.lemmas.List.{append-nil, nil_from_length, take_all, get_or-map, length-map}
 use Rattle.std.proofs.lemmas.List.Concat.{flat_map-append}
 use Rattle.cs_value.specs.declared.value.OwnedField.{OwnedField}
+use Rattle.cs_value.specs.declared.value.OwnedField.TheVariants.{Undefined}
 use Rattle.cs_value.specs.Value.{IsField, IsRecord}
 use Rattle.cs_value.specs.Spelling.{field_bytes, record_bytes}
 use Rattle.cs_value.proofs.Lists.{AllByRecursion-push}
 use Rattle.cs_wire.specs.declared.fault.ReadFaultKind.{ReadFaultKind}
+use Rattle.cs_wire.specs.declared.reader.record.Columns.{Columns}
+use Rattle.cs_wire.specs.declared.reader.record.Columns.TheVariants.{Row, Old, New}
 use Rattle.cs_wire.specs.ReadFaults.{Stands}
-use Rattle.cs_wire.specs.Reading.{Want, AnyField, in_new, is_modified, new_wants, refusal, Meets, IsFieldAt, IsRecordAt, FieldRefused, RecordRefused}
+use Rattle.cs_wire.specs.Reading.{Want, AnyField, is_key_flag, in_row, in_old, in_new, is_modified, new_wants, want_in, wants_in, refusal, Meets, IsFieldAt, IsRecordAt, FieldRefused, RecordRefused}
 use Rattle.cs_wire.proofs.ReadingLaws.{Stands-then, rest_is}
 
 -- ---- lists
@@ -45,12 +48,29 @@ pub want_at : (f : ℕ → Want) (flags : List ℕ) (i : ℕ) → i < length fla
 want_at f flags i lt = get_or-map f flags i 0 AnyField lt
 
 -- what is wanted of a new record, by the flag and the old field
-pub new_want_at : (flags : List ℕ) (old : List OwnedField) (i : ℕ) (o : OwnedField) → length flags ≡ length old → i < length flags → get_or old i o ≡ o
-    → get_or (new_wants flags old) i AnyField ≡ in_new (is_modified (get_or flags i 0) o)
-new_want_at [] old i o same lt is = absurd (omega arith)
-new_want_at (flag ∷ flags) [] i o same lt is = absurd (omega arith)
-new_want_at (flag ∷ flags) (p ∷ old) zero o same lt is = ap (λ (q : OwnedField). in_new (is_modified flag q)) is
-new_want_at (flag ∷ flags) (p ∷ old) (suc i) o same lt is = new_want_at flags old i o (omega arith) (omega arith) is
+new_want_at : (flags : List ℕ) (old : List OwnedField) (i : ℕ) → i < length (new_wants flags old)
+    → get_or (new_wants flags old) i AnyField ≡ in_new (is_modified (get_or flags i 0) (get_or old i Undefined))
+new_want_at [] old i lt = absurd (omega arith)
+new_want_at (flag ∷ flags) [] i lt = absurd (omega arith)
+new_want_at (flag ∷ flags) (o ∷ old) zero lt = refl
+new_want_at (flag ∷ flags) (o ∷ old) (suc i) lt = new_want_at flags old i (omega arith)
+
+want_in_at : (columns : Columns) (flags : List ℕ) (i : ℕ) → i < length (wants_in columns flags) → get_or (wants_in columns flags) i AnyField ≡ want_in columns i (get_or flags i 0)
+want_in_at Row flags i lt = want_at (λ (flag : ℕ). in_row (is_key_flag flag)) flags i (rw length-map at lt)
+want_in_at Old flags i lt = want_at (λ (flag : ℕ). in_old (is_key_flag flag)) flags i (rw length-map at lt)
+want_in_at (New old) flags i lt = new_want_at flags old.now i lt
+
+-- this is wanted in the column
+pub record Wants (wants : List Want) (i : ℕ) (want : Want) : Type 0 where
+  pub within : i < length wants
+  pub is : get_or wants i AnyField ≡ want
+
+-- what is wanted in a column, by its flag
+pub Wants-in : (columns : Columns) (flags : List ℕ) (i : ℕ) (want : Want) → length (wants_in columns flags) ≡ length flags → i < length flags → want ≡ want_in columns i (get_or flags i 0)
+    → Wants (wants_in columns flags) i want
+Wants-in columns flags i want width lt is =
+    let within : i < length (wants_in columns flags) = rw width lt in
+    record { within = within; is = want_in_at columns flags i within ∙ sym is }
 
 pub length-new_wants : (flags : List ℕ) (old : List OwnedField) → length flags ≡ length old → length (new_wants flags old) ≡ length flags
 length-new_wants [] old same = refl
@@ -92,8 +112,8 @@ pub record HasNextField (want : Want) (file : List ℕ) (fields : List OwnedFiel
   pub met : refusal want field ≡ None
   pub spelled : drop end file ≡ field_bytes field ++ rest
 
-module _ (wants : List Want) (file : List ℕ) (at i : ℕ) (fields : List OwnedField) (end : ℕ) (so : FieldsSoFar wants file at i fields end) (want : Want)
-    (want_is : get_or wants i AnyField ≡ want) where
+module _ {wants : List Want} {file : List ℕ} {at i : ℕ} {fields : List OwnedField} {end : ℕ} (so : FieldsSoFar wants file at i fields end) {want : Want}
+    (next : Wants wants i want) where
   next_of : (all : List OwnedField) (rest : List ℕ) → IsRecord all → Meets wants all → drop at file ≡ record_bytes all ++ rest
       → (field : OwnedField) (others : List OwnedField) → all ≡ fields ++ field ∷ others → HasNextField want file fields end all
   next_of all rest h m e field others is = record {
@@ -102,7 +122,7 @@ module _ (wants : List Want) (file : List ℕ) (at i : ℕ) (fields : List Owned
     rest = record_bytes others ++ rest;
     all_is = is;
     is_field = each-at IsField fields field others (rw is at h);
-    met = rw (← want_is, ← so.count) (Meets-at wants fields field others (rw is at m));
+    met = rw (← next.is, ← so.count) (Meets-at wants fields field others (rw is at m));
     spelled =
         let regrouped : record_bytes all ++ rest ≡ record_bytes fields ++ (field_bytes field ++ (record_bytes others ++ rest)) =
         rw (is, flat_map-append) (append_assoc (record_bytes fields) (field_bytes field ++ record_bytes others) rest ∙ ap (λ (x : List ℕ). record_bytes fields ++ x) (append_assoc (field_bytes field) (record_bytes others) rest)) in
@@ -110,45 +130,45 @@ module _ (wants : List Want) (file : List ℕ) (at i : ℕ) (fields : List Owned
   }
 
   -- while a column is left, a record that stands there has a field for it
-  pub has_next : i < length wants → (all : List OwnedField) (rest : List ℕ) → IsRecord all → Meets wants all → drop at file ≡ record_bytes all ++ rest → HasNextField want file fields end all
-  has_next lt all rest h m e =
+  pub has_next : (all : List OwnedField) (rest : List ℕ) → IsRecord all → Meets wants all → drop at file ≡ record_bytes all ++ rest → HasNextField want file fields end all
+  has_next all rest h m e =
       let begun = so.begins all rest h m e in
       by_others begun.0 begun.1
     where
       by_others : (others : List OwnedField) → all ≡ fields ++ others → HasNextField want file fields end all
-      by_others [] is = absurd (omega (arith, so.count, length-Meets wants all m, ap length is, length-append fields []))
+      by_others [] is = absurd (omega (arith, so.count, next.within, length-Meets wants all m, ap length is, length-append fields []))
       by_others (field ∷ others) is = next_of all rest h m e field others is
 
   -- one more field is read
-  pub FieldsSoFar-push : i < length wants → (field : OwnedField) (next : ℕ) → IsFieldAt want file end field next
+  pub FieldsSoFar-push : (field : OwnedField) (to : ℕ) → IsFieldAt want file end field to
       → ((f : OwnedField) (rest : List ℕ) → IsField f → refusal want f ≡ None → drop end file ≡ field_bytes f ++ rest → field ≡ f)
-      → FieldsSoFar wants file at (i + 1) (fields ++ field ∷ []) next
-  FieldsSoFar-push lt field next read only = record {
+      → FieldsSoFar wants file at (i + 1) (fields ++ field ∷ []) to
+  FieldsSoFar-push field to read only = record {
     count = omega (arith, length-append fields (field ∷ []), so.count);
     is_record = AllByRecursion-push IsField fields field so.is_record read.is_field;
     met =
         let n : i + 1 ≡ suc (length fields) = omega (arith, so.count) in
-        rw n (Meets-push wants fields field (omega (arith, so.count)) (rw so.count so.met) (rw (so.count, want_is) read.wanted));
-    stands = rw (flat_map-append field_bytes fields (field ∷ []), append-nil) (Stands-then file at end next (record_bytes fields) (field_bytes field) so.stands read.stands);
+        rw n (Meets-push wants fields field (omega (arith, so.count, next.within)) (rw so.count so.met) (rw (so.count, next.is) read.wanted));
+    stands = rw (flat_map-append field_bytes fields (field ∷ []), append-nil) (Stands-then file at end to (record_bytes fields) (field_bytes field) so.stands read.stands);
     begins = λ all rest h m e.
-        let n = has_next lt all rest h m e in
+        let n = has_next all rest h m e in
         let same = only n.field n.rest n.is_field n.met n.spelled in
         (n.others, n.all_is ∙ ap (λ (f : OwnedField). fields ++ f ∷ n.others) (sym same) ∙ sym (append_assoc fields (field ∷ []) n.others));
   }
 
   -- the next field is none that is wanted
-  pub FieldsSoFar-refused : i < length wants → (kind : ReadFaultKind) (place : ℕ) → FieldRefused want file end kind place → RecordRefused wants file at kind place
-  FieldsSoFar-refused lt kind place why = record {
+  pub FieldsSoFar-refused : (kind : ReadFaultKind) (place : ℕ) → FieldRefused want file end kind place → RecordRefused wants file at kind place
+  FieldsSoFar-refused kind place why = record {
     fields = fields;
     end = end;
     is_record = so.is_record;
-    fewer = omega (arith, so.count);
+    fewer = omega (arith, so.count, next.within);
     wanted = rw so.count so.met;
     stands = so.stands;
-    why = rw (so.count, want_is) why;
+    why = rw (so.count, next.is) why;
   }
 
-module _ (wants : List Want) (file : List ℕ) (at i : ℕ) (fields : List OwnedField) (end : ℕ) (so : FieldsSoFar wants file at i fields end) (all_read : length wants ≤ i) where
+module _ {wants : List Want} {file : List ℕ} {at i : ℕ} {fields : List OwnedField} {end : ℕ} (so : FieldsSoFar wants file at i fields end) (all_read : length wants ≤ i) where
   -- all of the record is read
   pub FieldsSoFar-all : (all : List OwnedField) (rest : List ℕ) → IsRecord all → Meets wants all → drop at file ≡ record_bytes all ++ rest → fields ≡ all
   FieldsSoFar-all all rest h m e =

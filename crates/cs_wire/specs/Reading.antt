@@ -14,6 +14,10 @@ use Rattle.cs_wire.specs.declared.entry.Change.{Change}
 use Rattle.cs_wire.specs.declared.entry.Change.TheVariants.{Insert, Delete, Update}
 use Rattle.cs_value.specs.declared.refusal.OrNoMemory.{OrNoMemory}
 use Rattle.cs_value.specs.Refusals.{Refuses}
+pub use Rattle.cs_wire.specs.declared.reader.record.Want.{Want}
+pub use Rattle.cs_wire.specs.declared.reader.record.Want.TheVariants.{KeyValue, AnyValue, AnyField, NewValue, Nothing}
+use Rattle.cs_wire.specs.declared.reader.record.Columns.{Columns}
+use Rattle.cs_wire.specs.declared.reader.record.Columns.TheVariants.{Row, Old, New}
 use Rattle.cs_wire.specs.declared.fault.ReadFault.{ReadFault}
 use Rattle.cs_wire.specs.declared.fault.ReadFaultKind.{ReadFaultKind}
 use Rattle.cs_wire.specs.declared.fault.ReadFaultKind.TheVariants.{Truncated, BadFlag, BadOp}
@@ -33,15 +37,6 @@ Fails (Err e) Why = IsBecause e Why
 -- what follows the entries of a table: nothing, or a header
 abbrev pub EndsGroup : List ℕ → Type 0
 EndsGroup rest = (rest ≡ []) ⊎ (slice_get rest 0 ≡ Some 0x54)
-
--- What a record may have in a column: a value other than NULL, any value, any field, a value of an update's new
--- record, or nothing there.
-pub data Want : Type 0 where
-  KeyValue : Want
-  AnyValue : Want
-  AnyField : Want
-  NewValue : Want
-  Nothing : Want
 
 -- why a field is not what is wanted
 abbrev pub refusal : Want → OwnedField → Option ReadFaultKind
@@ -94,6 +89,18 @@ abbrev pub new_wants : List ℕ → List OwnedField → List Want
 new_wants [] old = []
 new_wants (flag ∷ flags) [] = []
 new_wants (flag ∷ flags) (o ∷ old) = in_new (is_modified flag o) ∷ new_wants flags old
+
+-- what is wanted in a column with this flag
+abbrev pub want_in : Columns → ℕ → ℕ → Want
+want_in Row column flag = in_row (is_key_flag flag)
+want_in Old column flag = in_old (is_key_flag flag)
+want_in (New old) column flag = in_new (is_modified flag (slice_index_or old.now column Undefined))
+
+-- what is wanted in the columns with these flags
+abbrev pub wants_in : Columns → List ℕ → List Want
+wants_in Row flags = row_wants flags
+wants_in Old flags = old_wants flags
+wants_in (New old) flags = new_wants flags old.now
 
 -- what the records of a change have in their columns
 abbrev pub wants_of : List ℕ → Change → List Want

@@ -1,18 +1,114 @@
 //! Reading the records of changes.
-ghost use Rattle.std.specs.Prelude.{◌≡◌, ◌≤◌, ◌++◌, ◌↔◌, ◌+◌, ℕ, List, length, drop, map, IfOk, IsTrue, None};
-ghost use Rattle.cs_value.specs.declared.value.OwnedValue.TheVariants.{Null};
+ghost use Rattle.std.specs.Prelude.{◌≡◌, ◌≤◌, ◌++◌, ℕ, List, length, drop, map, IfOk, None, true};
 ghost use Rattle.cs_value.specs.declared.value.OwnedField.{OwnedField};
 ghost use Rattle.cs_value.specs.declared.value.OwnedField.TheVariants.{Defined};
-ghost use Rattle.cs_value.specs.Value.{IsField, IsRecord, field_of, value_of};
+ghost use Rattle.cs_value.specs.Value.{IsField, IsRecord, FieldFits, field_of};
 ghost use Rattle.cs_value.specs.Spelling.{field_bytes, record_bytes};
-ghost use Rattle.cs_wire.specs.ReadFaults.{Stands};
 ghost use Rattle.cs_value.specs.Refusals.{Answers};
-ghost use Rattle.cs_wire.specs.Reading.{Fails, Meets, IsFieldAt, IsRecordAt, FieldRefused, RecordRefused, NoField, row_wants, old_wants, new_wants, in_row, in_old, in_new, refusal, is_modified, is_defined};
+ghost use Rattle.cs_wire.specs.Reading.{Fails, Meets, IsFieldAt, IsRecordAt, FieldRefused, RecordRefused};
+ghost use Rattle.cs_wire.specs.Reading.{row_wants, old_wants, new_wants, want_in, wants_in, refusal, is_defined};
 
 use crate::fault::{ReadError, ReadFaultKind, fault_at, fault_behind};
 use crate::reader::rest_from;
-use cs_value::{Field, Image, OwnedField, OwnedValue, Row, Value, field_read};
+use cs_value::{Field, Image, NoMemory, OwnedField, OwnedValue, Row, Value, field_read};
 use std::alloc::Global;
+
+/// What a record may have in a column.
+#[derive(Clone, Copy, Debug)]
+enum Want {
+    /// A value other than NULL.
+    KeyValue,
+    /// Any value.
+    AnyValue,
+    /// Any field.
+    AnyField,
+    /// A value of an update's new record.
+    NewValue,
+    /// Nothing there.
+    Nothing,
+}
+
+impl Want {
+    /// Why a field is not what is wanted.
+    fn refusal(self, field: Field) -> Option<ReadFaultKind>
+        ensures { result ≡ refusal self (field_of field.entry) }
+    {
+        match (self, field) {
+            (Want::KeyValue | Want::AnyValue, Field::Undefined) => {
+                Some(ReadFaultKind::UndefinedField)
+            }
+            (Want::KeyValue, Field::Defined(Value::Null)) => Some(ReadFaultKind::NullKey),
+            (Want::NewValue, Field::Undefined) | (Want::Nothing, Field::Defined(_)) => {
+                Some(ReadFaultKind::Unpaired)
+            }
+            _ => None,
+        }
+    }
+}
+
+/// The columns of a record, which want this or that by their flags.
+#[derive(Clone, Copy, Debug)]
+enum Columns<'a> {
+    /// Those of a row.
+    Row,
+    /// Those of an update's old record.
+    Old,
+    /// Those of an update's new record, with these fields of the old one.
+    New(&'a [OwnedField]),
+}
+
+impl Columns<'_> {
+    /// What is wanted in a column with this flag.
+    fn want(self, column: usize, flag: u8) -> Want
+        ensures { result ≡ want_in self.entry column flag }
+    {
+        match self {
+            Columns::Row | Columns::Old if flag != 0 => Want::KeyValue,
+            Columns::Row => Want::AnyValue,
+            Columns::Old => Want::AnyField,
+            Columns::New(old) => match old.get(column) {
+                Some(OwnedField::Defined(_)) if flag == 0 => Want::NewValue,
+                _ => Want::Nothing,
+            },
+        }
+    }
+}
+
+/// What a record keeps of a column: a value, or a field.
+trait Cell: Drop {
+    ghost as_field: { Self → OwnedField };
+
+    ghost can_hold: { OwnedField → Type 0 };
+
+    /// A copy of the field, in memory of its own.
+    fn of_field(alloc: Global, field: Field) -> Result<Self, NoMemory>
+        requires fits { FieldFits field }
+        requires holds { can_hold (field_of field) }
+        ensures { IfOk result (λ cell. as_field cell ≡ field_of field.entry) };
+}
+
+impl Cell for OwnedValue {
+    ghost as_field = { Defined };
+
+    ghost can_hold = { λ f. is_defined f ≡ true };
+
+    fn of_field(alloc: Global, field: Field) -> Result<OwnedValue, NoMemory> {
+        match field {
+            Field::Undefined => unreachable!(),
+            Field::Defined(value) => value.to_owned(alloc),
+        }
+    }
+}
+
+impl Cell for OwnedField {
+    ghost as_field = { λ f. f };
+
+    ghost can_hold = { λ _. Unit {0} };
+
+    fn of_field(alloc: Global, field: Field) -> Result<OwnedField, NoMemory> {
+        field.to_owned(alloc)
+    }
+}
 
 /// A row: a value in each column, which is not NULL in a key column.
 pub(crate) fn read_row(
@@ -27,13 +123,7 @@ pub(crate) fn read_row(
         → drop at file.now ≡ record_bytes row ++ rest → Answers result (λ r. map Defined r.0 ≡ row) }
     ensures fault { Fails result (RecordRefused (row_wants flags.now) file.now at) }
 {
-    let mut values = Vec::with_capacity(alloc, room(file, at, flags))?;
-    let mut end = at;
-    for flag in flags {
-        let (value, next) = read_value(alloc, file, end, *flag != 0)?;
-        values.push(value)?;
-        end = next;
-    }
+    let (values, end) = read_cells(alloc, file, at, flags, Columns::Row)?;
     Ok((Row::new(values), end))
 }
 
@@ -50,13 +140,7 @@ pub(crate) fn read_old(
         → drop at file.now ≡ record_bytes old ++ rest → Answers result (λ r. r.0 ≡ old) }
     ensures fault { Fails result (RecordRefused (old_wants flags.now) file.now at) }
 {
-    let mut fields = Vec::with_capacity(alloc, room(file, at, flags))?;
-    let mut end = at;
-    for flag in flags {
-        let (field, next) = read_old_field(alloc, file, end, *flag != 0)?;
-        fields.push(field)?;
-        end = next;
-    }
+    let (fields, end) = read_cells(alloc, file, at, flags, Columns::Old)?;
     Ok((Image::new(fields), end))
 }
 
@@ -76,16 +160,37 @@ pub(crate) fn read_new(
         → drop at file.now ≡ record_bytes new ++ rest → Answers result (λ r. r.0 ≡ new) }
     ensures fault { Fails result (RecordRefused (new_wants flags.now old.now) file.now at) }
 {
-    let old = old.fields();
-    let mut fields = Vec::with_capacity(alloc, room(file, at, flags))?;
+    let (fields, end) = read_cells(alloc, file, at, flags, Columns::New(old.fields()))?;
+    Ok((Image::new(fields), end))
+}
+
+/// The record that begins at a place: in each column a field that is wanted there.
+fn read_cells<C: Cell>(
+    alloc: Global,
+    file: &[u8],
+    at: usize,
+    flags: &[u8],
+    columns: Columns,
+) -> Result<(Vec<C>, usize), ReadError>
+    requires within { at ≤ length file.now }
+    requires width { length (wants_in columns flags.now) ≡ length flags.now }
+    requires holds { (column flag : ℕ) (f : OwnedField) → refusal (want_in columns column flag) f ≡ None
+        → C.can_hold f }
+    ensures found { IfOk result (λ r. IsRecordAt (wants_in columns.entry flags.now) file.now at
+        (map C.as_field r.0.items) r.1) }
+    ensures only { (all : List OwnedField) (rest : List ℕ) → IsRecord all
+        → Meets (wants_in columns.entry flags.now) all → drop at file.now ≡ record_bytes all ++ rest
+        → Answers result (λ r. map C.as_field r.0.items ≡ all) }
+    ensures fault { Fails result (RecordRefused (wants_in columns.entry flags.now) file.now at) }
+{
+    let mut cells = Vec::with_capacity(alloc, room(file, at, flags))?;
     let mut end = at;
     for (column, flag) in flags.iter().enumerate() {
-        let is_modified = is_modified(*flag, &old[column]);
-        let (field, next) = read_new_field(alloc, file, end, is_modified)?;
-        fields.push(field)?;
+        let (field, next) = read_wanted(file, end, columns.want(column, *flag))?;
+        cells.push(C::of_field(alloc, field)?)?;
         end = next;
     }
-    Ok((Image::new(fields), end))
+    Ok((cells, end))
 }
 
 /// How many fields are made room for: one for each column, but no more than the bytes that are left,
@@ -96,99 +201,19 @@ fn room(file: &[u8], at: usize, flags: &[u8]) -> usize
     flags.len().min(file.len() - at)
 }
 
-/// Whether an update modifies a column with this flag and this old field.
-fn is_modified(flag: u8, old: &OwnedField) -> bool
-    ensures { result ≡ is_modified flag old.now }
-{
-    flag == 0 && matches!(old, OwnedField::Defined(_))
-}
-
-/// A value of a row or of a key.
-fn read_value(
-    alloc: Global,
-    file: &[u8],
-    at: usize,
-    is_key: bool,
-) -> Result<(OwnedValue, usize), ReadError>
+/// A field that is wanted, which borrows from the file.
+fn read_wanted(file: &[u8], at: usize, want: Want) -> Result<(Field<'_>, usize), ReadError>
     requires { at ≤ length file.now }
-    ensures found { IfOk result (λ r. IsFieldAt (in_row is_key) file.now at (Defined r.0) r.1) }
-    ensures only { (f : OwnedField) (rest : List ℕ) → IsField f → refusal (in_row is_key) f ≡ None
-        → drop at file.now ≡ field_bytes f ++ rest → Answers result (λ r. Defined r.0 ≡ f) }
-    ensures fault { Fails result (FieldRefused (in_row is_key) file.now at) }
-{
-    let (field, end) = read_field(file, at)?;
-    let Field::Defined(value) = field else {
-        return Err(fault_at(ReadFaultKind::UndefinedField, at));
-    };
-    if is_key && is_null(value) {
-        return Err(fault_at(ReadFaultKind::NullKey, at));
-    }
-    Ok((value.to_owned(alloc)?, end))
-}
-
-/// A field of the old record of an update.
-fn read_old_field(
-    alloc: Global,
-    file: &[u8],
-    at: usize,
-    is_key: bool,
-) -> Result<(OwnedField, usize), ReadError>
-    requires { at ≤ length file.now }
-    ensures found { IfOk result (λ r. IsFieldAt (in_old is_key) file.now at r.0 r.1) }
-    ensures only { (f : OwnedField) (rest : List ℕ) → IsField f → refusal (in_old is_key) f ≡ None
-        → drop at file.now ≡ field_bytes f ++ rest → Answers result (λ r. r.0 ≡ f) }
-    ensures fault { Fails result (FieldRefused (in_old is_key) file.now at) }
-{
-    if is_key {
-        let (value, end) = read_value(alloc, file, at, true)?;
-        return Ok((OwnedField::Defined(value), end));
-    }
-    let (field, end) = read_field(file, at)?;
-    Ok((field.to_owned(alloc)?, end))
-}
-
-/// A field of the new record of an update.
-fn read_new_field(
-    alloc: Global,
-    file: &[u8],
-    at: usize,
-    is_modified: bool,
-) -> Result<(OwnedField, usize), ReadError>
-    requires { at ≤ length file.now }
-    ensures found { IfOk result (λ r. IsFieldAt (in_new is_modified) file.now at r.0 r.1) }
-    ensures only { (f : OwnedField) (rest : List ℕ) → IsField f → refusal (in_new is_modified) f ≡ None
-        → drop at file.now ≡ field_bytes f ++ rest → Answers result (λ r. r.0 ≡ f) }
-    ensures fault { Fails result (FieldRefused (in_new is_modified) file.now at) }
-{
-    let (field, end) = read_field(file, at)?;
-    if is_defined(field) != is_modified {
-        return Err(fault_at(ReadFaultKind::Unpaired, at));
-    }
-    Ok((field.to_owned(alloc)?, end))
-}
-
-/// A field, which borrows from the file.
-fn read_field(file: &[u8], at: usize) -> Result<(Field<'_>, usize), ReadError>
-    requires { at ≤ length file.now }
-    ensures found { IfOk result (λ r. IsField (field_of r.0) × Stands file.now at (field_bytes (field_of r.0)) r.1) }
-    ensures only { (f : OwnedField) (rest : List ℕ) → IsField f → drop at file.now ≡ field_bytes f ++ rest
-        → Answers result (λ r. field_of r.0 ≡ f) }
-    ensures fault { Fails result (NoField file.now at) }
+    ensures found { IfOk result (λ r. IsFieldAt want file.now at (field_of r.0) r.1) }
+    ensures only { (f : OwnedField) (rest : List ℕ) → IsField f → refusal want f ≡ None
+        → drop at file.now ≡ field_bytes f ++ rest → Answers result (λ r. field_of r.0 ≡ f) }
+    ensures fault { Fails result (FieldRefused want file.now at) }
 {
     match field_read(rest_from(file, at)) {
-        Ok((field, used)) => Ok((field, at + used)),
+        Ok((field, used)) => match want.refusal(field) {
+            Some(kind) => Err(fault_at(kind, at)),
+            None => Ok((field, at + used)),
+        },
         Err(fault) => Err(fault_behind(at, fault)),
     }
-}
-
-fn is_defined(field: Field) -> bool
-    ensures { result ≡ is_defined (field_of field.entry) }
-{
-    matches!(field, Field::Defined(_))
-}
-
-fn is_null(value: Value) -> bool
-    ensures { IsTrue result ↔ (value_of value.entry ≡ Null) }
-{
-    matches!(value, Value::Null)
 }
