@@ -16,20 +16,19 @@ fn reads_an_update(rt: HostRuntime) {
     let changeset = read(rt.alloc(), UPDATE).expect(&rt, "a changeset");
     let group = changeset.groups().first().expect(&rt, "a group");
     let entry = group.entries().first().expect(&rt, "an entry");
-    assert!(rt; entry.indirect);
     let Change::Update { old, new } = &entry.change else {
         panic!(rt; "no update");
     };
-    assert!(rt; old.fields().len() == 2 && old.fields().first() != Some(&OwnedField::Undefined));
-    assert!(rt; new.fields().len() == 2 && new.fields().first() == Some(&OwnedField::Undefined));
+    assert!(rt; entry.indirect && old.fields().len() == 2 && new.fields().len() == 2);
+    assert!(rt; old.fields().first() != Some(&OwnedField::Undefined));
+    assert!(rt; new.fields().first() == Some(&OwnedField::Undefined));
 }
 
 #[test]
 fn writes_what_was_read(rt: HostRuntime) {
     let changeset = read(rt.alloc(), UPDATE).expect(&rt, "a changeset");
     let file = write(rt.alloc(), &changeset).expect(&rt, "memory");
-    assert!(rt; file.as_slice() == UPDATE);
-    assert!(rt; changeset != Changeset::new(rt.alloc()));
+    assert!(rt; file.as_slice() == UPDATE && changeset != Changeset::new(rt.alloc()));
 }
 
 #[test]
@@ -72,20 +71,8 @@ fn insertion(rt: &(impl Abort + AllocGlobal), key: OwnedValue) -> Entry {
 #[test]
 fn entries_that_fit(rt: HostRuntime) {
     let header = header_of(&rt, "t");
-    let entry = insertion(&rt, OwnedValue::Int(2));
-    assert!(rt; header.admits(&entry));
-    let key = header.key_of(rt.alloc(), &entry).expect(&rt, "memory");
-    assert!(rt; key.bytes() == b"\x01\x00\x00\x00\x00\x00\x00\x00\x02".as_slice());
+    assert!(rt; header.admits(&insertion(&rt, OwnedValue::Int(2))));
     assert!(rt; !header.admits(&insertion(&rt, OwnedValue::Null)));
-}
-
-#[test]
-fn copies_of_entries(rt: HostRuntime) {
-    let entry = insertion(&rt, OwnedValue::Int(2));
-    let copy = entry.copy(rt.alloc()).expect(&rt, "memory");
-    assert!(rt; copy == entry && copy != insertion(&rt, OwnedValue::Null));
-    let change = entry.change.copy(rt.alloc()).expect(&rt, "memory");
-    assert!(rt; change == entry.change);
 }
 
 /// A group of a table of this name, with the insertion of 1.
@@ -101,7 +88,10 @@ fn groups(rt: HostRuntime) {
     let mut group = group_of(&rt, "t");
     let entry = insertion(&rt, OwnedValue::Int(2));
     assert!(rt; group.header().admits(&entry));
-    let key = group.key_of(rt.alloc(), &entry).expect(&rt, "memory");
+    let key = group
+        .header()
+        .key_of(rt.alloc(), &entry)
+        .expect(&rt, "memory");
     assert!(rt; group.find(&key).is_none());
     group.push(entry).expect(&rt, "memory");
     assert!(rt; group.find(&key) == Some(1) && group.entries().len() == 2);
@@ -114,7 +104,15 @@ fn inverses_of_groups(rt: HostRuntime) {
     assert!(rt; group.flags() == [2, 0].as_slice());
     let (header, entries) = group.into_parts();
     assert!(rt; header.name() == "t" && entries.len() == 1);
-    assert!(rt; entries.first() != Some(&insertion(&rt, OwnedValue::Int(1))));
+    assert!(rt;
+        matches!(
+            entries.first(),
+            Some(Entry {
+                change: Change::Delete(_),
+                ..
+            })
+        )
+    );
 }
 
 #[test]
