@@ -116,19 +116,6 @@ fn inverses_of_groups(rt: HostRuntime) {
 }
 
 #[test]
-fn changesets(rt: HostRuntime) {
-    let mut changeset = Changeset::new(rt.alloc());
-    let group = group_of(&rt, "t");
-    assert!(rt; changeset.find(group.header().name()).is_none());
-    changeset.push(group).expect(&rt, "memory");
-    assert!(rt; changeset.groups().len() == 1 && changeset.find("t") == Some(0));
-    let file = write(rt.alloc(), &changeset).expect(&rt, "memory");
-    let wanted = b"T\x02\x02\x00t\x00\x12\x00\x01\x00\x00\x00\x00\x00\x00\x00\x01\x05";
-    assert!(rt; file.as_slice() == wanted.as_slice());
-    assert!(rt; changeset.into_groups().len() == 1);
-}
-
-#[test]
 fn laws() {
     changeset_files_law();
     entry_inverses_law();

@@ -21,10 +21,10 @@ COMMANDs:
 C is omit, replace or abort (the default).
 ";
 
-/// These words, behind the program's name.
+/// These words, of which the first is the program's name.
 fn words_of(rt: &(impl Abort + AllocGlobal), words: &[&str]) -> Vec<String> {
     let mut all = Vec::new(rt.alloc());
-    for word in ["changeset"].iter().chain(words) {
+    for word in words {
         let word = String::from_str(rt.alloc(), word).expect(rt, "memory");
         all.push(word).expect(rt, "memory");
     }
@@ -83,7 +83,7 @@ fn expect_none(rt: &(impl Files + AllocGlobal + Abort), name: &str) {
 #[test]
 fn writes_the_inverse(rt: HostRuntime) {
     make(&rt, "insert.cs", INSERT);
-    let words = ["insert.cs", "invert", "insert.inverse.cs"];
+    let words = ["changeset", "insert.cs", "invert", "insert.inverse.cs"];
     expect_reported(&rt, &words, 0, b"");
     expect_removed(&rt, "insert.cs", INSERT);
     expect_removed(&rt, "insert.inverse.cs", DELETE);
@@ -92,13 +92,18 @@ fn writes_the_inverse(rt: HostRuntime) {
 #[test]
 fn replaces_what_the_other_file_held(rt: HostRuntime) {
     make(&rt, "in_place.cs", INSERT);
-    expect_reported(&rt, &["in_place.cs", "invert", "in_place.cs"], 0, b"");
+    expect_reported(
+        &rt,
+        &["changeset", "in_place.cs", "invert", "in_place.cs"],
+        0,
+        b"",
+    );
     expect_removed(&rt, "in_place.cs", DELETE);
 }
 
 #[test]
 fn reports_a_missing_file(rt: HostRuntime) {
-    let words = ["missing.cs", "invert", "missing.inverse.cs"];
+    let words = ["changeset", "missing.cs", "invert", "missing.inverse.cs"];
     expect_reported(&rt, &words, 1, b"error 71 InputFault\n");
     expect_none(&rt, "missing.inverse.cs");
 }
@@ -106,7 +111,7 @@ fn reports_a_missing_file(rt: HostRuntime) {
 #[test]
 fn reports_a_refused_file(rt: HostRuntime) {
     make(&rt, "patchset.cs", b"P");
-    let words = ["patchset.cs", "invert", "patchset.inverse.cs"];
+    let words = ["changeset", "patchset.cs", "invert", "patchset.inverse.cs"];
     expect_reported(&rt, &words, 1, b"error 3 Patchset 0\n");
     expect_removed(&rt, "patchset.cs", b"P");
     expect_none(&rt, "patchset.inverse.cs");
@@ -115,7 +120,7 @@ fn reports_a_refused_file(rt: HostRuntime) {
 #[test]
 fn reports_a_file_that_is_not_written(rt: HostRuntime) {
     make(&rt, "unwritten.cs", INSERT);
-    let words = ["unwritten.cs", "invert", "no_folder/out.cs"];
+    let words = ["changeset", "unwritten.cs", "invert", "no_folder/out.cs"];
     expect_reported(&rt, &words, 1, b"error 72 OutputFault\n");
     expect_removed(&rt, "unwritten.cs", INSERT);
 }
@@ -123,12 +128,12 @@ fn reports_a_file_that_is_not_written(rt: HostRuntime) {
 #[test]
 fn prints_the_usage(rt: HostRuntime) {
     for words in [
-        ["a.cs"].as_slice(),
-        ["a.cs", "frob"].as_slice(),
-        ["a.cs", "invert"].as_slice(),
-        ["a.cs", "frob", "o"].as_slice(),
-        ["a.cs", "invert", "o", "p"].as_slice(),
-        ["--help"].as_slice(),
+        ["changeset", "a.cs"].as_slice(),
+        ["changeset", "a.cs", "frob"].as_slice(),
+        ["changeset", "a.cs", "invert"].as_slice(),
+        ["changeset", "a.cs", "frob", "o"].as_slice(),
+        ["changeset", "a.cs", "invert", "o", "p"].as_slice(),
+        ["changeset", "--help"].as_slice(),
     ] {
         expect_reported(&rt, words, 2, USAGE);
     }
