@@ -8,7 +8,7 @@ use Rattle.std.proofs.lemmas.Cmp.{eq_by_cmp_equiv}
 use Rattle.cs_value.specs.declared.value.OwnedValue.TheVariants.{Int}
 use Rattle.cs_value.specs.declared.value.OwnedField.TheVariants.{Undefined, Defined}
 use Rattle.cs_value.specs.Spelling.{field_bytes}
-use Rattle.cs_value.specs.Key.{row_key}
+use Rattle.cs_value.specs.Key.{row_key, HasValues}
 use Rattle.cs_value.specs.Maps.{ByBytes}
 use Rattle.cs_wire.specs.declared.entry.Change.{Change}
 use Rattle.cs_wire.specs.declared.entry.Change.TheVariants.{Insert, Delete}
@@ -46,6 +46,17 @@ idle_before = refl
 
 idle_after : after_image flags idle_update ≡ Some (Defined (Int (pos 1)) ∷ Undefined ∷ [])
 idle_after = refl
+
+-- the row (1, 'x') has what the update says of it before, and what the idle update says
+row_is_before : HasValues row (Defined (Int (pos 1)) ∷ Defined x ∷ [])
+row_is_before = (refl, (refl, tt))
+
+row_is_idle : HasValues row (Defined (Int (pos 1)) ∷ Undefined ∷ [])
+row_is_idle = (refl, tt)
+
+-- and no row has what is said of more columns
+row_is_shorter : HasValues row (Defined (Int (pos 1)) ∷ Defined x ∷ Undefined ∷ []) → ⊥
+row_is_shorter h = h.1.1
 
 -- the update is of the key of the row
 update_key : key_of flags (update x y) ≡ row_key flags row
