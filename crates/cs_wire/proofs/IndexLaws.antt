@@ -1,5 +1,5 @@
 -- Indexes: where each of some texts stands.
-use Rattle.std.proofs.Common.{◌≡◌, ◌≢◌, ℕ, ◌<◌, List, [], ◌∷◌, ◌++◌, length, map, Bool, true, false, cond, Option, Some, None, All, refl, sym, ap, ◌∙◌, subst, arith}
+use Rattle.std.proofs.Common.{◌≡◌, ◌≢◌, ℕ, ◌+◌, ◌<◌, List, [], ◌∷◌, ◌++◌, length, map, Bool, true, false, cond, Option, Some, None, All, AllPairs, get_or, take, refl, sym, ap, ◌∙◌, subst, arith}
 use Rattle.std.specs.Prelude.{◌↔◌, is_none, is_some, IfSome, IsTrue, slice_get}
 use Rattle.std.specs.Ordering.{nat_cmp, eq_by_cmp}
 use Rattle.std.specs.Cmp.{Equal-is}
@@ -7,7 +7,7 @@ use Rattle.std.specs.Cmp.Lexicographic.{slice_cmp, nat_list_cmp_total}
 use Rattle.std.specs.FinMap.{get, insert, empty, get-empty, get-insert, slice_cmp-IsAntisymmetric, nat_cmp-IsAntisymmetric}
 use Rattle.std.proofs.lemmas.Cmp.{eq_by_cmp_equiv}
 use Rattle.std.proofs.lemmas.List.Elements.{All-push, All-nil, All-map}
-use Rattle.std.proofs.lemmas.List.{map-append, get_or-map, get_or_at, get_or_append_left, length-map, length-append}
+use Rattle.std.proofs.lemmas.List.{map-append, take_more, get_or-take, get_or_default, length-take-le, get_or-map, get_or_at, get_or_append_left, length-map, length-append}
 use Rattle.std.proofs.lemmas.Option.{none-some, same_Some, slice_get_within, slice_get-get_or, get_or_from_slice_get}
 use Rattle.cs_value.specs.Maps.{ByBytes}
 use Rattle.cs_wire.specs.Views.{IsPlaceOf, IsIndex}
@@ -99,6 +99,17 @@ IsIndex-grown text_of places new xs x text place index fresh is at grown =
     let texts : map text_of (xs ++ x ∷ []) ≡ map text_of xs ++ text ∷ [] = map-append text_of xs (x ∷ []) ∙ ap (λ (t : List ℕ). map text_of xs ++ t ∷ []) is in
     let after : new ≡ insert places text (length (map text_of xs)) = grown ∙ ap (insert places text) (at ∙ sym (length-map xs text_of)) in
     rw (texts, after) pushed
+
+-- the first things of a list, each of which is known by a text of its own, and one more
+pub IsIndex-more : {X : Type 0} (text_of : X → List ℕ) (places new : ByBytes ℕ) (xs : List X) (x : X) (i : ℕ) → AllPairs (λ y z. text_of y ≢ text_of z) xs
+    → i < length xs → x ≡ get_or xs i x → IsIndex places (map text_of (take i xs)) → new ≡ insert places (text_of x) i → IsIndex new (map text_of (take (i + 1) xs))
+IsIndex-more text_of places new xs x i once lt is index grown =
+    let count : length (take i xs) ≡ i = length-take-le i xs (omega arith) in
+    let fresh : All (λ y. text_of y ≢ text_of x) (take i xs) = λ k d k_lt same.
+    let before : k < i = omega arith in
+    let there : get_or (take i xs) k d ≡ get_or xs k d = get_or-take i xs k d before in
+    once k i d before lt (ap text_of (sym there) ∙ same ∙ ap text_of (is ∙ get_or_default xs i x d lt)) in
+    rw (take_more xs i x lt, ← is) (IsIndex-grown text_of places new (take i xs) x (text_of x) i index fresh refl (sym count) grown)
 
 -- what is found is not new
 pub found_or_new : (found : Option ℕ) → is_some found ≡ true → IsTrue (is_none found) → ⊥

@@ -1,6 +1,6 @@
 //! Changesets: the changes of several tables.
-ghost use Rattle.std.specs.Prelude.{◌≡◌, ◌++◌, ◌∷◌, [], ◌↔◌, IfSome, IsTrue, OnOk, OnErr, is_none};
-ghost use Rattle.cs_wire.specs.Views.{IsPlaceOf};
+ghost use Rattle.std.specs.Prelude.{◌≡◌, ◌++◌, ◌∷◌, [], ◌↔◌, IfOk, IfSome, IsTrue, OnOk, OnErr, is_none};
+ghost use Rattle.cs_wire.specs.Views.{IsPlaceOf, IsIndex, group_names};
 ghost use Rattle.cs_wire.specs.Changeset.{IsNewName, IsChangeset};
 
 use crate::group::Group;
@@ -38,6 +38,16 @@ impl Changeset {
             groups: Vec::new(alloc),
             places: Places::new(alloc),
         }
+    }
+
+    /// The changeset of groups, no two of one table.
+    pub fn from_groups(alloc: Global, groups: Vec<Group>) -> Result<Changeset, NoMemory>
+        requires { IsChangeset groups.items }
+        ensures made { IfOk result (λ c. c ≡ groups.items) }
+        ensures well_formed { IfOk result IsChangeset }
+    {
+        let places = places_of(alloc, &groups)?;
+        Ok(Changeset { groups, places })
     }
 
     /// The groups, in the order of the file.
@@ -105,4 +115,17 @@ impl Eq for Changeset {
     ghost use Rattle.cs_wire.specs.contracts.group.GroupEq.TheImpl.Laws.{laws-law};
 
     ghost laws = { lists_equiv laws-law };
+}
+
+/// The place of the name of each of some groups, no two of one table.
+fn places_of(alloc: Global, groups: &[Group]) -> Result<Places, NoMemory>
+    requires { IsChangeset groups.now }
+    ensures { IfOk result (λ places. IsIndex places (group_names groups.now)) }
+{
+    let mut places = Places::new(alloc);
+    for (place, group) in groups.iter().enumerate() {
+        let name = Vec::from_slice(alloc, group.header().name().as_bytes())?;
+        places.insert(name, place)?;
+    }
+    Ok(places)
 }

@@ -1,5 +1,7 @@
 //! The changes of a table.
 ghost use Rattle.std.specs.Prelude.{◌≡◌, ◌++◌, ◌∷◌, [], ◌↔◌, IfOk, IfSome, IsTrue, OnOk, OnErr, is_none};
+ghost use Rattle.cs_wire.specs.Changeset.{IsGroup};
+ghost use Rattle.cs_wire.specs.Views.{group_keys, IsIndex};
 
 use crate::entry::Entry;
 use crate::header::Header;
@@ -32,7 +34,7 @@ impl Model for Group {
 
 impl Group {
     ghost use Rattle.cs_wire.specs.Entry.{IsEntry, key_of};
-    ghost use Rattle.cs_wire.specs.Changeset.{IsNewKey, IsGroup};
+    ghost use Rattle.cs_wire.specs.Changeset.{IsNewKey};
     ghost use Rattle.cs_wire.specs.Inverse.{IsInverseGroup};
     ghost use Rattle.cs_wire.specs.Views.{IsPlaceOf};
 
@@ -42,14 +44,33 @@ impl Group {
         ensures made { IfOk result (λ g. g ≡ record { header = header; entries = first ∷ [] }) }
         ensures well_formed { IfOk result IsGroup }
     {
-        let key = header.key_of(alloc, &first)?;
-        let mut places = Places::new(alloc);
-        places.insert(key.into_bytes(), 0)?;
+        Group::from_entries(alloc, header, vec![in alloc; first]?)
+    }
+
+    /// A group of entries, of which there is at least one. Each fits the header's flags
+    /// ([`Header::admits`]), and no two have one key.
+    pub fn from_entries(alloc: Global, header: Header, entries: Vec<Entry>) -> Result<Group, NoMemory>
+        requires { IsGroup (record { header = header; entries = entries.items }) }
+        ensures made { IfOk result (λ g. g ≡ record { header = header; entries = entries.items }) }
+        ensures well_formed { IfOk result IsGroup }
+    {
+        let places = places_of(alloc, &header, &entries)?;
         Ok(Group {
             header,
-            entries: vec![in alloc; first]?,
+            entries,
             places,
         })
+    }
+
+    /// A copy of the group, in memory of its own.
+    pub fn copy(&self, alloc: Global) -> Result<Group, NoMemory>
+        ensures { IfOk result (λ g. g ≡ self.now) }
+    {
+        let mut entries = Vec::new(alloc);
+        for entry in self.entries() {
+            entries.push(entry.copy(alloc)?)?;
+        }
+        Group::from_entries(alloc, self.header.copy(alloc)?, entries)
     }
 
     /// The table's header.
@@ -183,4 +204,17 @@ impl Eq for Group {
     ghost use Rattle.cs_wire.specs.contracts.header.HeaderEq.TheImpl.Laws.{laws-law as header_laws};
 
     ghost laws = { Prim.search (comparing, laws-law, header_laws, rules) };
+}
+
+/// The place of the key of each of some entries, which make a group with this header.
+fn places_of(alloc: Global, header: &Header, entries: &[Entry]) -> Result<Places, NoMemory>
+    requires { IsGroup (record { header = header.now; entries = entries.now }) }
+    ensures { IfOk result (λ places. IsIndex places (group_keys header.now.flags entries.now)) }
+{
+    let mut places = Places::new(alloc);
+    for (place, entry) in entries.iter().enumerate() {
+        let key = header.key_of(alloc, entry)?;
+        places.insert(key.into_bytes(), place)?;
+    }
+    Ok(places)
 }
