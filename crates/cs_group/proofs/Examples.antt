@@ -1,0 +1,198 @@
+-- The definitions on worked examples: the table t of two columns, of which the first is the key.
+use Rattle.std.proofs.Common.{◌≡◌, ◌<◌, pos, Bool, true, false, List, [], ◌∷◌, map, codes, refl, zero, suc, arith}
+use Rattle.std.specs.Prelude.{Option, Some, None, All, take}
+use Rattle.std.proofs.lemmas.List.Elements.{All-nil}
+use Rattle.cs_value.specs.declared.value.OwnedValue.{OwnedValue}
+use Rattle.cs_value.specs.declared.value.OwnedValue.TheVariants.{Int, Null}
+use Rattle.cs_value.specs.declared.value.OwnedField.{OwnedField}
+use Rattle.cs_value.specs.declared.value.OwnedField.TheVariants.{Undefined, Defined}
+use Rattle.cs_value.specs.Spelling.{value_bytes, field_bytes}
+use Rattle.cs_wire.specs.declared.entry.Change.{Change}
+use Rattle.cs_wire.specs.declared.entry.Change.TheVariants.{Insert, Delete, Update}
+use Rattle.cs_wire.specs.declared.entry.Entry.{Entry}
+use Rattle.cs_wire.specs.Changeset.{HeaderData, GroupData}
+use Rattle.cs_wire.proofs.Examples.{flags, x, y, row, update, idle_update, one_change, one_change_of, group}
+use Rattle.cs_group.specs.declared.merging.Merged.{Merged}
+use Rattle.cs_group.specs.declared.merging.Merged.TheVariants.{Keep, Becomes, Vanish}
+use Rattle.cs_group.specs.Inverse.{IsInverse}
+use Rattle.cs_group.specs.Net.{net_between}
+use Rattle.cs_group.specs.Joining.{over, laid_over, merged, joined, key_places, Agrees, AgreesWith, AreJoinable, FirstClash}
+
+-- the row (1, 'y')
+abbrev later : List OwnedValue
+later = Int (pos 1) ∷ y ∷ []
+
+abbrev image : List OwnedValue → Option (List OwnedField)
+image row = Some (map Defined row)
+
+-- ---- net changes
+
+comes_to_be : net_between flags None (image row) ≡ Some (Insert row)
+comes_to_be = refl
+
+is_no_more : net_between flags (image row) None ≡ Some (Delete row)
+is_no_more = refl
+
+differs : net_between flags (image row) (image later) ≡ Some (update x y)
+differs = refl
+
+stays : net_between flags (image row) (image row) ≡ None
+stays = refl
+
+stays_absent : net_between flags None None ≡ None
+stays_absent = refl
+
+-- 1 and '1' differ
+differs_in_type : net_between flags (image (Int (pos 1) ∷ Int (pos 1) ∷ [])) (image (Int (pos 1) ∷ Null ∷ [])) ≡ Some (update (Int (pos 1)) Null)
+differs_in_type = refl
+
+-- ---- laid over
+
+lays_what_it_defines : laid_over (Undefined ∷ Defined y ∷ []) (map Defined row) ≡ map Defined later
+lays_what_it_defines = refl
+
+-- ---- the nine cases
+
+abbrev entry : Bool → Change → Entry
+entry indirect change = record { indirect = indirect; change = change }
+
+abbrev both : Change → Change → Merged
+both first second = merged flags (entry true first) (entry true second)
+
+abbrev one : Change → Change → Merged
+one first second = merged flags (entry true first) (entry false second)
+
+abbrev other : Change → Change → Merged
+other first second = merged flags (entry false first) (entry true second)
+
+insert_insert : one (Insert row) (Insert later) ≡ Keep
+insert_insert = refl
+
+insert_update : both (Insert row) (update x y) ≡ Becomes (entry true (Insert later))
+insert_update = refl
+
+-- also where the second one says that another value stood there
+insert_update_apart : both (Insert row) (update Null y) ≡ Becomes (entry true (Insert later))
+insert_update_apart = refl
+
+insert_delete : both (Insert row) (Delete row) ≡ Vanish
+insert_delete = refl
+
+update_insert : one (update x y) (Insert row) ≡ Keep
+update_insert = refl
+
+update_update : both (update x y) (update y Null) ≡ Becomes (entry true (update x Null))
+update_update = refl
+
+-- back to what it was
+update_back : both (update x y) (update y x) ≡ Vanish
+update_back = refl
+
+update_idle : both (update x y) idle_update ≡ Becomes (entry true (update x y))
+update_idle = refl
+
+idle_idle : both idle_update idle_update ≡ Vanish
+idle_idle = refl
+
+update_delete : both (update x y) (Delete later) ≡ Becomes (entry true (Delete row))
+update_delete = refl
+
+delete_insert : both (Delete row) (Insert later) ≡ Becomes (entry true (update x y))
+delete_insert = refl
+
+delete_insert_same : both (Delete row) (Insert row) ≡ Vanish
+delete_insert_same = refl
+
+delete_update : one (Delete row) (update x y) ≡ Keep
+delete_update = refl
+
+delete_delete : one (Delete row) (Delete later) ≡ Keep
+delete_delete = refl
+
+-- a changed entry is indirect only where both were, also where the second one modifies nothing
+first_indirect : one (Insert row) idle_update ≡ Becomes (entry false (Insert row))
+first_indirect = refl
+
+second_indirect : other (update x y) (Delete later) ≡ Becomes (entry false (Delete row))
+second_indirect = refl
+
+-- ---- changesets
+
+insert_then_update : joined (one_change (Insert row)) (one_change (update x y)) ≡ one_change (Insert later)
+unfolding value_bytes field_bytes
+insert_then_update = refl
+
+delete_then_insert : joined (one_change (Delete row)) (one_change (Insert row)) ≡ []
+unfolding value_bytes field_bytes
+delete_then_insert = refl
+
+update_then_delete : joined (one_change (update x y)) (one_change (Delete later)) ≡ one_change (Delete row)
+unfolding value_bytes field_bytes
+update_then_delete = refl
+
+delete_then_insert_later : joined (one_change (Delete row)) (one_change (Insert later)) ≡ one_change (update x y)
+unfolding value_bytes field_bytes
+delete_then_insert_later = refl
+
+update_then_back : joined (one_change (update x y)) (one_change (update y x)) ≡ []
+unfolding value_bytes field_bytes
+update_then_back = refl
+
+insert_twice : joined (one_change (Insert row)) (one_change (Insert row)) ≡ one_change (Insert row)
+unfolding value_bytes field_bytes
+insert_twice = refl
+
+-- another key, behind the first
+abbrev second_row : List OwnedValue
+second_row = Int (pos 2) ∷ x ∷ []
+
+keys_in_order : joined (one_change (Insert row)) (one_change (Insert second_row)) ≡ group (Insert row ∷ Insert second_row ∷ []) ∷ []
+unfolding value_bytes field_bytes
+keys_in_order = refl
+
+-- another table, behind the first
+abbrev other_table : HeaderData
+other_table = record { name = codes "u"; flags = flags }
+
+tables_in_order : joined (one_change (Insert row)) (one_change_of other_table (Insert row)) ≡ record { header = record { name = codes "t"; flags = flags }; entries = entry false (Insert row) ∷ [] }
+    ∷ record { header = other_table; entries = entry false (Insert row) ∷ [] } ∷ []
+tables_in_order = refl
+
+-- the flags of the first file stand, where those of the second mark the same columns
+abbrev marked : HeaderData
+marked = record { name = codes "t"; flags = 2 ∷ 0 ∷ [] }
+
+first_header : joined (one_change_of marked (Insert row)) (one_change (Insert second_row)) ≡ record { header = marked; entries = entry false (Insert row) ∷ entry false (Insert second_row) ∷ [] } ∷ []
+unfolding value_bytes field_bytes
+first_header = refl
+
+-- ---- tables that differ
+
+-- the table t of three columns
+abbrev wider : HeaderData
+wider = record { name = codes "t"; flags = 1 ∷ 0 ∷ 0 ∷ [] }
+
+abbrev wide : List GroupData
+wide = one_change_of wider (Insert (Int (pos 1) ∷ Null ∷ Null ∷ []))
+
+clashes : AgreesWith (one_change (Insert row)) (record { header = wider; entries = entry false (Insert (Int (pos 1) ∷ Null ∷ Null ∷ [])) ∷ [] }) → ⊥
+clashes agrees =
+    let same : key_places flags ≡ key_places wider.flags = agrees 0 (record { header = wider; entries = [] }) (omega arith) refl in
+    absurd cc
+
+first_clashes : FirstClash (one_change (Insert row)) wide 0
+first_clashes = record { within = omega arith; before = All-nil (AgreesWith (one_change (Insert row))); clash = λ d. clashes }
+
+-- and those that agree
+joinable : AreJoinable (one_change (Insert row)) (one_change (update x y))
+joinable zero d lt zero e e_lt same = refl
+joinable zero d lt (suc j) e e_lt same = absurd (omega (arith, e_lt))
+joinable (suc k) d lt j e e_lt same = absurd (omega (arith, lt))
+
+-- ---- inverses
+
+insert_and_delete : IsInverse (one_change (Insert row)) (one_change (Delete row))
+insert_and_delete = (record { header = refl; entries = (record { indirect = refl; key = refl; image = refl }, tt) }, tt)
+
+update_and_back : IsInverse (one_change (update x y)) (one_change (update y x))
+update_and_back = (record { header = refl; entries = (record { indirect = refl; key = refl; image = refl }, tt) }, tt)

@@ -1,0 +1,69 @@
+-- Flags that mark the same columns: what fits the one fits the other, with the same key.
+use Rattle.std.proofs.Common.{◌≡◌, ℕ, zero, suc, ◌<◌, true, false, true≢false, Bool, not, List, [], ◌∷◌, length, get_or, refl, sym, ap, arith}
+use Rattle.std.specs.List.{flat_map}
+use Rattle.std.proofs.Math.Bool.{beq}
+use Rattle.cs_value.specs.declared.value.OwnedValue.{OwnedValue}
+use Rattle.cs_value.specs.declared.value.OwnedField.{OwnedField}
+use Rattle.cs_value.specs.Spelling.{value_bytes, field_bytes}
+use Rattle.cs_value.specs.Table.{IsKeyedRow}
+use Rattle.cs_value.specs.Key.{key_columns}
+use Rattle.cs_wire.specs.declared.entry.Change.{Change}
+use Rattle.cs_wire.specs.declared.entry.Change.TheVariants.{Insert, Delete, Update}
+use Rattle.cs_wire.specs.Entry.{IsKeyedUpdate, IsChange, key_of}
+use Rattle.cs_group.specs.Net.{by_flag}
+use Rattle.cs_group.specs.Joining.{key_places}
+
+key_columns_same : {X : Type 0} (f g : List ℕ) (xs : List X) → key_places f ≡ key_places g → key_columns f xs ≡ key_columns g xs
+key_columns_same [] [] xs e = refl
+key_columns_same [] (b ∷ g) xs e = absurd cc
+key_columns_same (a ∷ f) [] xs e = absurd cc
+key_columns_same (a ∷ f) (b ∷ g) [] e = refl
+key_columns_same (zero ∷ f) (zero ∷ g) (x ∷ xs) e = let rest : key_places f ≡ key_places g = cc in key_columns_same f g xs rest
+key_columns_same {X} (suc a ∷ f) (suc b ∷ g) (x ∷ xs) e = let rest : key_places f ≡ key_places g = cc in ap (λ (k : List X). x ∷ k) (key_columns_same f g xs rest)
+key_columns_same (zero ∷ f) (suc b ∷ g) (x ∷ xs) e = absurd cc
+key_columns_same (suc a ∷ f) (zero ∷ g) (x ∷ xs) e = absurd cc
+
+pub key_of_same : (f g : List ℕ) (change : Change) → key_places f ≡ key_places g → key_of f change ≡ key_of g change
+key_of_same f g (Insert row) e = ap (flat_map value_bytes) (key_columns_same f g row e)
+key_of_same f g (Delete row) e = ap (flat_map value_bytes) (key_columns_same f g row e)
+key_of_same f g (Update old new) e = ap (flat_map field_bytes) (key_columns_same f g old e)
+
+row_fits : (f g : List ℕ) (row : List OwnedValue) → key_places f ≡ key_places g → IsKeyedRow f row → IsKeyedRow g row
+row_fits [] [] row e h = h
+row_fits [] (b ∷ g) row e h = absurd cc
+row_fits (a ∷ f) [] row e h = absurd cc
+row_fits (a ∷ f) (b ∷ g) [] e h = absurd h
+row_fits (zero ∷ f) (zero ∷ g) (v ∷ row) e h = let rest : key_places f ≡ key_places g = cc in row_fits f g row rest h
+row_fits (suc a ∷ f) (suc b ∷ g) (v ∷ row) e h = let rest : key_places f ≡ key_places g = cc in (h.0, row_fits f g row rest h.1)
+row_fits (zero ∷ f) (suc b ∷ g) (v ∷ row) e h = absurd cc
+row_fits (suc a ∷ f) (zero ∷ g) (v ∷ row) e h = absurd cc
+
+update_fits : (f g : List ℕ) (old new : List OwnedField) → key_places f ≡ key_places g → IsKeyedUpdate f old new → IsKeyedUpdate g old new
+update_fits [] [] old new e h = h
+update_fits [] (b ∷ g) old new e h = absurd cc
+update_fits (a ∷ f) [] old new e h = absurd cc
+update_fits (a ∷ f) (b ∷ g) [] new e h = absurd h
+update_fits (a ∷ f) (b ∷ g) (o ∷ old) [] e h = absurd h
+update_fits (zero ∷ f) (zero ∷ g) (o ∷ old) (n ∷ new) e h = let rest : key_places f ≡ key_places g = cc in (h.0, update_fits f g old new rest h.1)
+update_fits (suc a ∷ f) (suc b ∷ g) (o ∷ old) (n ∷ new) e h = let rest : key_places f ≡ key_places g = cc in (h.0, update_fits f g old new rest h.1)
+update_fits (zero ∷ f) (suc b ∷ g) (o ∷ old) (n ∷ new) e h = absurd cc
+update_fits (suc a ∷ f) (zero ∷ g) (o ∷ old) (n ∷ new) e h = absurd cc
+
+pub fits_same : (f g : List ℕ) (change : Change) → key_places f ≡ key_places g → IsChange f change → IsChange g change
+fits_same f g (Insert row) e h = (h.0, row_fits f g row e h.1)
+fits_same f g (Delete row) e h = (h.0, row_fits f g row e h.1)
+fits_same f g (Update old new) e h = (h.0, h.1, update_fits f g old new e h.2)
+
+-- in each column
+pub key_place_at : (f g : List ℕ) (i : ℕ) → key_places f ≡ key_places g → i < length f → i < length g → by_flag (get_or f i 0) false true ≡ by_flag (get_or g i 0) false true
+key_place_at [] g i e l m = absurd (omega arith)
+key_place_at (a ∷ f) [] i e l m = absurd (omega arith)
+key_place_at (a ∷ f) (b ∷ g) zero e l m = cc
+key_place_at (a ∷ f) (b ∷ g) (suc i) e l m = let rest : key_places f ≡ key_places g = cc in key_place_at f g i rest (omega arith) (omega arith)
+
+-- answers that differ are not one
+pub differ : (x y : Bool) → not (beq x y) ≡ true → x ≡ y → ⊥
+differ true true h e = true≢false (sym h)
+differ false false h e = true≢false (sym h)
+differ true false h e = true≢false e
+differ false true h e = true≢false (sym e)

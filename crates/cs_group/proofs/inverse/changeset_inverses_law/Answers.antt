@@ -1,0 +1,5 @@
+use Rattle.cs_group.proofs.InverseLaws.{changeset_inverses}
+use Rattle.cs_group.proofs.inverse.changeset_inverses_law.Goals as goal
+
+pub returns : goal.returns
+returns c = changeset_inverses c.entry_inverses_law.ensures

@@ -1,0 +1,5 @@
+use Rattle.cs_group.proofs.InverseLaws.{inverse_twice}
+use Rattle.cs_group.proofs.inverse.inverse_twice_law.Goals as goal
+
+pub returns : goal.returns
+returns c = inverse_twice c.entry_inverses_law.ensures

@@ -1,0 +1,15 @@
+use Rattle.std.proofs.Common.{◌∙◌, arith}
+use Rattle.cs_group.proofs.InverseLaws.{InversesSoFar-none, InversesSoFar-push, InversesSoFar-all, next_table}
+use Rattle.cs_group.proofs.inverse.invert.Goals as goal
+
+pub loop-group-init : goal.loop-group-init
+loop-group-init c = InversesSoFar-none c.args.changeset c.new-inverse.result c.into_iter-group-iterator.result.rest.items (c.into_iter-group-iterator.ensures.into_iter_gives.0 ∙ c.into_groups-group-items.ensures.same) c.into_groups-group-items.ensures.well_formed c.new-inverse.ensures
+
+pub push-requires : goal.push-requires
+push-requires c = next_table c.args.changeset c.loop-group.inverse c.loop-group.yielded c.loop-group.group-iterator.rest.items c.next.new.self.rest.items c.in-Some.group c.loop-group.invariant c.in-Some.ensures.steps.0 c.invert.new.self c.invert.ensures.inverse
+
+pub loop-group-preserved : goal.loop-group-preserved
+loop-group-preserved c = InversesSoFar-push c.args.changeset c.loop-group.inverse c.loop-group.yielded c.loop-group.group-iterator.rest.items c.next.new.self.rest.items c.in-Some.group c.loop-group.invariant c.in-Some.ensures.steps.0 c.push.new.self c.invert.new.self c.in_ok-push.ensures.well_formed c.in_ok-push.ensures.ok c.invert.ensures.inverse
+
+pub returns-clause-inverse : goal.returns-clause-inverse
+returns-clause-inverse c = InversesSoFar-all c.args.changeset c.loop-group.inverse c.loop-group.yielded c.loop-group.group-iterator.rest.items c.loop-group.invariant (omega (arith, c.in-None.ensures.steps.0))

@@ -1,0 +1,12 @@
+use Rattle.std.proofs.Common.{◌≡◌, rules}
+use Rattle.cs_group.specs.Joining.{joined, AreJoinable}
+use Rattle.cs_group.proofs.JoinLaws.{joined_is_changeset}
+use Rattle.cs_group.proofs.joining.concat.Goals as goal
+
+pub from_groups-requires : goal.from_groups-requires
+from_groups-requires c =
+    let first = c.args.first.now in
+    let second = c.args.second.now in
+    let joinable : AreJoinable first second = search rules in
+    let is : c.add_new_groups.new.groups.items ≡ joined first second = cc (c.in_ok-add_new_groups.ensures.grown, c.in_ok-groups.ensures.kept) in
+    rw is (joined_is_changeset first second c.in_ok-groups.ensures.well_formed c.in_ok-add_new_groups.ensures.well_formed joinable)

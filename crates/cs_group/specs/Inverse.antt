@@ -1,0 +1,20 @@
+-- The inverse of a changeset: the introduction to SQLite's session extension, under "inverting a changeset". That the
+-- order stays is this project's own.
+use Rattle.std.specs.Prelude.{◌≡◌, List}
+use Rattle.std.specs.List.{AllZip}
+use Rattle.cs_wire.specs.Changeset.{GroupData, IsChangeset}
+use Rattle.cs_wire.specs.Inverse.{IsInverseGroup}
+
+-- the inverses of the groups, in their order
+abbrev pub IsInverse : List GroupData → List GroupData → Type 0
+IsInverse changeset inverse = AllZip IsInverseGroup changeset inverse
+
+-- a changeset has one inverse alone
+abbrev pub ChangesetInverses : Type 0
+ChangesetInverses = (changeset inverse other : List GroupData) → IsChangeset inverse → IsChangeset other
+    → IsInverse changeset inverse → IsInverse changeset other → inverse ≡ other
+
+-- the inverse of the inverse is the changeset
+abbrev pub InverseTwice : Type 0
+InverseTwice = (changeset inverse twice : List GroupData) → IsChangeset changeset → IsChangeset twice
+    → IsInverse changeset inverse → IsInverse inverse twice → twice ≡ changeset

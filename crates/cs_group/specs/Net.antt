@@ -1,0 +1,61 @@
+-- The net change of a row: the introduction to SQLite's session extension, under "changesets and patchsets": a row that
+-- is there after and was not before is an INSERT, one that was there and is not a DELETE, and for one that was changed
+-- the columns that differ are an UPDATE.
+use Rattle.std.specs.Prelude.{ℕ, zero, suc, Bool, if◌then◌else◌, List, [], ◌∷◌, filter_map, Option, None, Some}
+use Rattle.std.specs.Cmp.Lexicographic.{pointwise}
+use Rattle.cs_value.specs.declared.value.OwnedValue.{OwnedValue}
+use Rattle.cs_value.specs.declared.value.OwnedField.{OwnedField}
+use Rattle.cs_value.specs.declared.value.OwnedField.TheVariants.{Undefined, Defined}
+use Rattle.cs_value.specs.contracts.value.OwnedFieldPartialEq.TheImpl as field_eq
+use Rattle.cs_wire.specs.declared.entry.Change.{Change}
+use Rattle.cs_wire.specs.declared.entry.Change.TheVariants.{Insert, Delete, Update}
+use Rattle.cs_wire.specs.Changeset.{ImageData}
+
+-- whether two fields are equal, as two images are that have equal fields
+abbrev pub is_same : OwnedField → OwnedField → Bool
+is_same = (field_eq.ghosts).eq
+
+-- this field, or nothing where two are the same
+abbrev pub unless_same : OwnedField → OwnedField → OwnedField → OwnedField
+unless_same b a field = if is_same b a then Undefined else field
+
+-- the one in a column outside the key, the other in a column of the key
+abbrev pub by_flag : {X : Type 0} → ℕ → X → X → X
+by_flag zero outside of_key = outside
+by_flag (suc flag) outside of_key = of_key
+
+-- for each column what f makes of its flag and its fields in two images
+abbrev pub by_column : (ℕ → OwnedField → OwnedField → OwnedField) → List ℕ → List OwnedField → List OwnedField
+    → List OwnedField
+by_column f [] before after = []
+by_column f (flag ∷ flags) [] after = []
+by_column f (flag ∷ flags) (b ∷ before) [] = []
+by_column f (flag ∷ flags) (b ∷ before) (a ∷ after) = f flag b a ∷ by_column f flags before after
+
+-- from one image to another: the key, and what was in the other columns where they differ
+abbrev pub old_record : List ℕ → List OwnedField → List OwnedField → List OwnedField
+old_record = by_column (λ flag b a. by_flag flag (unless_same b a b) b)
+
+-- and what comes to be in these columns
+abbrev pub new_record : List ℕ → List OwnedField → List OwnedField → List OwnedField
+new_record = by_column (λ flag b a. by_flag flag (unless_same b a a) Undefined)
+
+-- the values of the columns that are defined
+abbrev pub defined : OwnedField → Option OwnedValue
+defined Undefined = None
+defined (Defined v) = Some v
+
+abbrev pub values_of : List OwnedField → List OwnedValue
+values_of image = filter_map defined image
+
+-- the change from the row, or none, before to the row, or none, after: none where these are alike
+abbrev pub net_between : List ℕ → Option (List OwnedField) → Option (List OwnedField) → Option Change
+net_between flags None None = None
+net_between flags None (Some after) = Some (Insert (values_of after))
+net_between flags (Some before) None = Some (Delete (values_of before))
+net_between flags (Some before) (Some after) =
+    if pointwise is_same before after then None
+    else Some (Update (old_record flags before after) (new_record flags before after))
+
+abbrev pub net_change : List ℕ → ImageData → Option Change
+net_change flags image = net_between flags image.before image.after

@@ -1,0 +1,37 @@
+//! Why two changesets cannot be joined.
+ghost use Rattle.std.specs.Prelude.{codes};
+
+use cs_value::{Fault, OrNoMemory};
+use thiserror::Error;
+
+/// A table has another count of columns, or other columns in its key, in the second changeset than
+/// in the first.
+#[derive(Clone, Copy, Debug, PartialEq, Eq, Drop, Error)]
+#[error("Schema at {place}")]
+pub struct SchemaFault {
+    /// The place of the table's group in the second changeset, from 0.
+    pub place: usize,
+}
+
+impl Fault for SchemaFault {
+    ghost code_of = { λ _. 43 };
+
+    ghost class_of = { λ _. 17 };
+
+    ghost name_of = { λ _. codes "Schema" };
+
+    fn code(&self) -> u8 {
+        43
+    }
+
+    fn class(&self) -> u8 {
+        17
+    }
+
+    fn name(&self) -> &'static str {
+        "Schema"
+    }
+}
+
+/// Why two changesets are not joined: a table differs, or memory was refused.
+pub type ConcatFault = OrNoMemory<SchemaFault>;

@@ -1,0 +1,36 @@
+//! The inverse of a changeset.
+ghost use Rattle.std.specs.Prelude.{IfOk};
+ghost use Rattle.cs_wire.specs.Changeset.{IsChangeset};
+ghost use Rattle.cs_group.specs.Inverse.{IsInverse, ChangesetInverses, InverseTwice};
+
+use cs_value::NoMemory;
+use cs_wire::{Changeset, entry_inverses_law};
+use std::alloc::Global;
+
+/// The changeset that undoes this one: inserts and deletes exchanged, in updates the two values of
+/// each modified column, and everything else kept.
+pub fn invert(alloc: Global, changeset: Changeset) -> Result<Changeset, NoMemory>
+    ensures inverse { IfOk result (IsInverse changeset) }
+    ensures well_formed { IfOk result IsChangeset }
+{
+    let mut inverse = Changeset::new(alloc);
+    for mut group in changeset.into_groups() {
+        group.invert();
+        inverse.push(group)?;
+    }
+    Ok(inverse)
+}
+
+/// Does nothing. A changeset has one inverse alone.
+pub fn changeset_inverses_law()
+    ensures { ChangesetInverses }
+{
+    entry_inverses_law();
+}
+
+/// Does nothing. The inverse of the inverse is the changeset.
+pub fn inverse_twice_law()
+    ensures { InverseTwice }
+{
+    entry_inverses_law();
+}

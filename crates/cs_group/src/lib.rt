@@ -1,0 +1,30 @@
+//! What two changesets make together: the inverse of a changeset, and the join of two.
+//!
+//! ```rust
+//! // An INSERT of (1, 'x') into the table t, and the update of that 'x' to 'y'.
+//! let insert = read(alloc, b"\x54\x02\x01\x00t\x00\x12\x00\x03\x01k\x03\x01x")?;
+//! let update = read(alloc, b"\x54\x02\x01\x00t\x00\x17\x00\x03\x01k\x03\x01x\x00\x03\x01y")?;
+//! let both = concat(alloc, &insert, &update)?;
+//! assert_eq!(rt; write(alloc, &both)?, b"\x54\x02\x01\x00t\x00\x12\x00\x03\x01k\x03\x01y");
+//! ```
+//!
+//! `inverse` makes the changeset that undoes another one, and `joining` one changeset of two: `columns`
+//! tells whether that can be, `entries` goes by the keys of a table, and `merging` makes one entry of
+//! two. `net` has the change from one row to another, `image` what entries say of rows before and
+//! after, and `fault` says why two changesets are not joined.
+#![tactic(auto)]
+
+mod columns;
+mod entries;
+mod fault;
+mod image;
+mod inverse;
+mod joining;
+mod merging;
+mod net;
+
+pub use fault::{ConcatFault, SchemaFault};
+pub use inverse::{changeset_inverses_law, inverse_twice_law, invert};
+pub use joining::concat;
+pub use merging::{Merged, merge};
+pub use net::net_change;

@@ -1,0 +1,75 @@
+//! Two entries of one key as one.
+ghost use Rattle.std.specs.Prelude.{◌≡◌, ℕ, List, IfOk};
+ghost use Rattle.cs_wire.specs.Entry.{IsChange, IsEntry, key_of};
+ghost use Rattle.cs_group.specs.Net.{net_change as net_change_of};
+ghost use Rattle.cs_group.specs.Joining.{merged, joint_image, follows as follows_of, IfBecomes, FitsKey};
+
+use crate::image::{after_image, before_image, known};
+use crate::net::net_change;
+use cs_value::NoMemory;
+use cs_wire::{Change, Entry};
+use std::alloc::Global;
+
+/// What becomes of an entry when a second one of its key comes after it.
+#[derive(Debug, PartialEq, Eq, Drop)]
+pub enum Merged {
+    /// It stays, and the second is ignored.
+    Keep,
+    /// It becomes the entry of what both do.
+    Becomes(Entry),
+    /// It is left out: together both do nothing.
+    Vanish,
+}
+
+/// Whether a change finds a row where another leaves one, and none where that leaves none.
+fn follows(first: &Change, second: &Change) -> bool
+    ensures { (flags : List ℕ) → result ≡ follows_of flags first.now second.now }
+{
+    let leaves = !matches!(first, Change::Delete(_));
+    let finds = !matches!(second, Change::Insert(_));
+    leaves == finds
+}
+
+/// The change from what the row was before the first to what it is after the second.
+fn net_of_both(
+    alloc: Global,
+    flags: &[u8],
+    first: &Change,
+    second: &Change,
+) -> Result<Option<Change>, NoMemory>
+    requires first { IsChange flags.now first.now }
+    requires second { IsChange flags.now second.now }
+    ensures { IfOk result (λ net. net ≡ net_change_of flags.now (joint_image flags.now first.now second.now)) }
+{
+    let before = known(
+        alloc,
+        before_image(alloc, flags, first)?,
+        before_image(alloc, flags, second)?,
+    )?;
+    let after = known(
+        alloc,
+        after_image(alloc, flags, second)?,
+        after_image(alloc, flags, first)?,
+    )?;
+    net_change(alloc, flags, before.as_deref(), after.as_deref())
+}
+
+/// Two entries of one key as one, where the second comes after the first.
+pub fn merge(alloc: Global, flags: &[u8], first: &Entry, second: &Entry) -> Result<Merged, NoMemory>
+    requires first { IsEntry flags.now first.now }
+    requires second { IsEntry flags.now second.now }
+    requires one_key { key_of flags.now first.now.change ≡ key_of flags.now second.now.change }
+    ensures case { IfOk result (λ m. m ≡ merged flags.now first.now second.now) }
+    ensures fits { IfOk result (λ m. IfBecomes m (FitsKey flags.now (key_of flags.now first.now.change))) }
+{
+    if !follows(&first.change, &second.change) {
+        return Ok(Merged::Keep);
+    }
+    let indirect = first.indirect && second.indirect;
+    Ok(
+        match net_of_both(alloc, flags, &first.change, &second.change)? {
+            None => Merged::Vanish,
+            Some(change) => Merged::Becomes(Entry { indirect, change }),
+        },
+    )
+}

@@ -1,0 +1,104 @@
+//! The net change of a row.
+ghost use Rattle.std.specs.Prelude.{◌≡◌, length, map, List, IfOk, IfSome, option_map};
+ghost use Rattle.std.specs.List.{AllByRecursion};
+ghost use Rattle.std.specs.Cmp.Lexicographic.{pointwise};
+ghost use Rattle.cs_value.specs.declared.value.OwnedField.TheVariants.{Undefined as UndefinedField};
+ghost use Rattle.cs_value.specs.Value.{field_of, FieldFits};
+ghost use Rattle.cs_wire.specs.declared.entry.Change.TheVariants.{Update};
+ghost use Rattle.cs_group.specs.Views.{IsImage, image_of};
+ghost use Rattle.cs_group.specs.Net.{is_same, unless_same, by_flag, old_record, new_record, values_of, net_between};
+
+use cs_value::{Field, Image, NoMemory, Row};
+use cs_wire::Change;
+use std::alloc::Global;
+
+/// The row of the defined fields.
+fn row_of(alloc: Global, fields: &[Field<'_>]) -> Result<Row, NoMemory>
+    requires { AllByRecursion FieldFits fields.now }
+    ensures { IfOk result (λ row. row ≡ values_of (map field_of fields.now)) }
+{
+    let mut values = Vec::new(alloc);
+    for field in fields {
+        match *field {
+            Field::Undefined => {}
+            Field::Defined(value) => values.push(value.to_owned(alloc)?)?,
+        }
+    }
+    Ok(Row::new(values))
+}
+
+/// Whether two images are the same.
+fn are_same(before: &[Field<'_>], after: &[Field<'_>]) -> bool
+    ensures { result ≡ pointwise is_same (map field_of before.now) (map field_of after.now) }
+{
+    before == after
+}
+
+/// The fields of an update's two records in a column with this flag.
+fn update_fields<'a>(flag: u8, before: Field<'a>, after: Field<'a>) -> (Field<'a>, Field<'a>)
+    requires { FieldFits before × FieldFits after }
+    ensures old { field_of result.0 ≡ by_flag flag
+        (unless_same (field_of before.entry) (field_of after.entry) (field_of before.entry)) (field_of before.entry) }
+    ensures new { field_of result.1 ≡ by_flag flag
+        (unless_same (field_of before.entry) (field_of after.entry) (field_of after.entry)) UndefinedField }
+    ensures short { FieldFits result.0 × FieldFits result.1 }
+{
+    if flag != 0 {
+        (before, Field::Undefined)
+    } else if before == after {
+        (Field::Undefined, Field::Undefined)
+    } else {
+        (before, after)
+    }
+}
+
+/// The update from one image to another.
+fn update_between(
+    alloc: Global,
+    flags: &[u8],
+    before: &[Field<'_>],
+    after: &[Field<'_>],
+) -> Result<Change, NoMemory>
+    requires before { length flags.now ≡ length before.now }
+    requires after { length flags.now ≡ length after.now }
+    requires short { AllByRecursion FieldFits before.now × AllByRecursion FieldFits after.now }
+    ensures { IfOk result (λ change. change ≡ Update
+        (old_record flags.now (map field_of before.now) (map field_of after.now))
+        (new_record flags.now (map field_of before.now) (map field_of after.now))) }
+{
+    let mut old = Vec::new(alloc);
+    let mut new = Vec::new(alloc);
+    for (column, flag) in flags.iter().enumerate() {
+        let (was, becomes) = update_fields(*flag, before[column], after[column]);
+        old.push(was.to_owned(alloc)?)?;
+        new.push(becomes.to_owned(alloc)?)?;
+    }
+    Ok(Change::Update {
+        old: Image::new(old),
+        new: Image::new(new),
+    })
+}
+
+/// The change that leads from a row to a row, or none where these are the same. Either may be
+/// absent; what is known of it are its fields, one for each flag.
+///
+/// A row that comes to be is an insert, one that is no more a delete. Else the columns outside the
+/// key that differ are an update; the key is that of the row before.
+pub fn net_change(
+    alloc: Global,
+    flags: &[u8],
+    before: Option<&[Field<'_>]>,
+    after: Option<&[Field<'_>]>,
+) -> Result<Option<Change>, NoMemory>
+    requires before { IfSome before (λ fields. IsImage flags.now fields.now) }
+    requires after { IfSome after (λ fields. IsImage flags.now fields.now) }
+    ensures { IfOk result (λ change. change ≡ net_between flags.now (image_of before.entry) (image_of after.entry)) }
+{
+    Ok(match (before, after) {
+        (None, None) => None,
+        (None, Some(after)) => Some(Change::Insert(row_of(alloc, after)?)),
+        (Some(before), None) => Some(Change::Delete(row_of(alloc, before)?)),
+        (Some(before), Some(after)) if are_same(before, after) => None,
+        (Some(before), Some(after)) => Some(update_between(alloc, flags, before, after)?),
+    })
+}
