@@ -21,8 +21,9 @@ use Rattle.cs_wire.specs.Changeset.{ImageData}
 use Rattle.cs_wire.proofs.Examples.{header, group, one_change_of, one_change, x, y, row, update, insert_file, delete_file, update_file, update_back_file, insert_is_spelled, delete_is_spelled, update_is_spelled, update_back_is_spelled}
 use Rattle.cs_wire.proofs.Examples.{insert_is_changeset, delete_is_changeset, update_is_changeset, update_back_is_changeset, idle_update, no_group_is_changeset, keys_header, keys_row, keys_file, keys_insert_is_changeset, keys_delete_is_changeset, keys_insert_is_spelled, keys_delete_is_spelled, letter_is_refused}
 use Rattle.cs_wire.specs.Inverse.{IsInverseGroup}
-use Rattle.cs_shell.specs.Inverse.{IsInverse, Inverts}
-use Rattle.cs_shell.specs.Lines.{HasNoFeed, words_of, IsSlot, CommandData, Load, Hex, Invert, Asks, AsksNothing}
+use Rattle.cs_group.specs.Inverse.{IsInverse}
+use Rattle.cs_shell.specs.Files.{Inverts}
+use Rattle.cs_shell.specs.Lines.{HasNoFeed, words_of, IsSlot, CommandData, Load, Hex, Invert, Concat, Dump, Asks, AsksNothing}
 use Rattle.cs_shell.specs.Script.{SlotMap, error_line, refusal_text, reply_text, Silent, Text as Printed, Refused, CommandGives, loaded, no_hex}
 use Rattle.cs_shell.specs.Script.{shown, nothing_to_show, inverted, not_inverted, nothing_to_invert, LineGives, answered, not_text, malformed}
 use Rattle.cs_shell.specs.Script.{ScriptGives}
@@ -193,6 +194,8 @@ capital_asks_no_command (Load slot text) (slot_is, inl words) = absurd (omega (a
 capital_asks_no_command (Load slot text) (slot_is, inr words) = absurd (omega (arith, ap second_byte words.0))
 capital_asks_no_command (Hex slot) h = absurd (omega (arith, ap second_byte h.1))
 capital_asks_no_command (Invert from into) h = absurd (omega (arith, ap second_byte h.2))
+capital_asks_no_command (Concat first second into) h = absurd (omega (arith, ap second_byte h.3))
+capital_asks_no_command (Dump slot) h = absurd (omega (arith, ap second_byte h.1))
 
 -- and it is no comment
 capital_asks_something : AsksNothing (codes ".Hex b") → ⊥

@@ -1,7 +1,11 @@
 pub mod Examples
-pub mod InverseLaws
+pub mod GatherLemmas
+pub mod ListLemmas
 pub mod ProgressLemmas
 pub mod ReplyLemmas
 pub mod RunLemmas
+pub mod TermLemmas
+pub mod TextExamples
+pub mod TextLemmas
 pub mod WordLemmas
 pub mod WriteLemmas

@@ -1,5 +1,5 @@
 -- Lemmas on the replies to commands, with what calls ensure turned the way that they are stated.
-use Rattle.std.proofs.Common.{◌≡◌, ◌⊎◌, inl, inr, ℕ, List, true, false, Some, Result, Ok, Err, IfOk, MatchResult, is_err, IsUtf8, refl, sym, subst}
+use Rattle.std.proofs.Common.{◌≡◌, ◌⊎◌, inl, inr, ℕ, List, true, false, Some, Result, Ok, Err, IfOk, MatchResult, is_err, IsUtf8, refl, sym, ap, subst, ◌∙◌}
 use Rattle.std.proofs.lemmas.Bool.{both_ways}
 use Rattle.hex.specs.Hex.{encode_lower, decode_of}
 use Rattle.hex.specs.declared.error.FromHexError.{FromHexError}
@@ -13,10 +13,13 @@ use Rattle.cs_wire.specs.declared.fault.ReadFault.{ReadFault}
 use Rattle.cs_wire.specs.ReadFaults.{ReadFails}
 use Rattle.cs_shell.specs.declared.reply.Reply.{Reply}
 use Rattle.cs_shell.specs.declared.reply.Refusal.TheVariants as refusal
-use Rattle.cs_shell.specs.Inverse.{Inverts}
-use Rattle.cs_shell.specs.Lines.{CommandData, Load, Hex, Invert, Asks}
-use Rattle.cs_shell.specs.Script.{SlotMap, Silent, Text, Refused, CommandGives, loaded, shown, inverted, not_inverted, LineGives, answered, no_memory}
-use Rattle.cs_shell.specs.Replies.{reply_of, IsRefusalOf}
+use Rattle.cs_wire.specs.Changeset.{GroupData, IsChangeset, file_bytes}
+use Rattle.cs_shell.specs.declared.fault.FileFault.{FileFault}
+use Rattle.cs_shell.specs.declared.fault.FileFault.TheVariants as file_fault
+use Rattle.cs_shell.specs.Files.{Inverts, Joins, JoinFails}
+use Rattle.cs_shell.specs.Lines.{CommandData, Load, Hex, Invert, Concat, Dump, Asks}
+use Rattle.cs_shell.specs.Script.{SlotMap, Silent, Text, Dumped, Refused, CommandGives, loaded, shown, inverted, joined, not_read, not_joined, dumped, LineGives, answered, no_memory}
+use Rattle.cs_shell.specs.Replies.{reply_of, IsRefusalOf, IsJoinRefusal}
 use Rattle.cs_shell.specs.Script as script
 
 -- a slot that was given the bytes of its digits
@@ -32,10 +35,31 @@ pub gives_inverted : (old new : SlotMap) (from into file out : List ℕ) → Som
 gives_inverted old new from into file out is inverse stored =
     subst (λ m. CommandGives old (Invert from into) Silent m) (sym stored) (inverted old from into file out (sym is) inverse)
 
--- a slot whose file is refused
-pub gives_refused : (old : SlotMap) (from into file : List ℕ) (fault : OrNoMemory ReadFault) (reply : script.Reply) → Some file ≡ get old from → Refuses (λ f. ReadFails file f.kind f.place) fault → IsRefusalOf fault reply → CommandGives old (Invert from into) reply old
-gives_refused old from into file (tool.Fault f) reply is why same = subst (λ r. CommandGives old (Invert from into) r old) (sym same) (not_inverted old from into file f (sym is) why)
-gives_refused old from into file tool.NoMemory reply is why same = absurd same
+-- a slot that was given a join
+pub gives_joined : (old new : SlotMap) (first second into file other out : List ℕ) → Some file ≡ get old first → Some other ≡ get old second → Joins file other out → new ≡ insert old into out
+    → CommandGives old (Concat first second into) Silent new
+gives_joined old new first second into file other out is other_is joins stored =
+    subst (λ m. CommandGives old (Concat first second into) Silent m) (sym stored) (joined old first second into file other out (sym is) (sym other_is) joins)
+
+-- a slot whose changeset is printed
+pub gives_dumped : (old : SlotMap) (slot file : List ℕ) (changeset : List GroupData) → Some file ≡ get old slot → IsChangeset changeset × (file ≡ file_bytes changeset)
+    → CommandGives old (Dump slot) (Dumped changeset) old
+gives_dumped old slot file changeset is found = dumped old slot changeset found.0 (sym is ∙ ap Some found.1)
+
+-- what holds of the reply to a file that is refused
+pub of_refused : (Holds : script.Reply → Type 0) (file : List ℕ) (fault : OrNoMemory ReadFault) (reply : script.Reply) → Refuses (λ f. ReadFails file f.kind f.place) fault → IsRefusalOf fault reply
+    → ((f : ReadFault) → ReadFails file f.kind f.place → Holds (Refused (refusal.Fault f))) → Holds reply
+of_refused Holds file (tool.Fault f) reply why same holds = subst Holds (sym same) (holds f why)
+of_refused Holds file tool.NoMemory reply why same holds = absurd same
+
+-- slots whose files are not joined
+pub gives_join_refused : (old : SlotMap) (first second into file other : List ℕ) (fault : OrNoMemory FileFault) (reply : script.Reply) → Some file ≡ get old first → Some other ≡ get old second
+    → Refuses (JoinFails file other) fault → IsJoinRefusal fault reply → CommandGives old (Concat first second into) reply old
+gives_join_refused old first second into file other (tool.Fault (file_fault.Read f)) reply is other_is why same =
+    subst (λ r. CommandGives old (Concat first second into) r old) (sym same) (not_read old first second into file other f (sym is) (sym other_is) why)
+gives_join_refused old first second into file other (tool.Fault (file_fault.Schema s)) reply is other_is why same =
+    subst (λ r. CommandGives old (Concat first second into) r old) (sym same) (not_joined old first second into file other s (sym is) (sym other_is) why)
+gives_join_refused old first second into file other tool.NoMemory reply is other_is why same = absurd same
 
 -- what a failed decoding says, unless memory ran out
 pub bad_digits : (text : List ℕ) (e : FromHexError) → (e ≡ OutOfMemory) ⊎ (decode_of text ≡ Err e) → (e ≡ OutOfMemory → ⊥) → decode_of text ≡ Err e

@@ -1,10 +1,14 @@
-pub mod Inverse
+pub mod Files
+pub mod Faults
 pub mod Calls
 pub mod Lines
 pub mod Told
 pub mod Script
 pub mod Replies
 pub mod Progress
+pub mod Gathering
+pub mod Texts
+pub mod Pieces
 pub use Rattle.cs_value.specs.Value
 pub use Rattle.cs_value.specs.Varint
 pub use Rattle.cs_value.specs.Spelling
@@ -16,3 +20,6 @@ pub use Rattle.cs_value.specs.FieldFaults
 pub use Rattle.cs_wire.specs.Entry
 pub use Rattle.cs_wire.specs.Changeset
 pub use Rattle.cs_wire.specs.ReadFaults
+pub use Rattle.cs_group.specs.Inverse
+pub use Rattle.cs_group.specs.Net
+pub use Rattle.cs_group.specs.Joining

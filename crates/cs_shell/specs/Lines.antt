@@ -57,6 +57,8 @@ pub data CommandData : Type 0 where
   Load : (slot digits : List ℕ) → CommandData
   Hex : (slot : List ℕ) → CommandData
   Invert : (from into : List ℕ) → CommandData
+  Concat : (first second into : List ℕ) → CommandData
+  Dump : (slot : List ℕ) → CommandData
 
 -- the words of a command
 abbrev pub IsCommand : List (List ℕ) → CommandData → Type 0
@@ -64,6 +66,9 @@ IsCommand words (Load slot digits) =
     IsSlot slot × ((words ≡ codes ".load" ∷ slot ∷ digits ∷ []) ⊎ ((words ≡ codes ".load" ∷ slot ∷ []) × (digits ≡ [])))
 IsCommand words (Hex slot) = IsSlot slot × (words ≡ codes ".hex" ∷ slot ∷ [])
 IsCommand words (Invert from into) = IsSlot from × IsSlot into × (words ≡ codes ".invert" ∷ from ∷ into ∷ [])
+IsCommand words (Concat first second into) = IsSlot first × IsSlot second × IsSlot into
+    × (words ≡ codes ".concat" ∷ first ∷ second ∷ into ∷ [])
+IsCommand words (Dump slot) = IsSlot slot × (words ≡ codes ".dump" ∷ slot ∷ [])
 
 -- no word, or a first one that begins with `--`
 abbrev pub IsNoCommand : List (List ℕ) → Type 0

@@ -9,7 +9,8 @@ use Rattle.cs_shell.specs.declared.lines.LineFault.TheVariants as fault
 use Rattle.cs_value.specs.declared.refusal.OrNoMemory.{OrNoMemory}
 use Rattle.cs_value.specs.declared.refusal.OrNoMemory.TheVariants as tool
 use Rattle.cs_wire.specs.declared.fault.ReadFault.{ReadFault}
-use Rattle.cs_shell.specs.declared.reply.Refusal.{Refusal}
+use Rattle.cs_shell.specs.declared.fault.FileFault.{FileFault}
+use Rattle.cs_shell.specs.declared.fault.FileFault.TheVariants as file
 use Rattle.cs_shell.specs.declared.reply.Refusal.TheVariants as refusal
 use Rattle.cs_shell.specs.declared.reply.Reply.{Reply}
 use Rattle.cs_shell.specs.declared.reply.Reply.TheVariants as reply
@@ -21,6 +22,8 @@ abbrev pub command_of : Command → lines.CommandData
 command_of (command.Load slot digits) = lines.Load slot.now digits.now
 command_of (command.Hex slot) = lines.Hex slot.now
 command_of (command.Invert from into) = lines.Invert from.now into.now
+command_of (command.Concat first second into) = lines.Concat first.now second.now into.now
+command_of (command.Dump slot) = lines.Dump slot.now
 
 -- the bytes of words
 abbrev pub texts : List (Bor (List ℕ)) → List (List ℕ)
@@ -47,14 +50,16 @@ RefusesLine line (fault.NoMemory e) = Unit {0}
 abbrev pub reply_of : Reply → script.Reply
 reply_of reply.Silent = script.Silent
 reply_of (reply.Text text) = script.Text (string_bytes text)
+reply_of (reply.Dump changeset) = script.Dumped changeset
 reply_of (reply.Refused why) = script.Refused why
 
--- why a line is refused whose call on a file is
-abbrev pub refusal_of : OrNoMemory ReadFault → Refusal
-refusal_of (tool.Fault f) = refusal.Fault f
-refusal_of tool.NoMemory = refusal.NoMemory
-
--- the reply to a line whose file is refused for a read fault
+-- the reply to a line whose file is refused, but for memory
 abbrev pub IsRefusalOf : OrNoMemory ReadFault → script.Reply → Type 0
 IsRefusalOf (tool.Fault f) answer = answer ≡ script.Refused (refusal.Fault f)
 IsRefusalOf tool.NoMemory answer = ⊥
+
+-- and to one whose files are not joined
+abbrev pub IsJoinRefusal : OrNoMemory FileFault → script.Reply → Type 0
+IsJoinRefusal (tool.Fault (file.Read f)) answer = answer ≡ script.Refused (refusal.Fault f)
+IsJoinRefusal (tool.Fault (file.Schema s)) answer = answer ≡ script.Refused (refusal.Schema s)
+IsJoinRefusal tool.NoMemory answer = ⊥

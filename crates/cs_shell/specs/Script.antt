@@ -1,6 +1,6 @@
 -- What a script of lines answers: a relation from the text and the slots to the replies and the slots after them. The
 -- lines and the printed texts are this project's own.
-use Rattle.std.specs.Prelude.{◌≡◌, ◌≢◌, ℕ, ◌+◌, ◌≤◌, Bool, true, false, IsTrue, List, [], ◌∷◌, ◌++◌, length}
+use Rattle.std.specs.Prelude.{◌≡◌, ◌≢◌, ℕ, ◌+◌, ◌≤◌, ◌⊎◌, Bool, true, false, IsTrue, List, [], ◌∷◌, ◌++◌, length}
 use Rattle.std.specs.Prelude.{Option, None, Some, Ok, Err, codes, decimal, IsUtf8}
 use Rattle.std.specs.List.{flat_map, list_any}
 use Rattle.std.specs.Ordering.{nat_cmp}
@@ -9,16 +9,22 @@ use Rattle.std.specs.FinMap.{FinMap, empty, get, insert}
 use Rattle.hex.specs.Hex.{encode_lower, decode_of}
 use Rattle.hex.specs.declared.error.FromHexError.{FromHexError}
 use Rattle.cs_wire.specs.declared.fault.ReadFault.{ReadFault}
+use Rattle.cs_wire.specs.Changeset.{GroupData, IsChangeset, file_bytes}
+use Rattle.cs_group.specs.declared.fault.SchemaFault.{SchemaFault}
 use Rattle.cs_shell.specs.declared.reply.Refusal.{Refusal}
-use Rattle.cs_shell.specs.declared.reply.Refusal.TheVariants.{Fault, NoMemory, Syntax, EmptySlot, BadHex, LineText}
+use Rattle.cs_shell.specs.declared.reply.Refusal.TheVariants.{Fault, Schema, NoMemory, Syntax, EmptySlot}
+use Rattle.cs_shell.specs.declared.reply.Refusal.TheVariants.{BadHex, LineText}
 use Rattle.cs_shell.specs.declared.script.Status.{Status}
 use Rattle.cs_shell.specs.declared.script.Status.TheVariants.{Done, LinesRefused, TooLong, InputFault, OutputFault}
 use Rattle.cs_shell.specs.declared.told.Told.{Told}
 use Rattle.cs_shell.specs.Told.{has_failed}
 use Rattle.cs_shell.specs.Calls.{WritesSome}
-use Rattle.cs_shell.specs.Inverse.{Inverts}
+use Rattle.cs_shell.specs.declared.fault.FileFault.TheVariants.{Read, Schema as Tables}
+use Rattle.cs_shell.specs.Files.{Inverts, Joins, JoinFails}
 use Rattle.cs_wire.specs.ReadFaults.{code_of, name_of, ReadFails}
-use Rattle.cs_shell.specs.Lines.{Splits, unended, CommandData, Load, Hex, Invert, Asks, AsksNothing}
+use Rattle.cs_shell.specs.Lines.{Splits, unended, CommandData, Load, Hex, Invert, Concat, Dump}
+use Rattle.cs_shell.specs.Lines.{Asks, AsksNothing}
+use Rattle.cs_shell.specs.Texts.{dump_of}
 
 -- the bytes in each slot that has some
 abbrev pub SlotMap : Type 0
@@ -28,6 +34,7 @@ SlotMap = FinMap (slice_cmp nat_cmp) (List ℕ)
 pub data Reply : Type 0 where
   Silent : Reply
   Text : List ℕ → Reply
+  Dumped : List GroupData → Reply
   Refused : Refusal → Reply
 
 -- a number, a name, and what the refusal is about
@@ -40,6 +47,7 @@ number_detail n = codes " " ++ decimal n
 unfoldable pub refusal_text : Refusal → List ℕ
 refusal_text (Fault f) = error_line (code_of f.kind) (name_of f.kind) (number_detail f.place)
 refusal_text NoMemory = error_line 60 (codes "NoMemory") []
+refusal_text (Schema s) = error_line 43 (codes "Schema") (number_detail s.place)
 refusal_text (Syntax column) = error_line 61 (codes "Syntax") (number_detail column)
 refusal_text EmptySlot = error_line 62 (codes "EmptySlot") []
 refusal_text BadHex = error_line 66 (codes "BadHex") []
@@ -49,6 +57,7 @@ refusal_text LineText = error_line 68 (codes "LineText") []
 unfoldable pub reply_text : Reply → List ℕ
 reply_text Silent = []
 reply_text (Text text) = text ++ 10 ∷ []
+reply_text (Dumped changeset) = dump_of changeset
 reply_text (Refused refusal) = refusal_text refusal
 
 -- the reply to a command, and the slots after it
@@ -67,6 +76,23 @@ pub data CommandGives : SlotMap → CommandData → Reply → SlotMap → Type 0
       → ReadFails file f.kind f.place → CommandGives old (Invert from into) (Refused (Fault f)) old
   nothing_to_invert : (old : SlotMap) (from into : List ℕ) → get old from ≡ None
       → CommandGives old (Invert from into) (Refused EmptySlot) old
+  joined : (old : SlotMap) (first second into file other out : List ℕ) → get old first ≡ Some file
+      → get old second ≡ Some other → Joins file other out
+      → CommandGives old (Concat first second into) Silent (insert old into out)
+  not_read : (old : SlotMap) (first second into file other : List ℕ) (f : ReadFault) → get old first ≡ Some file
+      → get old second ≡ Some other → JoinFails file other (Read f)
+      → CommandGives old (Concat first second into) (Refused (Fault f)) old
+  not_joined : (old : SlotMap) (first second into file other : List ℕ) (s : SchemaFault) → get old first ≡ Some file
+      → get old second ≡ Some other → JoinFails file other (Tables s)
+      → CommandGives old (Concat first second into) (Refused (Schema s)) old
+  nothing_to_join : (old : SlotMap) (first second into : List ℕ) → (get old first ≡ None) ⊎ (get old second ≡ None)
+      → CommandGives old (Concat first second into) (Refused EmptySlot) old
+  dumped : (old : SlotMap) (slot : List ℕ) (changeset : List GroupData) → IsChangeset changeset
+      → get old slot ≡ Some (file_bytes changeset) → CommandGives old (Dump slot) (Dumped changeset) old
+  not_dumped : (old : SlotMap) (slot file : List ℕ) (f : ReadFault) → get old slot ≡ Some file
+      → ReadFails file f.kind f.place → CommandGives old (Dump slot) (Refused (Fault f)) old
+  nothing_to_dump : (old : SlotMap) (slot : List ℕ) → get old slot ≡ None
+      → CommandGives old (Dump slot) (Refused EmptySlot) old
 
 -- the reply to a line, and the slots after it; the column of Syntax may be any of the line's, and any line may be
 -- refused for memory and then changes nothing
@@ -95,6 +121,7 @@ replies_text replies = flat_map reply_text replies
 abbrev pub is_refused : Reply → Bool
 is_refused Silent = false
 is_refused (Text text) = false
+is_refused (Dumped changeset) = false
 is_refused (Refused refusal) = true
 
 -- the most bytes that a script has

@@ -1,5 +1,76 @@
-//! Why a call on a changeset's file is refused.
-use cs_wire::ReadError;
+//! Why a call on files is refused.
+ghost use Rattle.std.specs.Prelude.{codes};
+ghost use Rattle.cs_shell.specs.Faults.{code_of, class_of, name_of};
 
-/// Why a call on a changeset's file is refused: the file is no changeset's, or memory was refused.
-pub type ToolFault = ReadError;
+use cs_group::SchemaFault;
+use cs_value::{Fault, OrNoMemory};
+use cs_wire::ReadFault;
+use thiserror::Error;
+
+/// A write failed, or took no byte of some. What was written before stays.
+#[derive(Clone, Copy, Debug, PartialEq, Eq, Drop, Error)]
+#[error("a write failed")]
+pub struct OutputFault;
+
+impl Fault for OutputFault {
+    ghost code_of = { λ _. 72 };
+
+    ghost class_of = { λ _. 10 };
+
+    ghost name_of = { λ _. codes "OutputFault" };
+
+    fn code(&self) -> u8 {
+        72
+    }
+
+    fn class(&self) -> u8 {
+        10
+    }
+
+    fn name(&self) -> &'static str {
+        "OutputFault"
+    }
+}
+
+/// What is wrong with a file, or with two.
+#[derive(Clone, Copy, Debug, PartialEq, Eq, Drop, Error)]
+pub enum FileFault {
+    /// A file is no changeset's.
+    #[error("{0}")]
+    Read(ReadFault),
+    /// Two files are not joined, since a table differs.
+    #[error("{0}")]
+    Schema(SchemaFault),
+}
+
+impl Fault for FileFault {
+    ghost code_of = { code_of };
+
+    ghost class_of = { class_of };
+
+    ghost name_of = { name_of };
+
+    fn code(&self) -> u8 {
+        match self {
+            FileFault::Read(fault) => fault.code(),
+            FileFault::Schema(fault) => fault.code(),
+        }
+    }
+
+    fn class(&self) -> u8 {
+        match self {
+            FileFault::Read(fault) => fault.class(),
+            FileFault::Schema(fault) => fault.class(),
+        }
+    }
+
+    fn name(&self) -> &'static str {
+        match self {
+            FileFault::Read(fault) => fault.name(),
+            FileFault::Schema(fault) => fault.name(),
+        }
+    }
+}
+
+/// Why a call on files is refused: a fault of theirs, or memory was refused.
+pub type ToolFault = OrNoMemory<FileFault>;

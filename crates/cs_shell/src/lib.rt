@@ -11,22 +11,27 @@
 //!
 //! `invert` inverts, and `fault` says why a file is not inverted. `lines` is the
 //! grammar of a script's lines, `slots` what they name, `reply` what they are answered, `print` how
-//! that is printed, and `script` runs them. `told` has the streams, `words` the command line.
+//! that is printed, and `script` runs them. `told` has the streams, `words` the command line. `texts`
+//! has the readable texts of changesets, and `gather` what is gathered of them before it is written.
 #![tactic(auto)]
 
 mod fault;
-mod invert;
+mod files;
+mod gather;
 mod lines;
 mod print;
 mod reply;
 mod script;
 mod slots;
+mod texts;
 mod told;
 mod words;
 
-pub use cs_wire::{ReadFault, ReadFaultKind};
-pub use fault::ToolFault;
-pub use invert::{changeset_inverses_law, invert_bytes};
+pub use cs_group::SchemaFault;
+pub use cs_wire::{ReadError, ReadFault, ReadFaultKind};
+pub use fault::{FileFault, OutputFault, ToolFault};
+pub use files::{concat_bytes, invert_bytes};
 pub use script::{Status, run_slots};
+pub use texts::{dump_text, sql_text};
 pub use told::Told;
 pub use words::{print_usage, run_words};

@@ -17,15 +17,39 @@ const HEX: &[u8] = b".hex";
 /// The name of the command that inverts a changeset.
 const INVERT: &[u8] = b".invert";
 
+/// The name of the command that joins two changesets.
+const CONCAT: &[u8] = b".concat";
+
+/// The name of the command that prints a changeset.
+const DUMP: &[u8] = b".dump";
+
 /// What a line asks for.
 #[derive(Clone, Copy, Debug)]
 pub(crate) enum Command<'a> {
     /// Puts the bytes of the digits into a slot.
-    Load { slot: &'a [u8], digits: &'a [u8] },
+    Load {
+        slot: &'a [u8],
+        digits: &'a [u8],
+    },
     /// Prints a slot's bytes.
-    Hex { slot: &'a [u8] },
+    Hex {
+        slot: &'a [u8],
+    },
     /// Puts the inverse of one slot's changeset into another.
-    Invert { from: &'a [u8], into: &'a [u8] },
+    Invert {
+        from: &'a [u8],
+        into: &'a [u8],
+    },
+    /// Puts the join of two slots' changesets into a third.
+    Concat {
+        first: &'a [u8],
+        second: &'a [u8],
+        into: &'a [u8],
+    },
+    /// Prints a slot's changeset.
+    Dump {
+        slot: &'a [u8],
+    },
 }
 
 /// Why a line is not read.
@@ -143,6 +167,32 @@ fn parse_invert<'a>(arguments: &[&'a [u8]]) -> Option<Command<'a>>
     }
 }
 
+/// What follows `.concat` asks for: three slots.
+fn parse_concat<'a>(arguments: &[&'a [u8]]) -> Option<Command<'a>>
+    ensures { Parses (codes ".concat" ∷ texts arguments.now) result }
+{
+    match arguments {
+        [first, second, into] if is_slot(first) && is_slot(second) && is_slot(into) => {
+            Some(Command::Concat {
+                first,
+                second,
+                into,
+            })
+        }
+        _ => None,
+    }
+}
+
+/// What follows `.dump` asks for: a slot.
+fn parse_dump<'a>(arguments: &[&'a [u8]]) -> Option<Command<'a>>
+    ensures { Parses (codes ".dump" ∷ texts arguments.now) result }
+{
+    match arguments {
+        [slot] if is_slot(slot) => Some(Command::Dump { slot }),
+        _ => None,
+    }
+}
+
 /// What words ask for, or None where they are no command's.
 fn parse_words<'a>(words: &[&'a [u8]]) -> Option<Command<'a>>
     ensures { Parses (texts words.now) result }
@@ -154,6 +204,10 @@ fn parse_words<'a>(words: &[&'a [u8]]) -> Option<Command<'a>>
         parse_hex(arguments)
     } else if *name == INVERT {
         parse_invert(arguments)
+    } else if *name == CONCAT {
+        parse_concat(arguments)
+    } else if *name == DUMP {
+        parse_dump(arguments)
     } else {
         None
     }

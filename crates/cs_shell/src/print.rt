@@ -5,15 +5,13 @@ ghost use Rattle.cs_shell.specs.Calls.{Writes};
 ghost use Rattle.cs_shell.specs.Script.{error_line, number_detail, refusal_text, reply_text};
 ghost use Rattle.cs_shell.specs.Replies.{reply_of};
 
+use crate::fault::OutputFault;
 use crate::reply::{Refusal, Reply};
+use crate::texts::dump_text;
 use crate::told::Told;
 use cs_value::{Fault, NoMemory};
 use itoa::Buffer;
 use std::io::Write;
-
-/// A write failed, or took no byte.
-#[derive(Clone, Copy, Debug, PartialEq, Eq)]
-pub(crate) struct OutputFault;
 
 /// Writes all of the bytes. It fails, with some front of them written, where a write fails or takes
 /// none.
@@ -93,6 +91,7 @@ pub(crate) fn write_refusal<W: Write>(
 {
     match refusal {
         Refusal::Fault(fault) => write_error_at(out, fault.code(), fault.name(), fault.place),
+        Refusal::Schema(fault) => write_error_at(out, fault.code(), fault.name(), fault.place),
         Refusal::NoMemory => write_error(out, NoMemory.code(), NoMemory.name()),
         Refusal::Syntax(column) => write_error_at(out, 61, "Syntax", column),
         Refusal::EmptySlot => write_error(out, 62, "EmptySlot"),
@@ -110,6 +109,7 @@ pub(crate) fn write_reply<W: Write>(out: &mut Told<W>, reply: &Reply) -> Result<
     match reply {
         Reply::Silent => Ok(()),
         Reply::Text(text) => write_pieces(out, &[text.as_bytes(), b"\n"]),
+        Reply::Dump(changeset) => dump_text(changeset, out),
         Reply::Refused(refusal) => write_refusal(out, *refusal),
     }
 }

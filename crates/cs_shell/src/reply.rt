@@ -2,14 +2,15 @@
 ghost use Rattle.std.specs.Prelude.{◌≡◌, IfOk, OnErr};
 ghost use Rattle.cs_shell.specs.Lines as lines;
 ghost use Rattle.cs_shell.specs.Script.{CommandGives, LineGives, is_refused as refused};
-ghost use Rattle.cs_shell.specs.Replies.{command_of, reply_of, refusal_of, IsRefusalOf};
+ghost use Rattle.cs_shell.specs.Replies.{command_of, reply_of, IsRefusalOf, IsJoinRefusal};
 
-use crate::fault::ToolFault;
-use crate::invert::invert_bytes;
+use crate::fault::{FileFault, ToolFault};
+use crate::files::{concat_bytes, invert_bytes};
 use crate::lines::{Command, LineFault, parse_line};
 use crate::slots::Slots;
+use cs_group::SchemaFault;
 use cs_value::NoMemory;
-use cs_wire::ReadFault;
+use cs_wire::{Changeset, ReadError, ReadFault, read};
 use hex::FromHexError;
 use std::alloc::Global;
 
@@ -18,6 +19,8 @@ use std::alloc::Global;
 pub(crate) enum Refusal {
     /// A slot's bytes are no changeset's file.
     Fault(ReadFault),
+    /// A table differs in two slots' changesets.
+    Schema(SchemaFault),
     /// Memory was refused.
     NoMemory,
     /// The line does not fit the grammar from this column on.
@@ -30,17 +33,6 @@ pub(crate) enum Refusal {
     LineText,
 }
 
-impl From<ToolFault> for Refusal {
-    ghost from_gives = { λ fault refusal. refusal ≡ refusal_of fault };
-
-    fn from(fault: ToolFault) -> Refusal {
-        match fault {
-            ToolFault::Fault(fault) => Refusal::Fault(fault),
-            ToolFault::NoMemory => Refusal::NoMemory,
-        }
-    }
-}
-
 /// What a line is answered.
 #[derive(Debug, Drop)]
 pub(crate) enum Reply {
@@ -48,6 +40,8 @@ pub(crate) enum Reply {
     Silent,
     /// A line of text is printed.
     Text(String),
+    /// A changeset is printed.
+    Dump(Changeset),
     /// An error line is printed.
     Refused(Refusal),
 }
@@ -91,11 +85,22 @@ fn show(alloc: Global, slots: &Slots, slot: &[u8]) -> Result<Reply, NoMemory>
 }
 
 /// The reply to a line whose file is refused. It fails only for memory.
-fn refuse(fault: ToolFault) -> Result<Reply, NoMemory>
+fn refuse(fault: ReadError) -> Result<Reply, NoMemory>
     ensures { IfOk result (λ reply. IsRefusalOf fault (reply_of reply)) }
 {
     match fault {
-        ToolFault::Fault(fault) => Ok(Reply::Refused(Refusal::Fault(fault))),
+        ReadError::Fault(fault) => Ok(Reply::Refused(Refusal::Fault(fault))),
+        ReadError::NoMemory => Err(NoMemory),
+    }
+}
+
+/// The reply to a line whose files are not joined. It fails only for memory.
+fn refuse_join(fault: ToolFault) -> Result<Reply, NoMemory>
+    ensures { IfOk result (λ reply. IsJoinRefusal fault (reply_of reply)) }
+{
+    match fault {
+        ToolFault::Fault(FileFault::Read(fault)) => Ok(Reply::Refused(Refusal::Fault(fault))),
+        ToolFault::Fault(FileFault::Schema(fault)) => Ok(Reply::Refused(Refusal::Schema(fault))),
         ToolFault::NoMemory => Err(NoMemory),
     }
 }
@@ -118,6 +123,47 @@ fn invert(alloc: Global, slots: &mut Slots, from: &[u8], into: &[u8]) -> Result<
     }
 }
 
+/// Puts the join of two slots' changesets into a third.
+fn join(
+    alloc: Global,
+    slots: &mut Slots,
+    first: &[u8],
+    second: &[u8],
+    into: &[u8],
+) -> Result<Reply, NoMemory>
+    ensures ok { IfOk result (λ reply.
+        CommandGives slots.old (lines.Concat first.now second.now into.now) (reply_of reply) slots.new) }
+    ensures err { OnErr result (slots.new ≡ slots.old) }
+{
+    let Some(file) = slots.get(first) else {
+        return Ok(Reply::Refused(Refusal::EmptySlot));
+    };
+    let Some(other) = slots.get(second) else {
+        return Ok(Reply::Refused(Refusal::EmptySlot));
+    };
+    match concat_bytes(alloc, file, other) {
+        Ok(out) => {
+            slots.insert(alloc, into, out)?;
+            Ok(Reply::Silent)
+        }
+        Err(fault) => refuse_join(fault),
+    }
+}
+
+/// The changeset of a slot's bytes.
+fn dump(alloc: Global, slots: &Slots, slot: &[u8]) -> Result<Reply, NoMemory>
+    ensures { IfOk result (λ reply.
+        CommandGives slots.now (lines.Dump slot.now) (reply_of reply) slots.now) }
+{
+    let Some(file) = slots.get(slot) else {
+        return Ok(Reply::Refused(Refusal::EmptySlot));
+    };
+    match read(alloc, file) {
+        Ok(changeset) => Ok(Reply::Dump(changeset)),
+        Err(fault) => refuse(fault),
+    }
+}
+
 /// Does what a command asks for. It fails only for memory, and then changes nothing.
 fn run_command(alloc: Global, slots: &mut Slots, command: Command<'_>) -> Result<Reply, NoMemory>
     ensures ok { IfOk result (λ reply.
@@ -128,6 +174,12 @@ fn run_command(alloc: Global, slots: &mut Slots, command: Command<'_>) -> Result
         Command::Load { slot, digits } => load(alloc, slots, slot, digits),
         Command::Hex { slot } => show(alloc, slots, slot),
         Command::Invert { from, into } => invert(alloc, slots, from, into),
+        Command::Concat {
+            first,
+            second,
+            into,
+        } => join(alloc, slots, first, second, into),
+        Command::Dump { slot } => dump(alloc, slots, slot),
     }
 }
 

@@ -10,7 +10,8 @@ ghost use Rattle.cs_shell.specs.Replies.{reply_of};
 ghost use Rattle.cs_shell.specs.Progress.{HoldsLine, AddsByte, EndsLine, Advances, Finishes};
 ghost use Rattle.cs_shell.specs.Progress.{RunsText, RunsScript, StopsAt, status_of};
 
-use crate::print::{OutputFault, write_error, write_reply};
+use crate::fault::OutputFault;
+use crate::print::{write_error, write_reply};
 use crate::reply::{Refusal, Reply, answer};
 use crate::slots::Slots;
 use crate::told::Told;

@@ -5,12 +5,14 @@ ghost use Rattle.cs_shell.specs.Told.{has_failed, known};
 ghost use Rattle.cs_shell.specs.Calls.{AppendsFront};
 ghost use Rattle.cs_shell.specs.Script.{Ends};
 
-use crate::fault::ToolFault;
-use crate::invert::invert_bytes;
+use crate::fault::{FileFault, OutputFault, ToolFault};
+use crate::files::{concat_bytes, invert_bytes};
 use crate::print::{write_error, write_refusal, write_whole};
 use crate::reply::Refusal;
 use crate::script::{Status, run_slots};
+use crate::texts::{dump_text, sql_text};
 use crate::told::Told;
+use cs_wire::{Changeset, ReadError, read};
 use std::fs;
 use std::io::{ErrorKind, Read, Write};
 use std::rt::Files;
@@ -36,8 +38,21 @@ C is omit, replace or abort (the default).
 enum Action<'a> {
     /// Runs a script from the input.
     Script,
-    /// Writes the inverse of one file into another.
-    Invert { file: &'a str, out: &'a str },
+    /// Does something with a changeset's file.
+    OnFile { file: &'a str, command: Command<'a> },
+}
+
+/// What is done with a changeset's file.
+#[derive(Clone, Copy, Debug)]
+enum Command<'a> {
+    /// Its join with a second one is written into a file.
+    Concat { second: &'a str, out: &'a str },
+    /// What it holds is printed.
+    Dump,
+    /// Its inverse is written into a file.
+    Invert { out: &'a str },
+    /// It is printed as SQL.
+    Sql,
 }
 
 /// Why a command is not carried out.
@@ -51,9 +66,28 @@ enum Failure {
     Output,
 }
 
+impl From<ReadError> for Failure {
+    fn from(error: ReadError) -> Failure {
+        match error {
+            ReadError::Fault(fault) => Failure::Refused(Refusal::Fault(fault)),
+            ReadError::NoMemory => Failure::Refused(Refusal::NoMemory),
+        }
+    }
+}
+
 impl From<ToolFault> for Failure {
-    fn from(fault: ToolFault) -> Failure {
-        Failure::Refused(Refusal::from(fault))
+    fn from(error: ToolFault) -> Failure {
+        match error {
+            ToolFault::Fault(FileFault::Read(fault)) => Failure::Refused(Refusal::Fault(fault)),
+            ToolFault::Fault(FileFault::Schema(fault)) => Failure::Refused(Refusal::Schema(fault)),
+            ToolFault::NoMemory => Failure::Refused(Refusal::NoMemory),
+        }
+    }
+}
+
+impl From<OutputFault> for Failure {
+    fn from(_fault: OutputFault) -> Failure {
+        Failure::Output
     }
 }
 
@@ -63,8 +97,22 @@ fn parse_words(words: &[String]) -> Option<Action<'_>>
 {
     match words {
         [] | [_] => Some(Action::Script),
-        [_, file, command, out] if command.as_str() == "invert" => Some(Action::Invert {
+        [_, file, name, arguments @ ..] => Some(Action::OnFile {
             file: file.as_str(),
+            command: parse_command(name.as_str(), arguments)?,
+        }),
+        _ => None,
+    }
+}
+
+/// What a command's name and its arguments ask for, or None where they fit no command.
+fn parse_command<'a>(name: &str, arguments: &'a [String]) -> Option<Command<'a>> {
+    match arguments {
+        [] if name == "dump" => Some(Command::Dump),
+        [] if name == "sql" => Some(Command::Sql),
+        [out] if name == "invert" => Some(Command::Invert { out: out.as_str() }),
+        [second, out] if name == "concat" => Some(Command::Concat {
+            second: second.as_str(),
             out: out.as_str(),
         }),
         _ => None,
@@ -90,6 +138,39 @@ fn read_file<H: Files + AllocGlobal>(rt: &H, path: &str) -> Result<Vec<u8>, Fail
 fn invert_file<H: Files + AllocGlobal>(rt: &H, file: &str, out: &str) -> Result<(), Failure> {
     let inverse = invert_bytes(rt.alloc(), &read_file(rt, file)?)?;
     fs::write(rt, out, &inverse).map_err(|_| Failure::Output)
+}
+
+/// Writes the join of two files into another, which is opened once the join is there.
+fn join_files<H: Files + AllocGlobal>(
+    rt: &H,
+    first: &str,
+    second: &str,
+    out: &str,
+) -> Result<(), Failure> {
+    let first = read_file(rt, first)?;
+    let second = read_file(rt, second)?;
+    let joined = concat_bytes(rt.alloc(), &first, &second)?;
+    fs::write(rt, out, &joined).map_err(|_| Failure::Output)
+}
+
+/// The changeset of a file.
+fn read_changeset<H: Files + AllocGlobal>(rt: &H, file: &str) -> Result<Changeset, Failure> {
+    Ok(read(rt.alloc(), &read_file(rt, file)?)?)
+}
+
+/// Does what a command asks for with a file.
+fn run_command<H: Files + AllocGlobal, W: Write>(
+    rt: &H,
+    file: &str,
+    command: Command<'_>,
+    out: &mut Told<W>,
+) -> Result<(), Failure> {
+    match command {
+        Command::Concat { second, out } => join_files(rt, file, second, out),
+        Command::Dump => Ok(dump_text(&read_changeset(rt, file)?, out)?),
+        Command::Invert { out } => invert_file(rt, file, out),
+        Command::Sql => Ok(sql_text(&read_changeset(rt, file)?, out)?),
+    }
 }
 
 /// Writes the error line of a failure. Where that fails there is nowhere left to say so.
@@ -132,9 +213,10 @@ pub fn print_usage<E: Write>(err: &mut Told<E>) -> u8
 /// status: 0 where that is done, 1 where it is refused and 2 where the words fit no command.
 ///
 /// With no word behind the name the input is run as a script, as `run_slots` does. `FILE invert OUT`
-/// writes the inverse of FILE, which may have 1073741824 bytes, into OUT, which is replaced. A
-/// refusal, or the usage text, stands on `err`, and then OUT is not opened, unless it is a write to
-/// it that failed.
+/// writes the inverse of FILE into OUT, `FILE concat FILE2 OUT` the join of FILE and FILE2, and
+/// `FILE dump` and `FILE sql` print FILE. A file may have 1073741824 bytes; OUT is replaced, and may
+/// be one of the others. A refusal, or the usage text, stands on `err`, and then OUT is not opened,
+/// unless it is a write to it that failed.
 pub fn run_words<H: Files + AllocGlobal, R: Read, W: Write, E: Write>(
     rt: &H,
     words: &[String],
@@ -151,7 +233,7 @@ pub fn run_words<H: Files + AllocGlobal, R: Read, W: Write, E: Write>(
 {
     match parse_words(words) {
         Some(Action::Script) => end_script(err, run_slots(rt.alloc(), input, out)),
-        Some(Action::Invert { file, out }) => match invert_file(rt, file, out) {
+        Some(Action::OnFile { file, command }) => match run_command(rt, file, command, out) {
             Ok(()) => 0,
             Err(failure) => {
                 report(err, failure);

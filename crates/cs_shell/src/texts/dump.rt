@@ -1,0 +1,133 @@
+//! The text of a changeset that has a line for each table and for each entry.
+ghost use Rattle.std.specs.Prelude.{◌≡◌};
+ghost use Rattle.cs_shell.specs.Gathering.{Gathers};
+ghost use Rattle.cs_shell.specs.Texts.{flag_text, header_text, entry_text, group_text};
+ghost use Rattle.cs_shell.specs.Pieces.{dump_piece_text};
+
+use crate::fault::OutputFault;
+use crate::gather::Gather;
+use crate::texts::list::{Print, add_each, add_separated};
+use crate::texts::literal::{add_number, add_quoted};
+use crate::told::Told;
+use cs_value::{Image, Row};
+use cs_wire::{Change, Entry, Group, Header};
+use std::io::Write;
+
+/// A piece of a line.
+#[derive(Clone, Copy, Debug)]
+enum Piece<'a> {
+    /// These bytes.
+    Bytes(&'a [u8]),
+    /// The digits of a number.
+    Number(usize),
+    /// A text between quotes.
+    Quoted(&'a str),
+    /// The flags of columns.
+    Flags(&'a [u8]),
+    /// The values of a row.
+    Row(&'a Row),
+    /// The fields of a record.
+    Record(&'a Image),
+}
+
+impl Print for Piece<'_> {
+    ghost text = { dump_piece_text };
+
+    fn print<W: Write>(&self, gather: &mut Gather, out: &mut Told<W>) -> Result<(), OutputFault> {
+        match *self {
+            Piece::Bytes(bytes) => gather.add(out, bytes),
+            Piece::Number(number) => add_number(gather, out, number),
+            Piece::Quoted(text) => add_quoted(gather, out, b'\'', text.as_bytes()),
+            Piece::Flags(flags) => add_separated(gather, out, b",", flags),
+            Piece::Row(row) => add_separated(gather, out, b",", row.values()),
+            Piece::Record(image) => add_separated(gather, out, b",", image.fields()),
+        }
+    }
+}
+
+/// What stands for the indirect flag.
+fn flag_bytes(indirect: bool) -> &'static [u8]
+    ensures { result.now ≡ flag_text indirect }
+{
+    if indirect { b"1" } else { b"0" }
+}
+
+#[tactic(auto, unfolding(crate::specs::Texts::entry_text))]
+impl Print for Entry {
+    ghost text = { λ entry. entry_text entry.indirect entry.change };
+
+    fn print<W: Write>(&self, gather: &mut Gather, out: &mut Told<W>) -> Result<(), OutputFault> {
+        let flag = Piece::Bytes(flag_bytes(self.indirect));
+        match &self.change {
+            Change::Insert(row) => add_each(
+                gather,
+                out,
+                &[
+                    Piece::Bytes(b"insert "),
+                    flag,
+                    Piece::Bytes(b" new "),
+                    Piece::Row(row),
+                    Piece::Bytes(b"\n"),
+                ],
+            ),
+            Change::Delete(row) => add_each(
+                gather,
+                out,
+                &[
+                    Piece::Bytes(b"delete "),
+                    flag,
+                    Piece::Bytes(b" old "),
+                    Piece::Row(row),
+                    Piece::Bytes(b"\n"),
+                ],
+            ),
+            Change::Update { old, new } => add_each(
+                gather,
+                out,
+                &[
+                    Piece::Bytes(b"update "),
+                    flag,
+                    Piece::Bytes(b" old "),
+                    Piece::Record(old),
+                    Piece::Bytes(b" new "),
+                    Piece::Record(new),
+                    Piece::Bytes(b"\n"),
+                ],
+            ),
+        }
+    }
+}
+
+/// Adds the line of a table.
+#[tactic(auto, unfolding(crate::specs::Texts::header_text))]
+fn add_header<W: Write>(
+    gather: &mut Gather,
+    out: &mut Told<W>,
+    header: &Header,
+) -> Result<(), OutputFault>
+    ensures { Gathers W.contents result gather.old gather.new out.old out.new (header_text header.now) }
+{
+    let flags = header.flags();
+    add_each(
+        gather,
+        out,
+        &[
+            Piece::Bytes(b"table "),
+            Piece::Quoted(header.name()),
+            Piece::Bytes(b" columns "),
+            Piece::Number(flags.len()),
+            Piece::Bytes(b" flags "),
+            Piece::Flags(flags),
+            Piece::Bytes(b"\n"),
+        ],
+    )
+}
+
+impl Print for Group {
+    ghost text = { group_text };
+
+    fn print<W: Write>(&self, gather: &mut Gather, out: &mut Told<W>) -> Result<(), OutputFault> {
+        add_header(gather, out, self.header())?;
+        add_each(gather, out, self.entries())
+    }
+}
