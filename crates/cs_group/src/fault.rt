@@ -7,7 +7,7 @@ use thiserror::Error;
 /// A table has another count of columns, or other columns in its key, in the second changeset than
 /// in the first.
 #[derive(Clone, Copy, Debug, PartialEq, Eq, Drop, Error)]
-#[error("Schema at {place}")]
+#[error("a table has other columns or another key at group {place}")]
 pub struct SchemaFault {
     /// The place of the table's group in the second changeset, from 0.
     pub place: usize,

@@ -1,11 +1,13 @@
 //! Tests of the public calls, of what no contract and no line of a script says.
 //!
-//! `value`, `wire` and `shell` have those of a crate each, and `refusals` the numbers, names and
-//! texts of what they refuse with.
+//! `value`, `wire`, `group` and `shell` have those of a crate each, and `refusals` the numbers, names
+//! and texts of what they refuse with.
 #![tactic(auto)]
 
 #[cfg(test)]
 mod calling;
+#[cfg(test)]
+mod group;
 #[cfg(test)]
 mod refusals;
 #[cfg(test)]
@@ -18,6 +20,16 @@ mod wire;
 /// An INSERT of (1, 'x') into the table t, whose first column is its key.
 #[cfg(test)]
 const INSERT: &[u8] = b"T\x02\x01\x00t\x00\x12\x00\x01\x00\x00\x00\x00\x00\x00\x00\x01\x03\x01x";
+
+/// The UPDATE of that 'x' to 'y'.
+#[cfg(test)]
+const UPDATE: &[u8] =
+    b"T\x02\x01\x00t\x00\x17\x00\x01\x00\x00\x00\x00\x00\x00\x00\x01\x03\x01x\x00\x03\x01y";
+
+/// The INSERT of (1, NULL, NULL) into a table t of three columns, whose first column is its key.
+#[cfg(test)]
+const WIDER_INSERT: &[u8] =
+    b"T\x03\x01\x00\x00t\x00\x12\x00\x01\x00\x00\x00\x00\x00\x00\x00\x01\x05\x05";
 
 /// The DELETE of that row.
 #[cfg(test)]

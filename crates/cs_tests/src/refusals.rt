@@ -1,5 +1,6 @@
 //! Numbers, classes, names and texts of what calls refuse with.
 
+use cs_shell::{FileFault, OutputFault, SchemaFault, ToolFault};
 use cs_value::{Fault, FieldFault, FieldFaultKind, ImageFault, NoMemory};
 use cs_wire::{ReadError, ReadFault, ReadFaultKind};
 use std::fmt::Display;
@@ -138,6 +139,25 @@ fn faults(rt: HostRuntime) {
     expect_named(&rt, &ImageFault::Fault(FIELD_FAULT), 14, 11, "BadText");
     expect_named(&rt, &READ_FAULT, 16, 11, "Unpaired");
     expect_named(&rt, &ReadError::Fault(READ_FAULT), 16, 11, "Unpaired");
+}
+
+#[test]
+fn faults_of_calls_on_files(rt: HostRuntime) {
+    let schema = SchemaFault { place: 3 };
+    expect_named(&rt, &schema, 43, 17, "Schema");
+    expect_named(
+        &rt,
+        &ToolFault::Fault(FileFault::Schema(schema)),
+        43,
+        17,
+        "Schema",
+    );
+    expect_named(&rt, &FileFault::Read(READ_FAULT), 16, 11, "Unpaired");
+    expect_named(&rt, &OutputFault, 72, 10, "OutputFault");
+    let text = "a table has other columns or another key at group 3";
+    expect_text(&rt, &schema, text);
+    expect_text(&rt, &ToolFault::Fault(FileFault::Schema(schema)), text);
+    expect_text(&rt, &OutputFault, "a write failed");
 }
 
 #[test]

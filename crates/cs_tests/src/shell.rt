@@ -2,4 +2,5 @@
 
 mod files;
 mod streams;
+mod texts;
 mod words;

@@ -1,7 +1,7 @@
 //! What the words of a command line are answered.
 
 use super::streams::{Closed, Script, scripted};
-use crate::{DELETE, INSERT};
+use crate::{DELETE, INSERT, UPDATE, WIDER_INSERT};
 use cs_shell::{Told, print_usage, run_words};
 use std::fs;
 use std::io::Write;
@@ -102,6 +102,64 @@ fn replaces_what_the_other_file_held(rt: HostRuntime) {
 }
 
 #[test]
+fn writes_the_join(rt: HostRuntime) {
+    make(&rt, "first.cs", UPDATE);
+    make(&rt, "second.cs", DELETE);
+    let words = ["changeset", "second.cs", "concat", "first.cs", "second.cs"];
+    expect_reported(&rt, &words, 0, b"");
+    expect_removed(&rt, "first.cs", UPDATE);
+    expect_removed(&rt, "second.cs", DELETE);
+}
+
+#[test]
+fn refuses_to_join(rt: HostRuntime) {
+    make(&rt, "narrow.cs", INSERT);
+    make(&rt, "wide.cs", WIDER_INSERT);
+    let words = ["changeset", "narrow.cs", "concat", "wide.cs", "join.cs"];
+    expect_reported(&rt, &words, 1, b"error 43 Schema 0\n");
+    let words = ["changeset", "narrow.cs", "concat", "missing.cs", "join.cs"];
+    expect_reported(&rt, &words, 1, b"error 71 InputFault\n");
+    expect_removed(&rt, "narrow.cs", INSERT);
+    expect_removed(&rt, "wide.cs", WIDER_INSERT);
+    expect_none(&rt, "join.cs");
+}
+
+#[test]
+fn prints_what_a_file_holds(rt: HostRuntime) {
+    make(&rt, "held.cs", INSERT);
+    for (command, text) in [
+        (
+            "dump",
+            "table 't' columns 2 flags 1,0\ninsert 0 new 1,'x'\n",
+        ),
+        ("sql", "INSERT INTO \"t\" VALUES(1, 'x');\n"),
+    ] {
+        let mut out = Vec::new(rt.alloc());
+        let words = ["changeset", "held.cs", command];
+        expect_end(&rt, &words, scripted(b"", false), &mut out, (0, b""));
+        assert!(rt; out.as_slice() == text.as_bytes());
+    }
+    expect_removed(&rt, "held.cs", INSERT);
+}
+
+#[test]
+fn reports_a_text_that_is_not_written(rt: HostRuntime) {
+    make(&rt, "unread.cs", INSERT);
+    for command in ["dump", "sql"] {
+        let words = ["changeset", "unread.cs", command];
+        let wanted = (1, b"error 72 OutputFault\n".as_slice());
+        expect_end(
+            &rt,
+            &words,
+            scripted(b"", false),
+            Closed { fails: false },
+            wanted,
+        );
+    }
+    expect_removed(&rt, "unread.cs", INSERT);
+}
+
+#[test]
 fn reports_a_missing_file(rt: HostRuntime) {
     let words = ["changeset", "missing.cs", "invert", "missing.inverse.cs"];
     expect_reported(&rt, &words, 1, b"error 71 InputFault\n");
@@ -133,6 +191,8 @@ fn prints_the_usage(rt: HostRuntime) {
         ["changeset", "a.cs", "invert"].as_slice(),
         ["changeset", "a.cs", "frob", "o"].as_slice(),
         ["changeset", "a.cs", "invert", "o", "p"].as_slice(),
+        ["changeset", "a.cs", "concat", "o"].as_slice(),
+        ["changeset", "a.cs", "dump", "o"].as_slice(),
         ["changeset", "--help"].as_slice(),
     ] {
         expect_reported(&rt, words, 2, USAGE);
