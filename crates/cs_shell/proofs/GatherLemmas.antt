@@ -10,11 +10,13 @@ use Rattle.cs_shell.specs.declared.told.Told.{Told}
 use Rattle.cs_shell.specs.Calls.{Writes}
 use Rattle.cs_shell.specs.Gathering.{Gathered, Interrupted, Gathers}
 
+-- two texts, and what was written of them
 joined : (p q t1 t2 text front1 front2 r : List ℕ) → text ≡ t1 ++ t2 → p ++ t1 ≡ front1 ++ q → q ++ t2 ≡ front2 ++ r → p ++ text ≡ (front1 ++ front2) ++ r
 joined p q t1 t2 text front1 front2 r is one two =
     ap (λ l. p ++ l) is ∙ sym (append_assoc p t1 t2) ∙ ap (λ l. l ++ t2) one ∙ append_assoc front1 q t2
     ∙ ap (λ l. front1 ++ l) two ∙ sym (append_assoc front1 front2 r)
 
+-- what is left of a text where nothing was pending
 whole : (p text front q : List ℕ) → p ≡ [] → p ++ text ≡ front ++ q → text ≡ front ++ q
 whole p text front q none is = sym (ap (λ l. l ++ text) none) ∙ is
 
@@ -22,10 +24,6 @@ module _ {W : Type 0} {contents : W → Option (List ℕ)} where
   -- no text
   pub Gathered-nil : (pending : List ℕ) (out : Told W) → Gathered contents pending pending out out []
   Gathered-nil pending out = record { front = []; split = append-nil pending; appended = Appends-nil (contents out.inner) }
-
-  -- a text that is put behind what is pending
-  pub Gathered-push : (pending left text : List ℕ) (out : Told W) → left ≡ pending ++ text → Gathered contents pending left out out text
-  Gathered-push pending left text out is = record { front = []; split = sym is; appended = Appends-nil (contents out.inner) }
 
   -- a text, and then another
   pub Gathered-more : {p q r t1 t2 : List ℕ} {old mid new : Told W} (text : List ℕ) → text ≡ t1 ++ t2

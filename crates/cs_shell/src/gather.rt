@@ -51,8 +51,7 @@ impl Gather {
         written
     }
 
-    /// Makes room for so many bytes, or where they are too many for that, for all that there can be:
-    /// what is gathered is written unless there is room enough behind it.
+    /// Makes room for this many bytes: writes what is gathered unless they fit behind it.
     fn make_room<W: Write>(&mut self, out: &mut Told<W>, len: usize) -> Result<(), OutputFault>
         ensures gathered { Gathers W.contents result self.old self.new out.old out.new [] }
         ensures room { OnOk result (len ≤ ROOM_LEN → length self.new + len ≤ ROOM_LEN) }

@@ -1,5 +1,6 @@
 //! The text of a changeset that has a line for each table and for each entry.
 ghost use Rattle.std.specs.Prelude.{◌≡◌};
+ghost use Rattle.cs_wire.specs.declared.entry.Change.TheVariants.{Update};
 ghost use Rattle.cs_shell.specs.Gathering.{Gathers};
 ghost use Rattle.cs_shell.specs.Texts.{flag_text, header_text, entry_text, group_text};
 ghost use Rattle.cs_shell.specs.Pieces.{dump_piece_text};
@@ -52,6 +53,33 @@ fn flag_bytes(indirect: bool) -> &'static [u8]
     if indirect { b"1" } else { b"0" }
 }
 
+/// Adds the line of an update.
+#[tactic(auto, unfolding(crate::specs::Texts::entry_text))]
+fn add_update<'a, W: Write>(
+    gather: &mut Gather,
+    out: &mut Told<W>,
+    indirect: bool,
+    old: &'a Image,
+    new: &'a Image,
+) -> Result<(), OutputFault>
+    ensures { Gathers W.contents result gather.old gather.new out.old out.new
+        (entry_text indirect (Update old.now new.now)) }
+{
+    add_each(
+        gather,
+        out,
+        &[
+            Piece::Bytes(b"update "),
+            Piece::Bytes(flag_bytes(indirect)),
+            Piece::Bytes(b" old "),
+            Piece::Record(old),
+            Piece::Bytes(b" new "),
+            Piece::Record(new),
+            Piece::Bytes(b"\n"),
+        ],
+    )
+}
+
 #[tactic(auto, unfolding(crate::specs::Texts::entry_text))]
 impl Print for Entry {
     ghost text = { λ entry. entry_text entry.indirect entry.change };
@@ -81,19 +109,7 @@ impl Print for Entry {
                     Piece::Bytes(b"\n"),
                 ],
             ),
-            Change::Update { old, new } => add_each(
-                gather,
-                out,
-                &[
-                    Piece::Bytes(b"update "),
-                    flag,
-                    Piece::Bytes(b" old "),
-                    Piece::Record(old),
-                    Piece::Bytes(b" new "),
-                    Piece::Record(new),
-                    Piece::Bytes(b"\n"),
-                ],
-            ),
+            Change::Update { old, new } => add_update(gather, out, self.indirect, old, new),
         }
     }
 }

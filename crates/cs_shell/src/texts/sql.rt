@@ -3,6 +3,7 @@ ghost use Rattle.std.specs.Prelude.{◌≡◌, ◌<◌, ◌++◌, List, ℕ, map
 ghost use Rattle.std.specs.List.{flat_map, list_any};
 ghost use Rattle.cs_value.specs.declared.value.OwnedField.{OwnedField};
 ghost use Rattle.cs_value.specs.declared.value.OwnedField.TheVariants.{Defined};
+ghost use Rattle.cs_wire.specs.declared.entry.Change.TheVariants.{Update};
 ghost use Rattle.cs_shell.specs.Gathering.{Gathers};
 ghost use Rattle.cs_shell.specs.Texts.{column_name, assignment, condition, assignments, by_place};
 ghost use Rattle.cs_shell.specs.Texts.{statement, group_statements};
@@ -212,6 +213,33 @@ impl Print for Piece<'_> {
     }
 }
 
+/// Adds the statement that makes an update of a table.
+#[tactic(auto, unfolding(crate::specs::Texts::statement))]
+fn add_update<'a, W: Write>(
+    gather: &mut Gather,
+    out: &mut Told<W>,
+    name: &'a str,
+    old: &'a Image,
+    new: &'a Image,
+) -> Result<(), OutputFault>
+    ensures { Gathers W.contents result gather.old gather.new out.old out.new
+        (statement name.now (Update old.now new.now)) }
+{
+    add_each(
+        gather,
+        out,
+        &[
+            Piece::Bytes(b"UPDATE "),
+            Piece::Name(name),
+            Piece::Bytes(b" SET "),
+            Piece::Becomes { old, new },
+            Piece::Bytes(b" WHERE "),
+            Piece::RecordIs(old),
+            Piece::Bytes(b";\n"),
+        ],
+    )
+}
+
 /// Adds the statement that makes a change to a table.
 #[tactic(auto, unfolding(crate::specs::Texts::statement))]
 fn add_statement<'a, W: Write>(
@@ -245,19 +273,7 @@ fn add_statement<'a, W: Write>(
                 Piece::Bytes(b";\n"),
             ],
         ),
-        Change::Update { old, new } => add_each(
-            gather,
-            out,
-            &[
-                Piece::Bytes(b"UPDATE "),
-                Piece::Name(name),
-                Piece::Bytes(b" SET "),
-                Piece::Becomes { old, new },
-                Piece::Bytes(b" WHERE "),
-                Piece::RecordIs(old),
-                Piece::Bytes(b";\n"),
-            ],
-        ),
+        Change::Update { old, new } => add_update(gather, out, name, old, new),
     }
 }
 
