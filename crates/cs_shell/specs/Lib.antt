@@ -1,5 +1,6 @@
 pub mod Files
 pub mod Faults
+pub mod Failures
 pub mod Calls
 pub mod Lines
 pub mod Told

@@ -1,7 +1,7 @@
 -- What a script of lines answers: a relation from the text and the slots to the replies and the slots after them. The
 -- lines and the printed texts are this project's own.
 use Rattle.std.specs.Prelude.{◌≡◌, ◌≢◌, ℕ, ◌+◌, ◌≤◌, ◌⊎◌, Bool, true, false, IsTrue, List, [], ◌∷◌, ◌++◌, length}
-use Rattle.std.specs.Prelude.{Option, None, Some, Ok, Err, codes, decimal, IsUtf8}
+use Rattle.std.specs.Prelude.{Option, None, Some, IfSome, Ok, Err, codes, decimal, IsUtf8}
 use Rattle.std.specs.List.{flat_map, list_any}
 use Rattle.std.specs.Ordering.{nat_cmp}
 use Rattle.std.specs.Cmp.Lexicographic.{slice_cmp}
@@ -17,7 +17,7 @@ use Rattle.cs_shell.specs.declared.reply.Refusal.TheVariants.{BadHex, LineText}
 use Rattle.cs_shell.specs.declared.script.Status.{Status}
 use Rattle.cs_shell.specs.declared.script.Status.TheVariants.{Done, LinesRefused, TooLong, InputFault, OutputFault}
 use Rattle.cs_shell.specs.declared.told.Told.{Told}
-use Rattle.cs_shell.specs.Told.{has_failed}
+use Rattle.cs_shell.specs.Told.{has_failed, known}
 use Rattle.cs_shell.specs.Calls.{WritesSome}
 use Rattle.cs_shell.specs.declared.fault.FileFault.TheVariants.{Read, Schema as Tables}
 use Rattle.cs_shell.specs.Files.{Inverts, Joins, JoinFails}
@@ -178,3 +178,19 @@ IsFlagged LinesRefused input out = Unit {0}
 IsFlagged TooLong input out = Unit {0}
 IsFlagged InputFault input out = IsTrue (has_failed input)
 IsFlagged OutputFault input out = IsTrue (has_failed out)
+
+-- the exit status of a script that ended so
+abbrev pub exit_of : Status → ℕ
+exit_of Done = 0
+exit_of LinesRefused = 1
+exit_of TooLong = 1
+exit_of InputFault = 1
+exit_of OutputFault = 1
+
+-- the input was run as a script, and this is the exit status
+pub record RunsInput {R W : Type 0} (remaining : R → Option (List ℕ)) (contents : W → Option (List ℕ)) (exit : ℕ)
+    (input_before input_after : Told R) (before after : Told W) : Type 0 where
+  pub status : Status
+  pub exit_is : exit ≡ exit_of status
+  pub ended : IfSome (known remaining input_before) (Ends contents status before after)
+  pub flagged : IsFlagged status input_after after

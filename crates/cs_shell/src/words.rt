@@ -3,7 +3,8 @@ ghost use Rattle.std.specs.Prelude.{◌≡◌, ◌≤◌, Some, length, false, I
 ghost use Rattle.std.specs.Io.KnownBytes.{Appends};
 ghost use Rattle.cs_shell.specs.Told.{has_failed, known};
 ghost use Rattle.cs_shell.specs.Calls.{AppendsFront};
-ghost use Rattle.cs_shell.specs.Script.{Ends};
+ghost use Rattle.cs_shell.specs.Failures.{unread, unjoined, unwritten};
+ghost use Rattle.cs_shell.specs.Script.{exit_of, RunsInput};
 
 use crate::fault::{FileFault, OutputFault, ToolFault};
 use crate::files::{concat_bytes, invert_bytes};
@@ -67,6 +68,8 @@ enum Failure {
 }
 
 impl From<ReadError> for Failure {
+    ghost from_gives = { λ error failure. failure ≡ unread error };
+
     fn from(error: ReadError) -> Failure {
         match error {
             ReadError::Fault(fault) => Failure::Refused(Refusal::Fault(fault)),
@@ -76,6 +79,8 @@ impl From<ReadError> for Failure {
 }
 
 impl From<ToolFault> for Failure {
+    ghost from_gives = { λ error failure. failure ≡ unjoined error };
+
     fn from(error: ToolFault) -> Failure {
         match error {
             ToolFault::Fault(FileFault::Read(fault)) => Failure::Refused(Refusal::Fault(fault)),
@@ -86,6 +91,8 @@ impl From<ToolFault> for Failure {
 }
 
 impl From<OutputFault> for Failure {
+    ghost from_gives = { λ fault failure. failure ≡ unwritten fault };
+
     fn from(_fault: OutputFault) -> Failure {
         Failure::Output
     }
@@ -185,8 +192,7 @@ fn report<E: Write>(err: &mut Told<E>, failure: Failure) {
 /// The exit status of a script, whose own errors are already written. A stream that failed is
 /// reported.
 fn end_script<E: Write>(err: &mut Told<E>, status: Status) -> u8
-    ensures done { result ≡ 0 → status ≡ Status.Done }
-    ensures refused { result ≤ 1 }
+    ensures { result ≡ exit_of status }
 {
     match status {
         Status::Done => return 0,
@@ -225,8 +231,8 @@ pub fn run_words<H: Files + AllocGlobal, R: Read, W: Write, E: Write>(
     err: &mut Told<E>,
 ) -> u8
     ensures status { result ≤ 2 }
-    ensures script { length words.now ≤ 1 → result ≡ 0 →
-        IfSome (known R.remaining input.old) (Ends W.contents Status.Done out.old out.new) }
+    ensures script { length words.now ≤ 1 →
+        RunsInput R.remaining W.contents result input.old input.new out.old out.new }
     ensures usage { result ≡ 2 → has_failed err.new ≡ false →
         Appends (known E.contents err.old) (known E.contents err.new) USAGE.now }
     ensures unprinted { result ≡ 2 → out.new ≡ out.old }
