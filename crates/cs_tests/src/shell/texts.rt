@@ -1,7 +1,7 @@
 //! The readable texts of changesets.
 
 use crate::{DELETE, INSERT, UPDATE};
-use cs_shell::{OutputFault, Told, dump_text, sql_text};
+use cs_shell::{Told, dump_text, sql_text};
 use cs_wire::{Changeset, read};
 use std::io;
 use std::io::{ErrorKind, Write};
@@ -85,20 +85,20 @@ fn recorded_files_as_sql(rt: HostRuntime) {
     }
 }
 
-/// A writer that takes a few bytes at a time, and fails after some calls.
+/// A writer that takes a few bytes at a time, and fails once there is no room left.
 #[derive(Drop)]
 struct Stopping<'a> {
     taken: &'a mut Vec<u8>,
-    calls: usize,
+    room: usize,
 }
 
 impl Write for Stopping<'_> {
     fn write(&mut self, buf: &[u8]) -> io::Result<usize> {
-        if self.calls == 0 {
+        if self.room == 0 {
             return Err(io::Error::from(ErrorKind::Other));
         }
-        self.calls -= 1;
-        let count = buf.len().min(7);
+        let count = buf.len().min(7).min(self.room);
+        self.room -= count;
         self.taken.extend_from_slice(&buf[..count])?;
         Ok(count)
     }
@@ -108,31 +108,24 @@ impl Write for Stopping<'_> {
     }
 }
 
-/// Asserts that a dump which fails after so many calls wrote a front of the text.
-fn expect_front(rt: &(impl Abort + AllocGlobal), calls: usize, text: &[u8]) {
+/// Asserts that a dump for which there is so much room writes what it has room for.
+fn expect_front(rt: &(impl Abort + AllocGlobal), room: usize, text: &[u8]) {
     let mut taken = Vec::new(rt.alloc());
     let mut out = Told::new(Stopping {
         taken: &mut taken,
-        calls,
+        room,
     });
     let done = dump_text(&changeset_of(rt, UPDATE), &mut out);
-    assert!(rt; out.failed() == (calls * 7 < text.len()));
-    assert!(rt;
-        done == if out.failed() {
-            Err(OutputFault)
-        } else {
-            Ok(())
-        }
-    );
+    assert!(rt; done.is_err() == (room < text.len()) && out.failed() == done.is_err());
     drop(out);
-    let front = text.get(..text.len().min(calls * 7)).expect(rt, "a front");
+    let front = text.get(..text.len().min(room)).expect(rt, "a front");
     assert!(rt; taken.as_slice() == front);
 }
 
 #[test]
 fn fronts_of_a_dump(rt: HostRuntime) {
-    for calls in 0..12 {
-        let text = b"table 't' columns 2 flags 1,0\nupdate 0 old 1,'x' new -,'y'\n";
-        expect_front(&rt, calls, text);
+    let text = b"table 't' columns 2 flags 1,0\nupdate 0 old 1,'x' new -,'y'\n";
+    for room in 0..text.len() + 2 {
+        expect_front(&rt, room, text);
     }
 }
