@@ -1,10 +1,13 @@
 #!/usr/bin/env python3
-"""Times inverting changesets, and measures the memory that it takes at its peak.
+"""Times the commands on files: inverting, joining, and printing as readable text and as SQL.
 
 The program reads a file, inverts it and writes the inverse, so a time is that of reading, the search for
-repeated keys and tables, inverting and writing. Two shapes of 1000, 10000, 100000 and 1000000 entries: all in
-one table, and ten in each table. The floor beside each is `cp` of the same file: a process that does nothing
-but copy it. A peak below about 15 MiB is that of this script, from which the program is started.
+repeated keys and tables, inverting and writing. It reads two files and writes their join: half of the entries of
+each have a key that the other has too, in each pair of operations. And it reads a file and prints it, or its SQL,
+into another. Two shapes of 1000, 10000, 100000 and 1000000 entries, which each of the two files of a join has:
+all in one table, and ten in each table. The bytes are those of what is read. The floor beside each is `cp` of the
+same file, or `cat` of the two: a process that does nothing but copy. A peak below about 15 MiB is that of this
+script, from which the program is started. Calls that write are counted by the system, where it has /proc.
 The program has to be built first: `cd crates/changeset && rt run`.
 
 usage: bench/read_write.py [PROGRAM]
@@ -24,61 +27,104 @@ def header(name):
     return b"\x54\x02\x01\x00" + name + b"\x00"
 
 
-def entry(key):
-    """An insert, a delete or an update, in turn."""
+def entry(operation, key):
+    """An insert, a delete or an update."""
     number = b"\x01" + key.to_bytes(8, "big")
     text = b"\x03\x05hello"
     return [
         b"\x12\x00" + number + text,
         b"\x09\x00" + number + text,
         b"\x17\x00" + number + text + b"\x00" + b"\x03\x05world",
-    ][key % 3]
+    ][operation % 3]
 
 
 def one_table(entries):
     yield header(b"t")
     for key in range(entries):
-        yield entry(key)
+        yield entry(key, key)
+
+
+def one_table_more(entries):
+    """A second file, whose first half has the keys of the second half of the first."""
+    yield header(b"t")
+    for key in range(entries // 2, entries // 2 + entries):
+        yield entry(key // 3, key)
 
 
 def tables_of_ten(entries):
     for number in range(entries // 10):
         yield header(b"t%d" % number)
         for key in range(10):
-            yield entry(key)
+            yield entry(key, key)
 
 
-def measure(words):
-    """The shortest of some runs, in seconds, and the largest memory of one, in bytes."""
-    best, peak = None, 0
+def tables_of_ten_more(entries):
+    """A second file with the same tables, of whose ten keys five are those of the first."""
+    for number in range(entries // 10):
+        yield header(b"t%d" % number)
+        for key in range(5, 15):
+            yield entry(number + key // 3, key)
+
+
+def written(child):
+    """How many calls of a process that has ended wrote something, or `-` where that is not known."""
+    try:
+        os.waitid(os.P_PID, child.pid, os.WEXITED | os.WNOWAIT)
+        with open(f"/proc/{child.pid}/io") as counts:
+            return next(line.split()[1] for line in counts if line.startswith("syscw:"))
+    except (AttributeError, OSError, StopIteration):
+        return "-"
+
+
+def measure(words, printed):
+    """The shortest of some runs, in seconds, the largest memory of one, in bytes, and its calls that write."""
+    best, peak, writes = None, 0, "-"
     for _ in range(RUNS):
-        start = time.perf_counter()
-        child = subprocess.Popen(words)
-        _, status, usage = os.wait4(child.pid, 0)
-        taken = time.perf_counter() - start
+        with open(printed, "wb") as output:
+            start = time.perf_counter()
+            child = subprocess.Popen(words, stdout=output)
+            writes = written(child)
+            _, status, usage = os.wait4(child.pid, 0)
+            taken = time.perf_counter() - start
         child.returncode = os.waitstatus_to_exitcode(status)
         if child.returncode != 0:
             sys.exit(f"{words[0]}: exit status {child.returncode}")
         best = taken if best is None else min(best, taken)
         peak = max(peak, usage.ru_maxrss * 1024)
-    return best, peak
+    return best, peak, writes
+
+
+def fill(file, parts):
+    with open(file, "wb") as f:
+        f.writelines(parts)
 
 
 def main():
     top = os.path.dirname(os.path.dirname(os.path.abspath(__file__)))
     program = sys.argv[1] if len(sys.argv) > 1 else os.path.join(top, "crates/changeset/out/changeset")
     with tempfile.TemporaryDirectory() as folder:
-        file, out = os.path.join(folder, "file.cs"), os.path.join(folder, "out.cs")
-        for shape in (one_table, tables_of_ten):
+        file, more, out, printed = (os.path.join(folder, name) for name in ("file.cs", "more.cs", "out.cs", "printed"))
+        for shape, shape_more in ((one_table, one_table_more), (tables_of_ten, tables_of_ten_more)):
             print(shape.__name__.replace("_", " "))
-            print("  entries     bytes   seconds    floor   peak MiB  peak/file")
+            print("  entries  command      bytes   seconds    floor   peak MiB  peak/file   writes")
             for entries in COUNTS:
-                with open(file, "wb") as f:
-                    f.writelines(shape(entries))
-                size = os.path.getsize(file)
-                floor, _ = measure(["cp", file, out])
-                taken, peak = measure([program, file, "invert", out])
-                print(f"{entries:>9} {size:>9} {taken:>9.3f} {floor:>8.3f} {peak / 2**20:>10.1f} {peak / size:>10.1f}")
+                fill(file, shape(entries))
+                fill(more, shape_more(entries))
+                for command, files, arguments in (
+                    ("invert", [file], [out]),
+                    ("concat", [file, more], [more, out]),
+                    ("dump", [file], []),
+                    ("sql", [file], []),
+                ):
+                    size = sum(os.path.getsize(name) for name in files)
+                    copy = ["cp", file, out] if len(files) == 1 else ["cat", *files]
+                    floor, _, _ = measure(copy, printed)
+                    taken, peak, writes = measure([program, file, command, *arguments], printed)
+                    print(
+                        f"{entries:>9}  {command:<7} {size:>10} {taken:>9.3f} {floor:>8.3f} {peak / 2**20:>10.1f} "
+                        f"{peak / size:>10.1f} {writes:>8}",
+                        flush=True,
+                    )
 
 
 if __name__ == "__main__":
