@@ -1,6 +1,6 @@
 -- The definitions on worked examples: the table t of two columns, of which the first is the key.
-use Rattle.std.proofs.Common.{◌≡◌, ◌<◌, pos, Bool, true, false, List, [], ◌∷◌, map, codes, refl, zero, suc, arith}
-use Rattle.std.specs.Prelude.{Option, Some, None, All, take}
+use Rattle.std.proofs.Common.{◌≡◌, pos, Bool, true, false, List, [], ◌∷◌, map, codes, refl, zero, suc, arith}
+use Rattle.std.specs.Prelude.{Option, Some, None}
 use Rattle.std.proofs.lemmas.List.Elements.{All-nil}
 use Rattle.cs_value.specs.declared.value.OwnedValue.{OwnedValue}
 use Rattle.cs_value.specs.declared.value.OwnedValue.TheVariants.{Int, Null}
@@ -8,7 +8,7 @@ use Rattle.cs_value.specs.declared.value.OwnedField.{OwnedField}
 use Rattle.cs_value.specs.declared.value.OwnedField.TheVariants.{Undefined, Defined}
 use Rattle.cs_value.specs.Spelling.{value_bytes, field_bytes}
 use Rattle.cs_wire.specs.declared.entry.Change.{Change}
-use Rattle.cs_wire.specs.declared.entry.Change.TheVariants.{Insert, Delete, Update}
+use Rattle.cs_wire.specs.declared.entry.Change.TheVariants.{Insert, Delete}
 use Rattle.cs_wire.specs.declared.entry.Entry.{Entry}
 use Rattle.cs_wire.specs.Changeset.{HeaderData, GroupData}
 use Rattle.cs_wire.proofs.Examples.{flags, x, y, row, update, idle_update, one_change, one_change_of, group}
@@ -16,7 +16,7 @@ use Rattle.cs_group.specs.declared.merging.Merged.{Merged}
 use Rattle.cs_group.specs.declared.merging.Merged.TheVariants.{Keep, Becomes, Vanish}
 use Rattle.cs_group.specs.Inverse.{IsInverse}
 use Rattle.cs_group.specs.Net.{net_between}
-use Rattle.cs_group.specs.Joining.{over, laid_over, merged, joined, key_places, Agrees, AgreesWith, AreJoinable, FirstClash}
+use Rattle.cs_group.specs.Joining.{laid_over, merged, joined, key_places, AgreesWith, AreJoinable, FirstClash}
 
 -- the row (1, 'y')
 abbrev later : List OwnedValue

@@ -49,7 +49,11 @@ impl Group {
 
     /// A group of entries, of which there is at least one. Each fits the header's flags
     /// ([`Header::admits`]), and no two have one key.
-    pub fn from_entries(alloc: Global, header: Header, entries: Vec<Entry>) -> Result<Group, NoMemory>
+    pub fn from_entries(
+        alloc: Global,
+        header: Header,
+        entries: Vec<Entry>,
+    ) -> Result<Group, NoMemory>
         requires { IsGroup (record { header = header; entries = entries.items }) }
         ensures made { IfOk result (λ g. g ≡ record { header = header; entries = entries.items }) }
         ensures well_formed { IfOk result IsGroup }

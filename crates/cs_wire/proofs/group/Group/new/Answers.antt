@@ -1,5 +1,5 @@
 use Rattle.std.proofs.Common.{rules}
-use Rattle.cs_wire.specs.Changeset.{HeaderData, IsHeader}
+use Rattle.cs_wire.specs.Changeset.{IsHeader}
 use Rattle.cs_wire.proofs.GroupLaws.{IsGroup-one}
 use Rattle.cs_wire.proofs.group.Group.new.Goals as goal
 
