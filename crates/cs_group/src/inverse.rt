@@ -7,8 +7,9 @@ use cs_value::NoMemory;
 use cs_wire::{Changeset, entry_inverses_law};
 use std::alloc::Global;
 
-/// The changeset that undoes this one: inserts and deletes exchanged, in updates the two values of
-/// each modified column, and everything else kept.
+/// The changeset that undoes this one, as SQLite's `sqlite3changeset_invert` has it: inserts and deletes
+/// exchanged, in updates the two values of each modified column, and everything else kept.
+/// [`NoMemory`] where memory is refused.
 pub fn invert(alloc: Global, changeset: Changeset) -> Result<Changeset, NoMemory>
     ensures inverse { IfOk result (IsInverse changeset) }
     ensures well_formed { IfOk result IsChangeset }

@@ -13,7 +13,8 @@ use cs_value::NoMemory;
 use cs_wire::{Changeset, Group};
 use std::alloc::Global;
 
-/// The changeset that does what `first` does and then `second`.
+/// The changeset that does what `first` does and then `second`, as SQLite's `sqlite3changeset_concat`
+/// makes it, but for the order of keys.
 ///
 /// The tables of `first` stand first, in their order, with their headers, and behind them those
 /// that `second` has alone; so do the entries of a table, by their keys. Two entries of one key are

@@ -1,7 +1,8 @@
 //! What two changesets make together: the inverse of a changeset, and the join of two.
 //!
 //! ```rust
-//! // An INSERT of (1, 'x') into the table t, and the update of that 'x' to 'y'.
+//! // An INSERT of ('k', 'x') into the table t, whose first column is its key, and the UPDATE of that
+//! // 'x' to 'y'.
 //! let insert = read(alloc, b"\x54\x02\x01\x00t\x00\x12\x00\x03\x01k\x03\x01x")?;
 //! let update = read(alloc, b"\x54\x02\x01\x00t\x00\x17\x00\x03\x01k\x03\x01x\x00\x03\x01y")?;
 //! let both = concat(alloc, &insert, &update)?;

@@ -54,7 +54,14 @@ fn net_of_both(
     net_change(alloc, flags, before.as_deref(), after.as_deref())
 }
 
-/// Two entries of one key as one, where the second comes after the first.
+/// What becomes of an entry when a second one of its key comes after it, as SQLite's
+/// `sqlite3changegroup_add` has it: the first stays where the second does not follow it, that is where
+/// it finds a row and the first leaves none, or the reverse. Else it becomes the change from what the
+/// row was before the first to what it is after the second, indirect only where both are, or vanishes
+/// where that is none.
+///
+/// Both entries fit the flags ([`cs_wire::Header::admits`]) and have one key
+/// ([`cs_wire::Header::key_of`]). [`NoMemory`] where memory is refused.
 pub fn merge(alloc: Global, flags: &[u8], first: &Entry, second: &Entry) -> Result<Merged, NoMemory>
     requires first { IsEntry flags.now first.now }
     requires second { IsEntry flags.now second.now }

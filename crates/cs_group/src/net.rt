@@ -83,7 +83,8 @@ fn update_between(
 /// absent; what is known of it are its fields, one for each flag.
 ///
 /// A row that comes to be is an insert, one that is no more a delete. Else the columns outside the
-/// key that differ are an update; the key is that of the row before.
+/// key that differ are an update; the key is that of the row before. [`NoMemory`] where memory is
+/// refused.
 pub fn net_change(
     alloc: Global,
     flags: &[u8],

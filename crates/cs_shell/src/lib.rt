@@ -1,5 +1,5 @@
-//! The `changeset` tool as a library: inverting the files of SQLite changesets, by a call, by the
-//! lines of a script and by the words of a command line.
+//! The `changeset` tool as a library: inverting, joining and printing the files of SQLite changesets, by
+//! calls, by the lines of a script and by the words of a command line.
 //!
 //! ```rust
 //! // An INSERT of ('x') into the table t of one column, and the DELETE of that row.
@@ -9,10 +9,10 @@
 //! assert_eq!(rt; output, b"error 62 EmptySlot\n");
 //! ```
 //!
-//! `invert` inverts, and `fault` says why a file is not inverted. `lines` is the
-//! grammar of a script's lines, `slots` what they name, `reply` what they are answered, `print` how
-//! that is printed, and `script` runs them. `told` has the streams, `words` the command line. `texts`
-//! has the readable texts of changesets, and `gather` what is gathered of them before it is written.
+//! `files` makes files of files, and `fault` says why not. `texts` has the readable texts of
+//! changesets, and `gather` what is gathered of them before it is written. `lines` is the grammar of a
+//! script's lines, `slots` what they name, `reply` what they are answered, `print` how that is
+//! printed, and `script` runs them. `told` has the streams, `words` the command line.
 #![tactic(auto)]
 
 mod fault;
