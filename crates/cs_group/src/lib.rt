@@ -12,7 +12,8 @@
 //! `inverse` makes the changeset that undoes another one, and `joining` one changeset of two: `columns`
 //! tells whether that can be, `entries` goes by the keys of a table, and `merging` makes one entry of
 //! two. `net` has the change from one row to another, `image` what entries say of rows before and
-//! after, and `fault` says why two changesets are not joined.
+//! after, and `fault` says why two changesets are not joined. `CALLING.md`, beside this folder, shows a
+//! caller.
 #![tactic(auto)]
 
 mod columns;

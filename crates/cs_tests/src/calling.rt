@@ -1,5 +1,7 @@
-//! A caller of `cs_wire`, as `CALLING.md` of that crate shows it.
+//! Callers of `cs_wire` and of `cs_group`, as `CALLING.md` of these crates shows them.
 
+use crate::{DELETE, INSERT, UPDATE, WIDER_INSERT};
+use cs_group::{ConcatFault, concat, invert};
 use cs_wire::{Changeset, Entry, ReadError, read, write};
 use std::alloc::Global;
 use std::process::Abort;
@@ -40,4 +42,27 @@ fn adds_an_entry(rt: HostRuntime) {
     );
     let same = add_to_each(rt.alloc(), &both, &entry).expect(&rt, "memory");
     assert!(rt; same == both);
+}
+
+/// The file that undoes two others, the one after the other, or None where a table of theirs
+/// differs.
+fn undo_of(alloc: Global, first: &[u8], second: &[u8]) -> Result<Option<Vec<u8>>, ReadError> {
+    let (first, second) = (read(alloc, first)?, read(alloc, second)?);
+    match concat(alloc, &first, &second) {
+        Ok(both) => Ok(Some(write(alloc, &invert(alloc, both)?)?)),
+        Err(ConcatFault::Fault(_)) => Ok(None),
+        Err(ConcatFault::NoMemory) => Err(ReadError::NoMemory),
+    }
+}
+
+#[test]
+fn undoes_two_files(rt: HostRuntime) {
+    for (first, second, undone) in [
+        (DELETE, INSERT, Some(b"".as_slice())),
+        (DELETE, UPDATE, Some(INSERT)),
+        (INSERT, WIDER_INSERT, None),
+    ] {
+        let undo = undo_of(rt.alloc(), first, second).expect(&rt, "memory");
+        assert!(rt; undo.as_deref() == undone);
+    }
 }

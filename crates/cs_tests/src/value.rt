@@ -170,6 +170,12 @@ fn keys_of_rows(rt: HostRuntime) {
     assert!(rt; key.into_bytes().as_slice() == TWO);
 }
 
+#[test]
+fn keys_of_values(rt: HostRuntime) {
+    let key = Key::from_values(rt.alloc(), &[OwnedValue::Int(2)]).expect(&rt, "memory");
+    assert!(rt; key.bytes() == TWO);
+}
+
 /// The key of an image of a column.
 fn key_of(rt: &(impl Abort + AllocGlobal), bytes: &[u8]) -> Key {
     let (image, _) = image_read(rt.alloc(), bytes, 1).expect(rt, "an image");

@@ -1,11 +1,13 @@
 //! Keys: what tells the rows of a table apart.
 ghost use Rattle.std.specs.Prelude.{◌≡◌, length, IfOk};
 ghost use Rattle.cs_value.specs.Key.{row_key, image_key};
+ghost use Rattle.cs_value.specs.Spelling.{row_bytes};
 
 use crate::image::Image;
-use crate::parts::key_parts;
+use crate::parts::{key_parts, parts_write};
 use crate::refusal::NoMemory;
 use crate::row::Row;
+use crate::value::OwnedValue;
 use std::alloc::Global;
 use std::cmp::Ordering;
 use std::marker::Model;
@@ -45,6 +47,15 @@ impl Key {
         Ok(Key {
             bytes: key_parts(alloc, flags, image.fields())?,
         })
+    }
+
+    /// The key of these values, in column order. A table's key has one at least, and none that is NULL.
+    pub fn from_values(alloc: Global, values: &[OwnedValue]) -> Result<Key, NoMemory>
+        ensures { IfOk result (λ key. key ≡ row_bytes values.now) }
+    {
+        let mut bytes = Vec::new(alloc);
+        parts_write(&mut bytes, values)?;
+        Ok(Key { bytes })
     }
 
     /// The bytes of the key's values.
