@@ -11,7 +11,7 @@ use Rattle.cs_wire.specs.declared.entry.Change.{Change}
 use Rattle.cs_wire.specs.declared.entry.Change.TheVariants.{Insert, Delete, Update}
 use Rattle.cs_wire.specs.Changeset.{ImageData}
 
--- whether two fields are equal, as two images are that have equal fields
+-- whether two fields are equal: both are undefined, or their values have one type and content
 abbrev pub is_same : OwnedField → OwnedField → Bool
 is_same = (field_eq.ghosts).eq
 

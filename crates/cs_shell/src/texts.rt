@@ -17,8 +17,8 @@ use std::io::Write;
 
 /// Writes what the changeset holds, for a reader: for each table a line with its name, its count of
 /// columns and their flags, and behind it for each of its entries a line with the change, the
-/// indirect flag, and the fields of its records. It takes no memory, and a write for some thousands
-/// of bytes.
+/// indirect flag, and the fields of its records. A line feed in a text or a name stands as it is. It
+/// takes no memory, and a write for some thousands of bytes.
 ///
 /// # Errors
 ///
