@@ -1,0 +1,46 @@
+-- What stores refuse with: this project's own numbers and names, and the result codes of SQLite.
+use Rattle.std.specs.Prelude.{◌≡◌, ◌⊎◌, ℕ, List, codes}
+use Rattle.sqlite.specs.declared.error.Error.{Error}
+use Rattle.sqlite.specs.declared.error.Error.TheVariants.{SqliteFailure}
+use Rattle.sqlite.specs.declared.error.ErrorCode.TheVariants.{OutOfMemory}
+use Rattle.cs_store.specs.declared.fault.StoreError.{StoreError}
+use Rattle.cs_store.specs.declared.fault.StoreError.TheVariants.{TableExists, NoTable, BadSchema, KeyTaken, NoRow, RowWidth, NullInKey, DamagedStore, StoreFault, NoMemory}
+
+abbrev pub code_of : StoreError → ℕ
+code_of TableExists = 30
+code_of NoTable = 31
+code_of BadSchema = 32
+code_of KeyTaken = 33
+code_of NoRow = 34
+code_of RowWidth = 35
+code_of NullInKey = 36
+code_of DamagedStore = 37
+code_of StoreFault = 38
+code_of NoMemory = 60
+
+-- SQLite's SQLITE_CORRUPT, SQLITE_NOMEM and SQLITE_ERROR
+abbrev pub class_of : StoreError → ℕ
+class_of DamagedStore = 11
+class_of NoMemory = 7
+class_of _ = 1
+
+abbrev pub name_of : StoreError → List ℕ
+name_of TableExists = codes "TableExists"
+name_of NoTable = codes "NoTable"
+name_of BadSchema = codes "BadSchema"
+name_of KeyTaken = codes "KeyTaken"
+name_of NoRow = codes "NoRow"
+name_of RowWidth = codes "RowWidth"
+name_of NullInKey = codes "NullInKey"
+name_of DamagedStore = codes "DamagedStore"
+name_of StoreFault = codes "StoreFault"
+name_of NoMemory = codes "NoMemory"
+
+-- the refusal for an error of the database
+abbrev pub refusal_of : Error → StoreError
+refusal_of (SqliteFailure OutOfMemory) = NoMemory
+refusal_of _ = StoreFault
+
+-- memory was refused, or the database refused
+abbrev pub IsResource : StoreError → Type 0
+IsResource e = (e ≡ NoMemory) ⊎ (e ≡ StoreFault)

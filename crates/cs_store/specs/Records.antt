@@ -1,0 +1,132 @@
+-- Records in one SQL table: a record has the name of a table, a key and a value, and no two records have both the name
+-- and the key.
+use Rattle.std.specs.Prelude.{◌⊎◌, ◌≡◌, ℕ, ℤ, Bool, true, false, ◌&&◌, if◌then◌else◌, List, [], ◌∷◌, codes, Option, Some, None, option_map, IsTrue, nat_eq, AllPairs, ◌≢◌}
+use Rattle.std.specs.List.{AllByRecursion, find}
+use Rattle.std.specs.Cmp.Lexicographic.{pointwise, slice_cmp}
+use Rattle.std.specs.Ordering.{nat_cmp, ordering_then}
+use Rattle.std.specs.declared.cmp.Ordering.{Ordering}
+use Rattle.std.specs.declared.cmp.Ordering.TheVariants.{Less}
+use Rattle.std.specs.FinMap.{is_sorted, find as find_entry}
+use Rattle.sqlite.specs.State.{State, Shows, IsUnchanged, IsRolledBack, Survives}
+use Rattle.sqlite_value.specs.declared.value.Value.{Value}
+use Rattle.sqlite_value.specs.declared.value.Value.TheVariants.{Null, Int, Real, Text, Blob}
+use Rattle.sqlite_value.specs.declared.keys.Collation.TheVariants.{Binary}
+use Rattle.sqlite_value.specs.Order.{Row, column}
+use Rattle.sqlite_value.specs.Keys.{plain}
+use Rattle.sqlite_trees.specs.Tree.{rowid}
+use Rattle.sqlite_schema.specs.declared.schema.Kind.{Kind}
+use Rattle.sqlite_schema.specs.declared.schema.Kind.TheVariants as kind
+use Rattle.sqlite_schema.specs.declared.schema.Column.{Column}
+use Rattle.sqlite_schema.specs.declared.schema.Table.{Table}
+use Rattle.sqlite_schema.specs.declared.schema.Index.{Index}
+use Rattle.sqlite_schema.specs.declared.schema.Schema.{Schema}
+use Rattle.sqlite_catalog.specs.Listing.{automatic}
+use Rattle.sqlite.specs.Effect.{Database, IsDatabase}
+
+-- ---- the table
+
+abbrev pub required : List ℕ → Kind → Column
+required name k = record { name = name; kind = k; is_strict = true; not_null = true; default = Null; collation = Binary }
+
+-- CREATE TABLE rec(tab TEXT NOT NULL, keyb BLOB NOT NULL, rowb BLOB NOT NULL, PRIMARY KEY(tab, keyb)) STRICT
+abbrev pub record_table : Table
+record_table = record {
+  name = codes "rec";
+  tree = 0;
+  columns = required (codes "tab") kind.Text ∷ required (codes "keyb") kind.Blob ∷ required (codes "rowb") kind.Blob ∷ [];
+  key = None;
+  primary = 1 ∷ 2 ∷ [];
+  uniques = (1 ∷ 2 ∷ []) ∷ [];
+  orders = plain ∷ [];
+  checks = [];
+  references = [];
+  computed = [];
+  stamps = record { places = []; terms = []; formats = [] };
+  is_counted = false;
+}
+
+-- what a database with that table, and no other, declares
+abbrev pub record_schema : Schema
+record_schema = record { tables = record_table ∷ []; indexes = automatic record_table 0 (1 ∷ 2 ∷ []) 1 ∷ []; views = [] }
+
+-- ---- what stands in it
+
+-- the bytes of a text or a blob
+abbrev pub content : Value → List ℕ
+content (Text t) = t
+content (Blob b) = b
+content Null = []
+content (Int n) = []
+content (Real x) = []
+
+-- what stands under each name and key
+abbrev pub Records : Type 0
+Records = List ℕ → List ℕ → Option (List ℕ)
+
+abbrev pub same_bytes : List ℕ → List ℕ → Bool
+same_bytes = pointwise nat_eq
+
+-- the row is that of the record with this name and key
+abbrev pub is_under : List ℕ → List ℕ → Row → Bool
+is_under tab key row = same_bytes (content (column row 1)) tab && same_bytes (content (column row 2)) key
+
+-- the records that rows of the table hold
+unfoldable pub records_of : List Row → Records
+records_of rows tab key = option_map (λ row. content (column row 3)) (find (is_under tab key) rows)
+
+-- the records, but what is here stands under that name and key
+abbrev pub changed : Records → List ℕ → List ℕ → Option (List ℕ) → Records
+changed records tab key here t k = if same_bytes t tab && same_bytes k key then here else records t k
+
+-- each row has a number, and no two the same
+pub record AreNumbered (rows : List Row) : Type 0 where
+  pub each : AllByRecursion (λ row. (n : ℤ) × (rowid row ≡ Int n)) rows
+  pub once : AllPairs (λ a b. rowid a ≢ rowid b) rows
+
+-- the database has the table of records and no other
+pub record HoldsRecords (db : Database) : Type 0 where
+  pub schema : db.schema ≡ record_schema
+  pub sound : IsDatabase db
+  pub numbered : AreNumbered (db.trees 0)
+
+abbrev pub records_in : Database → Records
+records_in db = records_of (db.trees 0)
+
+-- a record, as it is listed
+pub record RecordData : Type 0 where
+  pub tab : List ℕ
+  pub key : List ℕ
+  pub value : List ℕ
+
+-- what comes first: by the name, and then by the key
+abbrev pub record_cmp : RecordData → RecordData → Ordering
+record_cmp a b = ordering_then (slice_cmp nat_cmp a.tab b.tab) (slice_cmp nat_cmp a.key b.key)
+
+-- all records, each once and in their order
+pub record ListsAll (records : Records) (listed : List RecordData) : Type 0 where
+  pub rising : AllPairs (λ a b. record_cmp a b ≡ Less) listed
+  pub each : (tab key : List ℕ) → option_map (λ r. r.value) (find (λ r. same_bytes r.tab tab && same_bytes r.key key) listed) ≡ records tab key
+
+-- the keys and values under a name, each once and by key
+pub record ListsTable (records : Records) (tab : List ℕ) (listed : List (List ℕ × List ℕ)) : Type 0 where
+  pub rising : IsTrue (is_sorted (slice_cmp nat_cmp) listed)
+  pub each : (key : List ℕ) → find_entry (slice_cmp nat_cmp) key listed ≡ records tab key
+
+-- ---- what statements do
+
+-- the records are as before but for this one
+pub record Sets (old new : Database) (tab key : List ℕ) (here : Option (List ℕ)) : Type 0 where
+  pub holds : HoldsRecords new
+  pub change : (t k : List ℕ) → records_in new t k ≡ changed (records_in old) tab key here t k
+
+-- the statement changed nothing, or its failure took the database back to the last commit
+abbrev pub Rests : State → State → Type 0
+Rests old new = IsUnchanged old new ⊎ IsRolledBack old new
+
+-- the transaction goes on, and what was committed stands
+abbrev pub GoesOn : State → State → Type 0
+GoesOn old new = Shows old new new.now old.committed true
+
+-- a crash leaves nothing that it could not leave before
+abbrev pub KeepsCrash : State → State → Type 0
+KeepsCrash old new = Survives old new (λ _. ⊥)

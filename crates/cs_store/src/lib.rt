@@ -1,0 +1,7 @@
+//! User tables as keyed records in one SQL table.
+#![tactic(auto)]
+
+mod fault;
+mod records;
+
+pub use fault::StoreError;
