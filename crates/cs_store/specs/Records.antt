@@ -49,6 +49,10 @@ record_table = record {
 abbrev pub record_schema : Schema
 record_schema = record { tables = record_table ∷ []; indexes = automatic record_table 0 (1 ∷ 2 ∷ []) 1 ∷ []; views = [] }
 
+-- a database that declares nothing
+abbrev pub empty_schema : Schema
+empty_schema = record { tables = []; indexes = []; views = [] }
+
 -- ---- what stands in it
 
 -- the bytes of a text or a blob
@@ -126,6 +130,13 @@ Rests old new = IsUnchanged old new ⊎ IsRolledBack old new
 -- the transaction goes on, and what was committed stands
 abbrev pub GoesOn : State → State → Type 0
 GoesOn old new = Shows old new new.now old.committed true
+
+-- the database is as the last commit left it, which stands, and no transaction is open
+pub record IsUndone (old new : State) : Type 0 where
+  pub autocommit : new.in_transaction ≡ false
+  pub was_open : IsTrue new.is_open → IsTrue old.is_open
+  pub now : IsTrue new.is_open → new.now ≡ old.committed
+  pub committed : IsTrue new.is_open → new.committed ≡ old.committed
 
 -- a crash leaves nothing that it could not leave before
 abbrev pub KeepsCrash : State → State → Type 0

@@ -3,5 +3,6 @@
 
 mod fault;
 mod records;
+mod transactions;
 
 pub use fault::StoreError;

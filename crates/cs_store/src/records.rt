@@ -4,7 +4,7 @@ ghost use Rattle.std.specs.Prelude.{◌≡◌, Some, None, option_map, IsTrue, I
 ghost use Rattle.sqlite.specs.State.{HasCleanDisk, IsUnchanged, Survives};
 ghost use Rattle.sqlite.specs.Held.{state};
 ghost use Rattle.cs_store.specs.Faults.{IsResource};
-ghost use Rattle.cs_store.specs.Records.{HoldsRecords, Sets, ListsAll, ListsTable, records_in, Rests, GoesOn, KeepsCrash};
+ghost use Rattle.cs_store.specs.Records.{HoldsRecords, Sets, ListsAll, ListsTable, empty_schema, records_in, Rests, GoesOn, KeepsCrash};
 
 use crate::fault::StoreError;
 use sqlite::{Alter, Connection, Row, params};
@@ -143,4 +143,22 @@ pub(crate) fn list_records<S: Alter>(
         listed.push(read_keyed(row)?)?;
     }
     Ok(listed)
+}
+
+/// Makes the table of records, inside a transaction, in a database that declares nothing.
+pub(crate) fn make_table<S: Alter>(conn: &mut Connection<S>) -> Result<(), StoreError>
+    ensures made { HasCleanDisk (state S.Store conn.new) → (state S.Store conn.old).now.schema ≡ empty_schema
+        → OnOk result (HoldsRecords (state S.Store conn.new).now × ((state S.Store conn.new).now.trees 0 ≡ [])) }
+    ensures goes_on { HasCleanDisk (state S.Store conn.new) → (state S.Store conn.old).now.schema ≡ empty_schema → IsTrue (state S.Store conn.old).in_transaction
+        → OnOk result (GoesOn (state S.Store conn.old) (state S.Store conn.new)) }
+    ensures refused { IfErr result IsResource }
+    ensures rests { HasCleanDisk (state S.Store conn.new) → OnErr result (Rests (state S.Store conn.old) (state S.Store conn.new)) }
+    ensures survives { (HasCleanDisk (state S.Store conn.old) → (state S.Store conn.old).now.schema ≡ empty_schema) → IsTrue (state S.Store conn.old).in_transaction
+        → KeepsCrash (state S.Store conn.old) (state S.Store conn.new) }
+{
+    conn.execute(
+        "CREATE TABLE IF NOT EXISTS rec(tab TEXT NOT NULL, keyb BLOB NOT NULL, rowb BLOB NOT NULL, PRIMARY KEY(tab, keyb)) STRICT",
+        &[],
+    )?;
+    Ok(())
 }
