@@ -44,3 +44,7 @@ refusal_of _ = StoreFault
 -- memory was refused, or the database refused
 abbrev pub IsResource : StoreError → Type 0
 IsResource e = (e ≡ NoMemory) ⊎ (e ≡ StoreFault)
+
+-- what a read may refuse with, whatever the disk returns
+abbrev pub IsReadRefusal : StoreError → Type 0
+IsReadRefusal e = (e ≡ DamagedStore) ⊎ IsResource e

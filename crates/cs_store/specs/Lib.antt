@@ -1,3 +1,8 @@
 pub mod Faults
 pub mod Records
+pub mod Rows
+pub mod Editing
 pub use Rattle.cs_value.specs.Value
+pub use Rattle.cs_value.specs.Key
+pub use Rattle.cs_value.specs.Table
+pub use Rattle.cs_value.specs.State

@@ -1,8 +1,14 @@
 //! User tables as keyed records in one SQL table.
 #![tactic(auto)]
 
+mod edit;
 mod fault;
-mod records;
-mod transactions;
+mod memory;
+mod rows;
+mod schema;
 
+pub use edit::{Edit, Written};
 pub use fault::StoreError;
+pub use memory::MemRows;
+pub use rows::Rows;
+pub use schema::Schema;

@@ -16,3 +16,4 @@ pub mod Spellings
 pub mod KeyColumns
 pub mod ImageReading
 pub mod RefusalLaws
+pub mod StateLaws

@@ -3,6 +3,7 @@ pub mod Varint
 pub mod Spelling
 pub mod Key
 pub mod Maps
+pub mod State
 pub mod Table
 pub mod FieldFaults
 pub mod ImageFaults

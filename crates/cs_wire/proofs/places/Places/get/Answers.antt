@@ -1,4 +1,4 @@
-use Rattle.std.proofs.Common.{◌≡◌, ◌∙◌, ℕ, Option, Some, None}
+use Rattle.std.proofs.Common.{Vec, Global, ◌≡◌, ◌∙◌, ℕ, Option, Some, None}
 use Rattle.std.specs.Option.{option_map, option_copied}
 use Rattle.cs_value.proofs.ByteMaps.{got_seen}
 use Rattle.cs_wire.proofs.places.Places.get.Goals as goal
@@ -9,4 +9,4 @@ seen {found = None} e = e
 seen {found = Some place} e = e
 
 pub returns : goal.returns
-returns c = c.copied.ensures ∙ seen (got_seen (λ v. v) (option_copied c.get.result) c.self.inside.places.entries c.args.text.now c.args.self.now c.get.ensures.value c.self.view_is)
+returns c = c.copied.ensures ∙ seen (got_seen (λ k. k.items) (λ v. v) (option_copied c.get.result) c.self.inside.places.entries c.args.text.now c.args.self.now c.get.ensures.value c.self.view_is)

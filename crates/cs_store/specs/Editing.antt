@@ -1,0 +1,113 @@
+-- What declaring a table and editing a row make of a state, or the first reason why they are refused.
+use Rattle.std.specs.Prelude.{◌≡◌, ℕ, zero, suc, Bool, true, false, ◌&&◌, not, ◌==◌, if◌then◌else◌, List, [], ◌∷◌, length, map, Option, Some, None, is_some, Result, Ok, Err, IsSome, string_bytes}
+use Rattle.std.specs.declared.string.String.{String}
+use Rattle.std.specs.declared.alloc.Global.{Global}
+use Rattle.std.specs.FinMap as map
+use Rattle.cs_value.specs.declared.value.OwnedValue.{OwnedValue}
+use Rattle.cs_value.specs.declared.value.OwnedValue.TheVariants.{Null}
+use Rattle.cs_value.specs.Table.{IsName}
+use Rattle.cs_value.specs.Key.{row_key}
+use Rattle.cs_value.specs.State.{SchemaData, IsSchema, TableData, State, row_at, with_table, with_row, without_row}
+use Rattle.cs_store.specs.declared.fault.StoreError.{StoreError}
+use Rattle.cs_store.specs.declared.fault.StoreError.TheVariants.{TableExists, NoTable, BadSchema, KeyTaken, NoRow, RowWidth, NullInKey}
+use Rattle.cs_store.specs.declared.edit.Edit.{Edit}
+use Rattle.cs_store.specs.declared.edit.Edit.TheVariants.{Insert, Update, Delete}
+use Rattle.cs_store.specs.declared.edit.Written.{Written}
+use Rattle.cs_store.specs.Records.{same_bytes}
+
+-- ---- declaring
+
+-- the names and the marks of the key columns, as a schema has them
+abbrev pub schema_of : List (String Global) → List Bool → SchemaData
+schema_of columns keys = record { columns = map string_bytes columns; flags = map (λ k. if k then 1 else 0) keys }
+
+abbrev pub IsDeclarable : List ℕ → SchemaData → Type 0
+IsDeclarable name schema = IsName name × IsSchema schema
+
+-- the state with the new table, or why there is none
+abbrev pub Declares : State → List ℕ → SchemaData → Result State StoreError → Type 0
+Declares state name schema (Ok next) = IsDeclarable name schema × (map.get state name ≡ None) × (next ≡ with_table state name schema)
+Declares state name schema (Err BadSchema) = ¬ (IsDeclarable name schema)
+Declares state name schema (Err TableExists) = IsDeclarable name schema × IsSome (map.get state name)
+Declares state name schema (Err _) = ⊥
+
+-- ---- editing
+
+-- a key that was written, and the row that stood under it
+pub record WrittenData : Type 0 where
+  pub table : List ℕ
+  pub key : List ℕ
+  pub former : Option (List OwnedValue)
+
+abbrev pub written_of : Written → WrittenData
+written_of w = record { table = string_bytes w.table; key = w.key; former = w.former }
+
+pub record Edited : Type 0 where
+  pub state : State
+  pub written : List WrittenData
+
+-- a key column of the row is NULL
+abbrev pub has_null_key : List ℕ → List OwnedValue → Bool
+has_null_key (suc flag ∷ flags) (Null ∷ row) = true
+has_null_key (flag ∷ flags) (value ∷ row) = has_null_key flags row
+has_null_key _ _ = false
+
+-- why the row may not stand in the table
+abbrev pub row_fault : List ℕ → List OwnedValue → Option StoreError
+row_fault flags row =
+    if not (length row == length flags) then Some RowWidth
+    else if has_null_key flags row then Some NullInKey
+    else None
+
+-- ? of the code: the first refusal, or what comes next
+abbrev pub unless : {X : Type 0} → Option StoreError → Result X StoreError → Result X StoreError
+unless None next = next
+unless (Some refusal) next = Err refusal
+
+-- a row stands under the key
+abbrev pub has_row : State → List ℕ → List ℕ → Bool
+has_row state name key = is_some (row_at state name key)
+
+abbrev pub when : Bool → StoreError → Option StoreError
+when true refusal = Some refusal
+when false refusal = None
+
+abbrev pub written : State → List ℕ → List ℕ → WrittenData
+written state name key = record { table = name; key = key; former = row_at state name key }
+
+abbrev pub inserted : State → List ℕ → TableData → List OwnedValue → Result Edited StoreError
+inserted state name table row =
+    let key = row_key table.schema.flags row in
+    unless (row_fault table.schema.flags row) (unless (when (has_row state name key) KeyTaken)
+        (Ok (record { state = with_row state name key row; written = written state name key ∷ [] })))
+
+-- a row that gets another key is removed, and put under that key
+abbrev pub moved : State → List ℕ → List ℕ → List ℕ → List OwnedValue → Result Edited StoreError
+moved state name key next row =
+    unless (when (has_row state name next) KeyTaken)
+        (Ok (record { state = with_row (without_row state name key) name next row; written = written state name key ∷ written state name next ∷ [] }))
+
+abbrev pub updated : State → List ℕ → TableData → List ℕ → List OwnedValue → Result Edited StoreError
+updated state name table key row =
+    let next = row_key table.schema.flags row in
+    unless (row_fault table.schema.flags row) (unless (when (not (has_row state name key)) NoRow)
+        (if same_bytes key next then Ok (record { state = with_row state name key row; written = written state name key ∷ [] })
+        else moved state name key next row))
+
+abbrev pub deleted : State → List ℕ → List ℕ → Result Edited StoreError
+deleted state name key =
+    unless (when (not (has_row state name key)) NoRow)
+        (Ok (record { state = without_row state name key; written = written state name key ∷ [] }))
+
+abbrev pub found_table : Option TableData → (TableData → Result Edited StoreError) → Result Edited StoreError
+found_table None next = Err NoTable
+found_table (Some table) next = next table
+
+abbrev pub in_table : State → List ℕ → (TableData → Result Edited StoreError) → Result Edited StoreError
+in_table state name next = found_table (map.get state name) next
+
+-- the state after the edit, with what was written in turn, or the first refusal
+abbrev pub edited : State → Edit → Result Edited StoreError
+edited state (Insert name row) = in_table state (string_bytes name) (λ table. inserted state (string_bytes name) table row)
+edited state (Update name key row) = in_table state (string_bytes name) (λ table. updated state (string_bytes name) table key row)
+edited state (Delete name key) = in_table state (string_bytes name) (λ table. deleted state (string_bytes name) key)

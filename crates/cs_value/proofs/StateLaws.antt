@@ -1,0 +1,49 @@
+-- Tables stay tables, and states stay states.
+use Rattle.std.proofs.Common.{◌≡◌, ℕ, List, Option, Some, None, Bool, true, false, cond, refl, sym, ap, ◌∙◌, subst}
+use Rattle.std.specs.Ordering.{nat_cmp, is_eq}
+use Rattle.std.specs.Cmp.Lexicographic.{slice_cmp, nat_list_cmp_total}
+use Rattle.std.specs.FinMap.{get, insert, remove, empty, get-insert, get-remove, get-empty}
+use Rattle.cs_value.specs.declared.value.OwnedValue.{OwnedValue}
+use Rattle.cs_value.specs.Table.{IsName}
+use Rattle.cs_value.specs.Maps.{ByBytes}
+use Rattle.cs_value.specs.State.{SchemaData, IsSchema, RowMap, TableData, IsRowAt, IsTable, State, IsNamedTable, IsState}
+use Rattle.cs_value.proofs.ByteMaps.{tied_bytes}
+
+-- what holds at every key of a map holds once an entry is put that meets it
+pub each_insert : {X : Type 0} (P : List ℕ → X → Type 0) (m : ByBytes X) (k : List ℕ) (v : X) → ((q : List ℕ) (x : X) → get m q ≡ Some x → P q x) → P k v
+    → (q : List ℕ) (x : X) → get (insert m k v) q ≡ Some x → P q x
+each_insert {X} P m k v each here q x found = at (is_eq (slice_cmp nat_cmp q k)) refl (sym (get-insert nat_list_cmp_total m k v q) ∙ found)
+  where
+    at : (b : Bool) → is_eq (slice_cmp nat_cmp q k) ≡ b → cond b (Some v) (get m q) ≡ Some x → P q x
+    at true is same = let one : v ≡ x = cc in rw (tied_bytes q k is, ← one) here
+    at false is same = each q x same
+
+-- and once an entry is taken away
+pub each_remove : {X : Type 0} (P : List ℕ → X → Type 0) (m : ByBytes X) (k : List ℕ) → ((q : List ℕ) (x : X) → get m q ≡ Some x → P q x)
+    → (q : List ℕ) (x : X) → get (remove m k) q ≡ Some x → P q x
+each_remove {X} P m k each q x found = at (is_eq (slice_cmp nat_cmp q k)) (sym (get-remove nat_list_cmp_total m k q) ∙ found)
+  where
+    at : (b : Bool) → cond b None (get m q) ≡ Some x → P q x
+    at true same = absurd (cc)
+    at false same = each q x same
+
+-- a table without rows is one
+pub empty_table : (schema : SchemaData) → IsSchema schema → IsTable (record { schema = schema; rows = empty })
+empty_table schema is = record { schema = is; rows = λ key row found. absurd (let none = sym (get-empty (slice_cmp nat_cmp) key) ∙ found in cc) }
+
+-- a row that fits is put
+pub table_insert : (table : TableData) (key : List ℕ) (row : List OwnedValue) → IsTable table → IsRowAt table.schema.flags key row
+    → IsTable (record table { rows = insert table.rows key row })
+table_insert table key row is fit = record { schema = is.schema; rows = each_insert (IsRowAt table.schema.flags) table.rows key row is.rows fit }
+
+-- a row is taken away
+pub table_remove : (table : TableData) (key : List ℕ) → IsTable table → IsTable (record table { rows = remove table.rows key })
+table_remove table key is = record { schema = is.schema; rows = each_remove (IsRowAt table.schema.flags) table.rows key is.rows }
+
+-- there are no tables
+pub empty_state : IsState empty
+empty_state name table found = absurd (let none = sym (get-empty (slice_cmp nat_cmp) name) ∙ found in cc)
+
+-- a table is put
+pub state_insert : (state : State) (name : List ℕ) (table : TableData) → IsState state → IsName name → IsTable table → IsState (insert state name table)
+state_insert state name table is named fit = each_insert IsNamedTable state name table is (record { named = named; is_table = fit })
