@@ -15,7 +15,8 @@ use Rattle.cs_wire.specs.declared.entry.Change.TheVariants.{Insert, Delete, Upda
 use Rattle.cs_wire.specs.declared.entry.Entry.{Entry}
 use Rattle.cs_wire.specs.Entry.{IsPaired, IsKeyPair, IsKeyedUpdate, IsChange, IsEntry, with_key, key_of}
 use Rattle.cs_group.specs.Net.{is_same, old_record, new_record, values_of, net_between, net_change}
-use Rattle.cs_wire.proofs.EntryLaws.{length-IsKeyedRow, length-IsKeyedUpdate}
+use Rattle.cs_value.proofs.KeyedRows.{length-IsKeyedRow}
+use Rattle.cs_wire.proofs.EntryLaws.{length-IsKeyedUpdate}
 use Rattle.cs_group.specs.declared.merging.Merged.{Merged}
 use Rattle.cs_group.specs.declared.merging.Merged.TheVariants.{Keep}
 use Rattle.cs_group.specs.Joining.{over, laid_over, joint_image, follows, becomes, merged, IfBecomes, FitsKey}

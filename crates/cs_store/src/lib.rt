@@ -2,6 +2,7 @@
 #![tactic(auto)]
 
 mod edit;
+mod editing;
 mod fault;
 mod memory;
 mod rows;

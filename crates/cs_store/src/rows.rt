@@ -28,14 +28,13 @@ pub trait Rows {
 
     ghost keeps_then: { (a b c : Self) → keeps a b → keeps b c → keeps a c };
 
-    ghost was_honest: { (a b : Self) → keeps a b → is_honest b → is_honest a };
-
     /// The schema of a table, and none where no table has the name.
     fn schema(&mut self, alloc: Global, table: &str) -> Result<Option<Schema>, StoreError>
         ensures found { is_honest self.new → IfOk result (λ o. o ≡ schema_at (state self.old) table.now) }
         ensures same { is_honest self.new → OnOk result (state self.new ≡ state self.old) }
         ensures refused { is_honest self.new → IfErr result IsResource }
         ensures named { IfErr result IsReadRefusal }
+        ensures was_honest { is_honest self.new → is_honest self.old }
         ensures kept { keeps self.old self.new };
 
     /// The row of a declared table under a key, and none where no row has the key.
@@ -46,6 +45,7 @@ pub trait Rows {
         ensures same { is_honest self.new → OnOk result (state self.new ≡ state self.old) }
         ensures refused { is_honest self.new → IfErr result IsResource }
         ensures named { IfErr result IsReadRefusal }
+        ensures was_honest { is_honest self.new → is_honest self.old }
         ensures kept { keeps self.old self.new };
 
     /// Puts the row at its key in a declared table that it fits, in place of the one that stood there.
@@ -53,6 +53,7 @@ pub trait Rows {
         requires { is_honest self.old → Fits (state self.old) table.now key.now row.now }
         ensures set { is_honest self.new → OnOk result (state self.new ≡ with_row (state self.old) table.now key.now row.now) }
         ensures named { IfErr result IsResource }
+        ensures was_honest { is_honest self.new → is_honest self.old }
         ensures kept { keeps self.old self.new };
 
     /// Removes the row under a key of a declared table, if there is one.
@@ -60,6 +61,7 @@ pub trait Rows {
         requires { is_honest self.old → IsDeclared (state self.old) table.now }
         ensures removed { is_honest self.new → OnOk result (state self.new ≡ without_row (state self.old) table.now key.now) }
         ensures named { IfErr result IsResource }
+        ensures was_honest { is_honest self.new → is_honest self.old }
         ensures kept { keeps self.old self.new };
 
     /// All rows of a declared table by the bytes of their keys, the smallest first.
@@ -69,5 +71,6 @@ pub trait Rows {
         ensures same { is_honest self.new → OnOk result (state self.new ≡ state self.old) }
         ensures refused { is_honest self.new → IfErr result IsResource }
         ensures named { IfErr result IsReadRefusal }
+        ensures was_honest { is_honest self.new → is_honest self.old }
         ensures kept { keeps self.old self.new };
 }

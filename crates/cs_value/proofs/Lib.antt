@@ -17,3 +17,4 @@ pub mod KeyColumns
 pub mod ImageReading
 pub mod RefusalLaws
 pub mod StateLaws
+pub mod KeyedRows

@@ -1,5 +1,6 @@
 //! Rows: records without an undefined field.
-ghost use Rattle.std.specs.Prelude.{◌≡◌, ◌++◌, IfOk, OnOk, OnErr};
+ghost use Rattle.std.specs.Prelude.{◌≡◌, ◌↔◌, [], ◌∷◌, ◌++◌, IsTrue, IfOk, OnOk, OnErr};
+ghost use Rattle.cs_value.specs.Table.{IsKeyedRow};
 ghost use Rattle.cs_value.specs.Value.{IsRow};
 ghost use Rattle.cs_value.specs.Spelling.{row_bytes};
 
@@ -51,6 +52,24 @@ impl Row {
         Ok(Row::new(parts_copy(alloc, self.values())?))
     }
 
+    /// Whether the row has a value for each of these flags, and none that is NULL where the flag is
+    /// other than 0, as a row of a table has. It takes no memory.
+    pub fn is_keyed(&self, flags: &[u8]) -> bool
+        ensures keyed { IsTrue result ↔ IsKeyedRow flags.now self.now }
+        ensures are_values { IsRow self.now }
+    {
+        let values = self.values();
+        if flags.len() != values.len() {
+            return false;
+        }
+        for (column, flag) in flags.iter().enumerate() {
+            if !may_stand(*flag, &values[column]) {
+                return false;
+            }
+        }
+        true
+    }
+
     /// Gives the values back, and takes no memory.
     pub fn into_values(self) -> Vec<OwnedValue>
         ensures { result.items ≡ self }
@@ -78,6 +97,13 @@ impl Eq for Row {
     ghost use Rattle.std.specs.Cmp.Lexicographic.{lists_equiv};
 
     ghost laws = { lists_equiv laws-law };
+}
+
+/// Whether the row of this column alone is keyed.
+fn may_stand(flag: u8, value: &OwnedValue) -> bool
+    ensures { IsTrue result ↔ IsKeyedRow (flag ∷ []) (value.now ∷ []) }
+{
+    flag == 0 || !matches!(value, OwnedValue::Null)
 }
 
 /// Appends the bytes of the row's values in turn. [`NoMemory`] leaves `out` as it was.

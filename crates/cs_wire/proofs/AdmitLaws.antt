@@ -1,48 +1,9 @@
--- Rows and updates that fit the flags of their table, by their columns.
+-- Updates that fit the flags of their table, by their columns.
 use Rattle.std.proofs.Common.{◌≡◌, ℕ, zero, suc, ◌<◌, List, [], ◌∷◌, length, get_or, arith}
-use Rattle.cs_value.specs.declared.value.OwnedValue.{OwnedValue}
-use Rattle.cs_value.specs.declared.value.OwnedValue.TheVariants.{Null}
 use Rattle.cs_value.specs.declared.value.OwnedField.{OwnedField}
 use Rattle.cs_value.specs.declared.value.OwnedField.TheVariants.{Undefined}
-use Rattle.cs_value.specs.Value.{IsValue, IsField, IsRow, IsRecord}
-use Rattle.cs_value.specs.Table.{IsKeyedRow}
+use Rattle.cs_value.specs.Value.{IsField, IsRecord}
 use Rattle.cs_wire.specs.Entry.{IsKeyedUpdate}
-
--- ---- rows
-
--- the row of this column alone fits its flag
-pub record IsRowColumn (flags : List ℕ) (row : List OwnedValue) (column : ℕ) : Type 0 where
-  pub is_value : IsValue (get_or row column Null)
-  pub keyed : IsKeyedRow (get_or flags column 0 ∷ []) (get_or row column Null ∷ [])
-
-row_cons : (flag : ℕ) (value : OwnedValue) (flags : List ℕ) (row : List OwnedValue) → IsKeyedRow (flag ∷ []) (value ∷ []) → IsKeyedRow flags row → IsKeyedRow (flag ∷ flags) (value ∷ row)
-row_cons zero value flags row one others = others
-row_cons (suc flag) value flags row one others = (one.0, others)
-
--- a row whose columns fit their flags fits the flags
-pub row_of_columns : (flags : List ℕ) (row : List OwnedValue) → length flags ≡ length row → ((k : ℕ) → k < length flags → IsRowColumn flags row k) → IsRow row × IsKeyedRow flags row
-row_of_columns [] [] same each = (tt, tt)
-row_of_columns [] (value ∷ row) same each = absurd (omega arith)
-row_of_columns (flag ∷ flags) [] same each = absurd (omega arith)
-row_of_columns (flag ∷ flags) (value ∷ row) same each =
-    let first = each 0 (omega arith) in
-    let next : (k : ℕ) → k < length flags → IsRowColumn flags row k = λ k lt.
-    let column = each (suc k) (omega arith) in
-    record { is_value = column.is_value; keyed = column.keyed } in
-    let others = row_of_columns flags row (omega arith) next in
-    ((first.is_value, others.0), row_cons flag value flags row first.keyed others.1)
-
--- and the other way round
-pub row_column : (flags : List ℕ) (row : List OwnedValue) (k : ℕ) → IsKeyedRow flags row → k < length flags → IsKeyedRow (get_or flags k 0 ∷ []) (get_or row k Null ∷ [])
-row_column [] row k h lt = absurd (omega arith)
-row_column (zero ∷ flags) [] k h lt = absurd h
-row_column (suc flag ∷ flags) [] k h lt = absurd h
-row_column (zero ∷ flags) (value ∷ row) zero h lt = tt
-row_column (suc flag ∷ flags) (value ∷ row) zero h lt = (h.0, tt)
-row_column (zero ∷ flags) (value ∷ row) (suc k) h lt = row_column flags row k h (omega arith)
-row_column (suc flag ∷ flags) (value ∷ row) (suc k) h lt = row_column flags row k h.1 (omega arith)
-
--- ---- updates
 
 -- the update of this column alone fits its flag
 pub record IsUpdateColumn (flags : List ℕ) (old new : List OwnedField) (column : ℕ) : Type 0 where

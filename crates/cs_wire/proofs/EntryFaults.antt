@@ -21,7 +21,8 @@ use Rattle.cs_wire.specs.Changeset.{HeaderData}
 use Rattle.cs_wire.specs.ReadFaults.{kind_of, Stands, EntryStart, FieldStart, HasNoField, IsWhole, IsKeyColumn, IsAlike, StandsBefore, StandsUnpaired, ReadCase}
 use Rattle.cs_wire.specs.Reading.{Want, KeyValue, AnyValue, AnyField, NewValue, Nothing, refusal, is_key_flag, in_row, in_old, in_new, is_modified, row_wants, old_wants, new_wants, wants_of, Meets, NoField, OtherField, ChangeRefused}
 use Rattle.cs_wire.proofs.ReadingLaws.{Stands-then}
-use Rattle.cs_wire.proofs.EntryLaws.{length-IsKeyedRow, length-IsKeyedUpdate}
+use Rattle.cs_value.proofs.KeyedRows.{length-IsKeyedRow}
+use Rattle.cs_wire.proofs.EntryLaws.{length-IsKeyedUpdate}
 use Rattle.cs_wire.proofs.FieldsLaws.{want_at, length-new_wants}
 use Rattle.cs_wire.proofs.ChangeLaws.{key_flag, new_met}
 

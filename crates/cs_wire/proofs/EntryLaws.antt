@@ -9,21 +9,13 @@ use Rattle.cs_value.specs.Value.{IsRow, IsRecord}
 use Rattle.cs_value.specs.Spelling.{field_bytes, record_bytes, row_bytes}
 use Rattle.cs_wire.specs.declared.entry.Change.{Change}
 use Rattle.cs_wire.specs.declared.entry.Entry.{Entry}
+use Rattle.cs_value.proofs.KeyedRows.{length-IsKeyedRow}
 use Rattle.cs_wire.specs.ReadFaults.{Stands}
 use Rattle.cs_wire.specs.declared.entry.Change.TheVariants.{Insert, Delete, Update}
 use Rattle.cs_value.specs.Table.{IsKeyedRow}
 use Rattle.cs_wire.specs.Entry.{IsKeyedUpdate, IsChange, fields_of, operation, key_of, entry_bytes}
 
--- a row has a value for each flag
-pub length-IsKeyedRow : (flags : List ℕ) (row : List OwnedValue) → IsKeyedRow flags row → length flags ≡ length row
-length-IsKeyedRow [] [] h = refl
-length-IsKeyedRow (zero ∷ flags) (v ∷ row) h = ap suc (length-IsKeyedRow flags row h)
-length-IsKeyedRow (suc f ∷ flags) (v ∷ row) h = ap suc (length-IsKeyedRow flags row h.1)
-length-IsKeyedRow [] (v ∷ row) h = absurd h
-length-IsKeyedRow (zero ∷ flags) [] h = absurd h
-length-IsKeyedRow (suc f ∷ flags) [] h = absurd h
-
--- and each record of an update a field
+-- each record of an update has a field for each flag
 pub length-IsKeyedUpdate : (flags : List ℕ) (old new : List OwnedField) → IsKeyedUpdate flags old new → (length flags ≡ length old) × (length flags ≡ length new)
 length-IsKeyedUpdate [] [] [] h = (refl, refl)
 length-IsKeyedUpdate [] [] (n ∷ new) h = absurd h

@@ -16,7 +16,8 @@ use Rattle.cs_wire.specs.Entry.{IsChange, IsEntry, operation, fields_of, entry_b
 use Rattle.cs_wire.specs.Changeset.{HeaderData, GroupData, IsHeader, IsGroup, IsChangeset, flags_bytes, header_bytes, entries_bytes, group_bytes, file_bytes}
 use Rattle.cs_wire.specs.Reading.{EndsGroup}
 use Rattle.cs_wire.proofs.ReadingLaws.{flags_bytes-append, header_bytes-append, same_header}
-use Rattle.cs_wire.proofs.EntryLaws.{length-IsKeyedRow, length-IsKeyedUpdate, IsRecord-map, entry_bytes-append, same_entry}
+use Rattle.cs_value.proofs.KeyedRows.{length-IsKeyedRow}
+use Rattle.cs_wire.proofs.EntryLaws.{length-IsKeyedUpdate, IsRecord-map, entry_bytes-append, same_entry}
 use Rattle.cs_wire.proofs.ChangeLaws.{IsRecord-append, same_values}
 use Rattle.cs_wire.proofs.EntriesLaws.{operation_no_header}
 use Rattle.cs_wire.proofs.GroupsLaws.{group_bytes-append, group_bytes_some, same_group, ends_group}

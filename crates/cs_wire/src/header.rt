@@ -95,7 +95,7 @@ impl Header {
         ensures { IsTrue result ↔ IsEntry self.now.flags entry.now }
     {
         match &entry.change {
-            Change::Insert(row) | Change::Delete(row) => admits_row(self.flags(), row.values()),
+            Change::Insert(row) | Change::Delete(row) => row.is_keyed(self.flags()),
             Change::Update { old, new } => admits_update(self.flags(), old.fields(), new.fields()),
         }
     }
@@ -122,30 +122,6 @@ impl Eq for Header {
     ghost use Rattle.std.proofs.Common.{rules};
 
     ghost laws = { Prim.search (comparing, rules) };
-}
-
-/// Whether a row has a value for each flag, and none of them NULL in a key column.
-fn admits_row(flags: &[u8], values: &[OwnedValue]) -> bool
-    ensures { IsTrue result ↔ (IsRow values.now × IsKeyedRow flags.now values.now) }
-{
-    if flags.len() != values.len() {
-        return false;
-    }
-    for (column, flag) in flags.iter().enumerate() {
-        if !admits_value(*flag, &values[column]) {
-            return false;
-        }
-    }
-    true
-}
-
-/// Whether a row of this column alone is admitted.
-fn admits_value(flag: u8, value: &OwnedValue) -> bool
-    ensures is_value { IsValue value.now }
-    ensures admitted { IsTrue result ↔ IsKeyedRow (flag ∷ []) (value.now ∷ []) }
-{
-    let value = value.as_value();
-    flag == 0 || !matches!(value, Value::Null)
 }
 
 /// Whether the records of an update have a field for each flag: in a key column a value other than

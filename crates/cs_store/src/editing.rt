@@ -1,0 +1,137 @@
+//! Edits of rows, through whatever holds them.
+ghost use Rattle.std.specs.Prelude.{◌≡◌, ◌⊎◌, [], ◌∷◌, Some, None, Ok, Err, map, string_bytes, IfOk, IfErr, IsSome, OnOk};
+ghost use Rattle.cs_value.specs.Value.{IsRow};
+ghost use Rattle.cs_value.specs.Table.{IsKeyedRow};
+ghost use Rattle.cs_value.specs.State.{IsRowAt, schema_at, row_at};
+ghost use Rattle.cs_store.specs.Rows.{IsDeclared};
+ghost use Rattle.cs_store.specs.Faults.{IsResource};
+ghost use Rattle.cs_store.specs.Editing.{edited, written_of, row_fault, in_table, inserted};
+ghost use Rattle.cs_store.specs.declared.fault.StoreError.TheVariants.{NoTable as NoSuchTable, NoRow as NoSuchRow, KeyTaken as TakenKey};
+
+use crate::edit::{Edit, Written};
+use crate::fault::StoreError;
+use crate::rows::Rows;
+use crate::schema::Schema;
+use cs_value::{Key, Row};
+use std::alloc::Global;
+
+/// The schema of a table that has to be declared.
+fn find_schema<B: Rows>(alloc: Global, rows: &mut B, table: &str) -> Result<Schema, StoreError>
+    ensures found { B.is_honest rows.new → IfOk result (λ s. schema_at (B.state rows.old) table.now ≡ Some s) }
+    ensures same { B.is_honest rows.new → OnOk result (B.state rows.new ≡ B.state rows.old) }
+    ensures refused { B.is_honest rows.new → IfErr result (λ e. ((e ≡ NoSuchTable) × (schema_at (B.state rows.old) table.now ≡ None)) ⊎ IsResource e) }
+    ensures was_honest { B.is_honest rows.new → B.is_honest rows.old }
+    ensures kept { B.keeps rows.old rows.new }
+{
+    match rows.schema(alloc, table)? {
+        Some(schema) => Ok(schema),
+        None => Err(StoreError::NoTable),
+    }
+}
+
+/// The row that has to stand under a key of a declared table.
+fn find_row<B: Rows>(
+    alloc: Global,
+    rows: &mut B,
+    table: &str,
+    key: &Key,
+) -> Result<Row, StoreError>
+    requires { B.is_honest rows.old → IsDeclared (B.state rows.old) table.now }
+    ensures found { B.is_honest rows.new → IfOk result (λ row. row_at (B.state rows.old) table.now key.now ≡ Some row) }
+    ensures same { B.is_honest rows.new → OnOk result (B.state rows.new ≡ B.state rows.old) }
+    ensures refused { B.is_honest rows.new → IfErr result (λ e. ((e ≡ NoSuchRow) × (row_at (B.state rows.old) table.now key.now ≡ None)) ⊎ IsResource e) }
+    ensures was_honest { B.is_honest rows.new → B.is_honest rows.old }
+    ensures kept { B.keeps rows.old rows.new }
+{
+    match rows.get(alloc, table, key)? {
+        Some(row) => Ok(row),
+        None => Err(StoreError::NoRow),
+    }
+}
+
+/// Refuses where a row stands under a key of a declared table.
+fn check_vacant<B: Rows>(
+    alloc: Global,
+    rows: &mut B,
+    table: &str,
+    key: &Key,
+) -> Result<(), StoreError>
+    requires { B.is_honest rows.old → IsDeclared (B.state rows.old) table.now }
+    ensures vacant { B.is_honest rows.new → OnOk result (row_at (B.state rows.old) table.now key.now ≡ None) }
+    ensures same { B.is_honest rows.new → OnOk result (B.state rows.new ≡ B.state rows.old) }
+    ensures refused { B.is_honest rows.new → IfErr result (λ e. ((e ≡ TakenKey) × IsSome (row_at (B.state rows.old) table.now key.now)) ⊎ IsResource e) }
+    ensures was_honest { B.is_honest rows.new → B.is_honest rows.old }
+    ensures kept { B.keeps rows.old rows.new }
+{
+    match rows.get(alloc, table, key)? {
+        Some(_) => Err(StoreError::KeyTaken),
+        None => Ok(()),
+    }
+}
+
+/// The key of a row that may stand in a table of this schema.
+fn key_for(alloc: Global, schema: &Schema, row: &Row) -> Result<Key, StoreError>
+    ensures key { IfOk result (λ key. IsRowAt schema.now.flags key row.now) }
+    ensures fits { OnOk result (row_fault schema.now.flags row.now ≡ None) }
+    ensures refused { IfErr result (λ e. (row_fault schema.now.flags row.now ≡ Some e) ⊎ IsResource e) }
+{
+    if row.values().len() != schema.flags().len() {
+        return Err(StoreError::RowWidth);
+    }
+    if !row.is_keyed(schema.flags()) {
+        return Err(StoreError::NullInKey);
+    }
+    Ok(Key::of_row(alloc, schema.flags(), row)?)
+}
+
+/// What is told of a key that is written.
+fn note(
+    alloc: Global,
+    table: &str,
+    key: &Key,
+    former: Option<Row>,
+) -> Result<Written, StoreError>
+    ensures noted { IfOk result (λ w. written_of w ≡ record { table = table.now; key = key.now; former = former }) }
+    ensures refused { IfErr result IsResource }
+{
+    Ok(Written {
+        table: String::from_str(alloc, table)?,
+        key: key.copy(alloc)?,
+        former,
+    })
+}
+
+/// What is told where one key is written.
+fn note_one(
+    alloc: Global,
+    table: &str,
+    key: &Key,
+    former: Option<Row>,
+) -> Result<Vec<Written>, StoreError>
+    ensures noted { IfOk result (λ w. map written_of w.items ≡ record { table = table.now; key = key.now; former = former } ∷ []) }
+    ensures refused { IfErr result IsResource }
+{
+    let mut written = Vec::new(alloc);
+    written.push(note(alloc, table, key, former)?)?;
+    Ok(written)
+}
+
+fn insert_row<B: Rows>(
+    alloc: Global,
+    rows: &mut B,
+    table: &str,
+    row: &Row,
+) -> Result<Vec<Written>, StoreError>
+    ensures edited { B.is_honest rows.new → IfOk result (λ w. in_table (B.state rows.old) table.now (λ t. inserted (B.state rows.old) table.now t row.now)
+        ≡ Ok (record { state = B.state rows.new; written = map written_of w.items })) }
+    ensures refused { B.is_honest rows.new → IfErr result (λ e. (in_table (B.state rows.old) table.now (λ t. inserted (B.state rows.old) table.now t row.now) ≡ Err e) ⊎ IsResource e) }
+    ensures was_honest { B.is_honest rows.new → B.is_honest rows.old }
+    ensures kept { B.keeps rows.old rows.new }
+{
+    let schema = find_schema(alloc, rows, table)?;
+    let key = key_for(alloc, &schema, row)?;
+    check_vacant(alloc, rows, table, &key)?;
+    let written = note_one(alloc, table, &key, None)?;
+    rows.put(alloc, table, &key, row)?;
+    Ok(written)
+}

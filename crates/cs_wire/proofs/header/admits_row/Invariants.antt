@@ -1,7 +1,0 @@
--- The columns so far fit their flags.
-use Rattle.std.proofs.Common.{ℕ, ◌<◌}
-use Rattle.cs_wire.proofs.AdmitLaws.{IsRowColumn}
-use Rattle.cs_wire.proofs.header.admits_row.Given as goal
-
-abbrev pub invariant-loop-column : goal.invariant-loop-column
-invariant-loop-column l = (k : ℕ) → k < l.column → IsRowColumn l.flags l.values k
