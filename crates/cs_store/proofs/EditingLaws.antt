@@ -1,0 +1,46 @@
+-- Rows that may stand in a table, and what edits of them make.
+use Rattle.std.proofs.Common.{◌≡◌, ℕ, zero, suc, Bool, true, false, not, ◌==◌, List, [], ◌∷◌, length, Option, Some, None, true≢false, refl, sym, ap, ◌∙◌, arith}
+use Rattle.std.proofs.lemmas.Bool.{not-true}
+use Rattle.cs_value.specs.declared.value.OwnedValue.{OwnedValue}
+use Rattle.cs_value.specs.declared.value.OwnedValue.TheVariants.{Int, Text, Blob, Null}
+use Rattle.cs_value.specs.Table.{IsKeyedRow}
+use Rattle.cs_value.proofs.KeyedRows.{length-IsKeyedRow}
+use Rattle.cs_store.specs.declared.fault.StoreError.{StoreError}
+use Rattle.cs_store.specs.declared.fault.StoreError.TheVariants.{RowWidth, NullInKey}
+use Rattle.cs_store.specs.Editing.{has_null_key, row_fault}
+
+-- a keyed row has no NULL in its key
+keyed_no_null : (flags : List ℕ) (row : List OwnedValue) → IsKeyedRow flags row → has_null_key flags row ≡ false
+keyed_no_null [] [] h = refl
+keyed_no_null [] (v ∷ row) h = absurd h
+keyed_no_null (zero ∷ flags) [] h = absurd h
+keyed_no_null (suc flag ∷ flags) [] h = absurd h
+keyed_no_null (zero ∷ flags) (v ∷ row) h = keyed_no_null flags row h
+keyed_no_null (suc flag ∷ flags) (Int z ∷ row) h = keyed_no_null flags row h.1
+keyed_no_null (suc flag ∷ flags) (Text t ∷ row) h = keyed_no_null flags row h.1
+keyed_no_null (suc flag ∷ flags) (Blob b ∷ row) h = keyed_no_null flags row h.1
+keyed_no_null (suc flag ∷ flags) (Null ∷ row) h = absurd (h.0 refl)
+
+-- and a row of the table's width without one is keyed
+no_null_keyed : (flags : List ℕ) (row : List OwnedValue) → length row ≡ length flags → has_null_key flags row ≡ false → IsKeyedRow flags row
+no_null_keyed [] [] same h = tt
+no_null_keyed [] (v ∷ row) same h = absurd (omega arith)
+no_null_keyed (zero ∷ flags) [] same h = absurd (omega arith)
+no_null_keyed (suc flag ∷ flags) [] same h = absurd (omega arith)
+no_null_keyed (zero ∷ flags) (v ∷ row) same h = no_null_keyed flags row (omega arith) h
+no_null_keyed (suc flag ∷ flags) (Int z ∷ row) same h = (λ e. absurd cc, no_null_keyed flags row (omega arith) h)
+no_null_keyed (suc flag ∷ flags) (Text t ∷ row) same h = (λ e. absurd cc, no_null_keyed flags row (omega arith) h)
+no_null_keyed (suc flag ∷ flags) (Blob b ∷ row) same h = (λ e. absurd cc, no_null_keyed flags row (omega arith) h)
+no_null_keyed (suc flag ∷ flags) (Null ∷ row) same h = absurd (true≢false h)
+
+-- a keyed row may stand in the table
+pub no_fault : (flags : List ℕ) (row : List OwnedValue) → IsKeyedRow flags row → row_fault flags row ≡ None
+no_fault flags row h = rw (length-IsKeyedRow flags row h, keyed_no_null flags row h) ?
+
+-- another row of its width has a NULL in its key
+pub null_fault : (flags : List ℕ) (row : List OwnedValue) → length row ≡ length flags → ¬ (IsKeyedRow flags row) → row_fault flags row ≡ Some NullInKey
+null_fault flags row same not_keyed = at (has_null_key flags row) refl
+  where
+    at : (b : Bool) → has_null_key flags row ≡ b → row_fault flags row ≡ Some NullInKey
+    at true is = rw (same, is) ?
+    at false is = absurd (not_keyed (no_null_keyed flags row same is))
