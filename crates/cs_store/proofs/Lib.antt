@@ -1,0 +1,2 @@
+pub mod StatementLaws
+pub mod TransactionLaws

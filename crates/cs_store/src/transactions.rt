@@ -30,6 +30,8 @@ pub(crate) fn commit<S: Alter>(conn: &mut Connection<S>) -> Result<(), StoreErro
     ensures undone { HasCleanDisk (state S.Store conn.new) → OnErr result (IsUndone (state S.Store conn.old) (state S.Store conn.new)) }
     ensures survives { Survives (state S.Store conn.old) (state S.Store conn.new) (λ db. db ≡ (state S.Store conn.old).now.trees) }
 {
+    // outside a transaction the database is as the last commit left it
+    let _ = conn.is_autocommit();
     conn.execute("COMMIT", &[])?;
     Ok(())
 }
