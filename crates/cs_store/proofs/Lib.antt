@@ -1,2 +1,3 @@
 pub mod StatementLaws
+pub mod TableLaws
 pub mod TransactionLaws

@@ -1,5 +1,5 @@
 -- What a statement leaves where it is refused, and what a known one may commit.
-use Rattle.std.proofs.Common.{◌≡◌, ◌≢◌, ◌⊎◌, ◌||◌, inl, inr, ℕ, ◌≤◌, Option, List, [], length, append-nil, Bool, true, false, Some, None, Ok, Err, Result, IsTrue, OnErr, sym, ap, subst, subst₂, ◌∙◌, arith}
+use Rattle.std.proofs.Common.{◌≡◌, ◌≢◌, ◌⊎◌, ◌||◌, inl, inr, ℕ, ◌≤◌, Option, List, [], length, append-nil, Bool, true, false, Some, None, Ok, Err, Result, IsTrue, OnErr, if◌then◌else◌, sym, ap, subst, subst₂, ◌∙◌, arith}
 use Rattle.std.proofs.lemmas.Bool.{cases_Bool, both_ways}
 use Rattle.sqlite_value.specs.Order.{Row}
 use Rattle.sqlite_trees.specs.Tree.{Trees}
@@ -14,10 +14,10 @@ use Rattle.sqlite.specs.Given.{IsPlain}
 use Rattle.sqlite.specs.Listing.{understood}
 use Rattle.sqlite.specs.Calls.{IsWrite}
 use Rattle.sqlite.specs.Effect.{is_query}
-use Rattle.sqlite.specs.State.{State, HasCleanDisk, Survives, is_pragma, ExecutesIn, Executes, IsNotRun, IsNoStatement, IsUnchanged, IsRolledBack, IsMisplaced, MayCommit, RunsCommand, CommitsBy, FailsToQuery, FailsToShow, shows_rows}
+use Rattle.sqlite.specs.State.{State, Shows, Writes, HasCleanDisk, Survives, is_pragma, ExecutesIn, Executes, IsNotRun, IsNoStatement, IsUnchanged, IsRolledBack, IsMisplaced, MayCommit, RunsCommand, CommitsBy, FailsToQuery, FailsToShow, shows_rows}
 use Rattle.sqlite.proofs.Callers.{command_of, statement_of}
 use Rattle.sqlite.proofs.StateLemmas.{survives_weaker}
-use Rattle.cs_store.specs.Records.{Rests, KeepsCrash, IsUndone}
+use Rattle.cs_store.specs.Records.{Rests, KeepsCrash, GoesOn, IsUndone}
 
 -- ---- for each text
 
@@ -123,3 +123,16 @@ on_err (Err e) holds = holds
 -- the state after a rollback
 pub undone_by : (old new : State) → IsRolledBack old new → IsUndone old new
 undone_by old new h = record { autocommit = h.autocommit; was_open = h.was_open; now = λ is_open. (h.undone is_open).0; committed = λ is_open. (h.undone is_open).1 }
+
+-- inside a transaction a write leaves what was committed, and the transaction goes on
+pub write_goes_on : (old new : State) (what : Option Returning) (command : Command) (text : List ℕ) (params : Row) (count : ℕ) → IsTrue old.in_transaction → Writes old new what command text params count
+    → GoesOn old new
+write_goes_on old new what command text params count inside w = subst (λ mode. Shows old new new.now (if mode then old.committed else new.now) mode) inside w.shown
+
+-- a part that gave a value did not stop on the way
+pub went : {B E R : Type 0} {b : B} {Stops : E → Type 0} → ((stop : E) × Stops stop × (Ok b ≡ Err stop)) ⊎ R → R
+went (inl stopped) = absurd (let e = stopped.2 in cc)
+went (inr further) = further
+
+pub same_value : {B E : Type 0} {a b : B} → ◌≡◌ {A = Result B E} (Ok a) (Ok b) → a ≡ b
+same_value e = cc

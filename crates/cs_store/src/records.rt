@@ -1,6 +1,6 @@
 //! The table of records, one statement at a time: a record has the name of a table, a key and a
 //! value. A call that is refused leaves the database as it was, or takes it back to its last commit.
-ghost use Rattle.std.specs.Prelude.{◌≡◌, Some, None, option_map, IsTrue, IfOk, IfErr, OnOk, OnErr};
+ghost use Rattle.std.specs.Prelude.{◌≡◌, [], Some, None, option_map, IsTrue, IfOk, IfErr, OnOk, OnErr};
 ghost use Rattle.sqlite.specs.State.{HasCleanDisk, IsUnchanged, Survives};
 ghost use Rattle.sqlite.specs.Held.{state};
 ghost use Rattle.cs_store.specs.Faults.{IsResource};
@@ -112,8 +112,7 @@ pub(crate) fn remove_record<S: Alter>(
     Ok(())
 }
 
-fn read_keyed(row: &Row) -> Result<Keyed, StoreError>
-{
+fn read_keyed(row: &Row) -> Result<Keyed, StoreError> {
     Ok(Keyed {
         key: row.get(0)?,
         value: row.get(1)?,
