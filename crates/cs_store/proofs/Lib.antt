@@ -1,3 +1,4 @@
+pub mod RemoveLaws
 pub mod StatementLaws
 pub mod TableLaws
 pub mod TransactionLaws
