@@ -1,0 +1,2 @@
+pub mod RowLaws
+pub mod QueryLaws
