@@ -1,4 +1,6 @@
+pub mod QueryLaws
 pub mod RemoveLaws
+pub mod RowLaws
 pub mod StatementLaws
 pub mod TableLaws
 pub mod TransactionLaws
