@@ -1,3 +1,4 @@
+pub mod EditLaws
 pub mod QueryLaws
 pub mod RemoveLaws
 pub mod RowLaws
