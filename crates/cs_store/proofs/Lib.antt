@@ -1,2 +1,4 @@
 pub mod RowLaws
 pub mod QueryLaws
+pub mod QueryTexts
+pub mod AnswerLaws
