@@ -1,7 +1,10 @@
+pub mod AnswerLaws
 pub mod EditLaws
 pub mod QueryLaws
+pub mod QueryTexts
 pub mod RemoveLaws
 pub mod RowLaws
+pub mod SetLaws
 pub mod StatementLaws
 pub mod TableLaws
 pub mod TransactionLaws
