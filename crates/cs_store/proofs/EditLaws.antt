@@ -135,31 +135,40 @@ changed_records old new tab key here sound c t k = elim (cases_Bool (same_bytes 
   | inr other ↦ rw other (records_is new t k _ sound (elsewhere old new tab key here c t k other _ (records_under old t k)))
 ]
 
-module _ (db : Database) (holds : HoldsRecords db) (tab key : List ℕ) (gone : List ℤ) (news : List Row)
-    (taken : (id : ℤ) → Has gone id → (row : Row) × Has (db.trees 0) row × (is_under tab key row ≡ true) × (rowid row ≡ Int id))
-    (given : (row : Row) → Has news row → is_under tab key row ≡ true)
-    (keyed : have_rowids news ≡ true) (fresh : are_fresh (without_all (db.trees 0) gone) news ≡ true) where
-  abbrev left : List Row
-  left = without_all (db.trees 0) gone
+-- an edit that takes out and puts in rows under one name and key alone, and leaves this there
+pub record Replaces (rows : List Row) (tab key : List ℕ) (here : Option (List ℕ)) (after : List Row) : Type 0 where
+  pub gone : List ℤ
+  pub news : List Row
+  pub taken : (id : ℤ) → Has gone id → (row : Row) × Has rows row × (is_under tab key row ≡ true) × (rowid row ≡ Int id)
+  pub given : (row : Row) → Has news row → is_under tab key row ≡ true
+  pub keyed : have_rowids news ≡ true
+  pub fresh : are_fresh (without_all rows gone) news ≡ true
+  pub is : after ≡ put_all (without_all rows gone) news
+  pub set : IsUnder (put_all (without_all rows gone) news) tab key here
 
-  untaken : (row : Row) → Has (db.trees 0) row → is_under tab key row ≡ false → (id : ℤ) → Has gone id → has_rowid id row ≡ false
+module _ (db : Database) (holds : HoldsRecords db) (tab key : List ℕ) (here : Option (List ℕ)) (next : List Row) (edit : Replaces (db.trees 0) tab key here next) where
+  untaken : (row : Row) → Has (db.trees 0) row → is_under tab key row ≡ false → (id : ℤ) → Has edit.gone id → has_rowid id row ≡ false
   untaken row has other id there = false_from_ne_true _ (λ same.
-      let it = taken id there in
+      let it = edit.taken id there in
       let one = one_number db row it.0 holds has it.1 (number_is db row id holds has same ∙ sym it.3) in
       both_ways _ other (subst (λ r. is_under tab key r ≡ true) (sym one) it.2))
 
-  -- an edit that takes out and puts in rows under one name and key alone changes one record
-  pub edit_sets : (after : Database) (here : Option (List ℕ)) → after.schema ≡ record_schema → IsDatabase after → after.trees 0 ≡ put_all left news
-      → IsUnder (put_all left news) tab key here → Sets db after tab key here
-  edit_sets after here schema sound rows set =
-      let numbered : AreNumbered (after.trees 0) = rw rows (edit_numbered (db.trees 0) news gone holds.numbered keyed fresh) in
-      let next : HoldsRecords after = record { schema = schema; sound = sound; numbered = numbered } in
-      let changes : Changes (db.trees 0) (after.trees 0) tab key here = record {
-        stays = λ row has other. subst (λ l. Has l row) (sym rows) (put_all_keeps news left row fresh (left_kept gone (db.trees 0) row has (untaken row has other)));
-        was = λ row has other. elim (put_all_has news left row (subst (λ l. Has l row) rows has)) [
-          | inl new ↦ absurd (both_ways _ other (given row new))
-          | inr there ↦ without_all_has gone (db.trees 0) row there
+  replaced : Changes (db.trees 0) next tab key here
+  replaced =
+      let left = without_all (db.trees 0) edit.gone in
+      record {
+        stays = λ row has other. subst (λ l. Has l row) (sym edit.is) (put_all_keeps edit.news left row edit.fresh (left_kept edit.gone (db.trees 0) row has (untaken row has other)));
+        was = λ row has other. elim (put_all_has edit.news left row (subst (λ l. Has l row) edit.is has)) [
+          | inl new ↦ absurd (both_ways _ other (edit.given row new))
+          | inr there ↦ without_all_has edit.gone (db.trees 0) row there
         ];
-        set = subst (λ l. IsUnder l tab key here) (sym rows) set;
-      } in
-      record { holds = next; change = changed_records (db.trees 0) (after.trees 0) tab key here (are_records after next) changes }
+        set = subst (λ l. IsUnder l tab key here) (sym edit.is) edit.set;
+      }
+
+-- it changes that one record
+pub edit_sets : (db after : Database) (tab key : List ℕ) (here : Option (List ℕ)) → HoldsRecords db → after.schema ≡ record_schema → IsDatabase after → Replaces (db.trees 0) tab key here (after.trees 0)
+    → Sets db after tab key here
+edit_sets db after tab key here holds schema sound edit =
+    let numbered : AreNumbered (after.trees 0) = rw edit.is (edit_numbered (db.trees 0) edit.news edit.gone holds.numbered edit.keyed edit.fresh) in
+    let next : HoldsRecords after = record { schema = schema; sound = sound; numbered = numbered } in
+    record { holds = next; change = changed_records (db.trees 0) (after.trees 0) tab key here (are_records after next) (replaced db holds tab key here (after.trees 0) edit) }

@@ -5,10 +5,10 @@ use Rattle.sqlite_value.specs.declared.keys.Collation.TheVariants.{Binary}
 use Rattle.sqlite_value.specs.Order.{Row}
 use Rattle.sqlite_sql.specs.declared.ops.BinaryOp.TheVariants.{Compare}
 use Rattle.sqlite_sql.specs.declared.ops.CompareOp.TheVariants.{Eq}
-use Rattle.sqlite_sql.specs.Term.{Term, lit, col, op2, holds}
+use Rattle.sqlite_sql.specs.Term.{Term, col, holds}
 use Rattle.sqlite_schema.specs.declared.command.Command.{Command}
 use Rattle.sqlite_schema.specs.declared.command.Command.TheVariants.{Delete}
-use Rattle.sqlite_rules.proofs.ProbeLemmas.{rowid_query, found_rowids, has_mapped, mapped_has}
+use Rattle.sqlite_rules.proofs.ProbeLemmas.{found_rowids, has_mapped, mapped_has}
 use Rattle.sqlite_sql.specs.Query.{Query, IsAnswer}
 use Rattle.sqlite_sql.specs.Program.{overlay}
 use Rattle.sqlite_tied.specs.Compute.{everything}
@@ -29,6 +29,7 @@ use Rattle.sqlite.specs.Listing.{understood}
 use Rattle.sqlite.specs.State.{State, mode_of, HasCleanDisk, Survives, Writes, Executes, CommitsBy}
 use Rattle.sqlite.proofs.Callers.{command_of, statement_of, runs_as, one_step}
 use Rattle.cs_store.specs.Records.{record_table, record_schema, HoldsRecords, Sets, same_bytes, is_under, GoesOn, KeepsCrash}
+use Rattle.cs_store.proofs.QueryTexts.{find_query}
 use Rattle.cs_store.proofs.RowLaws.{IsRecordRow, record_row, equal_texts, equal_blobs, IsUnder}
 use Rattle.cs_store.proofs.EditLaws.{has_own, left_apart, edit_sets}
 use Rattle.cs_store.proofs.StatementLaws.{went, same_value, keeps_crash, write_goes_on}
@@ -37,12 +38,11 @@ abbrev pub remove_text : List ℕ
 remove_text = codes "DELETE FROM rec WHERE tab = ?1 AND keyb = ?2"
 
 -- the row has the name and the key that are the first two parameters
-abbrev pub at_key : List Term
-at_key = op2 (Compare Eq Binary) (col 1 1) (col 0 0) ∷ op2 (Compare Eq Binary) (col 1 2) (col 0 1) ∷ []
+abbrev at_key : List Term
+at_key = find_query.filter
 
--- as `rowid_query`, but for how no limit is written
-abbrev pub key_query : Query
-key_query = record (rowid_query 0 at_key) { limit = lit (Int (negsuc 0)); offset = lit (Int (pos 0)) }
+abbrev key_query : Query
+key_query = record find_query { project = col 1 0 ∷ [] }
 
 abbrev pub remove_command : Command
 remove_command = Delete 0 (record { lets = []; body = key_query })
@@ -119,5 +119,13 @@ removes old new tab key count holds h =
     let rows : new.now.trees 0 ≡ without_all (old.now.trees 0) gone =
     ap (λ (d : Database). d.trees 0) now ∙ ap (λ (it : Written). it.trees 0) (same_value written.2) ∙ applied.rows in
     let are = removed_rows (record old.now { schema = record_schema }) tab key found.0 found.1 in
-    edit_sets old.now holds tab key gone [] (taken old.now holds tab key found.0 are) (λ row none. absurd none) refl refl
-    new.now None (ap (λ (d : Database). d.schema) now) w.sound rows (none_left old.now holds tab key found.0 are)
+    edit_sets old.now new.now tab key None holds (ap (λ (d : Database). d.schema) now) w.sound (record {
+      gone = gone;
+      news = [];
+      taken = taken old.now holds tab key found.0 are;
+      given = λ row none. absurd none;
+      keyed = refl;
+      fresh = refl;
+      is = rows;
+      set = none_left old.now holds tab key found.0 are;
+    })

@@ -39,16 +39,6 @@ refusal_rests sql params old new e (inr ran) = elim (cases_Bool (shows_rows fals
   | inr runs ↦ command_rests sql _ old new ran.0 e (rw runs at ran.2)
 ]
 
-show_rests : (sql : List ℕ) (params : Row) (old new : State) (c : Compiled) (e : Error) (what : Option Returning) → FailsToShow old new sql c params e what → Rests old new
-show_rests sql params old new c e None h = inl h.3
-show_rests sql params old new c e (Some what) h = command_rests sql params old new c e h
-
--- and so does a query
-pub query_rests : (sql : List ℕ) (params : Row) (old new : State) (e : Error) → FailsToQuery sql params old new e → Rests old new
-unfolding FailsToQuery
-query_rests sql params old new e (inl not_run) = not_run_rests sql params old new e not_run
-query_rests sql params old new e (inr ran) = show_rests sql _ old new ran.0 e ran.0.returning ran.2
-
 -- ---- for a text whose meaning is known
 
 -- it is one statement, with this many parameters, and does not read the time
