@@ -9,6 +9,10 @@ use Rattle.std.proofs.lemmas.Cmp.{int_ranked, tied_itself}
 use Rattle.sqlite_value.specs.declared.value.Value.TheVariants.{Int}
 use Rattle.sqlite_value.specs.Order.{Row, value_cmp}
 use Rattle.sqlite_value.proofs.OrderLemmas.{value_cmp-Int, value_cmp_total}
+use Rattle.sqlite_value.specs.declared.keys.Collation.TheVariants.{Binary}
+use Rattle.sqlite_sql.specs.declared.ops.BinaryOp.TheVariants.{Compare}
+use Rattle.sqlite_sql.specs.declared.ops.CompareOp.TheVariants.{Eq}
+use Rattle.sqlite_sql.specs.Ops.{binary, is_true}
 use Rattle.sqlite_trees.specs.Tree.{rowid, has_rowid, put_row, without_rowid, IsAscending}
 use Rattle.sqlite_trees.proofs.ListLemmas.{ascending-filter}
 use Rattle.sqlite_trees.proofs.TreeLemmas.{all-put_row}
@@ -18,7 +22,7 @@ use Rattle.sqlite_rules.proofs.ListLemmas.{all_has, all_from, test_has, has_filt
 use Rattle.sqlite_rules.proofs.TableLemmas.{int_is, put_all_has, put_all_keeps, without_all_has}
 use Rattle.sqlite.specs.Effect.{Database, IsDatabase}
 use Rattle.cs_store.specs.Records.{record_schema, same_bytes, is_under, records_of, changed, AreNumbered, HoldsRecords, Sets}
-use Rattle.cs_store.proofs.RowLaws.{IsRecordRow, same_is, same_itself, record_row, one_number, ascending_from_pairs, pairs_from_ascending, AreRecords, are_records, under_is, IsUnder, records_under, records_is}
+use Rattle.cs_store.proofs.RowLaws.{IsRecordRow, truth_is, same_is, same_itself, record_row, one_number, ascending_from_pairs, pairs_from_ascending, AreRecords, are_records, under_is, IsUnder, records_under, records_is}
 
 -- ---- rowids
 
@@ -31,6 +35,15 @@ same_number m n h = tied (int_cmp m n) (int_ranked m n _ refl) (sym (ap is_eq (v
     tied Equal h e = h
     tied Greater h e = absurd (cc)
 
+-- SQL's = on two numbers
+pub equal_numbers : (m n : ℤ) → is_true (binary (Compare Eq Binary) (Int m) (Int n)) ≡ is_eq (value_cmp (Int m) (Int n))
+unfolding binary
+equal_numbers m n = truth_is _
+
+-- a number equals itself
+pub same_as_itself : (n : ℤ) → is_eq (value_cmp (Int n) (Int n)) ≡ true
+same_as_itself n = ap is_eq (tied_itself value_cmp_total (Int n))
+
 -- the row that has the number
 number_is : (db : Database) (row : Row) (id : ℤ) → HoldsRecords db → Has (db.trees 0) row → has_rowid id row ≡ true → rowid row ≡ Int id
 number_is db row id holds has same =
@@ -40,7 +53,7 @@ number_is db row id holds has same =
 
 -- the row has its own number
 pub has_own : (row : Row) → IsRecordRow row → has_rowid (id_in (rowid row)) row ≡ true
-has_own row x = rw x.is (ap is_eq (tied_itself value_cmp_total (Int x.number)))
+has_own row x = rw x.is (same_as_itself x.number)
 
 -- two rows have other rowids
 abbrev Apart : Row → Row → Type 0

@@ -13,6 +13,7 @@ use Rattle.sqlite_sql.specs.Query.{Query, IsAnswer}
 use Rattle.sqlite_sql.specs.Program.{overlay}
 use Rattle.sqlite_tied.specs.Compute.{everything}
 use Rattle.std.specs.List.{list_all}
+use Rattle.std.proofs.Math.Bool.{and-true}
 use Rattle.std.proofs.lemmas.Bool.{both_ways, false_from_ne_true}
 use Rattle.sqlite_trees.specs.Tree.{rowid}
 use Rattle.sqlite_rules.specs.Lists.{Has}
@@ -69,13 +70,9 @@ pub remove_keeps_crash : (params : Row) (old new : State) → (HasCleanDisk old 
     → KeepsCrash old new
 remove_keeps_crash params = keeps_crash remove_text params record_schema remove_command remove_is remove_plain (λ same. absurd (cc)) (λ name same. absurd (cc))
 
-and_true : (b : Bool) → b && true ≡ b
-and_true true = refl
-and_true false = refl
-
 -- the rows that the removal takes out
 at_key_is : (tab key : List ℕ) (row : Row) → IsRecordRow row → list_all (holds ((Text tab ∷ Blob key ∷ []) ∷ row ∷ [])) at_key ≡ is_under tab key row
-at_key_is tab key row x = rw (x.is, equal_texts x.tab tab, equal_blobs x.key key, and_true (same_bytes x.key key))
+at_key_is tab key row x = rw (x.is, equal_texts x.tab tab, equal_blobs x.key key, and-true (same_bytes x.key key))
 
 removed_rows : (db : Database) (tab key : List ℕ) (found : List Row) → Answers db (record { lets = []; body = key_query }) (Text tab ∷ Blob key ∷ []) found
     → AreFound at_key (db.trees 0) (Text tab ∷ Blob key ∷ []) found

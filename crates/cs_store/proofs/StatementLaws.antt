@@ -1,5 +1,5 @@
 -- What a statement leaves where it is refused, and what a known one may commit.
-use Rattle.std.proofs.Common.{◌≡◌, ◌≢◌, ◌⊎◌, ◌||◌, inl, inr, ℕ, ◌≤◌, Option, List, [], length, append-nil, Bool, true, false, Some, None, Ok, Err, Result, IsTrue, OnErr, if◌then◌else◌, sym, ap, subst, subst₂, ◌∙◌, arith}
+use Rattle.std.proofs.Common.{◌≡◌, ◌≢◌, ◌⊎◌, ◌||◌, inl, inr, ℕ, ◌≤◌, Option, List, [], length, append-nil, Bool, true, false, None, Ok, Err, Result, IsTrue, OnErr, if◌then◌else◌, sym, ap, subst, subst₂, ◌∙◌, arith}
 use Rattle.std.proofs.lemmas.Bool.{cases_Bool, both_ways}
 use Rattle.sqlite_value.specs.Order.{Row}
 use Rattle.sqlite_trees.specs.Tree.{Trees}
@@ -14,7 +14,7 @@ use Rattle.sqlite.specs.Given.{IsPlain}
 use Rattle.sqlite.specs.Listing.{understood}
 use Rattle.sqlite.specs.Calls.{IsWrite}
 use Rattle.sqlite.specs.Effect.{is_query}
-use Rattle.sqlite.specs.State.{State, Shows, Writes, HasCleanDisk, Survives, is_pragma, ExecutesIn, Executes, IsNotRun, IsNoStatement, IsUnchanged, IsRolledBack, IsMisplaced, MayCommit, RunsCommand, CommitsBy, FailsToQuery, FailsToShow, shows_rows}
+use Rattle.sqlite.specs.State.{State, Shows, Writes, HasCleanDisk, Survives, is_pragma, ExecutesIn, Executes, IsNotRun, IsNoStatement, IsUnchanged, IsRolledBack, IsMisplaced, MayCommit, RunsCommand, CommitsBy, shows_rows}
 use Rattle.sqlite.proofs.Callers.{command_of, statement_of}
 use Rattle.sqlite.proofs.StateLemmas.{survives_weaker}
 use Rattle.cs_store.specs.Records.{Rests, KeepsCrash, GoesOn, IsUndone}
