@@ -1,5 +1,8 @@
 pub mod AnswerLaws
 pub mod EditLaws
+pub mod FoundRows
+pub mod ListedRows
+pub mod OrderLaws
 pub mod QueryLaws
 pub mod QueryTexts
 pub mod RemoveLaws

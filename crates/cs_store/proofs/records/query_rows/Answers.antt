@@ -1,6 +1,8 @@
 use Rattle.sqlite.specs.Held.{state}
 use Rattle.sqlite.specs.Values.{bound}
-use Rattle.cs_store.proofs.AnswerLaws.{shows_chosen}
+use Rattle.cs_store.proofs.FoundRows.{finds}
+use Rattle.cs_store.proofs.ListedRows.{lists_table}
+use Rattle.cs_store.proofs.OrderLaws.{below_from}
 use Rattle.cs_store.proofs.QueryLaws.{shows_unchanged, keeps_crash, fails_rests, on_err}
 use Rattle.cs_store.proofs.records.query_rows.Goals as goal
 
