@@ -32,7 +32,7 @@ name_passes row tab r = rw r.is (equal_texts r.tab tab)
 key_passes : (row : Row) (key : List ℕ) → IsRecordRow row → is_true (binary (Compare Eq Binary) (column row 2) (Blob key)) ≡ same_bytes (content (column row 2)) key
 key_passes row key r = rw r.is (equal_blobs r.key key)
 
-find_passes : (tab key : List ℕ) (row : Row) → IsRecordRow row → passes_where find_query (Text tab ∷ Blob key ∷ []) row ≡ is_under tab key row
+pub find_passes : (tab key : List ℕ) (row : Row) → IsRecordRow row → passes_where find_query (Text tab ∷ Blob key ∷ []) row ≡ is_under tab key row
 find_passes tab key row r = rw (name_passes row tab r, key_passes row key r, and-true)
 
 -- rows that all have one key are one row

@@ -30,10 +30,11 @@ use Rattle.sqlite.specs.Listing.{understood}
 use Rattle.sqlite.specs.State.{State, mode_of, HasCleanDisk, Survives, Writes, Executes, CommitsBy}
 use Rattle.sqlite.proofs.Callers.{command_of, statement_of, runs_as, one_step}
 use Rattle.cs_store.specs.Records.{record_table, record_schema, HoldsRecords, Sets, same_bytes, is_under, GoesOn, KeepsCrash}
+use Rattle.cs_store.proofs.FoundRows.{find_passes}
 use Rattle.cs_store.proofs.QueryTexts.{find_query}
 use Rattle.cs_store.proofs.RowLaws.{IsRecordRow, record_row, equal_texts, equal_blobs, IsUnder}
 use Rattle.cs_store.proofs.EditLaws.{has_own, left_apart, edit_sets}
-use Rattle.cs_store.proofs.StatementLaws.{went, same_value, keeps_crash, write_goes_on}
+use Rattle.cs_store.proofs.StatementLaws.{went, same_value, inside_keeps_crash, write_goes_on}
 
 abbrev pub remove_text : List ℕ
 remove_text = codes "DELETE FROM rec WHERE tab = ?1 AND keyb = ?2"
@@ -68,12 +69,9 @@ remove_goes_on old new params count has inside h = write_goes_on old new _ _ _ _
 -- inside a transaction it commits nothing
 pub remove_keeps_crash : (params : Row) (old new : State) → (HasCleanDisk old → old.now.schema ≡ record_schema) → IsTrue old.in_transaction → Survives old new (CommitsBy remove_text params old)
     → KeepsCrash old new
-remove_keeps_crash params = keeps_crash remove_text params record_schema remove_command remove_is remove_plain (λ same. absurd (cc)) (λ name same. absurd (cc))
+remove_keeps_crash params = inside_keeps_crash remove_text params record_schema remove_command remove_is remove_plain (λ same. absurd (cc)) (λ name same. absurd (cc))
 
 -- the rows that the removal takes out
-at_key_is : (tab key : List ℕ) (row : Row) → IsRecordRow row → list_all (holds ((Text tab ∷ Blob key ∷ []) ∷ row ∷ [])) at_key ≡ is_under tab key row
-at_key_is tab key row x = rw (x.is, equal_texts x.tab tab, equal_blobs x.key key, and-true (same_bytes x.key key))
-
 removed_rows : (db : Database) (tab key : List ℕ) (found : List Row) → Answers db (record { lets = []; body = key_query }) (Text tab ∷ Blob key ∷ []) found
     → AreFound at_key (db.trees 0) (Text tab ∷ Blob key ∷ []) found
 removed_rows db tab key found h =
@@ -90,7 +88,7 @@ taken db holds tab key found are id there =
     let x = record_row db of.0 holds of.1 in
     let number : rowid of.0 ≡ Int x.number = ap rowid x.is in
     let same : x.number ≡ id = sym (it.2 ∙ ap (λ r. id_in (rowid r)) of.3 ∙ ap id_in number) in
-    (of.0, of.1, sym (at_key_is tab key of.0 x) ∙ of.2, number ∙ ap Int same)
+    (of.0, of.1, sym (find_passes tab key of.0 x) ∙ of.2, number ∙ ap Int same)
 
 -- and no such row is left
 none_left : (db : Database) → HoldsRecords db → (tab key : List ℕ) (found : List Row) → AreFound at_key (db.trees 0) (Text tab ∷ Blob key ∷ []) found
@@ -98,7 +96,7 @@ none_left : (db : Database) → HoldsRecords db → (tab key : List ℕ) (found 
 none_left db holds tab key found are row left = false_from_ne_true _ (λ under.
     let has = without_all_has (ids_of found) (db.trees 0) row left in
     let x = record_row db row holds has in
-    let there = mapped_has (λ r. id_in (rowid r)) found (rowid row ∷ []) (are.complete row has (at_key_is tab key row x ∙ under)) in
+    let there = mapped_has (λ r. id_in (rowid r)) found (rowid row ∷ []) (are.complete row has (find_passes tab key row x ∙ under)) in
     both_ways _ (left_apart (ids_of found) (db.trees 0) row (id_in (rowid row)) there left) (has_own row x))
 
 -- it removes the record under the name and the key

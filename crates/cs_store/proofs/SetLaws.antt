@@ -47,7 +47,7 @@ use Rattle.cs_store.specs.Records.{record_table, record_schema, HoldsRecords, Se
 use Rattle.cs_store.proofs.QueryTexts.{plain_query}
 use Rattle.cs_store.proofs.RowLaws.{IsRecordRow, record_row, one_number, has_permuted, under_is, under_from, equal_texts, equal_blobs}
 use Rattle.cs_store.proofs.EditLaws.{same_number, equal_numbers, same_as_itself, Replaces, edit_sets}
-use Rattle.cs_store.proofs.StatementLaws.{went, same_value, keeps_crash, write_goes_on}
+use Rattle.cs_store.proofs.StatementLaws.{went, same_value, inside_keeps_crash, write_goes_on}
 
 abbrev set_text : List ℕ
 set_text = codes "INSERT INTO rec VALUES(?1, ?2, ?3) ON CONFLICT(tab, keyb) DO UPDATE SET rowb = ?3"
@@ -88,7 +88,7 @@ set_goes_on old new params count has inside h = write_goes_on old new _ _ _ _ co
 -- inside a transaction it commits nothing
 pub set_keeps_crash : (params : Row) (old new : State) → (HasCleanDisk old → old.now.schema ≡ record_schema) → IsTrue old.in_transaction → Survives old new (CommitsBy set_text params old)
     → KeepsCrash old new
-set_keeps_crash params = keeps_crash set_text params record_schema set_command set_is set_plain (λ same. absurd (cc)) (λ name same. absurd (cc))
+set_keeps_crash params = inside_keeps_crash set_text params record_schema set_command set_is set_plain (λ same. absurd (cc)) (λ name same. absurd (cc))
 
 -- ---- the row
 

@@ -76,9 +76,9 @@ module _ (sql : List ℕ) (params : Row) (schema : Schema) (command : Command) (
       subst₂ (λ k t. MayCommit s None k t params db) (ap command_of known ∙ is) (ap (statement_of sql) known) may
 
   -- inside a transaction it commits nothing, unless it ends the transaction
-  pub keeps_crash : command ≢ Commit → ((name : List ℕ) → command ≢ Release name) → (old new : State) → (HasCleanDisk old → old.now.schema ≡ schema) → IsTrue old.in_transaction
+  pub inside_keeps_crash : command ≢ Commit → ((name : List ℕ) → command ≢ Release name) → (old new : State) → (HasCleanDisk old → old.now.schema ≡ schema) → IsTrue old.in_transaction
       → Survives old new (CommitsBy sql params old) → KeepsCrash old new
-  keeps_crash commits releases old new has inside survives = survives_weaker old new _ (λ _. ⊥) (λ clean db by. elim (commits_as old db (has (omega (arith, survives.clean))) by) [
+  inside_keeps_crash commits releases old new has inside survives = survives_weaker old new _ (λ _. ⊥) (λ clean db by. elim (commits_as old db (has (omega (arith, survives.clean))) by) [
     | inl (inl ends, at) ↦ commits ends
     | inl (inr ends, at) ↦ releases ends.0 ends.2
     | inr writes ↦ both_ways _ writes.0 inside
@@ -104,11 +104,6 @@ module _ (sql : List ℕ) (params : Row) (schema : Schema) (command : Command) (
         | inl (inr (inr returns, refused), same) ↦ absurd (let no = rw none at returns in cc)
         | inr fails ↦ inl fails.3
       ]
-
--- what holds anyhow holds on an error
-pub on_err : {T E P : Type 0} (r : Result T E) → P → OnErr r P
-on_err (Ok x) holds = tt
-on_err (Err e) holds = holds
 
 -- the state after a rollback
 pub undone_by : (old new : State) → IsRolledBack old new → IsUndone old new

@@ -12,7 +12,7 @@ use Rattle.sqlite.specs.Listing.{understood}
 use Rattle.sqlite.specs.State.{State, HasCleanDisk, Survives, Writes, Executes, CommitsBy}
 use Rattle.sqlite.proofs.Callers.{command_of, statement_of, runs_as}
 use Rattle.cs_store.specs.Records.{record_table, record_schema, empty_schema, HoldsRecords, AreNumbered, GoesOn, KeepsCrash}
-use Rattle.cs_store.proofs.StatementLaws.{went, same_value, keeps_crash, write_goes_on}
+use Rattle.cs_store.proofs.StatementLaws.{went, same_value, inside_keeps_crash, write_goes_on}
 
 abbrev create_text : List ℕ
 create_text = codes "CREATE TABLE IF NOT EXISTS rec(tab TEXT NOT NULL, keyb BLOB NOT NULL, rowb BLOB NOT NULL, PRIMARY KEY(tab, keyb)) STRICT"
@@ -60,4 +60,4 @@ make_goes_on old new count has inside h = write_goes_on old new _ _ _ _ count in
 
 -- inside a transaction it commits nothing
 pub make_keeps_crash : (old new : State) → (HasCleanDisk old → old.now.schema ≡ empty_schema) → IsTrue old.in_transaction → Survives old new (CommitsBy create_text [] old) → KeepsCrash old new
-make_keeps_crash = keeps_crash create_text [] empty_schema CreateTable create_is create_plain (λ same. absurd (cc)) (λ name same. absurd (cc))
+make_keeps_crash = inside_keeps_crash create_text [] empty_schema CreateTable create_is create_plain (λ same. absurd (cc)) (λ name same. absurd (cc))
