@@ -5,9 +5,10 @@ use Rattle.sqlite_schema.specs.declared.command.Returning.{Returning}
 use Rattle.sqlite_resolve.specs.declared.compiled.Compiled.{Compiled}
 use Rattle.sqlite.specs.declared.error.Error.{Error}
 use Rattle.sqlite.specs.Clock.{timed}
-use Rattle.sqlite.specs.State.{State, IsStatement, IsUnchanged, Shown, ShowsRows, FailsToShow, FailsToQuery, IsNotRun, Survives, CommitsShowing}
+use Rattle.sqlite.specs.State.{State, IsStatement, IsUnchanged, Shown, ShowsRows, FailsToShow, FailsToQuery, Survives, CommitsShowing}
 use Rattle.sqlite.proofs.StateLemmas.{survives_weaker}
 use Rattle.cs_store.specs.Records.{ShowsOnly, IsQuery, Rests, KeepsCrash}
+use Rattle.cs_store.proofs.StatementLaws.{not_run_rests, command_rests}
 
 -- it has no RETURNING
 returns_nothing : (sql : List ℕ) (params : Row) (old : State) (c : Compiled) → IsQuery sql → IsStatement old sql params c → c.returning ≡ None
@@ -26,14 +27,12 @@ keeps_crash sql params old new query = survives_weaker old new _ _ (λ _ db h. a
 
 show_rests : (old new : State) (sql : List ℕ) (c : Compiled) (params : Row) (e : Error) (returning : Option Returning) → FailsToShow old new sql c params e returning → Rests old new
 show_rests old new sql c params e None h = inl h.3
-show_rests old new sql c params e (Some what) (inl refused) = inl refused.1
-show_rests old new sql c params e (Some what) (inr failed) = inr failed.3
+show_rests old new sql c params e (Some what) h = command_rests sql params old new c e h
 
 -- a failure leaves the database as it was, or takes it back to the last commit
 pub fails_rests : (sql : List ℕ) (params : Row) (old new : State) (e : Error) → FailsToQuery sql params old new e → Rests old new
-unfolding FailsToQuery IsNotRun
-fails_rests sql params old new e (inl (inl refused)) = inl refused.1
-fails_rests sql params old new e (inl (inr failed)) = inr failed.3
+unfolding FailsToQuery
+fails_rests sql params old new e (inl not_run) = not_run_rests sql params old new e not_run
 fails_rests sql params old new e (inr shown) = show_rests old new sql shown.0 (timed params shown.0.formats shown.1.now) e shown.0.returning shown.2
 
 -- what holds of each failure holds of this one

@@ -1,10 +1,7 @@
 -- What the DELETE of a record does.
-use Rattle.std.proofs.Common.{◌≡◌, ℕ, pos, negsuc, List, [], ◌∷◌, codes, true, false, Bool, ◌&&◌, ℤ, None, Ok, IsTrue, refl, sym, ap, subst, ◌∙◌}
+use Rattle.std.proofs.Common.{◌≡◌, ℕ, List, [], ◌∷◌, codes, true, ℤ, None, Ok, IsTrue, refl, sym, ap, subst, ◌∙◌}
 use Rattle.sqlite_value.specs.declared.value.Value.TheVariants.{Null, Int, Text, Blob}
-use Rattle.sqlite_value.specs.declared.keys.Collation.TheVariants.{Binary}
 use Rattle.sqlite_value.specs.Order.{Row}
-use Rattle.sqlite_sql.specs.declared.ops.BinaryOp.TheVariants.{Compare}
-use Rattle.sqlite_sql.specs.declared.ops.CompareOp.TheVariants.{Eq}
 use Rattle.sqlite_sql.specs.Term.{Term, col, holds}
 use Rattle.sqlite_schema.specs.declared.command.Command.{Command}
 use Rattle.sqlite_schema.specs.declared.command.Command.TheVariants.{Delete}
@@ -12,8 +9,6 @@ use Rattle.sqlite_rules.proofs.ProbeLemmas.{found_rowids, has_mapped, mapped_has
 use Rattle.sqlite_sql.specs.Query.{Query, IsAnswer}
 use Rattle.sqlite_sql.specs.Program.{overlay}
 use Rattle.sqlite_tied.specs.Compute.{everything}
-use Rattle.std.specs.List.{list_all}
-use Rattle.std.proofs.Math.Bool.{and-true}
 use Rattle.std.proofs.lemmas.Bool.{both_ways, false_from_ne_true}
 use Rattle.sqlite_trees.specs.Tree.{rowid}
 use Rattle.sqlite_rules.specs.Lists.{Has}
@@ -29,10 +24,10 @@ use Rattle.sqlite.specs.Given.{IsPlain}
 use Rattle.sqlite.specs.Listing.{understood}
 use Rattle.sqlite.specs.State.{State, mode_of, HasCleanDisk, Survives, Writes, Executes, CommitsBy}
 use Rattle.sqlite.proofs.Callers.{command_of, statement_of, runs_as, one_step}
-use Rattle.cs_store.specs.Records.{record_table, record_schema, HoldsRecords, Sets, same_bytes, is_under, GoesOn, KeepsCrash}
+use Rattle.cs_store.specs.Records.{record_table, record_schema, HoldsRecords, Sets, is_under, GoesOn, KeepsCrash}
 use Rattle.cs_store.proofs.FoundRows.{find_passes}
 use Rattle.cs_store.proofs.QueryTexts.{find_query}
-use Rattle.cs_store.proofs.RowLaws.{IsRecordRow, record_row, equal_texts, equal_blobs, IsUnder}
+use Rattle.cs_store.proofs.RowLaws.{record_row, IsUnder}
 use Rattle.cs_store.proofs.EditLaws.{has_own, left_apart, edit_sets}
 use Rattle.cs_store.proofs.StatementLaws.{went, same_value, inside_keeps_crash, write_goes_on}
 

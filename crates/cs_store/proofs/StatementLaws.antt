@@ -1,5 +1,5 @@
 -- What a statement leaves where it is refused, and what a known one may commit.
-use Rattle.std.proofs.Common.{◌≡◌, ◌≢◌, ◌⊎◌, ◌||◌, inl, inr, ℕ, ◌≤◌, Option, List, [], length, append-nil, Bool, true, false, None, Ok, Err, Result, IsTrue, OnErr, if◌then◌else◌, sym, ap, subst, subst₂, ◌∙◌, arith}
+use Rattle.std.proofs.Common.{◌≡◌, ◌≢◌, ◌⊎◌, ◌||◌, inl, inr, ℕ, ◌≤◌, Option, List, [], length, append-nil, Bool, true, false, None, Ok, Err, Result, IsTrue, if◌then◌else◌, sym, ap, subst, subst₂, ◌∙◌, arith}
 use Rattle.std.proofs.lemmas.Bool.{cases_Bool, both_ways}
 use Rattle.sqlite_value.specs.Order.{Row}
 use Rattle.sqlite_trees.specs.Tree.{Trees}
@@ -21,16 +21,18 @@ use Rattle.cs_store.specs.Records.{Rests, KeepsCrash, GoesOn, IsUndone}
 
 -- ---- for each text
 
-not_run_rests : (sql : List ℕ) (params : Row) (old new : State) (e : Error) → IsNotRun old new sql params e → Rests old new
+-- a statement that did not run leaves the connection as it was, or rolled back
+pub not_run_rests : (sql : List ℕ) (params : Row) (old new : State) (e : Error) → IsNotRun old new sql params e → Rests old new
 unfolding IsNotRun
 not_run_rests sql params old new e (inl no_statement) = inl no_statement.1
 not_run_rests sql params old new e (inr fails) = inr fails.3
 
-command_rests : (sql : List ℕ) (params : Row) (old new : State) (c : Compiled) (e : Error) → RunsCommand old new sql c params (Err e) → Rests old new
+-- and so does a command that is refused
+pub command_rests : (sql : List ℕ) (params : Row) (old new : State) (c : Compiled) (e : Error) → RunsCommand old new sql c params (Err e) → Rests old new
 command_rests sql params old new c e (inl refused) = inl refused.1
 command_rests sql params old new c e (inr fails) = inr fails.3
 
--- a statement that is refused leaves the connection as it was, or rolled back
+-- and so each statement that is refused
 pub refusal_rests : (sql : List ℕ) (params : Row) (old new : State) (e : Error) → Executes sql params old new (Err e) → Rests old new
 unfolding ExecutesIn
 refusal_rests sql params old new e (inl not_run) = not_run_rests sql params old new e not_run
