@@ -59,15 +59,18 @@ has_own row x = rw x.is (same_as_itself x.number)
 abbrev Apart : Row → Row → Type 0
 Apart a b = rowid a ≢ rowid b
 
+-- no row has the rowid of a row whose rowid is free
 not_taken : (rows : List Row) (new : Row) → is_taken rows new ≡ false → AllByRecursion (λ r. Apart r new) rows
 not_taken [] new free = tt
 not_taken (r ∷ rows) new free =
     let parts = or_parts _ _ free in
     (λ same. both_ways _ parts.0 (ap is_eq (ap (λ v. value_cmp v (rowid new)) same ∙ tied_itself value_cmp_total (rowid new))), not_taken rows new parts.1)
 
+-- a row that is put among rows, by how it compares with the first
 abbrev Put : Ordering → Row → Row → List Row → List Row
 Put o new r rows = match_ordering o (r ∷ put_row new rows) (new ∷ rows) (new ∷ r ∷ rows)
 
+-- rowids that differ differ either way
 apart_back : (new : Row) (rows : List Row) → AllByRecursion (λ r. Apart r new) rows → AllByRecursion (λ r. Apart new r) rows
 apart_back new [] h = tt
 apart_back new (r ∷ rows) h = (λ same. h.0 (sym same), apart_back new rows h.1)
@@ -81,6 +84,7 @@ put_apart new (r ∷ rows) free up = elim (value_cmp (rowid r) (rowid new)) as (
   | Greater ↦ (apart_back new (r ∷ rows) free, up)
 ]
 
+-- and so do rows that are put one after the other
 put_all_apart : (news rows : List Row) → are_fresh rows news ≡ true → IsAscending Apart rows → IsAscending Apart (put_all rows news)
 put_all_apart [] rows fresh up = up
 put_all_apart (n ∷ news) rows fresh up =
@@ -102,6 +106,7 @@ left_kept [] rows row has so = has
 left_kept (i ∷ ids) rows row has so =
     left_kept ids (without_rowid i rows) row (has_kept (λ r. not (has_rowid i r)) rows row has (ap not (so i (inl refl)))) (λ id later. so id (inr later))
 
+-- what is left has rowids that differ
 left_ascending : (ids : List ℤ) (rows : List Row) → IsAscending Apart rows → IsAscending Apart (without_all rows ids)
 left_ascending [] rows up = up
 left_ascending (i ∷ ids) rows up = left_ascending ids (without_rowid i rows) (ascending-filter Apart (λ r. not (has_rowid i r)) rows up)
@@ -133,6 +138,7 @@ under_once t k tab key row other under = false_from_ne_true _ (λ also.
     let keys : same_bytes k key ≡ true = subst (λ s. same_bytes k s ≡ true) (sym a.1 ∙ b.1) (same_itself k) in
     both_ways _ other (rw (tabs, keys)))
 
+-- so under another name or key stands what stood there
 elsewhere : (old new : List Row) (tab key : List ℕ) (here : Option (List ℕ)) → Changes old new tab key here → (t k : List ℕ) → (same_bytes t tab && same_bytes k key) ≡ false
     → (o : Option (List ℕ)) → IsUnder old t k o → IsUnder new t k o
 elsewhere old new tab key here c t k other None h = λ row has. false_from_ne_true _ (λ under. both_ways _ (h row (c.was row has (under_once t k tab key row other under))) under)
@@ -160,12 +166,14 @@ pub record Replaces (rows : List Row) (tab key : List ℕ) (here : Option (List 
   pub set : IsUnder (put_all (without_all rows gone) news) tab key here
 
 module _ (db : Database) (holds : HoldsRecords db) (tab key : List ℕ) (here : Option (List ℕ)) (next : List Row) (edit : Replaces (db.trees 0) tab key here next) where
+  -- a row of another record is not taken out
   untaken : (row : Row) → Has (db.trees 0) row → is_under tab key row ≡ false → (id : ℤ) → Has edit.gone id → has_rowid id row ≡ false
   untaken row has other id there = false_from_ne_true _ (λ same.
       let it = edit.taken id there in
       let one = one_number db row it.0 holds has it.1 (number_is db row id holds has same ∙ sym it.3) in
       both_ways _ other (subst (λ r. is_under tab key r ≡ true) (sym one) it.2))
 
+  -- so the other rows stay
   replaced : Changes (db.trees 0) next tab key here
   replaced =
       let left = without_all (db.trees 0) edit.gone in

@@ -31,29 +31,33 @@ use Rattle.cs_store.proofs.RowLaws.{record_row, IsUnder}
 use Rattle.cs_store.proofs.EditLaws.{has_own, left_apart, edit_sets}
 use Rattle.cs_store.proofs.StatementLaws.{went, same_value, inside_keeps_crash, write_goes_on}
 
-abbrev pub remove_text : List ℕ
+abbrev remove_text : List ℕ
 remove_text = codes "DELETE FROM rec WHERE tab = ?1 AND keyb = ?2"
 
 -- the row has the name and the key that are the first two parameters
 abbrev at_key : List Term
 at_key = find_query.filter
 
+-- the rowids of those rows
 abbrev key_query : Query
 key_query = record find_query { project = col 1 0 ∷ [] }
 
-abbrev pub remove_command : Command
+-- what the text means
+abbrev remove_command : Command
 remove_command = Delete 0 (record { lets = []; body = key_query })
 
+-- the text means that command
 remove_is : command_of (understood record_schema remove_text) ≡ remove_command
 unfolding understood everything
 remove_is = refl
 
+-- with no RETURNING
 remove_plain : IsPlain (understood record_schema remove_text)
 unfolding understood everything
 remove_plain = (refl, refl)
 
 -- the removal writes as its command says
-pub remove_writes : (old new : State) (params : Row) (count : ℕ) → old.now.schema ≡ record_schema → Executes remove_text params old new (Ok count)
+remove_writes : (old new : State) (params : Row) (count : ℕ) → old.now.schema ≡ record_schema → Executes remove_text params old new (Ok count)
     → Writes old new None remove_command (statement_of remove_text (understood record_schema remove_text)) params count
 remove_writes old new params count has h = runs_as remove_text params old new record_schema has remove_command remove_is remove_plain count h
 

@@ -60,23 +60,29 @@ source = Values (lit Null ∷ col 0 0 ∷ col 0 1 ∷ col 0 2 ∷ []) 4
 abbrev update_query : Query
 update_query = plain_query (op2 (Compare Eq Binary) (col 1 0) (col 0 3) ∷ []) (col 1 0 ∷ col 1 0 ∷ col 1 1 ∷ col 1 2 ∷ col 0 2 ∷ []) []
 
+-- that query alone
 abbrev update_program : Program
 update_program = record { lets = []; body = update_query }
 
+-- on a row with the same name and key, the update
 abbrev clause : Upsert
 clause = record { target = Some (1 ∷ 2 ∷ []); update = Some update_program }
 
+-- what the text means
 abbrev set_command : Command
 set_command = InsertOr 0 Abort source (clause ∷ [])
 
+-- the text means that command
 set_is : command_of (understood record_schema set_text) ≡ set_command
 unfolding understood everything
 set_is = refl
 
+-- with no RETURNING
 set_plain : IsPlain (understood record_schema set_text)
 unfolding understood everything
 set_plain = (refl, refl)
 
+-- the statement writes as its command says
 set_writes : (old new : State) (params : Row) (count : ℕ) → old.now.schema ≡ record_schema → Executes set_text params old new (Ok count)
     → Writes old new None set_command (statement_of set_text (understood record_schema set_text)) params count
 set_writes old new params count has h = runs_as set_text params old new record_schema has set_command set_is set_plain count h
@@ -96,6 +102,7 @@ set_keeps_crash params = inside_keeps_crash set_text params record_schema set_co
 abbrev record_at : ℤ → List ℕ → List ℕ → List ℕ → Row
 record_at n tab key value = Int n ∷ Text tab ∷ Blob key ∷ Blob value ∷ []
 
+-- a choice of one value
 either : (b : Bool) (x : Value) → cond b x x ≡ x
 either true x = refl
 either false x = refl
@@ -109,14 +116,17 @@ cast_null : cast Integer Null ≡ Null
 unfolding unary
 cast_null = either _ Null
 
+-- a record is stored as it is
 cast_record : (n : ℤ) (tab key value : List ℕ) → cast_row record_table (record_at n tab key value) ≡ record_at n tab key value
 cast_record n tab key value = ap (λ v. v ∷ Text tab ∷ Blob key ∷ Blob value ∷ []) (cast_number n)
 
+-- and takes the next number
 numbered_record : (rows : List Row) (tab key value : List ℕ)
     → with_rowid Chosen rows (cast_row record_table (Null ∷ Text tab ∷ Blob key ∷ Blob value ∷ [])) ≡ record_at (next_rowid rows) tab key value
 numbered_record rows tab key value = ap (λ v. with_rowid Chosen rows (v ∷ Text tab ∷ Blob key ∷ Blob value ∷ [])) cast_null
 
 module _ (limit : Option ℕ) (keys : Keys) (tab key value : List ℕ) where
+  -- what the statement reads
   abbrev task : Task
   task = record { limit = limit; keys = keys; schema = record_schema; table = record_table; params = Text tab ∷ Blob key ∷ Blob value ∷ [] }
 
@@ -160,6 +170,7 @@ module _ (limit : Option ℕ) (keys : Keys) (tab key value : List ℕ) where
       let found : rowid row ≡ Int x.number = ap rowid x.is in
       own ∙ ap Int (same_number y.number x.number (sym (passes_number n there other y.number x.number own (same ∙ found)) ∙ passes)) ∙ sym found
 
+  -- and that row passes
   passes_own : (n : ℤ) (there row : Row) → IsRecordRow row → rowid there ≡ rowid row → passes_where update_query (update_params n there) row ≡ true
   passes_own n there row x same =
       let found : rowid row ≡ Int x.number = ap rowid x.is in
@@ -171,6 +182,7 @@ module _ (limit : Option ℕ) (keys : Keys) (tab key value : List ℕ) where
 
   module _ (n : ℤ) (db : Database) (holds : HoldsRecords db) (there row : Row) (has : Has (db.trees 0) row) (is : there ≡ rowid row ∷ []) (rows : List Row)
       (asked : ShowsChosen update_query (db.trees 0) (update_params n there) rows) where
+    -- the rowid that was found is the row's
     given_rowid : rowid there ≡ rowid row
     given_rowid = ap rowid is
 
@@ -240,6 +252,7 @@ module _ (limit : Option ℕ) (keys : Keys) (tab key value : List ℕ) where
   clears n db one [] put = put
   clears n db one (row ∷ more) put = put
 
+  -- with no row in its way the row is put in, and else that row is updated
   upserts : (n : ℤ) (db : Database) (one : Written) → HoldsRecords db → Upserts task Abort (record_at n tab key value) db.trees (clause ∷ []) (Ok one)
       → Replaces (db.trees 0) tab key (Some value) (one.trees 0)
   upserts n db one holds ([], found, otherwise) = puts n db.trees one (clears n db.trees one otherwise.0 otherwise.2)
@@ -247,12 +260,14 @@ module _ (limit : Option ℕ) (keys : Keys) (tab key value : List ℕ) where
       let it = found.sound there (inl refl) in
       updates n db there one holds it.0 it.1 (sym (in_the_way n it.0 (record_row db it.0 holds it.1)) ∙ it.2) it.3 update
 
+  -- a row that is tried is not refused
   tries : (n : ℤ) (db : Database) (one : Written) → HoldsRecords db → Tries task Abort (clause ∷ []) (record_at n tab key value) db.trees (Ok one)
       → Replaces (db.trees 0) tab key (Some value) (one.trees 0)
   tries n db one holds (inl no_number) = absurd (let e = no_number.1 in cc)
   tries n db one holds (inr (None, judged, upsert)) = upserts n db one holds upsert
   tries n db one holds (inr (Some why, judged, refused)) = absurd (cc)
 
+  -- one row is tried
   tries_each : (db : Database) (done : Written × ℤ) (top : ℤ) → HoldsRecords db
       → TriesEach task Abort (clause ∷ []) ((Null ∷ Text tab ∷ Blob key ∷ Blob value ∷ []) ∷ []) top (nothing db.trees) (Ok done) → Replaces (db.trees 0) tab key (Some value) (done.0.trees 0)
   tries_each db done top holds h =

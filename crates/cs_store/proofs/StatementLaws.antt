@@ -48,10 +48,12 @@ abbrev pub IsWhole : List ℕ → ℕ → Result Compiled CompileError → Type 
 IsWhole sql count (Ok c) = (length sql ≤ c.tail) × (count ≡ length c.names) × (c.formats ≡ [])
 IsWhole sql count (Err e) = ⊥
 
+-- so it is understood
 no_fault : (sql : List ℕ) (count : ℕ) (r : Result Compiled CompileError) (fault : CompileError) → IsWhole sql count r → r ≢ Err fault
 no_fault sql count (Ok c) fault whole e = absurd (cc)
 no_fault sql count (Err other) fault whole e = whole
 
+-- and it is run
 is_statement : (s : State) (sql : List ℕ) (params : Row) (e : Error) → IsWhole sql (length params) (understood s.now.schema sql) → ¬ IsNoStatement s sql params e
 is_statement s sql params e whole (inl fault) = no_fault sql (length params) _ fault.0 whole fault.1
 is_statement s sql params e whole (inr it) =
@@ -62,6 +64,7 @@ is_statement s sql params e whole (inr it) =
       | inr (inr time) ↦ time.0 known.2
     ]
 
+-- a command that shows no rows shows none without RETURNING
 quiet_is : (a b : Bool) → a || b ≡ false → a || (b || false) ≡ false
 quiet_is true b e = e
 quiet_is false true e = e
@@ -121,5 +124,6 @@ pub went : {B E R : Type 0} {b : B} {Stops : E → Type 0} → ((stop : E) × St
 went (inl stopped) = absurd (let e = stopped.2 in cc)
 went (inr further) = further
 
+-- what two values that are given alike say
 pub same_value : {B E : Type 0} {a b : B} → ◌≡◌ {A = Result B E} (Ok a) (Ok b) → a ≡ b
 same_value e = cc

@@ -17,25 +17,31 @@ use Rattle.cs_store.proofs.StatementLaws.{went, same_value, inside_keeps_crash, 
 abbrev create_text : List ℕ
 create_text = codes "CREATE TABLE IF NOT EXISTS rec(tab TEXT NOT NULL, keyb BLOB NOT NULL, rowb BLOB NOT NULL, PRIMARY KEY(tab, keyb)) STRICT"
 
+-- the text makes a table where none is
 create_is : command_of (understood empty_schema create_text) ≡ CreateTable
 unfolding understood everything
 create_is = refl
 
+-- the statement is the whole text
 create_whole : statement_of create_text (understood empty_schema create_text) ≡ create_text
 unfolding understood everything
 create_whole = refl
 
+-- with no RETURNING
 create_plain : IsPlain (understood empty_schema create_text)
 unfolding understood everything
 create_plain = (refl, refl)
 
+-- it defines the table of records
 defines : table_defined_by create_text ≡ Ok record_table
 unfolding understood everything
 defines = refl
 
+-- the statement writes as its command says
 writes : (old new : State) (count : ℕ) → old.now.schema ≡ empty_schema → Executes create_text [] old new (Ok count) → Writes old new None CreateTable create_text [] count
 writes old new count has h = subst (λ text. Writes old new None CreateTable text [] count) create_whole (runs_as create_text [] old new empty_schema has CreateTable create_is create_plain count h)
 
+-- no rows are numbered
 none_numbered : (rows : List Row) → rows ≡ [] → AreNumbered rows
 none_numbered rows none = rw none (record { each = tt; once = λ i j d less most. absurd (omega arith) })
 

@@ -23,6 +23,7 @@ commit_text = codes "COMMIT"
 abbrev roll_back_text : List ℕ
 roll_back_text = codes "ROLLBACK"
 
+-- what the texts mean
 module _ (schema : Schema) where
   begin_is : command_of (understood schema begin_text) ≡ Begin
   unfolding understood everything
