@@ -5,3 +5,4 @@ pub mod AnswerLaws
 pub mod OrderLaws
 pub mod FoundRows
 pub mod ListedRows
+pub mod NumberedRows

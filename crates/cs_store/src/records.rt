@@ -230,6 +230,7 @@ fn is_above(last: Option<i64>, number: i64) -> bool
 
 fn are_rising(rows: &[Row]) -> Result<bool, StoreError>
     ensures rising { IfOk result (λ yes. IsTrue yes → AreRisingNumbers rows.now) }
+    ensures falls { IfOk result (λ yes. yes ≡ false → ¬ AreRisingNumbers rows.now) }
     ensures refused { IfErr result IsResource }
 {
     let mut last: Option<i64> = None;
@@ -247,6 +248,8 @@ fn are_rising(rows: &[Row]) -> Result<bool, StoreError>
 pub(crate) fn has_row_numbers<S: Alter>(conn: &mut Connection<S>) -> Result<bool, StoreError>
     ensures numbered { HasCleanDisk (state S.Store conn.new) → (state S.Store conn.old).now.schema ≡ record_schema → IsDatabase (state S.Store conn.old).now
         → IfOk result (λ yes. IsTrue yes → AreNumbered ((state S.Store conn.old).now.trees 0)) }
+    ensures unnumbered { HasCleanDisk (state S.Store conn.new) → (state S.Store conn.old).now.schema ≡ record_schema → IsDatabase (state S.Store conn.old).now
+        → IfOk result (λ yes. yes ≡ false → ¬ AreNumbered ((state S.Store conn.old).now.trees 0)) }
     ensures reads { HasCleanDisk (state S.Store conn.new) → OnOk result (IsUnchanged (state S.Store conn.old) (state S.Store conn.new)) }
     ensures refused { IfErr result IsResource }
     ensures rests { HasCleanDisk (state S.Store conn.new) → OnErr result (Rests (state S.Store conn.old) (state S.Store conn.new)) }
