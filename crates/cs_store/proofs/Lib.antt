@@ -2,6 +2,7 @@ pub mod AnswerLaws
 pub mod EditLaws
 pub mod FoundRows
 pub mod ListedRows
+pub mod NumberedRows
 pub mod OrderLaws
 pub mod QueryLaws
 pub mod QueryTexts

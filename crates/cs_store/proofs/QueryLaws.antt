@@ -1,5 +1,5 @@
 -- Texts that ask for nothing but rows: a call of one changes nothing, and a failure of one leaves the database or takes it back.
-use Rattle.std.proofs.Common.{◌≡◌, inl, inr, ℕ, List, Option, Some, None, Result, Ok, Err, IsSome, OnErr, subst}
+use Rattle.std.proofs.Common.{◌≡◌, inl, inr, ℕ, List, Option, Some, None, Result, Ok, Err, IsSome, IfOk, OnErr, subst}
 use Rattle.sqlite_value.specs.Order.{Row}
 use Rattle.sqlite_schema.specs.declared.command.Returning.{Returning}
 use Rattle.sqlite_resolve.specs.declared.compiled.Compiled.{Compiled}
@@ -35,7 +35,11 @@ unfolding FailsToQuery
 fails_rests sql params old new e (inl not_run) = not_run_rests sql params old new e not_run
 fails_rests sql params old new e (inr shown) = show_rests old new sql shown.0 (timed params shown.0.formats shown.1.now) e shown.0.returning shown.2
 
--- what holds of each failure holds of this one
+-- a fact under a failure, and what follows under a value
 pub on_err : {X E : Type 0} (r : Result X E) (P : Type 0) → P → OnErr r P
 on_err (Ok x) P h = tt
 on_err (Err e) P h = h
+
+pub if_ok : {X E : Type 0} (r : Result X E) (P Q : X → Type 0) → ((x : X) → P x → Q x) → IfOk r P → IfOk r Q
+if_ok (Ok x) P Q so h = so x h
+if_ok (Err e) P Q so h = tt

@@ -1,6 +1,6 @@
 //! The table of records, one statement at a time: a record has the name of a table, a key and a
 //! value. A call that is refused leaves the database as it was, or takes it back to its last commit.
-ghost use Rattle.std.specs.Prelude.{◌≡◌, [], false, Some, None, option_map, map, IsTrue, IfOk, IfErr, OnOk, OnErr};
+ghost use Rattle.std.specs.Prelude.{◌≡◌, [], false, Some, None, option_map, map, IsTrue, IfOk, IfErr, IfSome, OnOk, OnErr, ◌↔◌, ◌<ℤ◌};
 ghost use Rattle.sqlite.specs.Effect.{IsDatabase};
 ghost use Rattle.sqlite.specs.State.{HasCleanDisk, IsUnchanged, Shown, Survives};
 ghost use Rattle.sqlite.specs.Held.{state};
@@ -219,17 +219,25 @@ pub(crate) fn all_records<S: Alter>(
     record_rows(alloc, rows.as_slice())
 }
 
+fn is_above(last: Option<i64>, number: i64) -> bool
+    ensures { IsTrue result ↔ IfSome last (λ before. before <ℤ number) }
+{
+    match last {
+        Some(before) => before < number,
+        None => true,
+    }
+}
+
 fn are_rising(rows: &[Row]) -> Result<bool, StoreError>
     ensures rising { IfOk result (λ yes. IsTrue yes → AreRisingNumbers rows.now) }
+    ensures falls { IfOk result (λ yes. yes ≡ false → ¬ AreRisingNumbers rows.now) }
     ensures refused { IfErr result IsResource }
 {
     let mut last: Option<i64> = None;
     for row in rows {
         let number: i64 = row.get(0)?;
-        if let Some(before) = last {
-            if number <= before {
-                return Ok(false);
-            }
+        if !is_above(last, number) {
+            return Ok(false);
         }
         last = Some(number);
     }
@@ -240,6 +248,8 @@ fn are_rising(rows: &[Row]) -> Result<bool, StoreError>
 pub(crate) fn has_row_numbers<S: Alter>(conn: &mut Connection<S>) -> Result<bool, StoreError>
     ensures numbered { HasCleanDisk (state S.Store conn.new) → (state S.Store conn.old).now.schema ≡ record_schema → IsDatabase (state S.Store conn.old).now
         → IfOk result (λ yes. IsTrue yes → AreNumbered ((state S.Store conn.old).now.trees 0)) }
+    ensures unnumbered { HasCleanDisk (state S.Store conn.new) → (state S.Store conn.old).now.schema ≡ record_schema → IsDatabase (state S.Store conn.old).now
+        → IfOk result (λ yes. yes ≡ false → ¬ AreNumbered ((state S.Store conn.old).now.trees 0)) }
     ensures reads { HasCleanDisk (state S.Store conn.new) → OnOk result (IsUnchanged (state S.Store conn.old) (state S.Store conn.new)) }
     ensures refused { IfErr result IsResource }
     ensures rests { HasCleanDisk (state S.Store conn.new) → OnErr result (Rests (state S.Store conn.old) (state S.Store conn.new)) }
