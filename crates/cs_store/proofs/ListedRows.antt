@@ -1,31 +1,31 @@
 -- What the queries for many records show: those under a name by their key, and all by their name and key.
-use Rattle.std.proofs.Common.{◌≡◌, ◌≢◌, ℕ, ◌&&◌, Bool, true, false, cond, List, [], ◌∷◌, map, filter, find, option_map, Option, Some, None, IsTrue, inl, inr, refl, sym, ap, subst, ◌∙◌}
+use Rattle.std.proofs.Common.{◌≡◌, ℕ, ◌&&◌, Bool, true, false, cond, List, [], ◌∷◌, map, filter, find, option_map, Option, Some, IsTrue, refl, sym, ap, subst, ◌∙◌}
 use Rattle.std.specs.List.{AllByRecursion}
 use Rattle.std.specs.List.Sorted.{IsPermutation}
 use Rattle.std.specs.Cmp.{IsTotalOrder}
 use Rattle.std.specs.Cmp.Lexicographic.{slice_cmp, texts_ties}
-use Rattle.std.specs.Ordering.{nat_cmp, is_lt, is_eq, on, then_cmp, ordering_then}
+use Rattle.std.specs.Ordering.{nat_cmp, is_lt}
 use Rattle.std.specs.declared.cmp.Ordering.{Ordering}
-use Rattle.std.specs.declared.cmp.Ordering.TheVariants.{Less, Equal, Greater}
+use Rattle.std.specs.declared.cmp.Ordering.TheVariants.{Less, Equal}
 use Rattle.std.specs.FinMap.{is_sorted, find as find_entry}
 use Rattle.std.specs.FinMap.Entries.{below_all}
 use Rattle.std.proofs.Math.Bool.{and-true}
 use Rattle.std.proofs.lemmas.Bool.{and_from}
 use Rattle.std.proofs.lemmas.List.Sorted.{IsPermutation-sym}
 use Rattle.std.proofs.lemmas.Cmp.{nat_list_cmp_total, nat_list_eq_equiv, on_total, then_total}
-use Rattle.sqlite_value.specs.declared.value.Value.TheVariants.{Text, Blob}
-use Rattle.sqlite_value.specs.Order.{Row, column, value_cmp}
+use Rattle.sqlite_value.specs.declared.value.Value.TheVariants.{Text}
+use Rattle.sqlite_value.specs.Order.{Row, column}
 use Rattle.sqlite_value.proofs.OrderLemmas.{value_cmp-Text, value_cmp-Blob, then-Equal}
 use Rattle.sqlite_trees.specs.Tree.{IsAscending}
 use Rattle.sqlite_trees.proofs.ListLemmas.{map-map, filter_all, filter_same, all_weaker, all_of, ascending-map}
 use Rattle.sqlite_rules.specs.Lists.{Has}
-use Rattle.sqlite_rules.proofs.ListLemmas.{all_has, all_from, has_filtered, has_kept}
+use Rattle.sqlite_rules.proofs.ListLemmas.{all_has, all_from, has_filtered}
 use Rattle.sqlite.specs.State.{State, Shown}
 use Rattle.cs_store.specs.Records.{RecordData, HoldsRecords, ListsTable, ListsAll, is_under, same_bytes, content, record_cmp, records_of, records_in, shown_keyed, shown_record}
-use Rattle.cs_store.proofs.RowLaws.{IsRecordRow, AreRecords, HaveOneKey, same_is, same_itself, are_records, records_filtered, records_permuted, records_of-permutation, records_of-filter, ascending_of_members, pairs_from_ascending, has_permuted}
+use Rattle.cs_store.proofs.RowLaws.{IsRecordRow, AreRecords, HaveOneKey, same_is, are_records, records_filtered, records_permuted, records_of-permutation, records_of-filter, ascending_of_members, pairs_from_ascending, has_permuted}
 use Rattle.cs_store.proofs.OrderLaws.{tied_bytes, both_tied, below_from, ascending_both}
 use Rattle.cs_store.proofs.QueryTexts.{list_text, list_query, list_asks, all_text, all_query, all_asks}
-use Rattle.cs_store.proofs.AnswerLaws.{passes_where, sorts, ShowsChosen, shows_chosen}
+use Rattle.cs_store.proofs.AnswerLaws.{passes_where, sorts, shows_chosen}
 use Rattle.cs_store.proofs.FoundRows.{name_passes}
 
 -- rows of records that are in order rise, where rows that tie in that order have one key

@@ -1,5 +1,5 @@
 -- Numbers that rise along what the query for them shows, and what they say of the rows of the table.
-use Rattle.std.proofs.Common.{◌≡◌, ◌≢◌, ℕ, suc, ◌+◌, ◌<◌, ℤ, ◌<ℤ◌, ◌≤ℤ◌, true, false, List, [], ◌∷◌, ◌++◌, length, get_or, take, drop, map, filter, Option, Some, None, IfSome, inl, inr, refl, sym, ap, subst, ◌∙◌, arith}
+use Rattle.std.proofs.Common.{◌≡◌, ◌≢◌, ℕ, suc, ◌+◌, ◌<◌, ℤ, ◌<ℤ◌, ◌≤ℤ◌, false, List, [], ◌∷◌, ◌++◌, length, get_or, take, drop, map, Option, Some, None, IfSome, inl, inr, refl, sym, ap, subst, ◌∙◌, arith}
 use Rattle.std.specs.List.{AllByRecursion}
 use Rattle.std.specs.List.Sorted.{IsPermutation}
 use Rattle.std.specs.Ordering.{int_cmp, is_lt, MatchOrdering}
@@ -10,7 +10,6 @@ use Rattle.std.proofs.lemmas.Cmp.{int_ranked, tied_itself}
 use Rattle.std.proofs.lemmas.List.Sorted.{IsPermutation-sym}
 use Rattle.std.proofs.lemmas.List.{take-append-drop, take_more}
 use Rattle.std.proofs.Math.Seq.{drop-cons}
-use Rattle.sqlite_value.specs.declared.value.Value.{Value}
 use Rattle.sqlite_value.specs.declared.value.Value.TheVariants.{Int}
 use Rattle.sqlite_value.specs.Order.{Row, column, value_cmp}
 use Rattle.sqlite_value.proofs.OrderLemmas.{value_cmp-Int, value_cmp_total, then-Equal}
@@ -24,7 +23,7 @@ use Rattle.cs_store.specs.Records.{record_schema, AreNumbered, AreRisingNumbers}
 use Rattle.cs_store.proofs.RowLaws.{ascending_from_pairs, pairs_from_ascending, ascending-permutation, ascending_of_members}
 use Rattle.cs_store.proofs.OrderLaws.{below_from, ascending_both}
 use Rattle.cs_store.proofs.QueryTexts.{number_text, number_query, number_asks}
-use Rattle.cs_store.proofs.AnswerLaws.{passes_where, shown_of, sorts, ShowsChosen, shows_chosen}
+use Rattle.cs_store.proofs.AnswerLaws.{passes_where, sorts, ShowsChosen, shows_chosen}
 
 -- ---- numbers
 

@@ -15,7 +15,7 @@ use Rattle.sqlite_schema.specs.declared.schema.Schema.{Schema}
 use Rattle.sqlite_schema.specs.declared.command.Command.{Command}
 use Rattle.sqlite_schema.specs.declared.command.Command.TheVariants.{Select}
 use Rattle.sqlite_resolve.specs.Lowering.{Checked, and_then}
-use Rattle.sqlite_resolve.specs.Compile.{first, command, returning, meaning, planned, compiled, with_command}
+use Rattle.sqlite_resolve.specs.Compile.{first, returning, meaning, planned, compiled, with_command}
 use Rattle.sqlite_resolve.specs.declared.compiled.Compiled.{Compiled}
 use Rattle.sqlite_resolve.specs.declared.error.CompileError.{CompileError}
 use Rattle.sqlite_resolve.specs.declared.error.CompileError.TheVariants.{NoSuchTable}
@@ -96,8 +96,12 @@ equals a b = op2 (Compare Eq Binary) a b
 abbrev pub find_text : List ℕ
 find_text = codes "SELECT rowb FROM rec WHERE tab = ?1 AND keyb = ?2"
 
+-- the name and the key are the first two parameters
+abbrev pub at_key : List Term
+at_key = equals (col 1 1) (col 0 0) ∷ equals (col 1 2) (col 0 1) ∷ []
+
 abbrev pub find_query : Query
-find_query = plain_query (equals (col 1 1) (col 0 0) ∷ equals (col 1 2) (col 0 1) ∷ []) (col 1 3 ∷ []) []
+find_query = plain_query at_key (col 1 3 ∷ []) []
 
 pub find_asks : Asks find_text find_query
 unfolding understood first everything

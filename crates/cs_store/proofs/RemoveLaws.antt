@@ -25,8 +25,8 @@ use Rattle.sqlite.specs.Listing.{understood}
 use Rattle.sqlite.specs.State.{State, mode_of, HasCleanDisk, Survives, Writes, Executes, CommitsBy}
 use Rattle.sqlite.proofs.Callers.{command_of, statement_of, runs_as, one_step}
 use Rattle.cs_store.specs.Records.{record_table, record_schema, HoldsRecords, Sets, is_under, GoesOn, KeepsCrash}
-use Rattle.cs_store.proofs.FoundRows.{find_passes}
-use Rattle.cs_store.proofs.QueryTexts.{find_query}
+use Rattle.cs_store.proofs.FoundRows.{at_key_passes}
+use Rattle.cs_store.proofs.QueryTexts.{plain_query, at_key}
 use Rattle.cs_store.proofs.RowLaws.{record_row, IsUnder}
 use Rattle.cs_store.proofs.EditLaws.{has_own, left_apart, edit_sets}
 use Rattle.cs_store.proofs.StatementLaws.{went, same_value, inside_keeps_crash, write_goes_on}
@@ -34,13 +34,9 @@ use Rattle.cs_store.proofs.StatementLaws.{went, same_value, inside_keeps_crash, 
 abbrev remove_text : List ℕ
 remove_text = codes "DELETE FROM rec WHERE tab = ?1 AND keyb = ?2"
 
--- the row has the name and the key that are the first two parameters
-abbrev at_key : List Term
-at_key = find_query.filter
-
--- the rowids of those rows
+-- the rowids of the rows with the name and the key that are the first two parameters
 abbrev key_query : Query
-key_query = record find_query { project = col 1 0 ∷ [] }
+key_query = plain_query at_key (col 1 0 ∷ []) []
 
 -- what the text means
 abbrev remove_command : Command
@@ -87,7 +83,7 @@ taken db holds tab key found are id there =
     let x = record_row db of.0 holds of.1 in
     let number : rowid of.0 ≡ Int x.number = ap rowid x.is in
     let same : x.number ≡ id = sym (it.2 ∙ ap (λ r. id_in (rowid r)) of.3 ∙ ap id_in number) in
-    (of.0, of.1, sym (find_passes tab key of.0 x) ∙ of.2, number ∙ ap Int same)
+    (of.0, of.1, sym (at_key_passes tab key [] of.0 x) ∙ of.2, number ∙ ap Int same)
 
 -- and no such row is left
 none_left : (db : Database) → HoldsRecords db → (tab key : List ℕ) (found : List Row) → AreFound at_key (db.trees 0) (Text tab ∷ Blob key ∷ []) found
@@ -95,7 +91,7 @@ none_left : (db : Database) → HoldsRecords db → (tab key : List ℕ) (found 
 none_left db holds tab key found are row left = false_from_ne_true _ (λ under.
     let has = without_all_has (ids_of found) (db.trees 0) row left in
     let x = record_row db row holds has in
-    let there = mapped_has (λ r. id_in (rowid r)) found (rowid row ∷ []) (are.complete row has (find_passes tab key row x ∙ under)) in
+    let there = mapped_has (λ r. id_in (rowid r)) found (rowid row ∷ []) (are.complete row has (at_key_passes tab key [] row x ∙ under)) in
     both_ways _ (left_apart (ids_of found) (db.trees 0) row (id_in (rowid row)) there left) (has_own row x))
 
 -- it removes the record under the name and the key

@@ -29,7 +29,7 @@ use Rattle.sqlite_rules.specs.Lists.{Has}
 use Rattle.sqlite_rules.proofs.ListLemmas.{all_has, all_from, some_from, has_found, has_contained, contains_had}
 use Rattle.sqlite_catalog.proofs.ListFacts.{find_within}
 use Rattle.sqlite.specs.Effect.{Database}
-use Rattle.cs_store.specs.Records.{record_table, record_schema, content, same_bytes, is_under, records_of, HoldsRecords}
+use Rattle.cs_store.specs.Records.{record_table, record_schema, content, same_bytes, is_under, records_of, records_in, HoldsRecords}
 
 -- ---- bytes that are the same
 
@@ -294,3 +294,7 @@ pub records_of-filter : (p : Row → Bool) (rows : List Row) (tab key : List ℕ
     → records_of (filter p rows) tab key ≡ records_of rows tab key
 unfolding records_of
 records_of-filter p rows tab key so = ap (option_map (λ row. content (column row 3))) (find_within (is_under tab key) p rows so)
+
+-- of a database that holds records, what stands in its rows is what it holds
+pub records_in_is : (db : Database) (tab key : List ℕ) (o : Option (List ℕ)) → HoldsRecords db → IsUnder (db.trees 0) tab key o → records_in db tab key ≡ o
+records_in_is db tab key o h under = records_is (db.trees 0) tab key o (are_records db h) under

@@ -1,12 +1,14 @@
 //! The table of records, one statement at a time: a record has the name of a table, a key and a
 //! value. A call that is refused leaves the database as it was, or takes it back to its last commit.
-ghost use Rattle.std.specs.Prelude.{◌≡◌, [], false, Some, None, option_map, map, IsTrue, IfOk, IfErr, IfSome, OnOk, OnErr, ◌↔◌, ◌<ℤ◌};
+ghost use Rattle.std.specs.Prelude.{◌≡◌, ◌↔◌, ◌<ℤ◌, [], false, Some, None, option_map, map};
+ghost use Rattle.std.specs.Prelude.{IsTrue, IfOk, IfErr, IfSome, OnOk, OnErr};
 ghost use Rattle.sqlite.specs.Effect.{IsDatabase};
 ghost use Rattle.sqlite.specs.State.{HasCleanDisk, IsUnchanged, Shown, Survives};
 ghost use Rattle.sqlite.specs.Held.{state};
 ghost use Rattle.sqlite.specs.Values.{bound};
 ghost use Rattle.cs_store.specs.Faults.{IsResource};
-ghost use Rattle.cs_store.specs.Records.{HoldsRecords, AreNumbered, record_schema, empty_schema, Sets, ListsAll, ListsTable, records_in, Rests, GoesOn, KeepsCrash, IsQuery, shown_record, shown_keyed, AreRisingNumbers};
+ghost use Rattle.cs_store.specs.Records.{HoldsRecords, Sets, ListsAll, ListsTable, records_in, Rests, GoesOn, KeepsCrash};
+ghost use Rattle.cs_store.specs.Records.{IsQuery, shown_record, shown_keyed, AreNumbered, AreRisingNumbers, record_schema, empty_schema};
 
 use crate::fault::StoreError;
 use sqlite::types::ValueRef;
@@ -55,9 +57,11 @@ fn query_rows<S: Alter>(
     requires { IsQuery sql.now }
     ensures shown { HasCleanDisk (state S.Store conn.new)
         → IfOk result (λ rows. Shown sql.now (bound params.now) (state S.Store conn.old) (state S.Store conn.new) rows.items) }
-    ensures reads { HasCleanDisk (state S.Store conn.new) → OnOk result (IsUnchanged (state S.Store conn.old) (state S.Store conn.new)) }
+    ensures reads { HasCleanDisk (state S.Store conn.new)
+        → OnOk result (IsUnchanged (state S.Store conn.old) (state S.Store conn.new)) }
     ensures refused { IfErr result IsResource }
-    ensures rests { HasCleanDisk (state S.Store conn.new) → OnErr result (Rests (state S.Store conn.old) (state S.Store conn.new)) }
+    ensures rests { HasCleanDisk (state S.Store conn.new)
+        → OnErr result (Rests (state S.Store conn.old) (state S.Store conn.new)) }
     ensures keeps_crash { KeepsCrash (state S.Store conn.old) (state S.Store conn.new) }
 {
     Ok(conn.query_all(sql, params)?)
@@ -71,11 +75,15 @@ pub(crate) fn find_record<S: Alter>(
 ) -> Result<Option<Vec<u8>>, StoreError>
     ensures found { HasCleanDisk (state S.Store conn.new) → HoldsRecords (state S.Store conn.old).now
         → IfOk result (λ o. option_map (λ v. v.items) o ≡ records_in (state S.Store conn.old).now tab.now key.now) }
-    ensures reads { HasCleanDisk (state S.Store conn.new) → OnOk result (IsUnchanged (state S.Store conn.old) (state S.Store conn.new)) }
+    ensures reads { HasCleanDisk (state S.Store conn.new)
+        → OnOk result (IsUnchanged (state S.Store conn.old) (state S.Store conn.new)) }
     ensures refused { IfErr result IsResource }
-    ensures rests { HasCleanDisk (state S.Store conn.new) → OnErr result (Rests (state S.Store conn.old) (state S.Store conn.new)) }
-    ensures inside { IsTrue (state S.Store conn.old).in_transaction → KeepsCrash (state S.Store conn.old) (state S.Store conn.new) }
-    ensures outside { (HasCleanDisk (state S.Store conn.old) → HoldsRecords (state S.Store conn.old).now) → KeepsCrash (state S.Store conn.old) (state S.Store conn.new) }
+    ensures rests { HasCleanDisk (state S.Store conn.new)
+        → OnErr result (Rests (state S.Store conn.old) (state S.Store conn.new)) }
+    ensures inside { IsTrue (state S.Store conn.old).in_transaction
+        → KeepsCrash (state S.Store conn.old) (state S.Store conn.new) }
+    ensures outside { (HasCleanDisk (state S.Store conn.old) → HoldsRecords (state S.Store conn.old).now)
+        → KeepsCrash (state S.Store conn.old) (state S.Store conn.new) }
 {
     let rows = query_rows(
         conn,
@@ -133,6 +141,7 @@ pub(crate) fn remove_record<S: Alter>(
     Ok(())
 }
 
+/// A key and a value in a row that shows them.
 fn read_keyed(row: &Row) -> Result<Keyed, StoreError>
     ensures read { IfOk result (λ keyed. keyed ≡ shown_keyed row.now) }
     ensures refused { IfErr result IsResource }
@@ -143,6 +152,7 @@ fn read_keyed(row: &Row) -> Result<Keyed, StoreError>
     })
 }
 
+/// What the rows of a listing under a name hold.
 fn keyed_rows(alloc: Global, rows: &[Row]) -> Result<Vec<Keyed>, StoreError>
     ensures read { IfOk result (λ listed. listed.items ≡ map shown_keyed rows.now) }
     ensures refused { IfErr result IsResource }
@@ -162,11 +172,15 @@ pub(crate) fn list_records<S: Alter>(
 ) -> Result<Vec<Keyed>, StoreError>
     ensures listed { HasCleanDisk (state S.Store conn.new) → HoldsRecords (state S.Store conn.old).now
         → IfOk result (λ listed. ListsTable (records_in (state S.Store conn.old).now) tab.now listed.items) }
-    ensures reads { HasCleanDisk (state S.Store conn.new) → OnOk result (IsUnchanged (state S.Store conn.old) (state S.Store conn.new)) }
+    ensures reads { HasCleanDisk (state S.Store conn.new)
+        → OnOk result (IsUnchanged (state S.Store conn.old) (state S.Store conn.new)) }
     ensures refused { IfErr result IsResource }
-    ensures rests { HasCleanDisk (state S.Store conn.new) → OnErr result (Rests (state S.Store conn.old) (state S.Store conn.new)) }
-    ensures inside { IsTrue (state S.Store conn.old).in_transaction → KeepsCrash (state S.Store conn.old) (state S.Store conn.new) }
-    ensures outside { (HasCleanDisk (state S.Store conn.old) → HoldsRecords (state S.Store conn.old).now) → KeepsCrash (state S.Store conn.old) (state S.Store conn.new) }
+    ensures rests { HasCleanDisk (state S.Store conn.new)
+        → OnErr result (Rests (state S.Store conn.old) (state S.Store conn.new)) }
+    ensures inside { IsTrue (state S.Store conn.old).in_transaction
+        → KeepsCrash (state S.Store conn.old) (state S.Store conn.new) }
+    ensures outside { (HasCleanDisk (state S.Store conn.old) → HoldsRecords (state S.Store conn.old).now)
+        → KeepsCrash (state S.Store conn.old) (state S.Store conn.new) }
 {
     let rows = query_rows(
         conn,
@@ -176,6 +190,7 @@ pub(crate) fn list_records<S: Alter>(
     keyed_rows(alloc, rows.as_slice())
 }
 
+/// A record in a row that shows one.
 fn read_record(row: &Row) -> Result<Record, StoreError>
     ensures read { IfOk result (λ r. r ≡ shown_record row.now) }
     ensures refused { IfErr result IsResource }
@@ -187,6 +202,7 @@ fn read_record(row: &Row) -> Result<Record, StoreError>
     })
 }
 
+/// What the rows of a listing of all records hold.
 fn record_rows(alloc: Global, rows: &[Row]) -> Result<Vec<Record>, StoreError>
     ensures read { IfOk result (λ listed. listed.items ≡ map shown_record rows.now) }
     ensures refused { IfErr result IsResource }
@@ -205,11 +221,15 @@ pub(crate) fn all_records<S: Alter>(
 ) -> Result<Vec<Record>, StoreError>
     ensures listed { HasCleanDisk (state S.Store conn.new) → HoldsRecords (state S.Store conn.old).now
         → IfOk result (λ listed. ListsAll (records_in (state S.Store conn.old).now) listed.items) }
-    ensures reads { HasCleanDisk (state S.Store conn.new) → OnOk result (IsUnchanged (state S.Store conn.old) (state S.Store conn.new)) }
+    ensures reads { HasCleanDisk (state S.Store conn.new)
+        → OnOk result (IsUnchanged (state S.Store conn.old) (state S.Store conn.new)) }
     ensures refused { IfErr result IsResource }
-    ensures rests { HasCleanDisk (state S.Store conn.new) → OnErr result (Rests (state S.Store conn.old) (state S.Store conn.new)) }
-    ensures inside { IsTrue (state S.Store conn.old).in_transaction → KeepsCrash (state S.Store conn.old) (state S.Store conn.new) }
-    ensures outside { (HasCleanDisk (state S.Store conn.old) → HoldsRecords (state S.Store conn.old).now) → KeepsCrash (state S.Store conn.old) (state S.Store conn.new) }
+    ensures rests { HasCleanDisk (state S.Store conn.new)
+        → OnErr result (Rests (state S.Store conn.old) (state S.Store conn.new)) }
+    ensures inside { IsTrue (state S.Store conn.old).in_transaction
+        → KeepsCrash (state S.Store conn.old) (state S.Store conn.new) }
+    ensures outside { (HasCleanDisk (state S.Store conn.old) → HoldsRecords (state S.Store conn.old).now)
+        → KeepsCrash (state S.Store conn.old) (state S.Store conn.new) }
 {
     let rows = query_rows(
         conn,
@@ -219,6 +239,7 @@ pub(crate) fn all_records<S: Alter>(
     record_rows(alloc, rows.as_slice())
 }
 
+/// Whether the number is above the last, where there was one.
 fn is_above(last: Option<i64>, number: i64) -> bool
     ensures { IsTrue result ↔ IfSome last (λ before. before <ℤ number) }
 {
@@ -228,6 +249,7 @@ fn is_above(last: Option<i64>, number: i64) -> bool
     }
 }
 
+/// Whether the rows show numbers that rise.
 fn are_rising(rows: &[Row]) -> Result<bool, StoreError>
     ensures rising { IfOk result (λ yes. IsTrue yes → AreRisingNumbers rows.now) }
     ensures falls { IfOk result (λ yes. yes ≡ false → ¬ AreRisingNumbers rows.now) }
@@ -246,15 +268,21 @@ fn are_rising(rows: &[Row]) -> Result<bool, StoreError>
 
 /// Whether each row of the table has a number, and no two the same.
 pub(crate) fn has_row_numbers<S: Alter>(conn: &mut Connection<S>) -> Result<bool, StoreError>
-    ensures numbered { HasCleanDisk (state S.Store conn.new) → (state S.Store conn.old).now.schema ≡ record_schema → IsDatabase (state S.Store conn.old).now
+    ensures numbered { HasCleanDisk (state S.Store conn.new) → (state S.Store conn.old).now.schema ≡ record_schema
+        → IsDatabase (state S.Store conn.old).now
         → IfOk result (λ yes. IsTrue yes → AreNumbered ((state S.Store conn.old).now.trees 0)) }
-    ensures unnumbered { HasCleanDisk (state S.Store conn.new) → (state S.Store conn.old).now.schema ≡ record_schema → IsDatabase (state S.Store conn.old).now
+    ensures unnumbered { HasCleanDisk (state S.Store conn.new) → (state S.Store conn.old).now.schema ≡ record_schema
+        → IsDatabase (state S.Store conn.old).now
         → IfOk result (λ yes. yes ≡ false → ¬ AreNumbered ((state S.Store conn.old).now.trees 0)) }
-    ensures reads { HasCleanDisk (state S.Store conn.new) → OnOk result (IsUnchanged (state S.Store conn.old) (state S.Store conn.new)) }
+    ensures reads { HasCleanDisk (state S.Store conn.new)
+        → OnOk result (IsUnchanged (state S.Store conn.old) (state S.Store conn.new)) }
     ensures refused { IfErr result IsResource }
-    ensures rests { HasCleanDisk (state S.Store conn.new) → OnErr result (Rests (state S.Store conn.old) (state S.Store conn.new)) }
-    ensures inside { IsTrue (state S.Store conn.old).in_transaction → KeepsCrash (state S.Store conn.old) (state S.Store conn.new) }
-    ensures outside { (HasCleanDisk (state S.Store conn.old) → HoldsRecords (state S.Store conn.old).now) → KeepsCrash (state S.Store conn.old) (state S.Store conn.new) }
+    ensures rests { HasCleanDisk (state S.Store conn.new)
+        → OnErr result (Rests (state S.Store conn.old) (state S.Store conn.new)) }
+    ensures inside { IsTrue (state S.Store conn.old).in_transaction
+        → KeepsCrash (state S.Store conn.old) (state S.Store conn.new) }
+    ensures outside { (HasCleanDisk (state S.Store conn.old) → HoldsRecords (state S.Store conn.old).now)
+        → KeepsCrash (state S.Store conn.old) (state S.Store conn.new) }
 {
     let rows = query_rows(conn, "SELECT rowid FROM rec ORDER BY rowid", &[])?;
     are_rising(rows.as_slice())

@@ -1,7 +1,4 @@
-use Rattle.std.proofs.Common.{rules, ◌≡◌, false, Some, None, option_map, map, IsTrue, IfOk, IfErr, OnOk, OnErr}
-use Rattle.sqlite.specs.State.{HasCleanDisk, IsUnchanged, Survives, Shown}
 use Rattle.sqlite.specs.Held.{state}
-use Rattle.cs_store.specs.Records.{HoldsRecords, records_in, Rests, KeepsCrash, IsQuery}
 use Rattle.cs_store.proofs.FoundRows.{finds, first_found, none_found}
 use Rattle.cs_store.proofs.QueryTexts.{find_text, find_query, find_asks, asks_query}
 use Rattle.cs_store.proofs.records.find_record.Goals as goal

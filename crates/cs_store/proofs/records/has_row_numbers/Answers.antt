@@ -1,4 +1,4 @@
-use Rattle.std.proofs.Common.{◌≡◌, false, IsTrue, sym, subst, ap}
+use Rattle.std.proofs.Common.{sym, subst}
 use Rattle.sqlite.specs.Held.{state}
 use Rattle.cs_store.specs.Records.{AreRisingNumbers}
 use Rattle.cs_store.proofs.QueryLaws.{if_ok}

@@ -1,4 +1,4 @@
-use Rattle.std.proofs.Common.{◌≡◌, List, map, sym, ap, subst, ◌∙◌}
+use Rattle.std.proofs.Common.{map, sym, ap, subst, ◌∙◌}
 use Rattle.sqlite.specs.Held.{state}
 use Rattle.cs_store.specs.Records.{ListsTable, shown_keyed, records_in}
 use Rattle.cs_store.proofs.QueryLaws.{if_ok}
