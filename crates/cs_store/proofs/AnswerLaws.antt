@@ -27,9 +27,11 @@ use Rattle.cs_store.proofs.RowLaws.{ascending_from_pairs}
 -- ---- an order of what was made of elements is an order of the elements
 
 module _ {A B : Type 0} (f : A → B) where
+  -- each list that the first was made of has an order that the second was made of
   abbrev Made : List B → List B → Type 0
   Made us vs = (xs : List A) → us ≡ map f xs → (ys : List A) × IsPermutation xs ys × (vs ≡ map f ys)
 
+  -- the same under one more element, over an exchange of the first two, and for all orders
   made_skip : (b : B) (us vs : List B) → Made us vs → Made (b ∷ us) (b ∷ vs)
   made_skip b us vs h [] is = absurd cc
   made_skip b us vs h (x ∷ xs) is =
@@ -48,6 +50,7 @@ module _ {A B : Type 0} (f : A → B) where
       let rest : us ≡ map f xs = cc in
       (y ∷ x ∷ xs, IsPermutation-middle (x ∷ []) y xs, cc)
 
+  -- so an order of what was made of elements was made of an order of them
   pub of_made : (xs : List A) (vs : List B) → IsPermutation (map f xs) vs → (ys : List A) × IsPermutation xs ys × (vs ≡ map f ys)
   of_made xs vs same =
       along_permutation Made (λ us zs is. (zs, IsPermutation-refl zs, is)) made_skip made_turn
@@ -56,6 +59,7 @@ module _ {A B : Type 0} (f : A → B) where
 
 -- ---- the rows that pass
 
+-- to keep an environment for each row that passes is to make one of each that is kept
 chosen_matches : {X : Type 0} (p : Row → Bool) (f : Row → X) (rows : List Row) → flat_map (λ r. cond (p r) (f r ∷ []) []) rows ≡ map f (filter p rows)
 chosen_matches p f [] = refl
 chosen_matches p f (r ∷ rows) = elim (cases_Bool (p r)) [
@@ -86,6 +90,7 @@ rising_of f cmp total xs sorted =
     ascending_from_map (λ a b. is_lt (cmp b a) ≡ false) f xs
     (ascending_from_pairs (λ a b. is_lt (cmp b a) ≡ false) (map f xs) (λ i j d below low. sorted_far (λ x y. is_lt (cmp x y)) (ranks_by total (λ x. x)) (map f xs) sorted i j d (omega arith) low))
 
+-- the answer of a query over one table shows the rows that pass, in the order that is asked for
 pub answer_chosen : (terms project : List Term) (order : List (Term × Key)) (db : Trees) (params : Row) (rows : List Row) → IsAnswer (plain_query terms project order) db params rows
     → ShowsChosen (plain_query terms project order) (db 0) params rows
 answer_chosen terms project order db params rows a =

@@ -53,6 +53,7 @@ alone (x ∷ y ∷ rows) row h has same =
     let two = same y (inr (inl refl)) in
     absurd (h.apart.0.0 (record { tab = one.tab ∙ sym two.tab; key = one.key ∙ sym two.key }))
 
+-- no order of no rows has a row
 none_left : {X : Type 0} (ys : List X) → IsPermutation [] ys → ys ≡ []
 none_left [] same = refl
 none_left (y ∷ ys) same = absurd (let none = length_permutation [] (y ∷ ys) same in omega (arith, none))
@@ -69,6 +70,7 @@ filter-one rows tab key value h under =
     let its = under_is tab key other (has_filtered (is_under tab key) rows other has).1 in
     record { tab = its.0 ∙ sym mine.0; key = its.1 ∙ sym mine.1 })
 
+-- the value of a record is a blob
 value_shown : (row : Row) (value : List ℕ) → IsRecordRow row → content (column row 3) ≡ value → column row 3 ≡ Blob value
 value_shown row value r is = let same : r.value ≡ value = rw r.is at is in rw r.is (ap Blob same)
 

@@ -41,6 +41,7 @@ rise by cmp total same rows one h up =
 
 -- ---- the records under a name
 
+-- what a row shows, the test for a name and the order by keys, on the bytes of its values
 abbrev keyed_of : Row → List ℕ × List ℕ
 keyed_of row = (content (column row 2), content (column row 3))
 
@@ -50,6 +51,7 @@ has_name tab row = same_bytes (content (column row 1)) tab
 abbrev by_key : Row → Row → Ordering
 by_key a b = slice_cmp nat_cmp (content (column a 2)) (content (column b 2))
 
+-- on rows of records the query tests and sorts by these
 list_passes : (tab : List ℕ) (row : Row) → IsRecordRow row → passes_where list_query (Text tab ∷ []) row ≡ has_name tab row
 list_passes tab row r = rw (name_passes row tab r, and-true)
 
@@ -65,6 +67,7 @@ sorted_entries : {X : Type 0} (entries : List (List ℕ × X)) → IsAscending (
 sorted_entries [] up = refl
 sorted_entries (e ∷ entries) up = and_from _ _ (below_entries e.0 entries up.0) (sorted_entries entries up.1)
 
+-- one step of a search among entries and of the same among rows
 found_step : {X Y : Type 0} (f : X → Y) (t n s : Bool) (x : X) (e : Option Y) (o : Option X) → t ≡ s → n ≡ true → e ≡ option_map f o
     → cond t (Some (f x)) e ≡ option_map f (cond (n && s) (Some x) o)
 found_step f t false s x e o same named rest = absurd cc
@@ -83,6 +86,7 @@ found_entry tab key (row ∷ rows) named =
     found_step (λ r. content (column r 3)) _ (has_name tab row) (same_bytes here key) row _ (find (is_under tab key) rows)
     (sym (texts_ties key here) ∙ nat_list_eq_equiv.symm key here) named.0 (found_entry tab key rows named.1)
 
+-- the query lists the records under a name
 pub lists_table : (tab : List ℕ) (old new : State) (rows : List Row) → HoldsRecords old.now → Shown list_text (Text tab ∷ []) old new rows
     → ListsTable (records_in old.now) tab (map shown_keyed rows)
 lists_table tab old new rows h shown =
@@ -109,15 +113,18 @@ lists_table tab old new rows h shown =
 
 -- ---- all records
 
+-- what a row shows, and the order by names and keys
 abbrev record_of : Row → RecordData
 record_of row = record { tab = content (column row 1); key = content (column row 2); value = content (column row 3) }
 
 abbrev by_record : Row → Row → Ordering
 by_record a b = record_cmp (record_of a) (record_of b)
 
+-- on rows of records the query sorts by this order
 all_sorts : (a b : Row) → IsRecordRow a → IsRecordRow b → sorts all_query [] a b ≡ by_record a b
 all_sorts a b x y = rw (then-Equal, x.is, y.is, value_cmp-Text, value_cmp-Blob)
 
+-- a name and a key find the record of the row
 found_record : (tab key : List ℕ) (rows : List Row) → option_map (λ r. r.value) (find (λ r. same_bytes r.tab tab && same_bytes r.key key) (map record_of rows)) ≡ records_of rows tab key
 unfolding records_of
 found_record tab key [] = refl
@@ -126,6 +133,7 @@ found_record tab key (row ∷ rows) =
     ≡ option_map (λ r. content (column r 3)) (cond b (Some row) (find (is_under tab key) rows)))
     [ true ↦ refl | false ↦ found_record tab key rows ]
 
+-- the query lists all records
 pub lists_all : (old new : State) (rows : List Row) → HoldsRecords old.now → Shown all_text [] old new rows → ListsAll (records_in old.now) (map shown_record rows)
 lists_all old new rows h shown =
     let all = old.now.trees 0 in

@@ -2,7 +2,7 @@
 use Rattle.std.proofs.Common.{◌≡◌, ◌≢◌, ℕ, suc, ◌+◌, ◌<◌, ℤ, ◌<ℤ◌, ◌≤ℤ◌, false, List, [], ◌∷◌, ◌++◌, length, get_or, take, drop, map, Option, Some, None, IfSome, inl, inr, refl, sym, ap, subst, ◌∙◌, arith}
 use Rattle.std.specs.List.{AllByRecursion}
 use Rattle.std.specs.List.Sorted.{IsPermutation}
-use Rattle.std.specs.Ordering.{int_cmp, is_lt, MatchOrdering}
+use Rattle.std.specs.Ordering.{is_lt, MatchOrdering}
 use Rattle.std.specs.declared.cmp.Ordering.{Ordering}
 use Rattle.std.specs.declared.cmp.Ordering.TheVariants.{Less, Equal, Greater}
 use Rattle.std.proofs.lemmas.Int.{ints}
@@ -27,29 +27,25 @@ use Rattle.cs_store.proofs.AnswerLaws.{passes_where, sorts, ShowsChosen, shows_c
 
 -- ---- numbers
 
+-- what SQL's order of two numbers says of them
+ranked_numbers : (m n : ℤ) → MatchOrdering (value_cmp (Int m) (Int n)) (m <ℤ n) (m ≡ n) (n <ℤ m)
+ranked_numbers m n = int_ranked m n _ (value_cmp-Int m n)
+
+-- a number below another is below it in that order
 below_numbers : (m n : ℤ) → m <ℤ n → value_cmp (Int m) (Int n) ≡ Less
-below_numbers m n h = value_cmp-Int m n ∙ of_order (int_cmp m n) (int_ranked m n _ refl)
+below_numbers m n h = of_order (value_cmp (Int m) (Int n)) (ranked_numbers m n)
   where
     of_order : (o : Ordering) → MatchOrdering o (m <ℤ n) (m ≡ n) (n <ℤ m) → o ≡ Less
     of_order Less is = refl
     of_order Equal is = absurd (omega (arith, ints, is, h))
     of_order Greater is = absurd (omega (arith, ints, is, h))
 
+-- numbers that the order puts below another are below it, and those that tie are one
 numbers_below : (m n : ℤ) → value_cmp (Int m) (Int n) ≡ Less → m <ℤ n
-numbers_below m n h = of_order (int_cmp m n) (int_ranked m n _ refl) (sym (value_cmp-Int m n) ∙ h)
-  where
-    of_order : (o : Ordering) → MatchOrdering o (m <ℤ n) (m ≡ n) (n <ℤ m) → o ≡ Less → m <ℤ n
-    of_order Less is e = is
-    of_order Equal is e = absurd cc
-    of_order Greater is e = absurd cc
+numbers_below m n h = subst (λ o. MatchOrdering o (m <ℤ n) (m ≡ n) (n <ℤ m)) h (ranked_numbers m n)
 
 tied_numbers : (m n : ℤ) → value_cmp (Int m) (Int n) ≡ Equal → m ≡ n
-tied_numbers m n h = of_order (int_cmp m n) (int_ranked m n _ refl) (sym (value_cmp-Int m n) ∙ h)
-  where
-    of_order : (o : Ordering) → MatchOrdering o (m <ℤ n) (m ≡ n) (n <ℤ m) → o ≡ Equal → m ≡ n
-    of_order Less is e = absurd cc
-    of_order Equal is e = is
-    of_order Greater is e = absurd cc
+tied_numbers m n h = subst (λ o. MatchOrdering o (m <ℤ n) (m ≡ n) (n <ℤ m)) h (ranked_numbers m n)
 
 -- ---- the rows that were read so far
 
@@ -80,6 +76,7 @@ rise_after rows last number row h is above = record {
   reached = (row, has_right rows (row ∷ []) row (inl refl), is);
 }
 
+-- the first number
 rise_from : (number : ℤ) (row : Row) → column row 0 ≡ Int number → RiseUpTo (row ∷ []) number
 rise_from number row is = record {
   numbers = record { each = ((number, is), tt); rising = (tt, tt) };
@@ -87,6 +84,7 @@ rise_from number row is = record {
   reached = (row, inl refl, is);
 }
 
+-- one more number, whether one was read before or not
 rise_on : (rows : List Row) (last : Option ℤ) (number : ℤ) (row : Row) → RiseTo rows last → column row 0 ≡ Int number → IfSome last (λ before. before <ℤ number)
     → RiseTo (rows ++ row ∷ []) (Some number)
 rise_on rows None number row none is above = subst (λ l. RiseUpTo (l ++ row ∷ []) number) (sym none) (rise_from number row is)
@@ -124,6 +122,7 @@ ends_at rows i last number row low here h is stays numbers =
 
 -- ---- the query for the numbers
 
+-- what the query shows of a row, and what it sorts by
 abbrev numbered_of : Row → Row
 numbered_of row = column row 0 ∷ []
 
@@ -131,6 +130,7 @@ number_sorts : (a b : Row) → sorts number_query [] a b ≡ value_cmp (rowid a)
 number_sorts a b = then-Equal (value_cmp (rowid a) (rowid b))
 
 module _ (old new : State) (rows : List Row) (has : old.now.schema ≡ record_schema) (shown : Shown number_text [] old new rows) where
+  -- the query shows the number of each row of the table
   all_shown : ShowsChosen number_query (old.now.trees 0) [] rows
   all_shown = shows_chosen number_text _ _ _ number_asks [] old new rows has shown
 

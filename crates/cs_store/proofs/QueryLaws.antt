@@ -25,6 +25,7 @@ pub keeps_crash : (sql : List ℕ) (params : Row) (old new : State) → IsQuery 
 unfolding CommitsShowing
 keeps_crash sql params old new query = survives_weaker old new _ _ (λ _ db h. absurd (let some = subst IsSome (returns_nothing sql params old h.0 query h.1) h.2 in cc))
 
+-- a query that is not shown, or a write that fails, leaves the database or takes it back
 show_rests : (old new : State) (sql : List ℕ) (c : Compiled) (params : Row) (e : Error) (returning : Option Returning) → FailsToShow old new sql c params e returning → Rests old new
 show_rests old new sql c params e None h = inl h.3
 show_rests old new sql c params e (Some what) h = command_rests sql params old new c e h

@@ -26,6 +26,7 @@ use Rattle.cs_store.specs.Records.{record_schema, ShowsOnly, IsQuery}
 
 -- ---- a SELECT writes nothing, whatever the schema is
 
+-- the text is a SELECT
 abbrev is_select_statement : Statement → Bool
 is_select_statement (written.Select s) = true
 is_select_statement _ = false
@@ -34,6 +35,7 @@ abbrev pub is_select_text : Checked Parsed → Bool
 is_select_text (Ok p) = is_select_statement p.statement
 is_select_text (Err e) = false
 
+-- whatever becomes of its command, it has no RETURNING
 planned_shows : (p : Parsed) (formats : List (List ℕ)) (r : Checked Command)
     → ShowsOnly (and_then (and_then (and_then r (λ c. Ok (c, None))) (λ found. Ok (formats, found))) (λ plan. Ok (with_command p plan)))
 planned_shows p formats (Ok c) = refl
@@ -57,6 +59,7 @@ selected_shows : (r : Result Compiled CompileError) → ShowsOnly r → ShowsOnl
 selected_shows (Ok c) h = elim (is_select c.command) as (λ b. ShowsOnly (cond b (Ok c) (Err NoSuchTable))) [ true ↦ h | false ↦ tt ]
 selected_shows (Err e) h = tt
 
+-- so it asks for nothing but rows
 pub select_is_query : (sql : List ℕ) → is_select_text (first sql) ≡ true → IsQuery sql
 unfolding understood
 select_is_query sql h schema =
@@ -87,12 +90,15 @@ pub record Asks (sql : List ℕ) (q : Query) : Type 0 where
   pub unlisted : reads_listing record_schema sql ≡ false
   pub selects : is_select_text (first sql) ≡ true
 
+-- a text that is such a query writes nothing
 pub asks_query : (sql : List ℕ) (q : Query) → Asks sql q → IsQuery sql
 asks_query sql q asks = select_is_query sql asks.selects
 
+-- SQL's =, under the collation BINARY
 abbrev equals : Term → Term → Term
 equals a b = op2 (Compare Eq Binary) a b
 
+-- the query for one record
 abbrev pub find_text : List ℕ
 find_text = codes "SELECT rowb FROM rec WHERE tab = ?1 AND keyb = ?2"
 
@@ -107,9 +113,11 @@ pub find_asks : Asks find_text find_query
 unfolding understood first everything
 find_asks = record { names = codes "rowb" ∷ []; is = refl; plain = (refl, refl); unlisted = refl; selects = refl }
 
+-- rising, by bytes
 abbrev pub up : Key
 up = ascending Binary
 
+-- the query for the records under a name
 abbrev pub list_text : List ℕ
 list_text = codes "SELECT keyb, rowb FROM rec WHERE tab = ?1 ORDER BY keyb"
 
@@ -120,6 +128,7 @@ pub list_asks : Asks list_text list_query
 unfolding understood first everything
 list_asks = record { names = codes "keyb" ∷ codes "rowb" ∷ []; is = refl; plain = (refl, refl); unlisted = refl; selects = refl }
 
+-- the query for all records
 abbrev pub all_text : List ℕ
 all_text = codes "SELECT tab, keyb, rowb FROM rec ORDER BY tab, keyb"
 
@@ -130,6 +139,7 @@ pub all_asks : Asks all_text all_query
 unfolding understood first everything
 all_asks = record { names = codes "tab" ∷ codes "keyb" ∷ codes "rowb" ∷ []; is = refl; plain = (refl, refl); unlisted = refl; selects = refl }
 
+-- the query for the numbers of the rows
 abbrev pub number_text : List ℕ
 number_text = codes "SELECT rowid FROM rec ORDER BY rowid"
 

@@ -40,6 +40,7 @@ same_is s t h = same_text s t (sym h)
 pub same_itself : (s : List ℕ) → same_bytes s s ≡ true
 same_itself = nat_list_eq_equiv.refl
 
+-- a truth value is what it was made of
 pub truth_is : (b : Bool) → is_true (from_truth (Some b)) ≡ b
 truth_is true = refl
 truth_is false = refl
@@ -73,6 +74,7 @@ pub record IsRecordRow (row : Row) : Type 0 where
   pub value : List ℕ
   pub is : row ≡ Int number ∷ Text tab ∷ Blob key ∷ Blob value ∷ []
 
+-- a value of a type that is not NULL is of that constructor
 text_is : (v : Value) → is_of kind.Text v ≡ true → is_null v ≡ false → (t : List ℕ) × (v ≡ Text t)
 text_is Null typed present = absurd cc
 text_is (Int n) typed present = absurd cc
@@ -87,6 +89,7 @@ blob_is (Real x) typed present = absurd cc
 blob_is (Text t) typed present = absurd cc
 blob_is (Blob b) typed present = (b, refl)
 
+-- tests that fail
 never : false ≡ true → ⊥
 never e = cc
 
@@ -94,6 +97,7 @@ not_false : (b : Bool) → not b ≡ true → b ≡ false
 not_false true h = absurd cc
 not_false false h = refl
 
+-- rows of four values that are the same
 same_values : (a b c d x y z w : Value) → a ≡ x → b ≡ y → c ≡ z → d ≡ w → ◌≡◌ {A = Row} (a ∷ b ∷ c ∷ d ∷ []) (x ∷ y ∷ z ∷ w ∷ [])
 same_values a b c d x y z w p q r s = cc
 
@@ -198,6 +202,7 @@ pub record AreRecords (rows : List Row) : Type 0 where
   pub each : AllByRecursion IsRecordRow rows
   pub apart : IsAscending (λ a b. ¬ HaveOneKey a b) rows
 
+-- the other way round
 one_key_back : (a b : Row) → HaveOneKey a b → HaveOneKey b a
 one_key_back a b same = record { tab = sym same.tab; key = sym same.key }
 
@@ -219,9 +224,11 @@ ascending-permutation D back xs ys same up =
     (λ us vs ws p q. (λ z h. q.0 z (p.0 z h), λ h. q.1 (p.1 h)))
     xs ys same).1 up
 
+-- an order of a list has the members of the list
 pub has_permuted : {X : Type 0} (xs ys : List X) (x : X) → IsPermutation xs ys → Has xs x → Has ys x
 has_permuted xs ys x same has = has_contained ys x (Contains-permutation xs ys x same (contains_had xs x has))
 
+-- an order of rows of records, and those that pass a test, are rows of records
 pub records_permuted : (xs ys : List Row) → IsPermutation xs ys → AreRecords xs → AreRecords ys
 records_permuted xs ys same h = record {
   each = all-permutation IsRecordRow xs ys same h.each;
@@ -250,6 +257,7 @@ abbrev pub IsUnder : List Row → List ℕ → List ℕ → Option (List ℕ) �
 IsUnder rows tab key None = (row : Row) → Has rows row → is_under tab key row ≡ false
 IsUnder rows tab key (Some value) = (row : Row) × Has rows row × (is_under tab key row ≡ true) × (content (column row 3) ≡ value)
 
+-- where a search finds nothing, no member passes
 not_found : {X : Type 0} (p : X → Bool) (xs : List X) (x : X) → find p xs ≡ None → Has xs x → p x ≡ false
 not_found p [] x none has = absurd has
 not_found p (y ∷ xs) x none has = elim (cases_Bool (p y)) [
@@ -266,6 +274,7 @@ records_under rows tab key = of_found (find (is_under tab key) rows) refl
     of_found None none = λ row has. not_found (is_under tab key) rows row none has
     of_found (Some row) some = let found = has_found (is_under tab key) rows row some in (row, found.0, found.1, refl)
 
+-- only one value, or none, stands under a name and a key
 one_under : (rows : List Row) (tab key : List ℕ) (a b : Option (List ℕ)) → AreRecords rows → IsUnder rows tab key a → IsUnder rows tab key b → a ≡ b
 one_under rows tab key None None h p q = refl
 one_under rows tab key None (Some v) h p q = absurd (let none = p q.0 q.1 in let some = q.2 in cc)
@@ -280,6 +289,7 @@ one_under rows tab key (Some v) (Some w) h p q =
 pub records_is : (rows : List Row) (tab key : List ℕ) (o : Option (List ℕ)) → AreRecords rows → IsUnder rows tab key o → records_of rows tab key ≡ o
 records_is rows tab key o h under = one_under rows tab key _ o h (records_under rows tab key) under
 
+-- what stands in rows stands in each order of them
 under_permuted : (xs ys : List Row) (tab key : List ℕ) (o : Option (List ℕ)) → IsPermutation xs ys → IsUnder xs tab key o → IsUnder ys tab key o
 under_permuted xs ys tab key None same h = λ row has. h row (has_permuted ys xs row (IsPermutation-sym xs ys same) has)
 under_permuted xs ys tab key (Some value) same h = (h.0, has_permuted xs ys h.0 same h.1, h.2, h.3)

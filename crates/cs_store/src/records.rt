@@ -104,12 +104,16 @@ pub(crate) fn set_record<S: Alter>(
     value: &[u8],
 ) -> Result<(), StoreError>
     ensures set { HasCleanDisk (state S.Store conn.new) → HoldsRecords (state S.Store conn.old).now
-        → OnOk result (Sets (state S.Store conn.old).now (state S.Store conn.new).now tab.now key.now (Some value.now)) }
-    ensures goes_on { HasCleanDisk (state S.Store conn.new) → HoldsRecords (state S.Store conn.old).now → IsTrue (state S.Store conn.old).in_transaction
+        → OnOk result (Sets (state S.Store conn.old).now (state S.Store conn.new).now
+        tab.now key.now (Some value.now)) }
+    ensures goes_on { HasCleanDisk (state S.Store conn.new) → HoldsRecords (state S.Store conn.old).now
+        → IsTrue (state S.Store conn.old).in_transaction
         → OnOk result (GoesOn (state S.Store conn.old) (state S.Store conn.new)) }
     ensures refused { IfErr result IsResource }
-    ensures rests { HasCleanDisk (state S.Store conn.new) → OnErr result (Rests (state S.Store conn.old) (state S.Store conn.new)) }
-    ensures survives { (HasCleanDisk (state S.Store conn.old) → HoldsRecords (state S.Store conn.old).now) → IsTrue (state S.Store conn.old).in_transaction
+    ensures rests { HasCleanDisk (state S.Store conn.new)
+        → OnErr result (Rests (state S.Store conn.old) (state S.Store conn.new)) }
+    ensures survives { (HasCleanDisk (state S.Store conn.old) → HoldsRecords (state S.Store conn.old).now)
+        → IsTrue (state S.Store conn.old).in_transaction
         → KeepsCrash (state S.Store conn.old) (state S.Store conn.new) }
 {
     conn.execute(
@@ -127,11 +131,14 @@ pub(crate) fn remove_record<S: Alter>(
 ) -> Result<(), StoreError>
     ensures removed { HasCleanDisk (state S.Store conn.new) → HoldsRecords (state S.Store conn.old).now
         → OnOk result (Sets (state S.Store conn.old).now (state S.Store conn.new).now tab.now key.now None) }
-    ensures goes_on { HasCleanDisk (state S.Store conn.new) → HoldsRecords (state S.Store conn.old).now → IsTrue (state S.Store conn.old).in_transaction
+    ensures goes_on { HasCleanDisk (state S.Store conn.new) → HoldsRecords (state S.Store conn.old).now
+        → IsTrue (state S.Store conn.old).in_transaction
         → OnOk result (GoesOn (state S.Store conn.old) (state S.Store conn.new)) }
     ensures refused { IfErr result IsResource }
-    ensures rests { HasCleanDisk (state S.Store conn.new) → OnErr result (Rests (state S.Store conn.old) (state S.Store conn.new)) }
-    ensures survives { (HasCleanDisk (state S.Store conn.old) → HoldsRecords (state S.Store conn.old).now) → IsTrue (state S.Store conn.old).in_transaction
+    ensures rests { HasCleanDisk (state S.Store conn.new)
+        → OnErr result (Rests (state S.Store conn.old) (state S.Store conn.new)) }
+    ensures survives { (HasCleanDisk (state S.Store conn.old) → HoldsRecords (state S.Store conn.old).now)
+        → IsTrue (state S.Store conn.old).in_transaction
         → KeepsCrash (state S.Store conn.old) (state S.Store conn.new) }
 {
     conn.execute(
@@ -292,11 +299,14 @@ pub(crate) fn has_row_numbers<S: Alter>(conn: &mut Connection<S>) -> Result<bool
 pub(crate) fn make_table<S: Alter>(conn: &mut Connection<S>) -> Result<(), StoreError>
     ensures made { HasCleanDisk (state S.Store conn.new) → (state S.Store conn.old).now.schema ≡ empty_schema
         → OnOk result (HoldsRecords (state S.Store conn.new).now × ((state S.Store conn.new).now.trees 0 ≡ [])) }
-    ensures goes_on { HasCleanDisk (state S.Store conn.new) → (state S.Store conn.old).now.schema ≡ empty_schema → IsTrue (state S.Store conn.old).in_transaction
+    ensures goes_on { HasCleanDisk (state S.Store conn.new) → (state S.Store conn.old).now.schema ≡ empty_schema
+        → IsTrue (state S.Store conn.old).in_transaction
         → OnOk result (GoesOn (state S.Store conn.old) (state S.Store conn.new)) }
     ensures refused { IfErr result IsResource }
-    ensures rests { HasCleanDisk (state S.Store conn.new) → OnErr result (Rests (state S.Store conn.old) (state S.Store conn.new)) }
-    ensures survives { (HasCleanDisk (state S.Store conn.old) → (state S.Store conn.old).now.schema ≡ empty_schema) → IsTrue (state S.Store conn.old).in_transaction
+    ensures rests { HasCleanDisk (state S.Store conn.new)
+        → OnErr result (Rests (state S.Store conn.old) (state S.Store conn.new)) }
+    ensures survives { (HasCleanDisk (state S.Store conn.old) → (state S.Store conn.old).now.schema ≡ empty_schema)
+        → IsTrue (state S.Store conn.old).in_transaction
         → KeepsCrash (state S.Store conn.old) (state S.Store conn.new) }
 {
     conn.execute(

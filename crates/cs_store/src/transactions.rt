@@ -10,10 +10,13 @@ use sqlite::{Alter, Connection};
 
 /// Begins a transaction. It is refused where one is open.
 pub(crate) fn begin<S: Alter>(conn: &mut Connection<S>) -> Result<(), StoreError>
-    ensures begun { HasCleanDisk (state S.Store conn.new) → OnOk result (((state S.Store conn.old).in_transaction ≡ false)
-        × Shows (state S.Store conn.old) (state S.Store conn.new) (state S.Store conn.old).now (state S.Store conn.old).committed true) }
+    ensures begun { HasCleanDisk (state S.Store conn.new)
+        → OnOk result (((state S.Store conn.old).in_transaction ≡ false)
+        × Shows (state S.Store conn.old) (state S.Store conn.new)
+        (state S.Store conn.old).now (state S.Store conn.old).committed true) }
     ensures refused { IfErr result IsResource }
-    ensures rests { HasCleanDisk (state S.Store conn.new) → OnErr result (Rests (state S.Store conn.old) (state S.Store conn.new)) }
+    ensures rests { HasCleanDisk (state S.Store conn.new)
+        → OnErr result (Rests (state S.Store conn.old) (state S.Store conn.new)) }
     ensures survives { KeepsCrash (state S.Store conn.old) (state S.Store conn.new) }
 {
     conn.execute("BEGIN", &[])?;
@@ -23,12 +26,17 @@ pub(crate) fn begin<S: Alter>(conn: &mut Connection<S>) -> Result<(), StoreError
 /// Commits the transaction. It is refused where none is open; where it fails, the transaction is
 /// rolled back.
 pub(crate) fn commit<S: Alter>(conn: &mut Connection<S>) -> Result<(), StoreError>
-    ensures committed { HasCleanDisk (state S.Store conn.new) → OnOk result (IsTrue (state S.Store conn.old).in_transaction
-        × Shows (state S.Store conn.old) (state S.Store conn.new) (state S.Store conn.old).now (state S.Store conn.old).now false) }
+    ensures committed { HasCleanDisk (state S.Store conn.new)
+        → OnOk result (IsTrue (state S.Store conn.old).in_transaction
+        × Shows (state S.Store conn.old) (state S.Store conn.new)
+        (state S.Store conn.old).now (state S.Store conn.old).now false) }
     ensures refused { IfErr result IsResource }
-    ensures rests { HasCleanDisk (state S.Store conn.new) → OnErr result (Rests (state S.Store conn.old) (state S.Store conn.new)) }
-    ensures undone { HasCleanDisk (state S.Store conn.new) → OnErr result (IsUndone (state S.Store conn.old) (state S.Store conn.new)) }
-    ensures survives { Survives (state S.Store conn.old) (state S.Store conn.new) (λ db. db ≡ (state S.Store conn.old).now.trees) }
+    ensures rests { HasCleanDisk (state S.Store conn.new)
+        → OnErr result (Rests (state S.Store conn.old) (state S.Store conn.new)) }
+    ensures undone { HasCleanDisk (state S.Store conn.new)
+        → OnErr result (IsUndone (state S.Store conn.old) (state S.Store conn.new)) }
+    ensures survives { Survives (state S.Store conn.old) (state S.Store conn.new)
+        (λ db. db ≡ (state S.Store conn.old).now.trees) }
 {
     // outside a transaction the database is as the last commit left it
     let _ = conn.is_autocommit();
@@ -38,7 +46,8 @@ pub(crate) fn commit<S: Alter>(conn: &mut Connection<S>) -> Result<(), StoreErro
 
 /// Takes the database back to the last commit, where a transaction is open.
 pub(crate) fn roll_back<S: Alter>(conn: &mut Connection<S>)
-    ensures undone { HasCleanDisk (state S.Store conn.new) → IsUndone (state S.Store conn.old) (state S.Store conn.new) }
+    ensures undone { HasCleanDisk (state S.Store conn.new)
+        → IsUndone (state S.Store conn.old) (state S.Store conn.new) }
     ensures survives { KeepsCrash (state S.Store conn.old) (state S.Store conn.new) }
 {
     if !conn.is_autocommit() {
