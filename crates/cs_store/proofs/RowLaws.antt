@@ -40,8 +40,7 @@ same_is s t h = same_text s t (sym h)
 pub same_itself : (s : List ℕ) → same_bytes s s ≡ true
 same_itself = nat_list_eq_equiv.refl
 
--- a truth value is what it was made of
-truth_is : (b : Bool) → is_true (from_truth (Some b)) ≡ b
+pub truth_is : (b : Bool) → is_true (from_truth (Some b)) ≡ b
 truth_is true = refl
 truth_is false = refl
 
