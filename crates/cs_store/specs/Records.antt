@@ -1,6 +1,7 @@
 -- Records in one SQL table: a record has the name of a table, a key and a value, and no two records have both the name
 -- and the key.
-use Rattle.std.specs.Prelude.{◌⊎◌, ◌≡◌, ℕ, ℤ, Bool, true, false, ◌&&◌, if◌then◌else◌, List, [], ◌∷◌, codes, Option, Some, None, option_map, IsTrue, nat_eq, AllPairs, ◌≢◌}
+use Rattle.std.specs.Prelude.{◌⊎◌, ◌≡◌, ◌≢◌, ℕ, ℤ, Bool, true, false, ◌&&◌, if◌then◌else◌, List, [], ◌∷◌, codes}
+use Rattle.std.specs.Prelude.{Option, None, option_map, Result, Ok, Err, ⊤, IsTrue, nat_eq, AllPairs}
 use Rattle.std.specs.List.{AllByRecursion, find}
 use Rattle.std.specs.Cmp.Lexicographic.{pointwise, slice_cmp}
 use Rattle.std.specs.Ordering.{nat_cmp, ordering_then}
@@ -11,17 +12,19 @@ use Rattle.sqlite.specs.State.{State, Shows, IsUnchanged, IsRolledBack, Survives
 use Rattle.sqlite_value.specs.declared.value.Value.{Value}
 use Rattle.sqlite_value.specs.declared.value.Value.TheVariants.{Null, Int, Real, Text, Blob}
 use Rattle.sqlite_value.specs.declared.keys.Collation.TheVariants.{Binary}
-use Rattle.sqlite_value.specs.Order.{Row, column}
+use Rattle.sqlite_value.specs.Order.{Row, column, value_cmp}
 use Rattle.sqlite_value.specs.Keys.{plain}
-use Rattle.sqlite_trees.specs.Tree.{rowid}
+use Rattle.sqlite_trees.specs.Tree.{rowid, IsAscending}
 use Rattle.sqlite_schema.specs.declared.schema.Kind.{Kind}
 use Rattle.sqlite_schema.specs.declared.schema.Kind.TheVariants as kind
 use Rattle.sqlite_schema.specs.declared.schema.Column.{Column}
 use Rattle.sqlite_schema.specs.declared.schema.Table.{Table}
-use Rattle.sqlite_schema.specs.declared.schema.Index.{Index}
 use Rattle.sqlite_schema.specs.declared.schema.Schema.{Schema}
 use Rattle.sqlite_catalog.specs.Listing.{automatic}
+use Rattle.sqlite_resolve.specs.declared.compiled.Compiled.{Compiled}
+use Rattle.sqlite_resolve.specs.declared.error.CompileError.{CompileError}
 use Rattle.sqlite.specs.Effect.{Database, IsDatabase}
+use Rattle.sqlite.specs.Listing.{understood}
 
 -- ---- the table
 
@@ -141,3 +144,25 @@ pub record IsUndone (old new : State) : Type 0 where
 -- a crash leaves nothing that it could not leave before
 abbrev pub KeepsCrash : State → State → Type 0
 KeepsCrash old new = Survives old new (λ _. ⊥)
+
+-- ---- what queries show
+
+-- whatever the schema is, the text asks for nothing but rows
+abbrev pub ShowsOnly : Result Compiled CompileError → Type 0
+ShowsOnly (Ok c) = c.returning ≡ None
+ShowsOnly (Err e) = ⊤
+
+abbrev pub IsQuery : List ℕ → Type 0
+IsQuery sql = (schema : Schema) → ShowsOnly (understood schema sql)
+
+-- a key and a value, and a record, in a row that a query shows
+abbrev pub shown_keyed : Row → List ℕ × List ℕ
+shown_keyed row = (content (column row 0), content (column row 1))
+
+abbrev pub shown_record : Row → RecordData
+shown_record row = record { tab = content (column row 0); key = content (column row 1); value = content (column row 2) }
+
+-- each row shows a number first, and the numbers rise
+pub record AreRisingNumbers (rows : List Row) : Type 0 where
+  pub each : AllByRecursion (λ row. (n : ℤ) × (column row 0 ≡ Int n)) rows
+  pub rising : IsAscending (λ a b. value_cmp (column a 0) (column b 0) ≡ Less) rows

@@ -5,8 +5,10 @@ mod edit;
 mod editing;
 mod fault;
 mod memory;
+mod records;
 mod rows;
 mod schema;
+mod transactions;
 
 pub use edit::{Edit, Written};
 pub use fault::StoreError;
