@@ -2,6 +2,7 @@ pub mod Faults
 pub mod Records
 pub mod Rows
 pub mod Declaration
+pub mod Stored
 pub mod Editing
 pub use Rattle.cs_value.specs.Value
 pub use Rattle.cs_value.specs.Key

@@ -1,6 +1,6 @@
-use Rattle.std.proofs.Common.{◌≡◌, ◌∙◌, sym, subst, refl}
+use Rattle.std.proofs.Common.{◌∙◌, sym, subst, refl}
 use Rattle.std.specs.FinMap as map
-use Rattle.cs_value.specs.State.{TableData, RowMap, IsTable}
+use Rattle.cs_value.specs.State.{IsTable}
 use Rattle.cs_value.proofs.StateLaws.{table_remove}
 use Rattle.cs_store.specs.contracts.memory.MemRows.{the_view}
 use Rattle.cs_store.proofs.MemoryLaws.{stands, with_rows_absent, rows_replaced, replaced_is_state}

@@ -1,6 +1,5 @@
-use Rattle.std.proofs.Common.{◌≡◌, ◌∙◌, ap, sym}
+use Rattle.std.proofs.Common.{◌∙◌, ap, sym}
 use Rattle.std.specs.FinMap as map
-use Rattle.std.specs.Option.{option_copied}
 use Rattle.cs_store.proofs.MemoryLaws.{rows_at_absent, no_values}
 use Rattle.cs_store.proofs.memory.MemRowsRows.list.Goals as goal
 

@@ -1,4 +1,4 @@
-use Rattle.std.proofs.Common.{◌≡◌, ◌∙◌, ap}
+use Rattle.std.proofs.Common.{ap}
 use Rattle.std.specs.Option.{option_copied}
 use Rattle.cs_value.specs.State.{TableData, IsRowAt}
 use Rattle.cs_value.proofs.ByteMaps.{got_seen}

@@ -4,7 +4,7 @@ use Rattle.std.proofs.lemmas.Map.Iter.{rest_so_far}
 use Rattle.cs_value.specs.declared.key.Key.{Key}
 use Rattle.cs_value.specs.declared.row.Row.{Row}
 use Rattle.cs_value.specs.State.{TableData}
-use Rattle.cs_value.proofs.ByteMaps.{seen, seen_map, seen_entries}
+use Rattle.cs_value.proofs.ByteMaps.{seen, seen_entries}
 use Rattle.cs_store.proofs.memory.Table.list.Goals as goal
 
 -- the values of the entries that are seen
