@@ -1,13 +1,20 @@
 -- Rows that may stand in a table, and what edits of them make.
-use Rattle.std.proofs.Common.{◌≡◌, ℕ, zero, suc, Bool, true, false, not, ◌==◌, List, [], ◌∷◌, length, Option, Some, None, true≢false, refl, sym, ap, ◌∙◌, arith}
-use Rattle.std.proofs.lemmas.Bool.{not-true}
+use Rattle.std.proofs.Common.{◌≡◌, ℕ, zero, suc, Bool, true, false, not, ◌==◌, List, [], ◌∷◌, length, Option, Some, None, true≢false, refl, sym, ap, subst, ◌∙◌, arith}
+use Rattle.std.specs.Cmp.{nat_eq_equiv}
 use Rattle.cs_value.specs.declared.value.OwnedValue.{OwnedValue}
 use Rattle.cs_value.specs.declared.value.OwnedValue.TheVariants.{Int, Text, Blob, Null}
+use Rattle.std.specs.Option.{option_map}
+use Rattle.std.specs.FinMap as map
 use Rattle.cs_value.specs.Table.{IsKeyedRow}
+use Rattle.cs_value.specs.State.{SchemaData, TableData, State, IsRowAt, schema_at}
+use Rattle.cs_store.specs.Rows.{Fits}
 use Rattle.cs_value.proofs.KeyedRows.{length-IsKeyedRow}
 use Rattle.cs_store.specs.declared.fault.StoreError.{StoreError}
 use Rattle.cs_store.specs.declared.fault.StoreError.TheVariants.{RowWidth, NullInKey}
 use Rattle.cs_store.specs.Editing.{has_null_key, row_fault}
+
+same_number : (n : ℕ) → (n == n) ≡ true
+same_number n = nat_eq_equiv.refl n
 
 -- a keyed row has no NULL in its key
 keyed_no_null : (flags : List ℕ) (row : List OwnedValue) → IsKeyedRow flags row → has_null_key flags row ≡ false
@@ -35,12 +42,22 @@ no_null_keyed (suc flag ∷ flags) (Null ∷ row) same h = absurd (true≢false 
 
 -- a keyed row may stand in the table
 pub no_fault : (flags : List ℕ) (row : List OwnedValue) → IsKeyedRow flags row → row_fault flags row ≡ None
-no_fault flags row h = rw (length-IsKeyedRow flags row h, keyed_no_null flags row h) ?
+no_fault flags row h = rw (length-IsKeyedRow flags row h, keyed_no_null flags row h, same_number (length row)) refl
 
 -- another row of its width has a NULL in its key
 pub null_fault : (flags : List ℕ) (row : List OwnedValue) → length row ≡ length flags → ¬ (IsKeyedRow flags row) → row_fault flags row ≡ Some NullInKey
 null_fault flags row same not_keyed = at (has_null_key flags row) refl
   where
     at : (b : Bool) → has_null_key flags row ≡ b → row_fault flags row ≡ Some NullInKey
-    at true is = rw (same, is) ?
+    at true is = rw (same, is, same_number (length flags)) refl
     at false is = absurd (not_keyed (no_null_keyed flags row same is))
+
+-- a row that fits the schema of a name fits its table
+pub fits_in : (state : State) (name key : List ℕ) (row : List OwnedValue) (schema : SchemaData) → schema_at state name ≡ Some schema → IsRowAt schema.flags key row → Fits state name key row
+fits_in state name key row schema found fit = at (map.get state name) refl
+  where
+    at : (o : Option TableData) → map.get state name ≡ o → Fits state name key row
+    at None none = absurd (let e = sym found ∙ ap (option_map (λ (t : TableData). t.schema)) none in cc)
+    at (Some table) some =
+        let same : schema ≡ table.schema = let e = sym found ∙ ap (option_map (λ (t : TableData). t.schema)) some in cc in
+        record { table = table; found = some; fit = subst (λ (s : SchemaData). IsRowAt s.flags key row) same fit }

@@ -2,10 +2,10 @@
 ghost use Rattle.std.specs.Prelude.{◌≡◌, ◌⊎◌, [], ◌∷◌, Some, None, Ok, Err, map, string_bytes, IfOk, IfErr, IsSome, OnOk};
 ghost use Rattle.cs_value.specs.Value.{IsRow};
 ghost use Rattle.cs_value.specs.Table.{IsKeyedRow};
-ghost use Rattle.cs_value.specs.State.{IsRowAt, schema_at, row_at};
-ghost use Rattle.cs_store.specs.Rows.{IsDeclared};
+ghost use Rattle.cs_value.specs.State.{IsRowAt, schema_at, row_at, with_row, without_row};
+ghost use Rattle.cs_store.specs.Rows.{IsDeclared, Fits};
 ghost use Rattle.cs_store.specs.Faults.{IsResource};
-ghost use Rattle.cs_store.specs.Editing.{edited, written_of, row_fault, in_table, inserted};
+ghost use Rattle.cs_store.specs.Editing.{edited, written_of, row_fault, in_table, inserted, updated, deleted};
 ghost use Rattle.cs_store.specs.declared.fault.StoreError.TheVariants.{NoTable as NoSuchTable, NoRow as NoSuchRow, KeyTaken as TakenKey};
 
 use crate::edit::{Edit, Written};
@@ -14,6 +14,28 @@ use crate::rows::Rows;
 use crate::schema::Schema;
 use cs_value::{Key, Row};
 use std::alloc::Global;
+
+/// Carries out an edit, and tells the keys that it wrote, with the rows that stood there before.
+///
+/// Refuses, in this order: [`NoTable`](StoreError::NoTable); [`RowWidth`](StoreError::RowWidth) and
+/// [`NullInKey`](StoreError::NullInKey) for the given row; for an update and a deletion
+/// [`NoRow`](StoreError::NoRow); for an insertion, and for an update to another key,
+/// [`KeyTaken`](StoreError::KeyTaken).
+pub fn edit_in<B: Rows>(
+    alloc: Global,
+    rows: &mut B,
+    edit: &Edit,
+) -> Result<Vec<Written>, StoreError>
+    ensures edited { B.is_honest rows.new → IfOk result (λ w. edited (B.state rows.old) edit.now ≡ Ok (record { state = B.state rows.new; written = map written_of w.items })) }
+    ensures refused { B.is_honest rows.new → IfErr result (λ e. (edited (B.state rows.old) edit.now ≡ Err e) ⊎ IsResource e) }
+    ensures kept { B.keeps rows.old rows.new }
+{
+    match edit {
+        Edit::Insert { table, row } => insert_row(alloc, rows, table.as_str(), row),
+        Edit::Update { table, key, row } => update_row(alloc, rows, table.as_str(), key, row),
+        Edit::Delete { table, key } => delete_row(alloc, rows, table.as_str(), key),
+    }
+}
 
 /// The schema of a table that has to be declared.
 fn find_schema<B: Rows>(alloc: Global, rows: &mut B, table: &str) -> Result<Schema, StoreError>
@@ -133,5 +155,95 @@ fn insert_row<B: Rows>(
     check_vacant(alloc, rows, table, &key)?;
     let written = note_one(alloc, table, &key, None)?;
     rows.put(alloc, table, &key, row)?;
+    Ok(written)
+}
+
+/// Puts a row in place of the one that stands under its key.
+fn replace_row<B: Rows>(
+    alloc: Global,
+    rows: &mut B,
+    table: &str,
+    key: &Key,
+    former: Row,
+    row: &Row,
+) -> Result<Vec<Written>, StoreError>
+    requires fits { B.is_honest rows.old → Fits (B.state rows.old) table.now key.now row.now }
+    ensures put { B.is_honest rows.new → OnOk result (B.state rows.new ≡ with_row (B.state rows.old) table.now key.now row.now) }
+    ensures told { IfOk result (λ w. map written_of w.items ≡ record { table = table.now; key = key.now; former = Some former } ∷ []) }
+    ensures refused { IfErr result IsResource }
+    ensures was_honest { B.is_honest rows.new → B.is_honest rows.old }
+    ensures kept { B.keeps rows.old rows.new }
+{
+    let written = note_one(alloc, table, key, Some(former))?;
+    rows.put(alloc, table, key, row)?;
+    Ok(written)
+}
+
+/// Puts a row under another key than that of the one whose place it takes.
+fn move_row<B: Rows>(
+    alloc: Global,
+    rows: &mut B,
+    table: &str,
+    key: &Key,
+    former: Row,
+    next: &Key,
+    row: &Row,
+) -> Result<Vec<Written>, StoreError>
+    requires fits { B.is_honest rows.old → Fits (B.state rows.old) table.now next.now row.now }
+    ensures moved { B.is_honest rows.new → OnOk result ((row_at (B.state rows.old) table.now next.now ≡ None)
+        × (B.state rows.new ≡ with_row (without_row (B.state rows.old) table.now key.now) table.now next.now row.now)) }
+    ensures told { IfOk result (λ w. map written_of w.items
+        ≡ record { table = table.now; key = key.now; former = Some former } ∷ record { table = table.now; key = next.now; former = None } ∷ []) }
+    ensures refused { B.is_honest rows.new → IfErr result (λ e. ((e ≡ TakenKey) × IsSome (row_at (B.state rows.old) table.now next.now)) ⊎ IsResource e) }
+    ensures was_honest { B.is_honest rows.new → B.is_honest rows.old }
+    ensures kept { B.keeps rows.old rows.new }
+{
+    check_vacant(alloc, rows, table, next)?;
+    let mut written = note_one(alloc, table, key, Some(former))?;
+    written.push(note(alloc, table, next, None)?)?;
+    rows.remove(alloc, table, key)?;
+    rows.put(alloc, table, next, row)?;
+    Ok(written)
+}
+
+fn update_row<B: Rows>(
+    alloc: Global,
+    rows: &mut B,
+    table: &str,
+    key: &Key,
+    row: &Row,
+) -> Result<Vec<Written>, StoreError>
+    ensures edited { B.is_honest rows.new → IfOk result (λ w. in_table (B.state rows.old) table.now (λ t. updated (B.state rows.old) table.now t key.now row.now)
+        ≡ Ok (record { state = B.state rows.new; written = map written_of w.items })) }
+    ensures refused { B.is_honest rows.new → IfErr result (λ e. (in_table (B.state rows.old) table.now (λ t. updated (B.state rows.old) table.now t key.now row.now) ≡ Err e) ⊎ IsResource e) }
+    ensures was_honest { B.is_honest rows.new → B.is_honest rows.old }
+    ensures kept { B.keeps rows.old rows.new }
+{
+    let schema = find_schema(alloc, rows, table)?;
+    let next = key_for(alloc, &schema, row)?;
+    let former = find_row(alloc, rows, table, key)?;
+    if *key == next {
+        replace_row(alloc, rows, table, key, former, row)
+    } else {
+        move_row(alloc, rows, table, key, former, &next, row)
+    }
+}
+
+fn delete_row<B: Rows>(
+    alloc: Global,
+    rows: &mut B,
+    table: &str,
+    key: &Key,
+) -> Result<Vec<Written>, StoreError>
+    ensures edited { B.is_honest rows.new → IfOk result (λ w. in_table (B.state rows.old) table.now (λ _. deleted (B.state rows.old) table.now key.now)
+        ≡ Ok (record { state = B.state rows.new; written = map written_of w.items })) }
+    ensures refused { B.is_honest rows.new → IfErr result (λ e. (in_table (B.state rows.old) table.now (λ _. deleted (B.state rows.old) table.now key.now) ≡ Err e) ⊎ IsResource e) }
+    ensures was_honest { B.is_honest rows.new → B.is_honest rows.old }
+    ensures kept { B.keeps rows.old rows.new }
+{
+    let _schema = find_schema(alloc, rows, table)?;
+    let former = find_row(alloc, rows, table, key)?;
+    let written = note_one(alloc, table, key, Some(former))?;
+    rows.remove(alloc, table, key)?;
     Ok(written)
 }

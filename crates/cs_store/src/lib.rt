@@ -11,6 +11,7 @@ mod schema;
 mod transactions;
 
 pub use edit::{Edit, Written};
+pub use editing::edit_in;
 pub use fault::StoreError;
 pub use memory::MemRows;
 pub use rows::Rows;

@@ -1,7 +1,13 @@
+use Rattle.std.proofs.Common.{◌≡◌, ◌∙◌, ap}
+use Rattle.cs_value.specs.State.{State, schema_at}
+use Rattle.cs_store.proofs.EditingLaws.{fits_in}
 use Rattle.cs_store.proofs.editing.insert_row.Goals as goal
 
 pub put-requires : goal.put-requires
-put-requires g c = λ honest. let a = c.in_ok-schema.ensures.found in let b = c.in_ok-check_vacant.ensures.same in let k = c.in_ok-key.ensures.key in let h = c.in_ok-check_vacant.ensures.was_honest in let s = c.in_ok-schema.ensures.same in ?
+put-requires g c = λ honest.
+    let before = c.in_ok-check_vacant.ensures.was_honest honest in
+    let same = c.in_ok-check_vacant.ensures.same honest ∙ c.in_ok-schema.ensures.same before in
+    fits_in _ c.args.table.now c.in_ok-key.key c.args.row.now c.in_ok-schema.schema (ap (λ (s : State). schema_at s c.args.table.now) same ∙ c.in_ok-schema.ensures.found before) c.in_ok-key.ensures.key
 
 pub returns-in_err-put-clause-kept : goal.returns-in_err-put-clause-kept
 returns-in_err-put-clause-kept g c =
