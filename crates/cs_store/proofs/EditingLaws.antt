@@ -1,14 +1,17 @@
 -- Rows that may stand in a table, and what edits of them make.
-use Rattle.std.proofs.Common.{◌≡◌, ℕ, zero, suc, Bool, true, false, not, ◌==◌, List, [], ◌∷◌, length, Option, Some, None, true≢false, refl, sym, ap, subst, ◌∙◌, arith}
+use Rattle.std.proofs.Common.{◌≡◌, ℕ, zero, suc, Bool, true, false, cond, not, ◌==◌, List, [], ◌∷◌, length, Option, Some, None, true≢false, refl, sym, ap, subst, ◌∙◌, arith}
 use Rattle.std.specs.Cmp.{nat_eq_equiv}
 use Rattle.cs_value.specs.declared.value.OwnedValue.{OwnedValue}
 use Rattle.cs_value.specs.declared.value.OwnedValue.TheVariants.{Int, Text, Blob, Null}
 use Rattle.std.specs.Option.{option_map}
 use Rattle.std.specs.FinMap as map
 use Rattle.cs_value.specs.Table.{IsKeyedRow}
-use Rattle.cs_value.specs.State.{SchemaData, TableData, State, IsRowAt, schema_at}
+use Rattle.cs_value.specs.State.{SchemaData, TableData, RowMap, State, IsRowAt, schema_at, rows_at, without_row}
 use Rattle.cs_store.specs.Rows.{Fits}
+use Rattle.std.specs.Cmp.Lexicographic.{nat_list_cmp_total}
 use Rattle.cs_value.proofs.KeyedRows.{length-IsKeyedRow}
+use Rattle.cs_value.proofs.ByteMaps.{self_tied}
+use Rattle.cs_store.proofs.MemoryLaws.{with_rows_found, rows_at_found}
 use Rattle.cs_store.specs.declared.fault.StoreError.{StoreError}
 use Rattle.cs_store.specs.declared.fault.StoreError.TheVariants.{RowWidth, NullInKey}
 use Rattle.cs_store.specs.Editing.{has_null_key, row_fault}
@@ -61,3 +64,13 @@ fits_in state name key row schema found fit = at (map.get state name) refl
     at (Some table) some =
         let same : schema ≡ table.schema = let e = sym found ∙ ap (option_map (λ (t : TableData). t.schema)) some in cc in
         record { table = table; found = some; fit = subst (λ (s : SchemaData). IsRowAt s.flags key row) same fit }
+
+-- a row still fits once another is taken away
+pub fits_without : (state : State) (name key next : List ℕ) (row : List OwnedValue) → Fits state name next row → Fits (without_row state name key) name next row
+fits_without state name key next row fits =
+    let rows : RowMap = map.remove fits.table.rows key in
+    let table : TableData = record { schema = fits.table.schema; rows = rows } in
+    let here : map.get (map.insert state name table) name ≡ Some table = map.get-insert nat_list_cmp_total state name table name ∙ ap (λ b. cond b (Some table) (map.get state name)) (self_tied name) in
+    let same : without_row state name key ≡ map.insert state name table = with_rows_found state name fits.table (map.remove (rows_at state name) key) fits.found
+        ∙ ap (λ (r : RowMap). let t : TableData = record { schema = fits.table.schema; rows = map.remove r key } in map.insert state name t) (rows_at_found state name fits.table fits.found) in
+    record { table = table; found = ap (λ (s : State). map.get s name) same ∙ here; fit = fits.fit }

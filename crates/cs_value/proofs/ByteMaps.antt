@@ -28,7 +28,7 @@ tied_bytes q k is = tied (slice_cmp nat_cmp q k) refl is
     tied Equal e is = slice_cmp-IsAntisymmetric nat_cmp-IsAntisymmetric q k e
     tied Greater e is = absurd (true≢false (sym is))
 
-self_tied : (q : List ℕ) → is_eq (slice_cmp nat_cmp q q) ≡ true
+pub self_tied : (q : List ℕ) → is_eq (slice_cmp nat_cmp q q) ≡ true
 self_tied q = ap is_eq (tied_itself nat_list_cmp_total q)
 
 -- the inner branch of a repeated test is never reached

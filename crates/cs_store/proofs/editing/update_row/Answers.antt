@@ -1,0 +1,33 @@
+use Rattle.std.proofs.Common.{sym, subst, ◌∙◌, ap, ℕ, List}
+use Rattle.std.specs.Cmp.Lexicographic.{same_text}
+use Rattle.cs_value.specs.State.{State, schema_at, IsRowAt}
+use Rattle.cs_store.proofs.EditingLaws.{fits_in}
+use Rattle.cs_store.proofs.editing.update_row.Goals as goal
+
+pub replace_row-requires : goal.replace_row-requires
+replace_row-requires g c = record {
+  fits = λ honest.
+      let before = c.in_ok-former.ensures.was_honest honest in
+      let same = c.in_ok-former.ensures.same honest ∙ c.in_ok-schema.ensures.same before in
+      let found = ap (λ (s : State). schema_at s c.args.table.now) same ∙ c.in_ok-schema.ensures.found before in
+      let own = same_text c.args.key.now c.in_ok-next.next c.if-eq.ensures in
+      fits_in _ c.args.table.now c.args.key.now c.args.row.now c.in_ok-schema.schema found
+          (subst (λ (k : List ℕ). IsRowAt c.in_ok-schema.schema.flags k c.args.row.now) (sym own) c.in_ok-next.ensures.key);
+}
+
+pub returns-then-eq-clause-kept : goal.returns-then-eq-clause-kept
+returns-then-eq-clause-kept g c =
+    g.B.Rows.keeps_then _ _ _ (g.B.Rows.keeps_then _ _ _ c.find_schema.ensures.kept c.find_row.ensures.kept) c.replace_row.ensures.kept
+
+pub move_row-requires : goal.move_row-requires
+move_row-requires g c = record {
+  fits = λ honest.
+      let before = c.in_ok-former.ensures.was_honest honest in
+      let same = c.in_ok-former.ensures.same honest ∙ c.in_ok-schema.ensures.same before in
+      let found = ap (λ (s : State). schema_at s c.args.table.now) same ∙ c.in_ok-schema.ensures.found before in
+      fits_in _ c.args.table.now c.in_ok-next.next c.args.row.now c.in_ok-schema.schema found c.in_ok-next.ensures.key;
+}
+
+pub returns-clause-kept : goal.returns-clause-kept
+returns-clause-kept g c =
+    g.B.Rows.keeps_then _ _ _ (g.B.Rows.keeps_then _ _ _ c.find_schema.ensures.kept c.find_row.ensures.kept) c.move_row.ensures.kept
