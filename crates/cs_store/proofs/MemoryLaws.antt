@@ -1,6 +1,6 @@
 -- Tables in memory, when one of them is changed in its place.
-use Rattle.std.proofs.Common.{◌≡◌, ℕ, List, [], map, Option, Some, None, String, Global, Result, Ok, Err, OnOk, OnErr, Bool, true, false, cond, IsTrue, is_some, refl, sym, ap, ◌∙◌, subst, unwrap_or}
-use Rattle.std.specs.Option.{option_map, option_copied}
+use Rattle.std.proofs.Common.{◌≡◌, ℕ, List, [], map, Some, None, String, Global, Result, Ok, Err, OnOk, OnErr, Bool, true, false, cond, IsTrue, is_some, refl, sym, ap, ◌∙◌, subst}
+use Rattle.std.specs.Option.{option_map}
 use Rattle.std.specs.String.{string_bytes}
 use Rattle.std.specs.Ordering.{nat_cmp, is_eq}
 use Rattle.std.specs.declared.cmp.Ordering.{Ordering}

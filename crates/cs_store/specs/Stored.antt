@@ -1,7 +1,7 @@
 -- What the records of a store are: one for the version of the format, one for each table, one for each row. This
 -- project's own.
-use Rattle.std.specs.Prelude.{◌≡◌, ℕ, zero, suc, ◌-◌, ◌+◌, ◌==◌, if◌then◌else◌, List, [], ◌∷◌, length, take, drop, Option, Some, None, option_map, Result, Ok, Err}
-use Rattle.std.specs.Option.{option_and_then, option_to_list}
+use Rattle.std.specs.Prelude.{◌≡◌, ℕ, zero, suc, if◌then◌else◌, List, [], ◌∷◌, length, take, drop, Option, Some, None, option_map, Result, Ok, Err}
+use Rattle.std.specs.Option.{option_to_list}
 use Rattle.std.specs.List.{flat_map}
 use Rattle.std.specs.FinMap as map
 use Rattle.sqlite_value.specs.Order.{Row, column}
@@ -13,7 +13,7 @@ use Rattle.cs_value.specs.Spelling.{row_bytes}
 use Rattle.cs_value.specs.Maps.{ByBytes}
 use Rattle.cs_value.specs.Reading.{number_at, field_at}
 use Rattle.cs_value.specs.State.{SchemaData, TableData, State, IsState, row_at}
-use Rattle.cs_store.specs.Records.{Records, content, same_bytes, records_of}
+use Rattle.cs_store.specs.Records.{Records, content, same_bytes}
 use Rattle.cs_store.specs.Declaration.{declaration_bytes}
 
 -- ---- what is stored of a state

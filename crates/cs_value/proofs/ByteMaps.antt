@@ -1,6 +1,6 @@
 -- The entries of a map whose keys are seen as lists of bytes, as a finite map from these.
 use Rattle.std.proofs.Common.{◌≡◌, ℕ, List, [], ◌∷◌, Option, Some, None, true, false, cond, map, refl, sym, ap, ◌∙◌, Bool, IsTrue, is_some, true≢false, T, ◌&&◌}
-use Rattle.std.specs.Option.{option_map, IsSome}
+use Rattle.std.specs.Option.{option_map}
 use Rattle.std.specs.Ordering.{nat_cmp, match_ordering, is_eq}
 use Rattle.std.specs.declared.cmp.Ordering.{Ordering}
 use Rattle.std.specs.declared.cmp.Ordering.TheVariants.{Less, Equal, Greater}

@@ -1,12 +1,12 @@
 -- Tables stay tables, and states stay states.
-use Rattle.std.proofs.Common.{◌≡◌, ℕ, List, Option, Some, None, Bool, true, false, cond, refl, sym, ap, ◌∙◌, subst}
+use Rattle.std.proofs.Common.{◌≡◌, ℕ, List, Some, None, Bool, true, false, cond, refl, sym, ◌∙◌}
 use Rattle.std.specs.Ordering.{nat_cmp, is_eq}
 use Rattle.std.specs.Cmp.Lexicographic.{slice_cmp, nat_list_cmp_total}
 use Rattle.std.specs.FinMap.{get, insert, remove, empty, get-insert, get-remove, get-empty}
 use Rattle.cs_value.specs.declared.value.OwnedValue.{OwnedValue}
 use Rattle.cs_value.specs.Table.{IsName}
 use Rattle.cs_value.specs.Maps.{ByBytes}
-use Rattle.cs_value.specs.State.{SchemaData, IsSchema, RowMap, TableData, IsRowAt, IsTable, State, IsNamedTable, IsState}
+use Rattle.cs_value.specs.State.{SchemaData, IsSchema, TableData, IsRowAt, IsTable, State, IsNamedTable, IsState}
 use Rattle.cs_value.proofs.ByteMaps.{tied_bytes}
 
 -- what holds at every key of a map holds once an entry is put that meets it

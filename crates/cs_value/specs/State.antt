@@ -1,7 +1,6 @@
 -- What a database of tables holds: tables by name, each with a schema, and its rows by key. The names and the rows are
 -- those that changesets can speak of.
-use Rattle.std.specs.Prelude.{◌≡◌, ◌≢◌, ℕ, ◌<◌, ◌≤◌, List, length, All, AllPairs, Option, Some, None, option_map, IsUtf8, unwrap_or, refl}
-use Rattle.std.specs.Option.{option_and_then}
+use Rattle.std.specs.Prelude.{◌≡◌, ◌≢◌, ℕ, ◌<◌, ◌≤◌, List, length, AllPairs, Option, Some, option_map, IsUtf8, unwrap_or, refl}
 use Rattle.std.specs.List.{AllByRecursion}
 use Rattle.std.specs.Coded.{Coded, code_by, coded×, coded_ℕ, coded_list}
 use Rattle.std.specs.FinMap as map

@@ -12,7 +12,6 @@ use Rattle.cs_wire.specs.declared.entry.Entry.{Entry}
 use Rattle.cs_value.proofs.KeyedRows.{length-IsKeyedRow}
 use Rattle.cs_wire.specs.ReadFaults.{Stands}
 use Rattle.cs_wire.specs.declared.entry.Change.TheVariants.{Insert, Delete, Update}
-use Rattle.cs_value.specs.Table.{IsKeyedRow}
 use Rattle.cs_wire.specs.Entry.{IsKeyedUpdate, IsChange, fields_of, operation, key_of, entry_bytes}
 
 -- each record of an update has a field for each flag

@@ -1,4 +1,4 @@
-use Rattle.std.proofs.Common.{inl, refl, true≢false, sym, ap, ◌∙◌, ◌≡◌, length, List, ℕ}
+use Rattle.std.proofs.Common.{inl, refl, true≢false, sym, ap, ◌∙◌, length, List, ℕ}
 use Rattle.cs_value.specs.declared.value.OwnedValue.{OwnedValue}
 use Rattle.cs_store.proofs.EditingLaws.{no_fault, null_fault}
 use Rattle.cs_store.proofs.editing.key_for.Goals as goal

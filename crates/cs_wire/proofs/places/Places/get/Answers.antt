@@ -1,4 +1,4 @@
-use Rattle.std.proofs.Common.{Vec, Global, ◌≡◌, ◌∙◌, ℕ, Option, Some, None}
+use Rattle.std.proofs.Common.{◌≡◌, ◌∙◌, ℕ, Option, Some, None}
 use Rattle.std.specs.Option.{option_map, option_copied}
 use Rattle.cs_value.proofs.ByteMaps.{got_seen}
 use Rattle.cs_wire.proofs.places.Places.get.Goals as goal

@@ -1,0 +1,5 @@
+use Rattle.cs_store.proofs.memory.MemRowsRows.TheImpl.Goals as goal
+
+-- rows in memory are honest
+pub put-asks : goal.put-asks
+put-asks c = c.requires tt
