@@ -11,6 +11,7 @@ pub mod QueryLaws
 pub mod QueryTexts
 pub mod RemoveLaws
 pub mod RowLaws
+pub mod SchemaLaws
 pub mod SetLaws
 pub mod StatementLaws
 pub mod TableLaws
