@@ -1,15 +1,17 @@
 //! Rows in memory.
-ghost use Rattle.std.specs.Prelude.{◌≡◌, OnOk, OnErr, IfOk, IfErr, IfSome, IsTrue, is_ok};
+ghost use Rattle.std.specs.Prelude.{◌≡◌, OnOk, OnErr, IfOk, IfErr, IfSome, IsTrue, is_ok, Ok, Err, ◌⊎◌, string_bytes};
 ghost use Rattle.std.specs.Option.{option_copied};
 ghost use Rattle.std.specs.FinMap as map;
 ghost use Rattle.cs_store.specs.declared.fault.StoreError.TheVariants.{NoMemory as OutOfMemory};
-ghost use Rattle.cs_value.specs.State.{IsRowAt, IsSchema, schema_at, row_at, rows_at, with_row, without_row};
+ghost use Rattle.cs_value.specs.State.{IsRowAt, IsSchema, IsTable, schema_at, row_at, rows_at, with_row, without_row};
 ghost use Rattle.cs_store.specs.Rows.{Fits};
+ghost use Rattle.cs_store.specs.Editing.{Declares, schema_of};
+ghost use Rattle.cs_value.specs.Table.{IsName};
 
 use crate::fault::StoreError;
 use crate::rows::Rows;
 use crate::schema::Schema;
-use cs_value::{Key, NoMemory, Row};
+use cs_value::{Key, NoMemory, Row, is_table_name};
 use std::alloc::Global;
 use std::collections::BTreeMap;
 use std::marker::Model;
@@ -118,6 +120,43 @@ impl MemRows {
         MemRows {
             tables: BTreeMap::new(alloc),
         }
+    }
+
+    /// Declares a table without rows: the names of its columns, of which the marked ones are the key.
+    ///
+    /// Refuses with [`BadSchema`](StoreError::BadSchema) where the name or the columns make no table,
+    /// and then with [`TableExists`](StoreError::TableExists). A refusal changes nothing.
+    pub fn declare(
+        &mut self,
+        alloc: Global,
+        name: &str,
+        columns: &[String],
+        keys: &[bool],
+    ) -> Result<(), StoreError>
+        ensures declared { OnOk result (Declares self.old name.now (schema_of columns.now keys.now) (Ok self.new)) }
+        ensures refused { IfErr result (λ e. (Declares self.old name.now (schema_of columns.now keys.now) (Err e)) ⊎ (e ≡ OutOfMemory)) }
+        ensures unchanged { OnErr result (self.new ≡ self.old) }
+    {
+        if !is_table_name(name) {
+            return Err(StoreError::BadSchema);
+        }
+        let schema = Schema::new(alloc, columns, keys)?;
+        if self.table(name).is_some() {
+            return Err(StoreError::TableExists);
+        }
+        self.insert_table(String::from_str(alloc, name)?, Table::new(alloc, schema))
+    }
+
+    /// Puts a table under its name. A refusal changes nothing.
+    fn insert_table(&mut self, name: String, table: Table) -> Result<(), StoreError>
+        requires name { IsName (string_bytes name) }
+        requires table { IsTable table }
+        ensures ok { OnOk result (self.new ≡ map.insert self.old (string_bytes name) table) }
+        ensures err { OnErr result (self.new ≡ self.old) }
+        ensures refused { IfErr result (λ e. e ≡ OutOfMemory) }
+    {
+        self.tables.insert(name, table)?;
+        Ok(())
     }
 
     fn table(&self, name: &str) -> Option<&Table>

@@ -12,7 +12,7 @@
 //!
 //! `value` has the values, `text` and `bytes` what they hold, `varint` the numbers of the format,
 //! `field` the reader and the writer of fields, `row` lists of values, `image` lists of fields,
-//! `parts` what both are made of, `key` what tells rows apart, `fault` and `refusal` what calls
+//! `parts` what both are made of, `key` what tells rows apart, `name` what tables are called, `fault` and `refusal` what calls
 //! refuse with, and `laws` what holds of all spellings.
 #![tactic(auto)]
 
@@ -22,6 +22,7 @@ mod field;
 mod image;
 mod key;
 mod laws;
+mod name;
 mod parts;
 mod refusal;
 mod row;
@@ -35,6 +36,7 @@ pub use field::{field_read, field_write};
 pub use image::{Image, image_read, image_write};
 pub use key::Key;
 pub use laws::{field_spellings_law, key_bytes_law, record_spellings_law, varint_spellings_law};
+pub use name::is_table_name;
 pub use refusal::{Fault, NoMemory, OrNoMemory};
 pub use row::{Row, row_write};
 pub use text::Text;

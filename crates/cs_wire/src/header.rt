@@ -6,7 +6,7 @@ ghost use Rattle.cs_wire.specs.Entry.{IsKeyedUpdate};
 ghost use Rattle.cs_wire.specs.Changeset.{HeaderData, IsHeader};
 
 use crate::entry::{Change, Entry};
-use cs_value::{Field, Key, MAX_COLUMNS, NoMemory, OwnedField, OwnedValue, Value};
+use cs_value::{Field, Key, MAX_COLUMNS, NoMemory, OwnedField, is_table_name};
 use std::alloc::Global;
 use std::marker::Model;
 
@@ -37,10 +37,7 @@ impl Header {
     pub fn fits(name: &str, flags: &[u8]) -> bool
         ensures { IsTrue result ↔ IsHeader (record { name = name.now; flags = flags.now }) }
     {
-        !name.is_empty()
-            && !has_zero(name.as_bytes())
-            && flags.len() <= MAX_COLUMNS
-            && has_key(flags)
+        is_table_name(name) && flags.len() <= MAX_COLUMNS && has_key(flags)
     }
 
     /// Makes a header of a name and flags that fit ([`Header::fits`]), and takes no memory.
@@ -159,10 +156,6 @@ pub(crate) fn has_key(flags: &[u8]) -> bool
 {
     flags.iter().any(|flag| *flag > 0)
 }
-
-/// Whether a byte is zero.
-fn has_zero(bytes: &[u8]) -> bool
-    ensures { IsTrue result ↔ Any (λ b. b ≡ 0) bytes.now }
 {
     bytes.iter().any(|byte| *byte == 0)
 }
