@@ -13,5 +13,6 @@ pub mod RemoveLaws
 pub mod RowLaws
 pub mod SetLaws
 pub mod StatementLaws
+pub mod StoredLaws
 pub mod TableLaws
 pub mod TransactionLaws
