@@ -14,5 +14,6 @@ pub mod RowLaws
 pub mod SetLaws
 pub mod StatementLaws
 pub mod StoredLaws
+pub mod StoredReading
 pub mod TableLaws
 pub mod TransactionLaws

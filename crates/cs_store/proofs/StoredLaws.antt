@@ -63,9 +63,6 @@ rows_change new records state (n ∷ name) key table rows here is found fit put 
       each = at;
     })
   where
-    next : State
-    next = insert state (n ∷ name) (record table { rows = rows })
-
     rows_read : (t k : List ℕ) (b c : Bool) → same_bytes t (n ∷ name) ≡ b → same_bytes k key ≡ c
         → cond (b && c) (option_map row_bytes here) (option_map row_bytes (get (rows_at state t) k)) ≡ option_map row_bytes (get (cond b rows (rows_at state t)) k)
     rows_read t k true true e f = sym (ap (option_map row_bytes) (put k ∙ ap (λ c. cond c here (get table.rows k)) f))
