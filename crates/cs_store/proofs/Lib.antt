@@ -13,6 +13,7 @@ pub mod RemoveLaws
 pub mod RowLaws
 pub mod SetLaws
 pub mod StatementLaws
+pub mod StateOf
 pub mod StoredLaws
 pub mod StoredReading
 pub mod TableLaws
