@@ -15,6 +15,7 @@ pub mod SetLaws
 pub mod StatementLaws
 pub mod StateOf
 pub mod StoredLaws
+pub mod StoredLists
 pub mod StoredReading
 pub mod TableLaws
 pub mod TransactionLaws

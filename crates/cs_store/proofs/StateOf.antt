@@ -10,7 +10,7 @@ use Rattle.std.proofs.lemmas.Cmp.{nat_list_eq_equiv}
 use Rattle.sqlite_value.specs.Order.{Row, column}
 use Rattle.cs_value.specs.declared.value.OwnedValue.{OwnedValue}
 use Rattle.cs_value.specs.Spelling.{row_bytes}
-use Rattle.cs_value.specs.State.{SchemaData, IsSchema, TableData, IsTable, State, IsState, row_at}
+use Rattle.cs_value.specs.State.{SchemaData, TableData, IsTable, State, IsState}
 use Rattle.cs_value.proofs.ByteMaps.{same_maps, tied_bytes}
 use Rattle.cs_value.proofs.KeyedRows.{length-IsKeyedRow}
 use Rattle.cs_store.specs.Records.{Records, content, same_bytes, is_under, records_of}
@@ -18,7 +18,6 @@ use Rattle.cs_store.specs.Declaration.{declaration_bytes}
 use Rattle.cs_store.specs.Stored.{Stores, values_at, schema_in, entries_under, table_in, state_of}
 use Rattle.cs_store.proofs.MemoryLaws.{row_at_found}
 use Rattle.cs_store.proofs.RowLaws.{same_is}
-use Rattle.cs_store.proofs.StoredLaws.{declaration_stored, row_stored}
 use Rattle.cs_store.proofs.StoredReading.{values_again, schema_again}
 
 -- the first of the rows is found, or what the others hold

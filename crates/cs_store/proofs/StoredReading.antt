@@ -1,20 +1,19 @@
 -- What is spelled of rows and schemas is read.
-use Rattle.std.proofs.Common.{◌≡◌, ◌<◌, ◌≤◌, ℕ, zero, suc, List, [], ◌∷◌, ◌++◌, length, take, drop, Option, Some, None, Ok, refl, sym, ap, ◌∙◌, append_assoc, arith}
+use Rattle.std.proofs.Common.{◌≡◌, ℕ, List, [], ◌∷◌, ◌++◌, length, drop, Some, Ok, refl, ap, ◌∙◌, append_assoc, arith}
 use Rattle.std.specs.Option.{option_map}
 use Rattle.std.specs.List.{AllByRecursion}
 use Rattle.std.proofs.Math.Seq.{drop-append_seam, take-append_seam}
-use Rattle.cs_value.specs.declared.TheConstants.{MAX_COLUMNS, MAX_CONTENT_LEN}
 use Rattle.cs_value.specs.declared.value.OwnedValue.{OwnedValue}
 use Rattle.cs_value.specs.declared.value.OwnedField.TheVariants.{Defined}
 use Rattle.cs_value.specs.Value.{IsValue, IsRow}
 use Rattle.cs_value.specs.Varint.{varint}
 use Rattle.cs_value.specs.Spelling.{counted, value_bytes, field_bytes, row_bytes}
-use Rattle.cs_value.specs.Reading.{number_at, field_at}
+use Rattle.cs_value.specs.Reading.{field_at}
 use Rattle.cs_value.specs.State.{SchemaData, IsColumnName, IsSchema}
 use Rattle.cs_value.proofs.VarintLaws.{number_again}
 use Rattle.cs_value.proofs.FieldAgain.{field_again}
 use Rattle.cs_store.specs.Declaration.{columns_bytes, declaration_bytes}
-use Rattle.cs_store.specs.Stored.{value_before, name_before, values_at, columns_at, counted_columns, schema_in}
+use Rattle.cs_store.specs.Stored.{value_before, values_at, columns_at, counted_columns, schema_in}
 
 -- a value that is spelled is read
 value_again : (v : OwnedValue) (rest : List ℕ) → IsValue v → field_at (value_bytes v ++ rest) ≡ Ok (Defined v, length (value_bytes v))
