@@ -47,6 +47,7 @@ module _ {X : Type 0} (read : List ℕ → List ℕ → Option X) (name : List �
   found_step key here value true true (Some x) es records same is reads later =
       ap (λ b. cond b (Some x) (find_entry (slice_cmp nat_cmp) key es)) (sym (texts_ties key here) ∙ nat_list_eq_equiv.symm key here ∙ same) ∙ sym is ∙ ap (λ k. read k value) (same_is here key same)
 
+  -- what is found among the entries is what is read of the records
   find_entries : (key : List ℕ) (rows : List Row) → ((v : List ℕ) → records_of rows name key ≡ Some v → IsSome (read key v))
       → find_entry (slice_cmp nat_cmp) key (flat_map entry_of rows) ≡ option_and_then (read key) (records_of rows name key)
   unfolding records_of
@@ -76,6 +77,7 @@ module _ {X : Type 0} (read : List ℕ → List ℕ → Option X) (name : List �
         | inr apart ↦ ap (λ b. cond b (Some x) (find_entry (slice_cmp nat_cmp) key (flat_map entry_of rows))) apart ∙ later
       ]
 
+  -- and so has the map
   pub get_unread : (rows : List Row) (key : List ℕ) → ((v : List ℕ) → read key v ≡ None) → get (entries_under read name rows) key ≡ None
   get_unread rows key unread = get-from_entries nat_list_cmp_total (flat_map entry_of rows) key ∙ find_unread key rows unread
 
@@ -125,6 +127,7 @@ module _ (rows : List Row) (state : State) (is : Stores (records_of rows) state)
       (schema_again table.schema (is.is_state (b ∷ name) table found).is_table.schema)
       ∙ ap (λ r. let t : TableData = record { schema = table.schema; rows = r } in Some t) (rows_are (b ∷ name) table found)
 
+  -- the tables are read
   tables_are : (name : List ℕ) → get (entries_under (table_in rows) [] rows) name ≡ get state name
   tables_are [] = get_unread (table_in rows) [] rows [] (λ v. refl) ∙ sym (no_nameless state is.is_state)
   tables_are (b ∷ name) = get_spelled (table_in rows) [] (λ t. declaration_bytes t.schema) rows (b ∷ name) (get state (b ∷ name)) (is.each [] (b ∷ name)) (table_is (b ∷ name))

@@ -24,6 +24,7 @@ use Rattle.cs_store.specs.Stored.{version, Stores}
 use Rattle.cs_store.proofs.MemoryLaws.{rows_at_found, rows_at_absent, no_values}
 use Rattle.cs_store.proofs.StoredLaws.{row_stored}
 
+-- entries by lists of bytes, and whether their keys rise
 abbrev Entries : Type 0 → Type 0
 Entries X = List (List ℕ × X)
 
@@ -152,6 +153,7 @@ below_names [] some = refl
 below_names (([], x) ∷ es) some = absurd (some.0 refl)
 below_names ((b ∷ name, x) ∷ es) some = below_names es some.1
 
+-- what is stored of a table, and of all
 abbrev spell : TableData → List ℕ
 spell t = declaration_bytes t.schema
 
