@@ -14,5 +14,9 @@ pub mod RowLaws
 pub mod SchemaLaws
 pub mod SetLaws
 pub mod StatementLaws
+pub mod StateOf
+pub mod StoredLaws
+pub mod StoredLists
+pub mod StoredReading
 pub mod TableLaws
 pub mod TransactionLaws

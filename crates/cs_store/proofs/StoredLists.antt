@@ -1,0 +1,184 @@
+-- The lists of records under a name are those of the state that is stored.
+use Rattle.std.proofs.Common.{◌≡◌, ◌≢◌, ◌&&◌, ℕ, List, [], ◌∷◌, length, map, inl, inr, Option, Some, None, Bool, true, false, cond, T, option_map, refl, sym, ap, ◌∙◌, subst, arith}
+use Rattle.std.specs.List.{AllByRecursion}
+use Rattle.std.specs.Ordering.{nat_cmp, eq_by_cmp, is_eq, is_lt}
+use Rattle.std.specs.declared.cmp.Ordering.{Ordering}
+use Rattle.std.specs.declared.cmp.Ordering.TheVariants.{Less, Equal, Greater}
+use Rattle.std.specs.Cmp.{tied_itself}
+use Rattle.std.specs.Cmp.Lexicographic.{slice_cmp, nat_list_cmp_total}
+use Rattle.std.specs.FinMap.{get, entries, entries_sorted, get-entries, keys, values, is_sorted, find, slice_cmp-IsAntisymmetric, nat_cmp-IsAntisymmetric}
+use Rattle.std.specs.FinMap.Entries.{below_all, same_entries}
+use Rattle.std.proofs.lemmas.Bool.{cases_Bool, and_parts, and_from}
+use Rattle.sqlite_trees.proofs.ListLemmas.{map-map, all-map}
+use Rattle.cs_value.specs.declared.value.OwnedValue.{OwnedValue}
+use Rattle.cs_value.specs.Value.{IsRow}
+use Rattle.cs_value.specs.Spelling.{row_bytes}
+use Rattle.cs_value.specs.Maps.{ByBytes}
+use Rattle.cs_value.specs.State.{RowMap, TableData, IsTable, State, rows_at}
+use Rattle.cs_value.proofs.ByteMaps.{tied_bytes}
+use Rattle.cs_value.proofs.KeyedRows.{length-IsKeyedRow}
+use Rattle.cs_value.proofs.Spellings.{row_bytes_same}
+use Rattle.cs_store.specs.Records.{Records, ListsTable}
+use Rattle.cs_store.specs.Declaration.{declaration_bytes}
+use Rattle.cs_store.specs.Stored.{version, Stores}
+use Rattle.cs_store.proofs.MemoryLaws.{rows_at_found, rows_at_absent, no_values}
+use Rattle.cs_store.proofs.StoredLaws.{row_stored}
+
+-- entries by lists of bytes, and whether their keys rise
+abbrev Entries : Type 0 → Type 0
+Entries X = List (List ℕ × X)
+
+abbrev sorted : {X : Type 0} → Entries X → Type 0
+sorted es = T (is_sorted (slice_cmp nat_cmp) es)
+
+-- entries that are sorted and answer alike are one list
+same_lists : {X : Type 0} (es fs : Entries X) → sorted es → sorted fs → ((q : List ℕ) → find (slice_cmp nat_cmp) q es ≡ find (slice_cmp nat_cmp) q fs) → es ≡ fs
+same_lists = same_entries (slice_cmp nat_cmp) nat_list_cmp_total (slice_cmp-IsAntisymmetric nat_cmp-IsAntisymmetric)
+
+-- a test that passes, in both forms
+true_of : (b : Bool) → T b → b ≡ true
+true_of true h = refl
+true_of false h = absurd h
+
+of_true : (b : Bool) → b ≡ true → T b
+of_true b e = subst T (sym e) tt
+
+-- what is less is not found first
+above : {X : Type 0} (o : Ordering) (x : X) (rest : Option X) → is_lt o ≡ true → cond (is_eq o) (Some x) rest ≡ rest
+above Less x rest e = refl
+above Equal x rest e = absurd cc
+above Greater x rest e = refl
+
+-- ---- the entries of a map
+
+-- a key below all others is not among them
+find_below : {X : Type 0} (k : List ℕ) (es : Entries X) → T (below_all (slice_cmp nat_cmp) k es) → find (slice_cmp nat_cmp) k es ≡ None
+find_below k [] below = refl
+find_below k (e ∷ es) below =
+    let parts = and_parts (is_lt (slice_cmp nat_cmp k e.0)) (below_all (slice_cmp nat_cmp) k es) (true_of _ below) in
+    above (slice_cmp nat_cmp k e.0) e.1 (find (slice_cmp nat_cmp) k es) parts.0 ∙ find_below k es (of_true _ parts.1)
+
+-- what holds of what is found at each key holds of each entry
+each_entry : {X : Type 0} (P : List ℕ → X → Type 0) (es : Entries X) → sorted es → ((q : List ℕ) (x : X) → find (slice_cmp nat_cmp) q es ≡ Some x → P q x) → AllByRecursion (λ e. P e.0 e.1) es
+each_entry P [] rising each = tt
+each_entry {X} P (e ∷ es) rising each =
+    let parts = and_parts (below_all (slice_cmp nat_cmp) e.0 es) (is_sorted (slice_cmp nat_cmp) es) (true_of _ rising) in
+    (each e.0 e.1 (ap (λ r. cond (is_eq r) (Some e.1) (find (slice_cmp nat_cmp) e.0 es)) (tied_itself nat_list_cmp_total e.0)), each_entry P es (of_true _ parts.1) (λ q x found. each q x (later q x (find_below e.0 es (of_true _ parts.0)) found)))
+  where
+    later : (q : List ℕ) (x : X) → find (slice_cmp nat_cmp) e.0 es ≡ None → find (slice_cmp nat_cmp) q es ≡ Some x → find (slice_cmp nat_cmp) q (e ∷ es) ≡ Some x
+    later q x none found = elim (cases_Bool (eq_by_cmp (slice_cmp nat_cmp) q e.0)) [
+      | inl tied ↦ absurd (let other = sym none ∙ ap (λ k. find (slice_cmp nat_cmp) k es) (sym (tied_bytes q e.0 tied)) ∙ found in cc)
+      | inr apart ↦ ap (λ b. cond b (Some e.1) (find (slice_cmp nat_cmp) q es)) apart ∙ found
+    ]
+
+-- ---- entries whose values are spelled
+
+module _ {X Y : Type 0} (f : X → Y) where
+  abbrev each_value : List ℕ × X → List ℕ × Y
+  each_value e = (e.0, f e.1)
+
+  below_values : (k : List ℕ) (es : Entries X) → below_all (slice_cmp nat_cmp) k (map each_value es) ≡ below_all (slice_cmp nat_cmp) k es
+  below_values k [] = refl
+  below_values k (e ∷ es) = ap (λ b. is_lt (slice_cmp nat_cmp k e.0) && b) (below_values k es)
+
+  sorted_values : (es : Entries X) → is_sorted (slice_cmp nat_cmp) (map each_value es) ≡ is_sorted (slice_cmp nat_cmp) es
+  sorted_values [] = refl
+  sorted_values (e ∷ es) = ap (λ b. b && is_sorted (slice_cmp nat_cmp) (map each_value es)) (below_values e.0 es) ∙ ap (λ b. below_all (slice_cmp nat_cmp) e.0 es && b) (sorted_values es)
+
+  find_values : (q : List ℕ) (es : Entries X) → find (slice_cmp nat_cmp) q (map each_value es) ≡ option_map f (find (slice_cmp nat_cmp) q es)
+  find_values q [] = refl
+  find_values q (e ∷ es) =
+      elim (eq_by_cmp (slice_cmp nat_cmp) q e.0) as (λ b. cond b (Some (f e.1)) (find (slice_cmp nat_cmp) q (map each_value es)) ≡ option_map f (cond b (Some e.1) (find (slice_cmp nat_cmp) q es))) [ true ↦ refl | false ↦ find_values q es ]
+
+  -- sorted entries that answer with the spelled values of a map are its entries with their values spelled
+  listed_of : (m : ByBytes X) (listed : Entries Y) → sorted listed → ((q : List ℕ) → find (slice_cmp nat_cmp) q listed ≡ option_map f (get m q)) → listed ≡ map each_value (entries m)
+  listed_of m listed rising each =
+      same_lists listed (map each_value (entries m)) rising (subst T (sym (sorted_values (entries m))) (entries_sorted m)) (λ q. each q ∙ ap (option_map f) (get-entries m q) ∙ sym (find_values q (entries m)))
+
+-- ---- the rows of a table
+
+-- a row of as many values
+abbrev pub IsRowOf : ℕ → List OwnedValue → Type 0
+IsRowOf width row = IsRow row × (length row ≡ width)
+
+-- rows of one width with equal bytes are equal
+same_spelled : (width : ℕ) (rows others : List (List OwnedValue)) → AllByRecursion (IsRowOf width) rows → AllByRecursion (IsRowOf width) others → map row_bytes rows ≡ map row_bytes others → rows ≡ others
+same_spelled width [] [] p q same = refl
+same_spelled width [] (y ∷ others) p q same = absurd cc
+same_spelled width (x ∷ rows) [] p q same = absurd cc
+same_spelled width (x ∷ rows) (y ∷ others) p q same =
+    let first : row_bytes x ≡ row_bytes y = cc in
+    let rest : map row_bytes rows ≡ map row_bytes others = cc in
+    cc (row_bytes_same x y p.0.0 q.0.0 (p.0.1 ∙ sym q.0.1) first, same_spelled width rows others p.1 q.1 rest)
+
+-- where nothing is spelled there are no rows
+no_rows : (rows : List (List OwnedValue)) → map row_bytes rows ≡ [] → rows ≡ []
+no_rows [] none = refl
+no_rows (x ∷ rows) none = absurd cc
+
+-- the rows of a table have the width of its schema
+table_rows : (table : TableData) → IsTable table → AllByRecursion (IsRowOf (length table.schema.columns)) (values table.rows)
+table_rows table is =
+    all-map (IsRowOf (length table.schema.columns)) (λ e. e.1) (entries table.rows)
+    (each_entry (λ key row. IsRowOf (length table.schema.columns) row) (entries table.rows) (entries_sorted table.rows) (λ key row found.
+    let fit = is.rows key row (get-entries table.rows key ∙ found) in
+    (fit.values, sym (is.schema.as_many ∙ length-IsKeyedRow table.schema.flags row fit.keyed))))
+
+-- the rows that the records under the name of a table spell, by key, are its rows
+pub rows_listed : (records : Records) (state : State) (name : List ℕ) (listed : Entries (List ℕ)) (rows : List (List OwnedValue)) → Stores records state → name ≢ [] → ListsTable records name listed
+    → map (λ e. e.1) listed ≡ map row_bytes rows → ((table : TableData) → get state name ≡ Some table → AllByRecursion (IsRowOf (length table.schema.columns)) rows) → rows ≡ values (rows_at state name)
+rows_listed records state name listed rows is some lists same fit = at (get state name) refl
+  where
+    spelled : map row_bytes rows ≡ map row_bytes (values (rows_at state name))
+    spelled =
+        sym same
+        ∙ ap (map (λ e. e.1)) (listed_of row_bytes (rows_at state name) listed (of_true _ lists.rising) (λ key. lists.each key ∙ row_stored records state name key is some))
+        ∙ map-map (λ e. e.1) (each_value row_bytes) (entries (rows_at state name))
+        ∙ sym (map-map row_bytes (λ e. e.1) (entries (rows_at state name)))
+
+    at : (o : Option TableData) → get state name ≡ o → rows ≡ values (rows_at state name)
+    at None none =
+        let empty_values = ap (λ (r : RowMap). values r) (rows_at_absent state name none) ∙ no_values in
+        no_rows rows (spelled ∙ ap (map row_bytes) empty_values) ∙ sym empty_values
+    at (Some table) found =
+        same_spelled (length table.schema.columns) rows (values (rows_at state name)) (fit table found)
+        (subst (λ (r : RowMap). AllByRecursion (IsRowOf (length table.schema.columns)) (values r)) (sym (rows_at_found state name table found)) (table_rows table (is.is_state name table found).is_table))
+        spelled
+
+-- ---- the tables
+
+-- names that are not empty are above the empty one
+below_names : {X : Type 0} (es : Entries X) → AllByRecursion (λ e. e.0 ≢ []) es → below_all (slice_cmp nat_cmp) [] es ≡ true
+below_names [] some = refl
+below_names (([], x) ∷ es) some = absurd (some.0 refl)
+below_names ((b ∷ name, x) ∷ es) some = below_names es some.1
+
+-- what is stored of a table, and of all
+abbrev spell : TableData → List ℕ
+spell t = declaration_bytes t.schema
+
+abbrev spelled_tables : State → Entries (List ℕ)
+spelled_tables state = map (λ e. (e.0, declaration_bytes e.1.schema)) (entries state)
+
+-- under the empty name stand the version and the declarations of the tables, by their names
+pub tables_listed : (records : Records) (state : State) (listed : Entries (List ℕ)) → Stores records state → ListsTable records [] listed
+    → listed ≡ ([], version) ∷ map (λ e. (e.0, declaration_bytes e.1.schema)) (entries state)
+tables_listed records state listed is lists = same_lists listed (([], version) ∷ spelled_tables state) (of_true _ lists.rising) (of_true _ (and_from _ _ below rising)) each
+  where
+    named : AllByRecursion (λ e. e.0 ≢ []) (entries state)
+    named = each_entry (λ name table. name ≢ []) (entries state) (entries_sorted state) (λ name table found empty. let named = (is.is_state name table (get-entries state name ∙ found)).named in omega (arith, named.some, ap length empty))
+
+    below : below_all (slice_cmp nat_cmp) [] (spelled_tables state) ≡ true
+    below = below_values spell [] (entries state) ∙ below_names (entries state) named
+
+    rising : is_sorted (slice_cmp nat_cmp) (spelled_tables state) ≡ true
+    rising = sorted_values spell (entries state) ∙ true_of _ (entries_sorted state)
+
+    each : (q : List ℕ) → find (slice_cmp nat_cmp) q listed ≡ find (slice_cmp nat_cmp) q (([], version) ∷ spelled_tables state)
+    each [] = lists.each [] ∙ is.each [] []
+    each (b ∷ name) = lists.each (b ∷ name) ∙ is.each [] (b ∷ name) ∙ ap (option_map spell) (get-entries state (b ∷ name)) ∙ sym (find_values spell (b ∷ name) (entries state))
+
+-- so the keys there are the names of the tables, behind the version's
+pub names_listed : (records : Records) (state : State) (listed : Entries (List ℕ)) → Stores records state → ListsTable records [] listed → map (λ e. e.0) listed ≡ [] ∷ keys state
+names_listed records state listed is lists =
+    ap (map (λ e. e.0)) (tables_listed records state listed is lists) ∙ ap (λ (names : List (List ℕ)). [] ∷ names) (map-map (λ e. e.0) (λ e. (e.0, declaration_bytes e.1.schema)) (entries state))
