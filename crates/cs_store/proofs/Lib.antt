@@ -13,8 +13,9 @@ pub mod RemoveLaws
 pub mod RowLaws
 pub mod SchemaLaws
 pub mod SetLaws
-pub mod StatementLaws
 pub mod StateOf
+pub mod StatementLaws
+pub mod StoreLaws
 pub mod StoredLaws
 pub mod StoredLists
 pub mod StoredReading

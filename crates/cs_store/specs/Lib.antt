@@ -3,6 +3,7 @@ pub mod Records
 pub mod Rows
 pub mod Declaration
 pub mod Stored
+pub mod Store
 pub mod Editing
 pub use Rattle.cs_value.specs.Value
 pub use Rattle.cs_value.specs.Key

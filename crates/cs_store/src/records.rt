@@ -80,10 +80,7 @@ pub(crate) fn find_record<S: Alter>(
     ensures refused { IfErr result IsResource }
     ensures rests { HasCleanDisk (state S.Store conn.new)
         → OnErr result (Rests (state S.Store conn.old) (state S.Store conn.new)) }
-    ensures inside { IsTrue (state S.Store conn.old).in_transaction
-        → KeepsCrash (state S.Store conn.old) (state S.Store conn.new) }
-    ensures outside { (HasCleanDisk (state S.Store conn.old) → HoldsRecords (state S.Store conn.old).now)
-        → KeepsCrash (state S.Store conn.old) (state S.Store conn.new) }
+    ensures keeps_crash { KeepsCrash (state S.Store conn.old) (state S.Store conn.new) }
 {
     let rows = query_rows(
         conn,
@@ -184,10 +181,7 @@ pub(crate) fn list_records<S: Alter>(
     ensures refused { IfErr result IsResource }
     ensures rests { HasCleanDisk (state S.Store conn.new)
         → OnErr result (Rests (state S.Store conn.old) (state S.Store conn.new)) }
-    ensures inside { IsTrue (state S.Store conn.old).in_transaction
-        → KeepsCrash (state S.Store conn.old) (state S.Store conn.new) }
-    ensures outside { (HasCleanDisk (state S.Store conn.old) → HoldsRecords (state S.Store conn.old).now)
-        → KeepsCrash (state S.Store conn.old) (state S.Store conn.new) }
+    ensures keeps_crash { KeepsCrash (state S.Store conn.old) (state S.Store conn.new) }
 {
     let rows = query_rows(
         conn,
@@ -233,10 +227,7 @@ pub(crate) fn all_records<S: Alter>(
     ensures refused { IfErr result IsResource }
     ensures rests { HasCleanDisk (state S.Store conn.new)
         → OnErr result (Rests (state S.Store conn.old) (state S.Store conn.new)) }
-    ensures inside { IsTrue (state S.Store conn.old).in_transaction
-        → KeepsCrash (state S.Store conn.old) (state S.Store conn.new) }
-    ensures outside { (HasCleanDisk (state S.Store conn.old) → HoldsRecords (state S.Store conn.old).now)
-        → KeepsCrash (state S.Store conn.old) (state S.Store conn.new) }
+    ensures keeps_crash { KeepsCrash (state S.Store conn.old) (state S.Store conn.new) }
 {
     let rows = query_rows(
         conn,
@@ -286,10 +277,7 @@ pub(crate) fn has_row_numbers<S: Alter>(conn: &mut Connection<S>) -> Result<bool
     ensures refused { IfErr result IsResource }
     ensures rests { HasCleanDisk (state S.Store conn.new)
         → OnErr result (Rests (state S.Store conn.old) (state S.Store conn.new)) }
-    ensures inside { IsTrue (state S.Store conn.old).in_transaction
-        → KeepsCrash (state S.Store conn.old) (state S.Store conn.new) }
-    ensures outside { (HasCleanDisk (state S.Store conn.old) → HoldsRecords (state S.Store conn.old).now)
-        → KeepsCrash (state S.Store conn.old) (state S.Store conn.new) }
+    ensures keeps_crash { KeepsCrash (state S.Store conn.old) (state S.Store conn.new) }
 {
     let rows = query_rows(conn, "SELECT rowid FROM rec ORDER BY rowid", &[])?;
     are_rising(rows.as_slice())

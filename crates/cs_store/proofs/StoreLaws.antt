@@ -1,0 +1,76 @@
+-- Stores stay stores, whatever a call answers.
+use Rattle.std.proofs.Common.{◌≡◌, IsTrue, inl, inr, refl, sym, subst, ap, ◌∙◌, arith, true≢false}
+use Rattle.sqlite.specs.State.{State, HasCleanDisk, KeepsCommit, IsUnchanged, IsRolledBack, Survives}
+use Rattle.sqlite.proofs.StateLemmas.{survives_then}
+use Rattle.cs_store.specs.Records.{Rests, GoesOn, KeepsCrash}
+use Rattle.cs_store.specs.Store.{HoldsState, IsStore, IsSound, KeepsStore}
+
+-- an honest disk was honest before
+pub was_clean : (old new : State) → KeepsCrash old new → HasCleanDisk new → HasCleanDisk old
+was_clean old new keeps clean = omega (arith, keeps.clean)
+
+unchanged_store : (old new : State) → IsUnchanged old new → IsStore old → IsStore new
+unchanged_store old new same was = record {
+  open_inside = λ k. same.0.is_open;
+  now = λ k. subst HoldsState (sym same.0.now_is) (was.now same.0.was_open);
+  committed = λ k. subst HoldsState (sym same.0.committed_is) (was.committed same.0.was_open);
+}
+
+undone_store : (old new : State) → IsRolledBack old new → IsStore old → IsStore new
+undone_store old new undone was = record {
+  open_inside = λ k. absurd (true≢false (sym k ∙ undone.autocommit));
+  now = λ k. subst HoldsState (sym (undone.undone k).0) (was.committed (undone.was_open k));
+  committed = λ k. subst HoldsState (sym (undone.undone k).1) (was.committed (undone.was_open k));
+}
+
+-- a call that changed nothing, or took the database back
+pub rests_store : (old new : State) → Rests old new → IsStore old → IsStore new
+rests_store old new (inl same) was = unchanged_store old new same was
+rests_store old new (inr undone) was = undone_store old new undone was
+
+pub rests_commit : (old new : State) → Rests old new → KeepsCommit old new
+rests_commit old new (inl same) = record { was_open = λ k. same.0.was_open; committed = λ k. same.0.committed_is }
+rests_commit old new (inr undone) = record { was_open = undone.was_open; committed = λ k. (undone.undone k).1 }
+
+-- a write in a transaction
+goes_on_store : (old new : State) → GoesOn old new → HoldsState new.now → IsStore old → IsStore new
+goes_on_store old new on holds was = record {
+  open_inside = λ k. on.is_open;
+  now = λ k. holds;
+  committed = λ k. subst HoldsState (sym on.committed_is) (was.committed on.was_open);
+}
+
+-- nothing is kept by doing nothing
+pub keeps_itself : (s : State) → KeepsStore s s
+keeps_itself s = record {
+  crash = record { clean = omega arith; counts = omega arith; limit = refl; closes = λ clean k. inl k; shield = λ k. k; crash = λ clean db k. inl k };
+  commit = λ clean. record { was_open = λ k. k; committed = λ k. refl };
+  sound = λ k. k;
+}
+
+-- one call after another
+pub keeps_then : (a b c : State) → KeepsStore a b → KeepsStore b c → KeepsStore a c
+keeps_then a b c one two = record {
+  crash = survives_then a b c _ _ _ (λ clean db none. none) (λ clean db none. none) one.crash two.crash;
+  commit = λ clean.
+      let first = one.commit (was_clean b c two.crash clean) in
+      let second = two.commit clean in
+      record { was_open = λ k. first.was_open (second.was_open k); committed = λ k. second.committed k ∙ first.committed (second.was_open k) };
+  sound = λ k. two.sound (one.sound k);
+}
+
+-- a call that rests keeps the store
+pub rests_keeps : (old new : State) → KeepsCrash old new → (HasCleanDisk new → Rests old new) → KeepsStore old new
+rests_keeps old new crash rests = record {
+  crash = crash;
+  commit = λ clean. rests_commit old new (rests clean);
+  sound = λ sound clean. rests_store old new (rests clean) (sound (was_clean old new crash clean));
+}
+
+-- and so does a write that leaves a state
+pub write_keeps : (old new : State) → KeepsCrash old new → (HasCleanDisk new → GoesOn old new × HoldsState new.now) → KeepsStore old new
+write_keeps old new crash wrote = record {
+  crash = crash;
+  commit = λ clean. let on = (wrote clean).0 in record { was_open = λ k. on.was_open; committed = λ k. on.committed_is };
+  sound = λ sound clean. let w = wrote clean in goes_on_store old new w.0 w.1 (sound (was_clean old new crash clean));
+}

@@ -1,0 +1,32 @@
+-- What a store over a connection holds: a state, as its records stand for it.
+use Rattle.std.specs.Prelude.{◌≡◌, IsTrue}
+use Rattle.cs_value.specs.State as tables
+use Rattle.sqlite.specs.Effect.{Database}
+use Rattle.sqlite.specs.State.{State, HasCleanDisk, KeepsCommit}
+use Rattle.cs_store.specs.Records.{HoldsRecords, records_in, KeepsCrash}
+use Rattle.cs_store.specs.Stored.{Stores, state_of}
+
+-- the state that a database's records stand for
+abbrev pub tables_in : Database → tables.State
+tables_in db = state_of (db.trees 0)
+
+-- the database has the table of records, and they are those of a state
+pub record HoldsState (db : Database) : Type 0 where
+  pub records : HoldsRecords db
+  pub stores : Stores (records_in db) (tables_in db)
+
+-- while the connection is open, it shows a state, and a state was committed last; a transaction is open only there
+pub record IsStore (s : State) : Type 0 where
+  pub open_inside : IsTrue s.in_transaction → IsTrue s.is_open
+  pub now : IsTrue s.is_open → HoldsState s.now
+  pub committed : IsTrue s.is_open → HoldsState s.committed
+
+-- it is a store, if the disk has returned what was written
+abbrev pub IsSound : State → Type 0
+IsSound s = HasCleanDisk s → IsStore s
+
+-- what a call in a transaction keeps: what a crash leaves, what was committed last, and that this is a store
+pub record KeepsStore (old new : State) : Type 0 where
+  pub crash : KeepsCrash old new
+  pub commit : HasCleanDisk new → KeepsCommit old new
+  pub sound : IsSound old → IsSound new
