@@ -21,3 +21,4 @@ pub mod StoredLists
 pub mod StoredReading
 pub mod TableLaws
 pub mod TransactionLaws
+pub mod WriteLaws

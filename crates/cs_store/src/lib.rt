@@ -8,6 +8,7 @@ mod memory;
 mod records;
 mod rows;
 mod schema;
+mod tables;
 mod transactions;
 
 pub use edit::{Edit, Written};
