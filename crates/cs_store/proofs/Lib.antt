@@ -1,3 +1,4 @@
 pub mod Found
 pub mod MemoryLaws
+pub mod SchemaLaws
 pub mod EditingLaws
