@@ -1,6 +1,8 @@
 pub mod AnswerLaws
+pub mod DeclarationLaws
 pub mod EditLaws
 pub mod EditingLaws
+pub mod Examples
 pub mod Found
 pub mod FoundRows
 pub mod ListedRows

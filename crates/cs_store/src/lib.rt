@@ -1,6 +1,7 @@
 //! User tables as keyed records in one SQL table.
 #![tactic(auto)]
 
+mod declaration;
 mod edit;
 mod editing;
 mod fault;

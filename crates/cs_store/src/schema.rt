@@ -95,6 +95,7 @@ pub(crate) fn checked(
     flags: Vec<u8>,
 ) -> Result<Schema, StoreError>
     ensures made { IfOk result (λ s. s ≡ record { columns = map string_bytes columns.items; flags = flags.items }) }
+    ensures well_formed { IfOk result IsSchema }
     ensures refused { IfErr result (λ e. ((e ≡ BadSchema) × (¬ IsSchema (record { columns = map string_bytes columns.items; flags = flags.items }))) ⊎ (e ≡ OutOfMemory)) }
 {
     if columns.len() == flags.len()
