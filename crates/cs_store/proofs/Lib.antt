@@ -11,6 +11,7 @@ pub mod NumberedRows
 pub mod OrderLaws
 pub mod QueryLaws
 pub mod QueryTexts
+pub mod ReadLaws
 pub mod RemoveLaws
 pub mod RowLaws
 pub mod SchemaLaws

@@ -1,8 +1,10 @@
 -- What a store over a connection holds: a state, as its records stand for it.
-use Rattle.std.specs.Prelude.{◌≡◌, IsTrue}
+use Rattle.std.specs.Prelude.{◌≡◌, IsTrue, Result, Ok, Err}
 use Rattle.cs_value.specs.State as tables
 use Rattle.sqlite.specs.Effect.{Database}
 use Rattle.sqlite.specs.State.{State, HasCleanDisk, KeepsCommit}
+use Rattle.cs_store.specs.declared.fault.StoreError.{StoreError}
+use Rattle.cs_store.specs.Faults.{IsResource}
 use Rattle.cs_store.specs.Records.{HoldsRecords, records_in, KeepsCrash}
 use Rattle.cs_store.specs.Stored.{Stores, state_of}
 
@@ -30,3 +32,8 @@ pub record KeepsStore (old new : State) : Type 0 where
   pub crash : KeepsCrash old new
   pub commit : HasCleanDisk new → KeepsCommit old new
   pub sound : IsSound old → IsSound new
+
+-- a reader of what is stored gives it back, or is refused memory
+abbrev pub Recovers : {X : Type 0} → Result X StoreError → X → Type 0
+Recovers (Ok x) stored = x ≡ stored
+Recovers (Err e) stored = IsResource e

@@ -1,17 +1,118 @@
 //! The tables of a store, one call at a time: what its records stand for.
-ghost use Rattle.std.specs.Prelude.{◌≡◌, IsTrue, OnOk, IfErr};
-ghost use Rattle.cs_value.specs.State.{with_row, without_row};
+ghost use Rattle.std.specs.Prelude.{◌≡◌, IsTrue, OnOk, IfOk, IfErr, IfSome, Option, Some, List, option_map};
+ghost use Rattle.cs_value.specs.declared.value.OwnedValue.{OwnedValue};
+ghost use Rattle.cs_value.specs.Value.{IsRow};
+ghost use Rattle.cs_value.specs.Table.{IsKeyedRow};
+ghost use Rattle.cs_value.specs.Spelling.{row_bytes};
+ghost use Rattle.cs_value.specs.State.{SchemaData, IsSchema, schema_at, row_at, with_row, without_row};
+ghost use Rattle.cs_store.specs.Declaration.{declaration_bytes};
 ghost use Rattle.sqlite.specs.State.{HasCleanDisk};
 ghost use Rattle.sqlite.specs.Held.{state};
-ghost use Rattle.cs_store.specs.Faults.{IsResource};
+ghost use Rattle.cs_store.specs.Faults.{IsResource, IsReadRefusal};
 ghost use Rattle.cs_store.specs.Rows.{IsDeclared, Fits};
-ghost use Rattle.cs_store.specs.Store.{IsSound, KeepsStore, tables_in};
+ghost use Rattle.cs_store.specs.Store.{IsSound, KeepsStore, Recovers, tables_in};
 
+use crate::declaration::read_declaration;
 use crate::fault::StoreError;
-use crate::records::{remove_record, set_record};
+use crate::records::{find_record, remove_record, set_record};
+use crate::schema::Schema;
+use crate::stored_row::read_row;
 use cs_value::{Key, Row, row_write};
 use sqlite::{Alter, Connection};
 use std::alloc::Global;
+
+/// The schema of a table, and none where no table has the name.
+pub(crate) fn find_schema<S: Alter>(
+    conn: &mut Connection<S>,
+    alloc: Global,
+    name: &str,
+) -> Result<Option<Schema>, StoreError>
+    ensures found { IsSound (state S.Store conn.old) → HasCleanDisk (state S.Store conn.new)
+        → IfOk result (λ o. o ≡ schema_at (tables_in (state S.Store conn.old).now) name.now) }
+    ensures same { HasCleanDisk (state S.Store conn.new) → OnOk result ((state S.Store conn.new).now ≡ (state S.Store conn.old).now) }
+    ensures refused { IsSound (state S.Store conn.old) → HasCleanDisk (state S.Store conn.new) → IfErr result IsResource }
+    ensures named { IfErr result IsReadRefusal }
+    ensures kept { KeepsStore (state S.Store conn.old) (state S.Store conn.new) }
+{
+    if name.is_empty() {
+        return Ok(None);
+    }
+    let found = find_record(conn, "", name.as_bytes())?;
+    schema_in(alloc, found)
+}
+
+/// The schema whose declaration is stored, if one is.
+fn schema_in(alloc: Global, stored: Option<Vec<u8>>) -> Result<Option<Schema>, StoreError>
+    ensures found { (o : Option SchemaData) → IfSome o IsSchema → option_map (λ v. v.items) stored ≡ option_map declaration_bytes o
+        → Recovers result o }
+    ensures named { IfErr result IsReadRefusal }
+{
+    match stored {
+        Some(bytes) => Ok(Some(read_declaration(alloc, &bytes)?)),
+        None => Ok(None),
+    }
+}
+
+/// The row of a table under a key, and none where no row has the key or no table the name.
+pub(crate) fn find_row<S: Alter>(
+    conn: &mut Connection<S>,
+    alloc: Global,
+    name: &str,
+    key: &Key,
+) -> Result<Option<Row>, StoreError>
+    ensures found { IsSound (state S.Store conn.old) → HasCleanDisk (state S.Store conn.new)
+        → IfOk result (λ o. o ≡ row_at (tables_in (state S.Store conn.old).now) name.now key.now) }
+    ensures fits { IsSound (state S.Store conn.old) → HasCleanDisk (state S.Store conn.new)
+        → IfOk result (λ o. IfSome o (Fits (tables_in (state S.Store conn.old).now) name.now key.now)) }
+    ensures same { HasCleanDisk (state S.Store conn.new) → OnOk result ((state S.Store conn.new).now ≡ (state S.Store conn.old).now) }
+    ensures refused { IsSound (state S.Store conn.old) → HasCleanDisk (state S.Store conn.new) → IfErr result IsResource }
+    ensures named { IfErr result IsReadRefusal }
+    ensures kept { KeepsStore (state S.Store conn.old) (state S.Store conn.new) }
+{
+    match find_schema(conn, alloc, name)? {
+        Some(schema) => find_row_of(conn, alloc, name, &schema, key),
+        None => Ok(None),
+    }
+}
+
+/// The row under a key of the table of this name, which has this schema.
+fn find_row_of<S: Alter>(
+    conn: &mut Connection<S>,
+    alloc: Global,
+    name: &str,
+    schema: &Schema,
+    key: &Key,
+) -> Result<Option<Row>, StoreError>
+    requires { IsSound (state S.Store conn.old) → HasCleanDisk (state S.Store conn.old)
+        → schema_at (tables_in (state S.Store conn.old).now) name.now ≡ Some schema.now }
+    ensures found { IsSound (state S.Store conn.old) → HasCleanDisk (state S.Store conn.new)
+        → IfOk result (λ o. o ≡ row_at (tables_in (state S.Store conn.old).now) name.now key.now) }
+    ensures fits { IsSound (state S.Store conn.old) → HasCleanDisk (state S.Store conn.new)
+        → IfOk result (λ o. IfSome o (Fits (tables_in (state S.Store conn.old).now) name.now key.now)) }
+    ensures same { HasCleanDisk (state S.Store conn.new) → OnOk result ((state S.Store conn.new).now ≡ (state S.Store conn.old).now) }
+    ensures refused { IsSound (state S.Store conn.old) → HasCleanDisk (state S.Store conn.new) → IfErr result IsResource }
+    ensures named { IfErr result IsReadRefusal }
+    ensures kept { KeepsStore (state S.Store conn.old) (state S.Store conn.new) }
+{
+    let found = find_record(conn, name, key.bytes())?;
+    row_in(alloc, schema.flags(), found)
+}
+
+/// The row that is stored, if one is.
+fn row_in(
+    alloc: Global,
+    flags: &[u8],
+    stored: Option<Vec<u8>>,
+) -> Result<Option<Row>, StoreError>
+    ensures found { (o : Option (List OwnedValue)) → IfSome o (λ row. IsRow row × IsKeyedRow flags.now row)
+        → option_map (λ v. v.items) stored ≡ option_map row_bytes o → Recovers result o }
+    ensures named { IfErr result IsReadRefusal }
+{
+    match stored {
+        Some(bytes) => Ok(Some(read_row(alloc, flags, &bytes)?)),
+        None => Ok(None),
+    }
+}
 
 /// Puts a row under its key in a table that it fits, inside a transaction.
 pub(crate) fn put_row<S: Alter>(
