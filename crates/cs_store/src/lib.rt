@@ -8,6 +8,7 @@ mod fault;
 mod memory;
 mod rows;
 mod schema;
+mod stored_row;
 
 pub use edit::{Edit, Written};
 pub use fault::StoreError;
