@@ -10,6 +10,6 @@ abbrev two_columns : SchemaData
 two_columns = record { columns = codes "a" ∷ codes "b" ∷ []; flags = 1 ∷ 0 ∷ [] }
 
 -- its declaration: the count of its columns, and of each its flag and its counted name
-pub two_columns_are_declared : declaration_bytes two_columns ≡ 0x02 ∷ 0x01 ∷ 0x01 ∷ 0x61 ∷ 0x00 ∷ 0x01 ∷ 0x62 ∷ []
+two_columns_are_declared : declaration_bytes two_columns ≡ 0x02 ∷ 0x01 ∷ 0x01 ∷ 0x61 ∷ 0x00 ∷ 0x01 ∷ 0x62 ∷ []
 unfolding leading_digits varint counted declaration_bytes
 two_columns_are_declared = refl

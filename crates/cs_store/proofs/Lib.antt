@@ -22,6 +22,7 @@ pub mod StoreLaws
 pub mod StoredLaws
 pub mod StoredLists
 pub mod StoredReading
+pub mod StoredRowLaws
 pub mod TableLaws
 pub mod TransactionLaws
 pub mod WriteLaws

@@ -1,11 +1,14 @@
 //! The bytes that a schema is stored as.
-ghost use Rattle.std.specs.Prelude.{◌≡◌, ◌≢◌, ◌≤◌, ◌⊎◌, ◌∷◌, ◌++◌, ℕ, List, length, map, string_bytes, IfOk, IfErr, OnOk};
+ghost use Rattle.std.specs.Prelude.{◌≡◌, ◌≢◌, ◌≤◌, ◌⊎◌, ◌∷◌, ◌++◌, ℕ, List, length, map, string_bytes};
+ghost use Rattle.std.specs.Prelude.{IfOk, IfErr, OnOk};
 ghost use Rattle.cs_value.specs.declared.TheConstants.{MAX_CONTENT_LEN};
 ghost use Rattle.cs_value.specs.State.{SchemaData, IsSchema};
 ghost use Rattle.cs_value.specs.Varint.{varint};
 ghost use Rattle.cs_value.specs.Spelling.{counted};
-ghost use Rattle.cs_store.specs.Declaration.{columns_bytes, declaration_bytes, IsDeclaration, BeginsWithColumn, AreColumns};
-ghost use Rattle.cs_store.specs.declared.fault.StoreError.TheVariants.{DamagedStore as Damaged, NoMemory as OutOfMemory};
+ghost use Rattle.cs_store.specs.Declaration.{columns_bytes, declaration_bytes, IsDeclaration};
+ghost use Rattle.cs_store.specs.Declaration.{BeginsWithColumn, AreColumns};
+ghost use Rattle.cs_store.specs.declared.fault.StoreError.TheVariants.{DamagedStore as Damaged};
+ghost use Rattle.cs_store.specs.declared.fault.StoreError.TheVariants.{NoMemory as OutOfMemory};
 
 use crate::fault::StoreError;
 use crate::schema::{Schema, checked};
@@ -66,7 +69,8 @@ fn read_columns(
     bytes: &[u8],
     count: usize,
 ) -> Result<(Vec<String>, Vec<u8>), StoreError>
-    ensures found { IfOk result (λ r. AreColumns count (record { columns = map string_bytes r.0.items; flags = r.1.items })
+    ensures found { IfOk result (λ r.
+        AreColumns count (record { columns = map string_bytes r.0.items; flags = r.1.items })
         × (bytes.now ≡ columns_bytes r.1.items (map string_bytes r.0.items))) }
     ensures refused { IfErr result (λ e. ((e ≡ Damaged)
         × ((s : SchemaData) → AreColumns count s → bytes.now ≢ columns_bytes s.flags s.columns)) ⊎ (e ≡ OutOfMemory)) }

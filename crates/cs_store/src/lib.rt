@@ -9,6 +9,7 @@ mod memory;
 mod records;
 mod rows;
 mod schema;
+mod stored_row;
 mod tables;
 mod transactions;
 

@@ -1,8 +1,9 @@
 //! What a table declares: its columns, and which of them are its key.
-ghost use Rattle.std.specs.Prelude.{◌≡◌, ◌<◌, ◌↔◌, ◌⊎◌, map, ◌≢◌, ◌≤◌, if◌then◌else◌, length, IfOk, IfErr, IsTrue, AllPairs, string_bytes};
+ghost use Rattle.std.specs.Prelude.{◌≡◌, ◌≢◌, ◌<◌, ◌↔◌, ◌⊎◌, if◌then◌else◌, map, string_bytes};
+ghost use Rattle.std.specs.Prelude.{IfOk, IfErr, IsTrue, AllPairs};
 ghost use Rattle.std.specs.List.{AllByRecursion};
 ghost use Rattle.cs_value.specs.Table.{IsFlags};
-ghost use Rattle.cs_value.specs.State.{SchemaData, IsSchema, IsColumnName};
+ghost use Rattle.cs_value.specs.State.{IsSchema, IsColumnName};
 ghost use Rattle.cs_store.specs.Editing.{schema_of};
 ghost use Rattle.cs_store.specs.declared.fault.StoreError.TheVariants.{BadSchema, NoMemory as OutOfMemory};
 
@@ -41,7 +42,8 @@ impl Schema {
     /// repeated or longer than [`MAX_CONTENT_LEN`] bytes.
     pub fn new(alloc: Global, columns: &[String], keys: &[bool]) -> Result<Schema, StoreError>
         ensures made { IfOk result (λ s. s ≡ schema_of columns.now keys.now) }
-        ensures refused { IfErr result (λ e. ((e ≡ BadSchema) × (¬ IsSchema (schema_of columns.now keys.now))) ⊎ (e ≡ OutOfMemory)) }
+        ensures refused { IfErr result (λ e. ((e ≡ BadSchema) × (¬ IsSchema (schema_of columns.now keys.now)))
+            ⊎ (e ≡ OutOfMemory)) }
     {
         checked(alloc, copy_names(alloc, columns)?, key_flags(alloc, keys)?)
     }
@@ -96,7 +98,9 @@ pub(crate) fn checked(
 ) -> Result<Schema, StoreError>
     ensures made { IfOk result (λ s. s ≡ record { columns = map string_bytes columns.items; flags = flags.items }) }
     ensures well_formed { IfOk result IsSchema }
-    ensures refused { IfErr result (λ e. ((e ≡ BadSchema) × (¬ IsSchema (record { columns = map string_bytes columns.items; flags = flags.items }))) ⊎ (e ≡ OutOfMemory)) }
+    ensures refused { IfErr result (λ e. ((e ≡ BadSchema)
+        × (¬ IsSchema (record { columns = map string_bytes columns.items; flags = flags.items })))
+        ⊎ (e ≡ OutOfMemory)) }
 {
     if columns.len() == flags.len()
         && are_flags(&flags)
