@@ -1,8 +1,11 @@
 -- What is read of a state that is stored.
-use Rattle.std.proofs.Common.{◌≡◌, ◌≢◌, ℕ, List, [], ◌∷◌, Option, Some, None, Result, Ok, Err, IfOk, IfErr, IfSome, true, false, length, ◌==◌, refl, sym, ap, ◌∙◌}
+use Rattle.std.proofs.Common.{◌≡◌, ◌≢◌, ℕ, List, [], ◌∷◌, Option, Some, None, Result, Ok, Err, IfOk, IfErr, OnOk, IfSome, true, false, length, ◌==◌, true≢false, arith, refl, sym, ap, subst, ◌∙◌}
 use Rattle.std.specs.Option.{option_map}
+use Rattle.std.proofs.lemmas.Bool.{eqb-true}
 use Rattle.std.specs.FinMap as map
-use Rattle.cs_value.specs.Spelling.{row_bytes}
+use Rattle.cs_value.specs.declared.value.OwnedValue.{OwnedValue}
+use Rattle.cs_value.specs.Value.{IsRow}
+use Rattle.cs_value.specs.Table.{IsKeyedRow}
 use Rattle.cs_value.specs.State as tables
 use Rattle.sqlite.specs.Effect.{Database}
 use Rattle.sqlite.specs.State.{State, HasCleanDisk, IsUnchanged}
@@ -12,7 +15,9 @@ use Rattle.cs_store.specs.Faults.{IsResource}
 use Rattle.cs_store.specs.Records.{KeepsCrash, records_in}
 use Rattle.cs_store.specs.Store.{HoldsState, IsSound, Recovers, tables_in}
 use Rattle.cs_store.specs.Stored.{state_of, table_in}
-use Rattle.cs_store.proofs.StoredLaws.{declaration_stored, row_stored}
+use Rattle.cs_store.specs.Rows.{Fits}
+use Rattle.cs_store.proofs.MemoryLaws.{row_at_found, row_at_absent}
+use Rattle.cs_store.proofs.StoredLaws.{declaration_stored}
 use Rattle.cs_store.proofs.StateOf.{get_unread}
 use Rattle.cs_store.proofs.StoreLaws.{was_clean}
 
@@ -53,8 +58,56 @@ schema_stored db name holds named = declaration_stored (records_in db) (tables_i
 -- whether a name is empty
 pub is_unnamed : (name : List ℕ) → true ≡ (length name == 0) → name ≡ []
 is_unnamed [] h = refl
-is_unnamed (b ∷ name) h = absurd cc
+is_unnamed (b ∷ name) h = absurd (let k : length (b ∷ name) ≡ 0 = eqb-true (length (b ∷ name)) 0 (sym h) in omega arith)
 
 pub is_named : (name : List ℕ) → false ≡ (length name == 0) → name ≢ []
-is_named [] h e = absurd cc
-is_named (b ∷ name) h e = absurd cc
+is_named [] h e = true≢false (sym h)
+is_named (b ∷ name) h e = absurd (let k : length (b ∷ name) ≡ 0 = ap length e in omega arith)
+
+-- a row that is found fits its table
+pub row_fits : (state : tables.State) (name key : List ℕ) (row : List OwnedValue) → tables.IsState state → tables.row_at state name key ≡ Some row → Fits state name key row
+row_fits state name key row is found = at (map.get state name) refl
+  where
+    at : (o : Option tables.TableData) → map.get state name ≡ o → Fits state name key row
+    at None none = absurd (let e = sym found ∙ row_at_absent state name key none in cc)
+    at (Some table) some = record { table = table; found = some; fit = (is name table some).is_table.rows key row (sym (row_at_found state name key table some) ∙ found) }
+
+-- the row that is stored under a key fits, if there is one
+pub rows_fit : (state : tables.State) (name key : List ℕ) → tables.IsState state → (o : Option (List OwnedValue)) → o ≡ tables.row_at state name key → IfSome o (Fits state name key)
+rows_fit state name key is None same = tt
+rows_fit state name key is (Some row) same = row_fits state name key row is (sym same)
+
+-- and is a row under the flags of the table's schema
+pub row_is : (state : tables.State) (name key : List ℕ) (schema : tables.SchemaData) → tables.IsState state → tables.schema_at state name ≡ Some schema
+    → IfSome (tables.row_at state name key) (λ row. IsRow row × IsKeyedRow schema.flags row)
+row_is state name key schema is has = at (tables.row_at state name key) refl
+  where
+    at : (o : Option (List OwnedValue)) → tables.row_at state name key ≡ o → IfSome o (λ row. IsRow row × IsKeyedRow schema.flags row)
+    at None none = tt
+    at (Some row) found =
+        let fits = row_fits state name key row is found in
+        let same : fits.table.schema ≡ schema = let e = ap (option_map (λ (t : tables.TableData). t.schema)) (sym fits.found) ∙ has in cc in
+        (fits.fit.values, subst (λ (s : tables.SchemaData). IsKeyedRow s.flags row) same fits.fit.keyed)
+
+-- a table that has a schema has a name
+pub declared_named : (db : Database) (name : List ℕ) (schema : tables.SchemaData) → tables.schema_at (tables_in db) name ≡ Some schema → name ≢ []
+declared_named db name schema has e = absurd (let k = sym has ∙ ap (tables.schema_at (tables_in db)) e ∙ unnamed db in cc)
+
+-- what holds anyway holds of a success
+pub on_ok_from : {X E P : Type 0} (r : Result X E) → P → OnOk r P
+on_ok_from (Ok x) p = p
+on_ok_from (Err e) p = tt
+
+-- no row stands in a table that is not there
+pub no_row : (state : tables.State) (name key : List ℕ) → tables.schema_at state name ≡ None → tables.row_at state name key ≡ None
+no_row state name key none = at (map.get state name) refl
+  where
+    at : (o : Option tables.TableData) → map.get state name ≡ o → tables.row_at state name key ≡ None
+    at None absent = row_at_absent state name key absent
+    at (Some table) some = absurd (let e = sym none ∙ ap (option_map (λ (t : tables.TableData). t.schema)) some in cc)
+
+-- a row that is read fits
+pub read_fits : (db : Database) (name key : List ℕ) (r : Result (Option (List OwnedValue)) StoreError) → Recovers r (tables.row_at (tables_in db) name key) → OnOk r (HoldsState db)
+    → IfOk r (λ o. IfSome o (Fits (tables_in db) name key))
+read_fits db name key (Ok o) same holds = rows_fit (tables_in db) name key holds.stores.is_state o same
+read_fits db name key (Err e) same holds = tt

@@ -1,8 +1,8 @@
 -- What a store over a connection holds: a state, as its records stand for it.
-use Rattle.std.specs.Prelude.{◌≡◌, IsTrue, Result, Ok, Err}
+use Rattle.std.specs.Prelude.{◌≡◌, IsTrue, true, false, Result, Ok, Err}
 use Rattle.cs_value.specs.State as tables
 use Rattle.sqlite.specs.Effect.{Database}
-use Rattle.sqlite.specs.State.{State, HasCleanDisk, KeepsCommit}
+use Rattle.sqlite.specs.State.{State, HasCleanDisk, Shows, KeepsCommit}
 use Rattle.cs_store.specs.declared.fault.StoreError.{StoreError}
 use Rattle.cs_store.specs.Faults.{IsResource}
 use Rattle.cs_store.specs.Records.{HoldsRecords, records_in, KeepsCrash}
@@ -37,3 +37,8 @@ pub record KeepsStore (old new : State) : Type 0 where
 abbrev pub Recovers : {X : Type 0} → Result X StoreError → X → Type 0
 Recovers (Ok x) stored = x ≡ stored
 Recovers (Err e) stored = IsResource e
+
+-- a transaction begins with what was committed
+pub record Begins (old new : State) : Type 0 where
+  pub autocommit : old.in_transaction ≡ false
+  pub shown : Shows old new old.now old.committed true

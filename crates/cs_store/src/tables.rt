@@ -10,7 +10,7 @@ ghost use Rattle.sqlite.specs.State.{HasCleanDisk};
 ghost use Rattle.sqlite.specs.Held.{state};
 ghost use Rattle.cs_store.specs.Faults.{IsResource, IsReadRefusal};
 ghost use Rattle.cs_store.specs.Rows.{IsDeclared, Fits};
-ghost use Rattle.cs_store.specs.Store.{IsSound, KeepsStore, Recovers, tables_in};
+ghost use Rattle.cs_store.specs.Store.{HoldsState, IsSound, KeepsStore, Recovers, tables_in};
 
 use crate::declaration::read_declaration;
 use crate::fault::StoreError;
@@ -83,19 +83,18 @@ fn find_row_of<S: Alter>(
     schema: &Schema,
     key: &Key,
 ) -> Result<Option<Row>, StoreError>
-    requires { IsSound (state S.Store conn.old) → HasCleanDisk (state S.Store conn.old)
-        → schema_at (tables_in (state S.Store conn.old).now) name.now ≡ Some schema.now }
     ensures found { IsSound (state S.Store conn.old) → HasCleanDisk (state S.Store conn.new)
-        → IfOk result (λ o. o ≡ row_at (tables_in (state S.Store conn.old).now) name.now key.now) }
-    ensures fits { IsSound (state S.Store conn.old) → HasCleanDisk (state S.Store conn.new)
-        → IfOk result (λ o. IfSome o (Fits (tables_in (state S.Store conn.old).now) name.now key.now)) }
+        → schema_at (tables_in (state S.Store conn.old).now) name.now ≡ Some schema.now
+        → Recovers result (row_at (tables_in (state S.Store conn.old).now) name.now key.now) }
     ensures same { HasCleanDisk (state S.Store conn.new) → OnOk result ((state S.Store conn.new).now ≡ (state S.Store conn.old).now) }
-    ensures refused { IsSound (state S.Store conn.old) → HasCleanDisk (state S.Store conn.new) → IfErr result IsResource }
+    ensures shows { IsSound (state S.Store conn.old) → HasCleanDisk (state S.Store conn.new) → OnOk result (HoldsState (state S.Store conn.old).now) }
     ensures named { IfErr result IsReadRefusal }
     ensures kept { KeepsStore (state S.Store conn.old) (state S.Store conn.new) }
 {
-    let found = find_record(conn, name, key.bytes())?;
-    row_in(alloc, schema.flags(), found)
+    match find_record(conn, name, key.bytes()) {
+        Ok(found) => row_in(alloc, schema.flags(), found),
+        Err(error) => Err(error),
+    }
 }
 
 /// The row that is stored, if one is.

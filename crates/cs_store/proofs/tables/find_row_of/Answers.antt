@@ -1,0 +1,34 @@
+use Rattle.std.proofs.Common.{◌≡◌, inl, ap, sym, subst, List, ℕ, ◌∙◌}
+use Rattle.std.specs.Option.{IfSome}
+use Rattle.sqlite.specs.Held.{state}
+use Rattle.cs_value.specs.Value.{IsRow}
+use Rattle.cs_value.specs.Table.{IsKeyedRow}
+use Rattle.cs_value.specs.State.{row_at}
+use Rattle.cs_store.specs.Records.{records_in}
+use Rattle.cs_store.specs.Store.{tables_in}
+use Rattle.cs_store.proofs.StoredLaws.{row_stored}
+use Rattle.cs_store.proofs.StoreLaws.{rests_keeps}
+use Rattle.cs_store.proofs.ReadLaws.{shows_read, row_is, declared_named, on_ok_from}
+use Rattle.cs_store.proofs.tables.find_row_of.Goals as goal
+
+pub returns-in-Err-clause-kept : goal.returns-in-Err-clause-kept
+returns-in-Err-clause-kept g c = rests_keeps _ _ c.find_record.ensures.keeps_crash (λ clean. c.in-Err.ensures.rests clean)
+
+pub returns-in-Ok-clause-found : goal.returns-in-Ok-clause-found
+returns-in-Ok-clause-found g c sound clean has =
+    let old = state g.S.Store c.args.conn.now in
+    let new = state g.S.Store c.find_record.new.conn in
+    let holds = shows_read old new sound c.find_record.ensures.keeps_crash clean (c.in-Ok.ensures.reads clean) in
+    let name = c.args.name.now in
+    let stored = row_stored (records_in old.now) (tables_in old.now) name c.args.key.now holds.stores (declared_named old.now name c.args.schema.now has) in
+    let fits = row_is (tables_in old.now) name c.args.key.now c.args.schema.now holds.stores.is_state has in
+    c.row_in.ensures.found (row_at (tables_in old.now) name c.args.key.now)
+        (subst (λ (flags : List ℕ). IfSome (row_at (tables_in old.now) name c.args.key.now) (λ row. IsRow row × IsKeyedRow flags row)) (sym c.flags.ensures.same) fits)
+        (c.in-Ok.ensures.found clean holds.records ∙ ap (records_in old.now name) c.bytes.ensures ∙ stored)
+
+pub returns-in-Ok-clause-shows : goal.returns-in-Ok-clause-shows
+returns-in-Ok-clause-shows g c sound clean =
+    on_ok_from c.row_in.result (shows_read (state g.S.Store c.args.conn.now) (state g.S.Store c.find_record.new.conn) sound c.find_record.ensures.keeps_crash clean (c.in-Ok.ensures.reads clean))
+
+pub returns-in-Ok-clause-kept : goal.returns-in-Ok-clause-kept
+returns-in-Ok-clause-kept g c = rests_keeps _ _ c.find_record.ensures.keeps_crash (λ clean. inl (c.in-Ok.ensures.reads clean))
