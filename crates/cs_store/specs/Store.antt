@@ -42,3 +42,8 @@ Recovers (Err e) stored = IsResource e
 pub record Begins (old new : State) : Type 0 where
   pub autocommit : old.in_transaction ≡ false
   pub shown : Shows old new old.now old.committed true
+
+-- it ends, and what it shows is committed
+pub record Ends (old new : State) : Type 0 where
+  pub inside : IsTrue old.in_transaction
+  pub shown : Shows old new old.now old.now false
