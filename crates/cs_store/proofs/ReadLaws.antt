@@ -16,10 +16,10 @@ use Rattle.cs_store.specs.Records.{KeepsCrash, records_in}
 use Rattle.cs_store.specs.Store.{HoldsState, IsSound, Recovers, tables_in}
 use Rattle.cs_store.specs.Stored.{state_of, table_in}
 use Rattle.cs_store.specs.Rows.{Fits}
-use Rattle.cs_store.proofs.MemoryLaws.{row_at_found, row_at_absent}
+use Rattle.cs_store.proofs.MemoryLaws.{row_at_found, row_at_absent, rows_at_absent}
 use Rattle.cs_store.proofs.StoredLaws.{declaration_stored}
 use Rattle.cs_store.proofs.StateOf.{get_unread}
-use Rattle.cs_store.proofs.StoreLaws.{was_clean}
+use Rattle.cs_store.specs.Laws.{was_clean}
 
 -- a sound store that was read shows a state
 pub shows_read : (old new : State) → IsSound old → KeepsCrash old new → HasCleanDisk new → IsUnchanged old new → HoldsState old.now
@@ -111,3 +111,11 @@ pub read_fits : (db : Database) (name key : List ℕ) (r : Result (Option (List 
     → IfOk r (λ o. IfSome o (Fits (tables_in db) name key))
 read_fits db name key (Ok o) same holds = rows_fit (tables_in db) name key holds.stores.is_state o same
 read_fits db name key (Err e) same holds = tt
+
+-- nor any rows
+pub no_rows_at : (state : tables.State) (name : List ℕ) → tables.schema_at state name ≡ None → tables.rows_at state name ≡ map.empty
+no_rows_at state name none = at (map.get state name) refl
+  where
+    at : (o : Option tables.TableData) → map.get state name ≡ o → tables.rows_at state name ≡ map.empty
+    at None absent = rows_at_absent state name absent
+    at (Some table) some = absurd (let e = sym none ∙ ap (option_map (λ (t : tables.TableData). t.schema)) some in cc)

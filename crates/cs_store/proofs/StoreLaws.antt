@@ -1,13 +1,10 @@
 -- Stores stay stores, whatever a call answers.
-use Rattle.std.proofs.Common.{◌≡◌, IsTrue, inl, inr, refl, sym, subst, ap, ◌∙◌, arith, true≢false}
+use Rattle.std.proofs.Common.{◌≡◌, Bool, true, false, not, IsTrue, inl, inr, refl, sym, subst, ap, ◌∙◌, arith, true≢false}
 use Rattle.sqlite.specs.State.{State, HasCleanDisk, KeepsCommit, IsUnchanged, IsRolledBack, Survives}
 use Rattle.sqlite.proofs.StateLemmas.{survives_then}
 use Rattle.cs_store.specs.Records.{Rests, GoesOn, KeepsCrash}
 use Rattle.cs_store.specs.Store.{HoldsState, IsStore, IsSound, KeepsStore}
-
--- an honest disk was honest before
-pub was_clean : (old new : State) → KeepsCrash old new → HasCleanDisk new → HasCleanDisk old
-was_clean old new keeps clean = omega (arith, keeps.clean)
+use Rattle.cs_store.specs.Laws.{was_clean}
 
 unchanged_store : (old new : State) → IsUnchanged old new → IsStore old → IsStore new
 unchanged_store old new same was = record {
@@ -40,25 +37,6 @@ goes_on_store old new on holds was = record {
   committed = λ k. subst HoldsState (sym on.committed_is) (was.committed on.was_open);
 }
 
--- nothing is kept by doing nothing
-pub keeps_itself : (s : State) → KeepsStore s s
-keeps_itself s = record {
-  crash = record { clean = omega arith; counts = omega arith; limit = refl; closes = λ clean k. inl k; shield = λ k. k; crash = λ clean db k. inl k };
-  commit = λ clean. record { was_open = λ k. k; committed = λ k. refl };
-  sound = λ k. k;
-}
-
--- one call after another
-pub keeps_then : (a b c : State) → KeepsStore a b → KeepsStore b c → KeepsStore a c
-keeps_then a b c one two = record {
-  crash = survives_then a b c _ _ _ (λ clean db none. none) (λ clean db none. none) one.crash two.crash;
-  commit = λ clean.
-      let first = one.commit (was_clean b c two.crash clean) in
-      let second = two.commit clean in
-      record { was_open = λ k. first.was_open (second.was_open k); committed = λ k. second.committed k ∙ first.committed (second.was_open k) };
-  sound = λ k. two.sound (one.sound k);
-}
-
 -- a call that rests keeps the store
 pub rests_keeps : (old new : State) → KeepsCrash old new → (HasCleanDisk new → Rests old new) → KeepsStore old new
 rests_keeps old new crash rests = record {
@@ -74,3 +52,8 @@ write_keeps old new crash wrote = record {
   commit = λ clean. let on = (wrote clean).0 in record { was_open = λ k. on.was_open; committed = λ k. on.committed_is };
   sound = λ sound clean. let w = wrote clean in goes_on_store old new w.0 w.1 (sound (was_clean old new crash clean));
 }
+
+-- a connection that is not in autocommit is in a transaction
+pub in_transaction : (b : Bool) → false ≡ not b → IsTrue b
+in_transaction true e = refl
+in_transaction false e = absurd (true≢false (sym e))

@@ -1,5 +1,5 @@
 -- The lists of records under a name are those of the state that is stored.
-use Rattle.std.proofs.Common.{◌≡◌, ◌≢◌, ◌&&◌, ℕ, List, [], ◌∷◌, length, map, inl, inr, Option, Some, None, Bool, true, false, cond, T, option_map, refl, sym, ap, ◌∙◌, subst, arith}
+use Rattle.std.proofs.Common.{◌≡◌, ◌≢◌, ◌⊎◌, ◌&&◌, Result, Ok, Err, IfOk, IfErr, Vec, Global, ◌++◌, ◌<◌, get_or, zero, suc, ℕ, List, [], ◌∷◌, length, map, inl, inr, Option, Some, None, Bool, true, false, cond, T, option_map, refl, sym, ap, ◌∙◌, subst, arith}
 use Rattle.std.specs.List.{AllByRecursion}
 use Rattle.std.specs.Ordering.{nat_cmp, eq_by_cmp, is_eq, is_lt}
 use Rattle.std.specs.declared.cmp.Ordering.{Ordering}
@@ -12,16 +12,23 @@ use Rattle.std.proofs.lemmas.Bool.{cases_Bool, and_parts, and_from}
 use Rattle.sqlite_trees.proofs.ListLemmas.{map-map, all-map}
 use Rattle.cs_value.specs.declared.value.OwnedValue.{OwnedValue}
 use Rattle.cs_value.specs.Value.{IsRow}
+use Rattle.cs_value.specs.Table.{IsKeyedRow}
 use Rattle.cs_value.specs.Spelling.{row_bytes}
 use Rattle.cs_value.specs.Maps.{ByBytes}
-use Rattle.cs_value.specs.State.{RowMap, TableData, IsTable, State, rows_at}
+use Rattle.cs_value.specs.State.{SchemaData, RowMap, TableData, State, schema_at, rows_at}
 use Rattle.cs_value.proofs.ByteMaps.{tied_bytes}
 use Rattle.cs_value.proofs.KeyedRows.{length-IsKeyedRow}
 use Rattle.cs_value.proofs.Spellings.{row_bytes_same}
 use Rattle.cs_store.specs.Records.{Records, ListsTable}
 use Rattle.cs_store.specs.Declaration.{declaration_bytes}
 use Rattle.cs_store.specs.Stored.{version, Stores}
-use Rattle.cs_store.proofs.MemoryLaws.{rows_at_found, rows_at_absent, no_values}
+use Rattle.cs_store.specs.declared.fault.StoreError.{StoreError}
+use Rattle.cs_store.specs.declared.fault.StoreError.TheVariants.{DamagedStore}
+use Rattle.cs_store.specs.Faults.{IsResource, IsReadRefusal}
+use Rattle.cs_store.specs.Store.{AreStored, RecoversList}
+use Rattle.cs_value.proofs.Lists.{AllByRecursion-push}
+use Rattle.std.proofs.lemmas.List.{map-append}
+use Rattle.cs_store.proofs.MemoryLaws.{rows_at_found}
 use Rattle.cs_store.proofs.StoredLaws.{row_stored}
 
 -- entries by lists of bytes, and whether their keys rise
@@ -111,39 +118,54 @@ same_spelled width (x ∷ rows) (y ∷ others) p q same =
     let rest : map row_bytes rows ≡ map row_bytes others = cc in
     cc (row_bytes_same x y p.0.0 q.0.0 (p.0.1 ∙ sym q.0.1) first, same_spelled width rows others p.1 q.1 rest)
 
--- where nothing is spelled there are no rows
-no_rows : (rows : List (List OwnedValue)) → map row_bytes rows ≡ [] → rows ≡ []
-no_rows [] none = refl
-no_rows (x ∷ rows) none = absurd cc
+-- bytes are those of one list of rows
+stored_rows : (flags : List ℕ) (rows : List (List OwnedValue)) → AllByRecursion (λ row. IsRow row × IsKeyedRow flags row) rows → AllByRecursion (IsRowOf (length flags)) rows
+stored_rows flags [] each = tt
+stored_rows flags (row ∷ rows) each = ((each.0.0, sym (length-IsKeyedRow flags row each.0.1)), stored_rows flags rows each.1)
 
--- the rows of a table have the width of its schema
-table_rows : (table : TableData) → IsTable table → AllByRecursion (IsRowOf (length table.schema.columns)) (values table.rows)
-table_rows table is =
-    all-map (IsRowOf (length table.schema.columns)) (λ e. e.1) (entries table.rows)
-    (each_entry (λ key row. IsRowOf (length table.schema.columns) row) (entries table.rows) (entries_sorted table.rows) (λ key row found.
-    let fit = is.rows key row (get-entries table.rows key ∙ found) in
-    (fit.values, sym (is.schema.as_many ∙ length-IsKeyedRow table.schema.flags row fit.keyed))))
+pub stored_apart : (flags : List ℕ) (stored : List (List ℕ)) (rows others : List (List OwnedValue)) → AreStored flags stored rows → AreStored flags stored others → rows ≡ others
+stored_apart flags stored rows others p q =
+    same_spelled (length flags) rows others (stored_rows flags rows p.each) (stored_rows flags others q.each) (sym p.spelled ∙ q.spelled)
 
--- the rows that the records under the name of a table spell, by key, are its rows
-pub rows_listed : (records : Records) (state : State) (name : List ℕ) (listed : Entries (List ℕ)) (rows : List (List OwnedValue)) → Stores records state → name ≢ [] → ListsTable records name listed
-    → map (λ e. e.1) listed ≡ map row_bytes rows → ((table : TableData) → get state name ≡ Some table → AllByRecursion (IsRowOf (length table.schema.columns)) rows) → rows ≡ values (rows_at state name)
-rows_listed records state name listed rows is some lists same fit = at (get state name) refl
+-- one more row is stored
+pub stored_push : (flags : List ℕ) (stored : List (List ℕ)) (bytes : List ℕ) (rows : List (List OwnedValue)) (row : List OwnedValue) → AreStored flags stored rows → IsRow row → IsKeyedRow flags row
+    → bytes ≡ row_bytes row → AreStored flags (stored ++ bytes ∷ []) (rows ++ row ∷ [])
+stored_push flags stored bytes rows row so_far values keyed spelled = record {
+  spelled = ap (λ (s : List (List ℕ)). s ++ bytes ∷ []) so_far.spelled ∙ ap (λ (b : List ℕ). map row_bytes rows ++ b ∷ []) spelled ∙ sym (map-append row_bytes rows (row ∷ []));
+  each = AllByRecursion-push _ rows row so_far.each (values, keyed);
+}
+
+-- each of the bytes is those of a row
+pub stored_at : (flags : List ℕ) (stored : List (List ℕ)) (rows : List (List OwnedValue)) (i : ℕ) → AreStored flags stored rows → i < length stored
+    → (row : List OwnedValue) × IsRow row × IsKeyedRow flags row × (get_or stored i [] ≡ row_bytes row)
+stored_at flags [] rows i is lt = absurd (omega arith)
+stored_at flags (b ∷ stored) [] i is lt = absurd (let e = is.spelled in cc)
+stored_at flags (b ∷ stored) (row ∷ rows) zero is lt = (row, is.each.0.0, is.each.0.1, let e = is.spelled in cc)
+stored_at flags (b ∷ stored) (row ∷ rows) (suc i) is lt =
+    stored_at flags stored rows i (record { spelled = let e = is.spelled in cc; each = is.each.1 }) (omega arith)
+
+-- the records under the name of a table spell its rows, by key
+pub rows_spelled : (records : Records) (state : State) (name : List ℕ) (listed : Entries (List ℕ)) → Stores records state → name ≢ [] → ListsTable records name listed
+    → map (λ e. e.1) listed ≡ map row_bytes (values (rows_at state name))
+rows_spelled records state name listed is some lists =
+    ap (map (λ e. e.1)) (listed_of row_bytes (rows_at state name) listed (of_true _ lists.rising) (λ key. lists.each key ∙ row_stored records state name key is some))
+    ∙ map-map (λ e. e.1) (each_value row_bytes) (entries (rows_at state name))
+    ∙ sym (map-map row_bytes (λ e. e.1) (entries (rows_at state name)))
+
+-- they are stored as rows under the flags of its schema
+pub rows_are_stored : (records : Records) (state : State) (name : List ℕ) (schema : SchemaData) (listed : Entries (List ℕ)) → Stores records state → name ≢ [] → schema_at state name ≡ Some schema
+    → ListsTable records name listed → AreStored schema.flags (map (λ e. e.1) listed) (values (rows_at state name))
+rows_are_stored records state name schema listed is some has lists = record { spelled = rows_spelled records state name listed is some lists; each = at (get state name) refl }
   where
-    spelled : map row_bytes rows ≡ map row_bytes (values (rows_at state name))
-    spelled =
-        sym same
-        ∙ ap (map (λ e. e.1)) (listed_of row_bytes (rows_at state name) listed (of_true _ lists.rising) (λ key. lists.each key ∙ row_stored records state name key is some))
-        ∙ map-map (λ e. e.1) (each_value row_bytes) (entries (rows_at state name))
-        ∙ sym (map-map row_bytes (λ e. e.1) (entries (rows_at state name)))
-
-    at : (o : Option TableData) → get state name ≡ o → rows ≡ values (rows_at state name)
-    at None none =
-        let empty_values = ap (λ (r : RowMap). values r) (rows_at_absent state name none) ∙ no_values in
-        no_rows rows (spelled ∙ ap (map row_bytes) empty_values) ∙ sym empty_values
+    at : (o : Option TableData) → get state name ≡ o → AllByRecursion (λ row. IsRow row × IsKeyedRow schema.flags row) (values (rows_at state name))
+    at None none = absurd (let e = sym has ∙ ap (option_map (λ (t : TableData). t.schema)) none in cc)
     at (Some table) found =
-        same_spelled (length table.schema.columns) rows (values (rows_at state name)) (fit table found)
-        (subst (λ (r : RowMap). AllByRecursion (IsRowOf (length table.schema.columns)) (values r)) (sym (rows_at_found state name table found)) (table_rows table (is.is_state name table found).is_table))
-        spelled
+        let same : table.schema ≡ schema = let e = ap (option_map (λ (t : TableData). t.schema)) (sym found) ∙ has in cc in
+        let each = all-map (λ row. IsRow row × IsKeyedRow table.schema.flags row) (λ e. e.1) (entries table.rows)
+            (each_entry (λ key row. IsRow row × IsKeyedRow table.schema.flags row) (entries table.rows) (entries_sorted table.rows) (λ key row got.
+            let fit = (is.is_state name table found).is_table.rows key row (get-entries table.rows key ∙ got) in (fit.values, fit.keyed))) in
+        subst (λ (r : RowMap). AllByRecursion (λ row. IsRow row × IsKeyedRow schema.flags row) (values r)) (sym (rows_at_found state name table found))
+            (subst (λ (t : SchemaData). AllByRecursion (λ row. IsRow row × IsKeyedRow t.flags row) (values table.rows)) same each)
 
 -- ---- the tables
 
@@ -182,3 +204,16 @@ tables_listed records state listed is lists = same_lists listed (([], version) �
 pub names_listed : (records : Records) (state : State) (listed : Entries (List ℕ)) → Stores records state → ListsTable records [] listed → map (λ e. e.0) listed ≡ [] ∷ keys state
 names_listed records state listed is lists =
     ap (map (λ e. e.0)) (tables_listed records state listed is lists) ∙ ap (λ (names : List (List ℕ)). [] ∷ names) (map-map (λ e. e.0) (λ e. (e.0, declaration_bytes e.1.schema)) (entries state))
+
+-- what a reader of rows refuses with
+pub refused_named : {X : Type 0} (W : StoreError → Type 0) (r : Result X StoreError) → IfErr r (λ e. ((e ≡ DamagedStore) × W e) ⊎ IsResource e) → IfErr r IsReadRefusal
+refused_named W (Ok x) h = tt
+refused_named W (Err e) (inl damaged) = inl damaged.0
+refused_named W (Err e) (inr resource) = inr resource
+
+-- where rows are stored they are read, or memory is refused
+pub rows_recovered : (r : Result (Vec (List OwnedValue) Global) StoreError) (flags : List ℕ) (stored : List (List ℕ)) (rows : List (List OwnedValue)) → IfOk r (λ v. AreStored flags stored v.items)
+    → IfErr r (λ e. ((e ≡ DamagedStore) × ((others : List (List OwnedValue)) → ¬ (AreStored flags stored others))) ⊎ IsResource e) → AreStored flags stored rows → RecoversList r rows
+rows_recovered (Ok v) flags stored rows read refused is = stored_apart flags stored v.items rows read is
+rows_recovered (Err e) flags stored rows read (inl damaged) is = absurd (damaged.1 rows is)
+rows_recovered (Err e) flags stored rows read (inr resource) is = resource

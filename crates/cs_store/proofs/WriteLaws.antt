@@ -11,7 +11,8 @@ use Rattle.cs_store.specs.Stored.{Stores}
 use Rattle.cs_store.specs.Store.{HoldsState, IsSound, KeepsStore, tables_in}
 use Rattle.cs_store.proofs.StateOf.{state_is}
 use Rattle.cs_store.proofs.StoredLaws.{stores_row, stores_no_row}
-use Rattle.cs_store.proofs.StoreLaws.{was_clean, rests_keeps, write_keeps}
+use Rattle.cs_store.specs.Laws.{was_clean}
+use Rattle.cs_store.proofs.StoreLaws.{rests_keeps, write_keeps}
 
 -- a database that was written so that it stores a state holds that state
 pub holds_next : (new : Database) (next : tables.State) → HoldsRecords new → Stores (records_in new) next → HoldsState new × (tables_in new ≡ next)

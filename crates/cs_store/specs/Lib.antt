@@ -4,6 +4,7 @@ pub mod Rows
 pub mod Declaration
 pub mod Stored
 pub mod Store
+pub mod Laws
 pub mod Editing
 pub use Rattle.cs_value.specs.Value
 pub use Rattle.cs_value.specs.Key

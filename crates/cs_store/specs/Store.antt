@@ -1,5 +1,11 @@
 -- What a store over a connection holds: a state, as its records stand for it.
-use Rattle.std.specs.Prelude.{◌≡◌, IsTrue, true, false, Result, Ok, Err}
+use Rattle.std.specs.Prelude.{◌≡◌, ℕ, List, map, Vec, IsTrue, true, false, Result, Ok, Err}
+use Rattle.std.specs.List.{AllByRecursion}
+use Rattle.std.specs.declared.alloc.Global.{Global}
+use Rattle.cs_value.specs.declared.value.OwnedValue.{OwnedValue}
+use Rattle.cs_value.specs.Value.{IsRow}
+use Rattle.cs_value.specs.Table.{IsKeyedRow}
+use Rattle.cs_value.specs.Spelling.{row_bytes}
 use Rattle.cs_value.specs.State as tables
 use Rattle.sqlite.specs.Effect.{Database}
 use Rattle.sqlite.specs.State.{State, HasCleanDisk, Shows, KeepsCommit}
@@ -47,3 +53,13 @@ pub record Begins (old new : State) : Type 0 where
 pub record Ends (old new : State) : Type 0 where
   pub inside : IsTrue old.in_transaction
   pub shown : Shows old new old.now old.now false
+
+-- the bytes are those of the rows in turn, each a row under these flags
+pub record AreStored (flags : List ℕ) (stored : List (List ℕ)) (rows : List (List OwnedValue)) : Type 0 where
+  pub spelled : stored ≡ map row_bytes rows
+  pub each : AllByRecursion (λ row. IsRow row × IsKeyedRow flags row) rows
+
+-- a list that is read gives what is stored, or is refused memory
+abbrev pub RecoversList : {X : Type 0} → Result (Vec X Global) StoreError → List X → Type 0
+RecoversList (Ok list) stored = list.items ≡ stored
+RecoversList (Err e) stored = IsResource e

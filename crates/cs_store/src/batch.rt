@@ -7,9 +7,13 @@ ghost use Rattle.cs_store.specs.Records.{IsUndone, KeepsCrash};
 ghost use Rattle.cs_store.specs.Store.{Ends};
 
 use crate::fault::StoreError;
+use crate::rows::Rows;
+use crate::schema::Schema;
 use crate::store::Store;
 use crate::transactions;
+use cs_value::{Key, Row};
 use sqlite::Alter;
+use std::alloc::Global;
 
 /// A batch of writes to a store. Dropping it undoes them.
 pub struct SqlBatch<'c, S: Alter> {
@@ -37,5 +41,44 @@ impl<S: Alter> Drop for SqlBatch<'_, S> {
     {
         let SqlBatch { store } = self;
         transactions::roll_back(&mut store.conn);
+    }
+}
+
+impl<S: Alter> Rows for SqlBatch<'_, S> {
+    ghost use Rattle.std.proofs.Common.{◌≡◌, refl, ◌∙◌};
+    ghost use Rattle.sqlite.specs.State.{HasCleanDisk};
+    ghost use Rattle.sqlite.specs.Held.{state as shown};
+    ghost use Rattle.cs_store.specs.Store.{KeepsStore, tables_in};
+    ghost use Rattle.cs_store.specs.Laws as laws;
+
+    ghost state = { λ b. tables_in (shown S.Store b.store.now).now };
+
+    ghost is_honest = { λ b. HasCleanDisk (shown S.Store b.store.now) };
+
+    ghost keeps = { λ a b. (b.store.ghost_name ≡ a.store.ghost_name)
+        × KeepsStore (shown S.Store a.store.now) (shown S.Store b.store.now) };
+
+    ghost keeps_itself = { λ b. (refl, laws.keeps_itself) };
+
+    ghost keeps_then = { λ a b c one two. (two.0 ∙ one.0, laws.keeps_then one.1 two.1) };
+
+    fn schema(&mut self, alloc: Global, table: &str) -> Result<Option<Schema>, StoreError> {
+        self.store.find_schema(alloc, table)
+    }
+
+    fn get(&mut self, alloc: Global, table: &str, key: &Key) -> Result<Option<Row>, StoreError> {
+        self.store.find_row(alloc, table, key)
+    }
+
+    fn put(&mut self, alloc: Global, table: &str, key: &Key, row: &Row) -> Result<(), StoreError> {
+        self.store.put_row(alloc, table, key, row)
+    }
+
+    fn remove(&mut self, _alloc: Global, table: &str, key: &Key) -> Result<(), StoreError> {
+        self.store.remove_row(table, key)
+    }
+
+    fn list(&mut self, alloc: Global, table: &str) -> Result<Vec<Row>, StoreError> {
+        self.store.list_rows(alloc, table)
     }
 }

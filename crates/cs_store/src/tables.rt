@@ -1,20 +1,22 @@
 //! The tables of a store, one call at a time: what its records stand for.
-ghost use Rattle.std.specs.Prelude.{◌≡◌, IsTrue, OnOk, IfOk, IfErr, IfSome, Option, Some, List, option_map};
+ghost use Rattle.std.specs.FinMap as map;
+ghost use Rattle.cs_store.specs.declared.fault.StoreError.TheVariants.{DamagedStore as Damaged};
+ghost use Rattle.std.specs.Prelude.{◌≡◌, ◌⊎◌, map as map_list, IsTrue, OnOk, IfOk, IfErr, IfSome, Option, Some, List, option_map};
 ghost use Rattle.cs_value.specs.declared.value.OwnedValue.{OwnedValue};
 ghost use Rattle.cs_value.specs.Value.{IsRow};
 ghost use Rattle.cs_value.specs.Table.{IsKeyedRow};
 ghost use Rattle.cs_value.specs.Spelling.{row_bytes};
-ghost use Rattle.cs_value.specs.State.{SchemaData, IsSchema, schema_at, row_at, with_row, without_row};
+ghost use Rattle.cs_value.specs.State.{SchemaData, IsSchema, schema_at, row_at, rows_at, with_row, without_row};
 ghost use Rattle.cs_store.specs.Declaration.{declaration_bytes};
 ghost use Rattle.sqlite.specs.State.{HasCleanDisk};
 ghost use Rattle.sqlite.specs.Held.{state};
 ghost use Rattle.cs_store.specs.Faults.{IsResource, IsReadRefusal};
 ghost use Rattle.cs_store.specs.Rows.{IsDeclared, Fits};
-ghost use Rattle.cs_store.specs.Store.{HoldsState, IsSound, KeepsStore, Recovers, tables_in};
+ghost use Rattle.cs_store.specs.Store.{HoldsState, IsSound, KeepsStore, Recovers, RecoversList, AreStored, tables_in};
 
 use crate::declaration::read_declaration;
 use crate::fault::StoreError;
-use crate::records::{find_record, remove_record, set_record};
+use crate::records::{Keyed, find_record, list_records, remove_record, set_record};
 use crate::schema::Schema;
 use crate::stored_row::read_row;
 use cs_value::{Key, Row, row_write};
@@ -111,6 +113,60 @@ fn row_in(
         Some(bytes) => Ok(Some(read_row(alloc, flags, &bytes)?)),
         None => Ok(None),
     }
+}
+
+/// The rows of a table by the bytes of their keys, and none where no table has the name.
+pub(crate) fn list_rows<S: Alter>(
+    conn: &mut Connection<S>,
+    alloc: Global,
+    name: &str,
+) -> Result<Vec<Row>, StoreError>
+    ensures listed { IsSound (state S.Store conn.old) → HasCleanDisk (state S.Store conn.new)
+        → IfOk result (λ rows. rows.items ≡ map.values (rows_at (tables_in (state S.Store conn.old).now) name.now)) }
+    ensures same { HasCleanDisk (state S.Store conn.new) → OnOk result ((state S.Store conn.new).now ≡ (state S.Store conn.old).now) }
+    ensures refused { IsSound (state S.Store conn.old) → HasCleanDisk (state S.Store conn.new) → IfErr result IsResource }
+    ensures named { IfErr result IsReadRefusal }
+    ensures kept { KeepsStore (state S.Store conn.old) (state S.Store conn.new) }
+{
+    match find_schema(conn, alloc, name)? {
+        Some(schema) => list_rows_of(conn, alloc, name, &schema),
+        None => Ok(Vec::new(alloc)),
+    }
+}
+
+/// The rows of the table of this name, which has this schema.
+fn list_rows_of<S: Alter>(
+    conn: &mut Connection<S>,
+    alloc: Global,
+    name: &str,
+    schema: &Schema,
+) -> Result<Vec<Row>, StoreError>
+    ensures listed { IsSound (state S.Store conn.old) → HasCleanDisk (state S.Store conn.new)
+        → schema_at (tables_in (state S.Store conn.old).now) name.now ≡ Some schema.now
+        → RecoversList result (map.values (rows_at (tables_in (state S.Store conn.old).now) name.now)) }
+    ensures same { HasCleanDisk (state S.Store conn.new) → OnOk result ((state S.Store conn.new).now ≡ (state S.Store conn.old).now) }
+    ensures named { IfErr result IsReadRefusal }
+    ensures kept { KeepsStore (state S.Store conn.old) (state S.Store conn.new) }
+{
+    match list_records(conn, alloc, name) {
+        Ok(listed) => rows_in(alloc, schema.flags(), &listed),
+        Err(error) => Err(error),
+    }
+}
+
+/// The rows that are stored.
+fn rows_in(alloc: Global, flags: &[u8], listed: &[Keyed]) -> Result<Vec<Row>, StoreError>
+    ensures read { IfOk result (λ rows. AreStored flags.now (map_list (λ e. e.1) listed.now) rows.items) }
+    ensures refused { IfErr result (λ e. ((e ≡ Damaged) × ((rows : List (List OwnedValue)) → ¬ (AreStored flags.now (map_list (λ e. e.1) listed.now) rows))) ⊎ IsResource e) }
+{
+    let mut rows = Vec::new(alloc);
+    for record in listed {
+        match read_row(alloc, flags, &record.value) {
+            Ok(row) => rows.push(row)?,
+            Err(error) => return Err(error),
+        }
+    }
+    Ok(rows)
 }
 
 /// Puts a row under its key in a table that it fits, inside a transaction.

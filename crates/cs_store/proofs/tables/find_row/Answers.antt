@@ -3,7 +3,7 @@ use Rattle.sqlite.specs.Held.{state}
 use Rattle.sqlite.specs.Effect.{Database}
 use Rattle.cs_value.specs.State.{schema_at, row_at}
 use Rattle.cs_store.specs.Store.{HoldsState, Recovers, tables_in}
-use Rattle.cs_store.proofs.StoreLaws.{was_clean, keeps_then}
+use Rattle.cs_store.specs.Laws.{was_clean, keeps_then}
 use Rattle.cs_store.proofs.ReadLaws.{no_row, read_fits}
 use Rattle.cs_store.proofs.tables.find_row.Goals as goal
 
@@ -21,7 +21,7 @@ returns-in-Some-clause-fits g c sound clean =
         (subst (λ (db : Database). OnOk c.find_row_of.result (HoldsState db)) same (c.find_row_of.ensures.shows still clean))
 
 pub returns-in-Some-clause-kept : goal.returns-in-Some-clause-kept
-returns-in-Some-clause-kept g c = keeps_then _ _ _ c.find_schema.ensures.kept c.find_row_of.ensures.kept
+returns-in-Some-clause-kept g c = keeps_then c.find_schema.ensures.kept c.find_row_of.ensures.kept
 
 pub returns-in-None-clause-found : goal.returns-in-None-clause-found
 returns-in-None-clause-found g c sound clean = sym (no_row _ c.args.name.now c.args.key.now (sym (c.in_ok-schema.ensures.found sound clean) ∙ c.in-None.is))

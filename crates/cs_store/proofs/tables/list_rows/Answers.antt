@@ -1,0 +1,11 @@
+use Rattle.std.proofs.Common.{◌≡◌, ◌∙◌, sym, ap}
+use Rattle.std.specs.FinMap as map
+use Rattle.sqlite.specs.Held.{state}
+use Rattle.cs_value.specs.State.{RowMap}
+use Rattle.cs_store.proofs.MemoryLaws.{no_values}
+use Rattle.cs_store.proofs.ReadLaws.{no_rows_at}
+use Rattle.cs_store.proofs.tables.list_rows.Goals as goal
+
+pub returns-in-None-clause-listed : goal.returns-in-None-clause-listed
+returns-in-None-clause-listed g c sound clean =
+    c.new.ensures.items ∙ sym no_values ∙ ap (λ (r : RowMap). map.values r) (sym (no_rows_at _ c.args.name.now (sym (c.in_ok-schema.ensures.found sound clean) ∙ c.in-None.is)))
