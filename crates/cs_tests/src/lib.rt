@@ -1,7 +1,7 @@
 //! Tests of the public calls, of what no contract and no line of a script says.
 //!
-//! `value`, `wire`, `group` and `shell` have those of a crate each, and `refusals` the numbers, names
-//! and texts of what they refuse with.
+//! `value`, `wire`, `group`, `shell` and `store` have those of a crate each, and `refusals` the
+//! numbers, names and texts of what they refuse with.
 #![tactic(auto)]
 
 #[cfg(test)]
@@ -12,6 +12,8 @@ mod group;
 mod refusals;
 #[cfg(test)]
 mod shell;
+#[cfg(test)]
+mod store;
 #[cfg(test)]
 mod value;
 #[cfg(test)]

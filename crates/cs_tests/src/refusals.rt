@@ -1,6 +1,7 @@
 //! Numbers, classes, names and texts of what calls refuse with.
 
 use cs_shell::{FileFault, OutputFault, SchemaFault, ToolFault};
+use cs_store::StoreError;
 use cs_value::{Fault, FieldFault, FieldFaultKind, ImageFault, NoMemory};
 use cs_wire::{ReadError, ReadFault, ReadFaultKind};
 use std::fmt::Display;
@@ -165,4 +166,22 @@ fn want_of_memory(rt: HostRuntime) {
     expect_named(&rt, &NoMemory, 60, 7, "NoMemory");
     expect_named(&rt, &ImageFault::from(NoMemory), 60, 7, "NoMemory");
     expect_named(&rt, &ReadError::from(NoMemory), 60, 7, "NoMemory");
+}
+
+#[test]
+fn refusals_of_stores(rt: HostRuntime) {
+    for (error, code, class, name) in [
+        (StoreError::TableExists, 30, 1, "TableExists"),
+        (StoreError::NoTable, 31, 1, "NoTable"),
+        (StoreError::BadSchema, 32, 1, "BadSchema"),
+        (StoreError::KeyTaken, 33, 1, "KeyTaken"),
+        (StoreError::NoRow, 34, 1, "NoRow"),
+        (StoreError::RowWidth, 35, 1, "RowWidth"),
+        (StoreError::NullInKey, 36, 1, "NullInKey"),
+        (StoreError::DamagedStore, 37, 11, "DamagedStore"),
+        (StoreError::StoreFault, 38, 1, "StoreFault"),
+        (StoreError::NoMemory, 60, 7, "NoMemory"),
+    ] {
+        expect_named(&rt, &error, code, class, name);
+    }
 }

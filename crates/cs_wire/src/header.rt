@@ -6,7 +6,7 @@ ghost use Rattle.cs_wire.specs.Entry.{IsKeyedUpdate};
 ghost use Rattle.cs_wire.specs.Changeset.{HeaderData, IsHeader};
 
 use crate::entry::{Change, Entry};
-use cs_value::{Field, Key, MAX_COLUMNS, NoMemory, OwnedField, is_table_name};
+use cs_value::{Field, Key, MAX_COLUMNS, NoMemory, OwnedField, Value, is_table_name};
 use std::alloc::Global;
 use std::marker::Model;
 
@@ -155,7 +155,4 @@ pub(crate) fn has_key(flags: &[u8]) -> bool
     ensures { IsTrue result ↔ Any (λ flag. 0 < flag) flags.now }
 {
     flags.iter().any(|flag| *flag > 0)
-}
-{
-    bytes.iter().any(|byte| *byte == 0)
 }
