@@ -71,5 +71,5 @@ fits_without state name key next row fits =
     let table : TableData = record { schema = fits.table.schema; rows = rows } in
     let here : map.get (map.insert state name table) name ≡ Some table = map.get-insert nat_list_cmp_total state name table name ∙ ap (λ b. cond b (Some table) (map.get state name)) (self_tied name) in
     let same : without_row state name key ≡ map.insert state name table = with_rows_found state name fits.table (map.remove (rows_at state name) key) fits.found
-        ∙ ap (λ (r : RowMap). let t : TableData = record { schema = fits.table.schema; rows = map.remove r key } in map.insert state name t) (rows_at_found state name fits.table fits.found) in
+    ∙ ap (λ (r : RowMap). let t : TableData = record { schema = fits.table.schema; rows = map.remove r key } in map.insert state name t) (rows_at_found state name fits.table fits.found) in
     record { table = table; found = ap (λ (s : State). map.get s name) same ∙ here; fit = fits.fit }

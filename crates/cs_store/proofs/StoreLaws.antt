@@ -1,9 +1,8 @@
 -- Stores stay stores, whatever a call answers.
-use Rattle.std.proofs.Common.{◌≡◌, Bool, true, false, not, IsTrue, inl, inr, refl, sym, subst, ap, ◌∙◌, arith, true≢false}
-use Rattle.sqlite.specs.State.{State, HasCleanDisk, KeepsCommit, IsUnchanged, IsRolledBack, Survives}
-use Rattle.sqlite.proofs.StateLemmas.{survives_then}
+use Rattle.std.proofs.Common.{◌≡◌, Bool, true, false, not, IsTrue, inl, inr, refl, sym, subst, ◌∙◌, true≢false}
+use Rattle.sqlite.specs.State.{State, HasCleanDisk, KeepsCommit, IsUnchanged, IsRolledBack}
 use Rattle.cs_store.specs.Records.{Rests, GoesOn, KeepsCrash}
-use Rattle.cs_store.specs.Store.{HoldsState, IsStore, IsSound, KeepsStore}
+use Rattle.cs_store.specs.Store.{HoldsState, IsStore, KeepsStore}
 use Rattle.cs_store.specs.Laws.{was_clean}
 
 unchanged_store : (old new : State) → IsUnchanged old new → IsStore old → IsStore new

@@ -162,10 +162,10 @@ rows_are_stored records state name schema listed is some has lists = record { sp
     at (Some table) found =
         let same : table.schema ≡ schema = let e = ap (option_map (λ (t : TableData). t.schema)) (sym found) ∙ has in cc in
         let each = all-map (λ row. IsRow row × IsKeyedRow table.schema.flags row) (λ e. e.1) (entries table.rows)
-            (each_entry (λ key row. IsRow row × IsKeyedRow table.schema.flags row) (entries table.rows) (entries_sorted table.rows) (λ key row got.
-            let fit = (is.is_state name table found).is_table.rows key row (get-entries table.rows key ∙ got) in (fit.values, fit.keyed))) in
+        (each_entry (λ key row. IsRow row × IsKeyedRow table.schema.flags row) (entries table.rows) (entries_sorted table.rows) (λ key row got.
+        let fit = (is.is_state name table found).is_table.rows key row (get-entries table.rows key ∙ got) in (fit.values, fit.keyed))) in
         subst (λ (r : RowMap). AllByRecursion (λ row. IsRow row × IsKeyedRow schema.flags row) (values r)) (sym (rows_at_found state name table found))
-            (subst (λ (t : SchemaData). AllByRecursion (λ row. IsRow row × IsKeyedRow t.flags row) (values table.rows)) same each)
+        (subst (λ (t : SchemaData). AllByRecursion (λ row. IsRow row × IsKeyedRow t.flags row) (values table.rows)) same each)
 
 -- ---- the tables
 

@@ -1,11 +1,11 @@
 -- What writes of records make of the state that is stored.
-use Rattle.std.proofs.Common.{◌≡◌, ℕ, List, Option, Some, None, Result, Ok, Err, OnOk, OnErr, IsTrue, sym, subst, ap, ◌∙◌}
+use Rattle.std.proofs.Common.{◌≡◌, ℕ, List, Option, Some, None, Result, Ok, Err, OnOk, OnErr, IsTrue, sym, subst}
 use Rattle.cs_value.specs.declared.value.OwnedValue.{OwnedValue}
 use Rattle.cs_value.specs.Spelling.{row_bytes}
 use Rattle.cs_value.specs.State as tables
 use Rattle.sqlite.specs.Effect.{Database}
 use Rattle.sqlite.specs.State.{State, HasCleanDisk}
-use Rattle.cs_store.specs.Records.{Records, HoldsRecords, Sets, GoesOn, Rests, KeepsCrash, records_in}
+use Rattle.cs_store.specs.Records.{HoldsRecords, Sets, GoesOn, Rests, KeepsCrash, records_in}
 use Rattle.cs_store.specs.Rows.{IsDeclared, Fits}
 use Rattle.cs_store.specs.Stored.{Stores}
 use Rattle.cs_store.specs.Store.{HoldsState, IsSound, KeepsStore, tables_in}

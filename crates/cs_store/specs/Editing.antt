@@ -1,5 +1,6 @@
 -- What declaring a table and editing a row make of a state, or the first reason why they are refused.
-use Rattle.std.specs.Prelude.{◌≡◌, ℕ, suc, Bool, true, false, not, ◌==◌, if◌then◌else◌, List, [], ◌∷◌, length, map, Option, Some, None, is_some, Result, Ok, Err, IsSome, string_bytes}
+use Rattle.std.specs.Prelude.{◌≡◌, ℕ, suc, Bool, true, false, not, ◌==◌, if◌then◌else◌, List, []}
+use Rattle.std.specs.Prelude.{◌∷◌, length, map, Option, Some, None, is_some, Result, Ok, Err, IsSome, string_bytes}
 use Rattle.std.specs.declared.string.String.{String}
 use Rattle.std.specs.declared.alloc.Global.{Global}
 use Rattle.std.specs.FinMap as map
@@ -9,7 +10,8 @@ use Rattle.cs_value.specs.Table.{IsName}
 use Rattle.cs_value.specs.Key.{row_key}
 use Rattle.cs_value.specs.State.{SchemaData, IsSchema, TableData, State, row_at, with_table, with_row, without_row}
 use Rattle.cs_store.specs.declared.fault.StoreError.{StoreError}
-use Rattle.cs_store.specs.declared.fault.StoreError.TheVariants.{TableExists, NoTable, BadSchema, KeyTaken, NoRow, RowWidth, NullInKey}
+use Rattle.cs_store.specs.declared.fault.StoreError.TheVariants.{TableExists, NoTable, BadSchema}
+use Rattle.cs_store.specs.declared.fault.StoreError.TheVariants.{KeyTaken, NoRow, RowWidth, NullInKey}
 use Rattle.cs_store.specs.declared.edit.Edit.{Edit}
 use Rattle.cs_store.specs.declared.edit.Edit.TheVariants.{Insert, Update, Delete}
 use Rattle.cs_store.specs.declared.edit.Written.{Written}
@@ -26,7 +28,8 @@ IsDeclarable name schema = IsName name × IsSchema schema
 
 -- the state with the new table, or why there is none
 abbrev pub Declares : State → List ℕ → SchemaData → Result State StoreError → Type 0
-Declares state name schema (Ok next) = IsDeclarable name schema × (map.get state name ≡ None) × (next ≡ with_table state name schema)
+Declares state name schema (Ok next) = IsDeclarable name schema × (map.get state name ≡ None)
+    × (next ≡ with_table state name schema)
 Declares state name schema (Err BadSchema) = ¬ (IsDeclarable name schema)
 Declares state name schema (Err TableExists) = IsDeclarable name schema × IsSome (map.get state name)
 Declares state name schema (Err _) = ⊥
@@ -79,25 +82,26 @@ abbrev pub inserted : State → List ℕ → TableData → List OwnedValue → R
 inserted state name table row =
     let key = row_key table.schema.flags row in
     unless (row_fault table.schema.flags row) (unless (when (has_row state name key) KeyTaken)
-        (Ok (record { state = with_row state name key row; written = written state name key ∷ [] })))
+    (Ok (record { state = with_row state name key row; written = written state name key ∷ [] })))
 
 -- a row that gets another key is removed, and put under that key
 abbrev pub moved : State → List ℕ → List ℕ → List ℕ → List OwnedValue → Result Edited StoreError
 moved state name key next row =
     unless (when (has_row state name next) KeyTaken)
-        (Ok (record { state = with_row (without_row state name key) name next row; written = written state name key ∷ written state name next ∷ [] }))
+    (Ok (record { state = with_row (without_row state name key) name next row; written = written state name key ∷ written state name next ∷ [] }))
 
 abbrev pub updated : State → List ℕ → TableData → List ℕ → List OwnedValue → Result Edited StoreError
 updated state name table key row =
     let next = row_key table.schema.flags row in
     unless (row_fault table.schema.flags row) (unless (when (not (has_row state name key)) NoRow)
-        (if same_bytes key next then Ok (record { state = with_row state name key row; written = written state name key ∷ [] })
-        else moved state name key next row))
+    (if same_bytes key next
+    then Ok (record { state = with_row state name key row; written = written state name key ∷ [] })
+    else moved state name key next row))
 
 abbrev pub deleted : State → List ℕ → List ℕ → Result Edited StoreError
 deleted state name key =
     unless (when (not (has_row state name key)) NoRow)
-        (Ok (record { state = without_row state name key; written = written state name key ∷ [] }))
+    (Ok (record { state = without_row state name key; written = written state name key ∷ [] }))
 
 abbrev pub found_table : Option TableData → (TableData → Result Edited StoreError) → Result Edited StoreError
 found_table None next = Err NoTable

@@ -4,7 +4,9 @@ use Rattle.sqlite.specs.declared.error.Error.{Error}
 use Rattle.sqlite.specs.declared.error.Error.TheVariants.{SqliteFailure}
 use Rattle.sqlite.specs.declared.error.ErrorCode.TheVariants.{OutOfMemory}
 use Rattle.cs_store.specs.declared.fault.StoreError.{StoreError}
-use Rattle.cs_store.specs.declared.fault.StoreError.TheVariants.{TableExists, NoTable, BadSchema, KeyTaken, NoRow, RowWidth, NullInKey, DamagedStore, StoreFault, NoMemory}
+use Rattle.cs_store.specs.declared.fault.StoreError.TheVariants.{TableExists, NoTable, BadSchema, KeyTaken, NoRow}
+use Rattle.cs_store.specs.declared.fault.StoreError.TheVariants.{RowWidth, NullInKey}
+use Rattle.cs_store.specs.declared.fault.StoreError.TheVariants.{DamagedStore, StoreFault, NoMemory}
 
 abbrev pub code_of : StoreError → ℕ
 code_of TableExists = 30

@@ -1,9 +1,9 @@
 -- What calls on a store keep, one after another.
-use Rattle.std.proofs.Common.{◌≡◌, inl, inr, refl, ◌∙◌, arith}
-use Rattle.sqlite.specs.State.{State, HasCleanDisk, KeepsCommit}
+use Rattle.std.proofs.Common.{inl, refl, ◌∙◌, arith}
+use Rattle.sqlite.specs.State.{State, HasCleanDisk}
 use Rattle.sqlite.proofs.StateLemmas.{survives_then}
 use Rattle.cs_store.specs.Records.{KeepsCrash}
-use Rattle.cs_store.specs.Store.{IsSound, KeepsStore}
+use Rattle.cs_store.specs.Store.{KeepsStore}
 
 -- an honest disk was honest before
 pub was_clean : (old new : State) → KeepsCrash old new → HasCleanDisk new → HasCleanDisk old

@@ -112,7 +112,8 @@ record_cmp a b = ordering_then (slice_cmp nat_cmp a.tab b.tab) (slice_cmp nat_cm
 -- all records, each once and in their order
 pub record ListsAll (records : Records) (listed : List RecordData) : Type 0 where
   pub rising : AllPairs (λ a b. record_cmp a b ≡ Less) listed
-  pub each : (tab key : List ℕ) → option_map (λ r. r.value) (find (λ r. same_bytes r.tab tab && same_bytes r.key key) listed) ≡ records tab key
+  pub each : (tab key : List ℕ)
+      → option_map (λ r. r.value) (find (λ r. same_bytes r.tab tab && same_bytes r.key key) listed) ≡ records tab key
 
 -- the keys and values under a name, each once and by key
 pub record ListsTable (records : Records) (tab : List ℕ) (listed : List (List ℕ × List ℕ)) : Type 0 where

@@ -1,6 +1,7 @@
 -- What the records of a store are: one for the version of the format, one for each table, one for each row. This
 -- project's own.
-use Rattle.std.specs.Prelude.{◌≡◌, ℕ, zero, suc, if◌then◌else◌, List, [], ◌∷◌, length, take, drop, Option, Some, None, option_map, Result, Ok, Err}
+use Rattle.std.specs.Prelude.{◌≡◌, ℕ, zero, suc, if◌then◌else◌, List, [], ◌∷◌, length}
+use Rattle.std.specs.Prelude.{take, drop, Option, Some, None, option_map, Result, Ok, Err}
 use Rattle.std.specs.Option.{option_to_list}
 use Rattle.std.specs.List.{flat_map}
 use Rattle.std.specs.FinMap as map
@@ -73,14 +74,14 @@ schema_in bytes = counted_columns bytes (number_at bytes)
 abbrev pub entries_under : {X : Type 0} → (List ℕ → List ℕ → Option X) → List ℕ → List Row → ByBytes X
 entries_under read name rows =
     map.from_entries (flat_map (λ row. if same_bytes (content (column row 1)) name
-        then option_to_list (option_map (λ x. (content (column row 2), x)) (read (content (column row 2)) (content (column row 3)))) else []) rows)
+    then option_to_list (option_map (λ x. (content (column row 2), x)) (read (content (column row 2)) (content (column row 3)))) else []) rows)
 
 -- a table: its schema, and the rows under its name
 abbrev pub table_in : List Row → List ℕ → List ℕ → Option TableData
 table_in rows [] bytes = None
 table_in rows (b ∷ name) bytes =
     option_map (λ (schema : SchemaData). let t : TableData = record { schema = schema; rows = entries_under (λ key value. values_at (length schema.columns) value) (b ∷ name) rows } in t)
-        (schema_in bytes)
+    (schema_in bytes)
 
 -- the tables whose declarations stand in the rows
 unfoldable pub state_of : List Row → State

@@ -23,8 +23,10 @@ pub struct SqlBatch<'c, S: Alter> {
 impl<S: Alter> SqlBatch<'_, S> {
     /// Commits the writes of the batch. Where it is refused, the store is as when the batch began.
     pub fn commit(self) -> Result<(), StoreError>
-        ensures committed { HasCleanDisk (state S.Store self.exit.0.now) → OnOk result (Ends (state S.Store self.entry.store.now) (state S.Store self.exit.0.now)) }
-        ensures undone { HasCleanDisk (state S.Store self.exit.0.now) → OnErr result (IsUndone (state S.Store self.entry.store.now) (state S.Store self.exit.0.now)) }
+        ensures committed { HasCleanDisk (state S.Store self.exit.0.now)
+            → OnOk result (Ends (state S.Store self.entry.store.now) (state S.Store self.exit.0.now)) }
+        ensures undone { HasCleanDisk (state S.Store self.exit.0.now)
+            → OnErr result (IsUndone (state S.Store self.entry.store.now) (state S.Store self.exit.0.now)) }
         ensures refused { IfErr result IsResource }
         ensures survives { Survives (state S.Store self.entry.store.now) (state S.Store self.exit.0.now)
             (λ db. db ≡ (state S.Store self.entry.store.now).now.trees) }
@@ -36,7 +38,8 @@ impl<S: Alter> SqlBatch<'_, S> {
 
 impl<S: Alter> Drop for SqlBatch<'_, S> {
     fn drop(self)
-        ensures undone { HasCleanDisk (state S.Store self.exit.0.now) → IsUndone (state S.Store self.entry.store.now) (state S.Store self.exit.0.now) }
+        ensures undone { HasCleanDisk (state S.Store self.exit.0.now)
+            → IsUndone (state S.Store self.entry.store.now) (state S.Store self.exit.0.now) }
         ensures survives { KeepsCrash (state S.Store self.entry.store.now) (state S.Store self.exit.0.now) }
     {
         let SqlBatch { store } = self;

@@ -1,12 +1,14 @@
 //! Edits of rows, through whatever holds them.
-ghost use Rattle.std.specs.Prelude.{◌≡◌, ◌⊎◌, [], ◌∷◌, Some, None, Ok, Err, map, string_bytes, IfOk, IfErr, IsSome, OnOk};
+ghost use Rattle.std.specs.Prelude.{◌≡◌, ◌⊎◌, [], ◌∷◌, Some, None, Ok};
+ghost use Rattle.std.specs.Prelude.{Err, map, string_bytes, IfOk, IfErr, IsSome, OnOk};
 ghost use Rattle.cs_value.specs.Value.{IsRow};
 ghost use Rattle.cs_value.specs.Table.{IsKeyedRow};
 ghost use Rattle.cs_value.specs.State.{IsRowAt, schema_at, row_at, with_row, without_row};
 ghost use Rattle.cs_store.specs.Rows.{IsDeclared, Fits};
 ghost use Rattle.cs_store.specs.Faults.{IsResource};
 ghost use Rattle.cs_store.specs.Editing.{edited, written_of, row_fault, in_table, inserted, updated, deleted};
-ghost use Rattle.cs_store.specs.declared.fault.StoreError.TheVariants.{NoTable as NoSuchTable, NoRow as NoSuchRow, KeyTaken as TakenKey};
+ghost use Rattle.cs_store.specs.declared.fault.StoreError.TheVariants.{NoTable as NoSuchTable};
+ghost use Rattle.cs_store.specs.declared.fault.StoreError.TheVariants.{NoRow as NoSuchRow, KeyTaken as TakenKey};
 
 use crate::edit::{Edit, Written};
 use crate::fault::StoreError;
@@ -26,8 +28,10 @@ pub fn edit_in<B: Rows>(
     rows: &mut B,
     edit: &Edit,
 ) -> Result<Vec<Written>, StoreError>
-    ensures edited { B.is_honest rows.new → IfOk result (λ w. edited (B.state rows.old) edit.now ≡ Ok (record { state = B.state rows.new; written = map written_of w.items })) }
-    ensures refused { B.is_honest rows.new → IfErr result (λ e. (edited (B.state rows.old) edit.now ≡ Err e) ⊎ IsResource e) }
+    ensures edited { B.is_honest rows.new → IfOk result (λ w. edited (B.state rows.old) edit.now
+        ≡ Ok (record { state = B.state rows.new; written = map written_of w.items })) }
+    ensures refused { B.is_honest rows.new → IfErr result (λ e. (edited (B.state rows.old) edit.now ≡ Err e)
+        ⊎ IsResource e) }
     ensures kept { B.keeps rows.old rows.new }
 {
     match edit {
@@ -41,7 +45,8 @@ pub fn edit_in<B: Rows>(
 fn find_schema<B: Rows>(alloc: Global, rows: &mut B, table: &str) -> Result<Schema, StoreError>
     ensures found { B.is_honest rows.new → IfOk result (λ s. schema_at (B.state rows.old) table.now ≡ Some s) }
     ensures same { B.is_honest rows.new → OnOk result (B.state rows.new ≡ B.state rows.old) }
-    ensures refused { B.is_honest rows.new → IfErr result (λ e. ((e ≡ NoSuchTable) × (schema_at (B.state rows.old) table.now ≡ None)) ⊎ IsResource e) }
+    ensures refused { B.is_honest rows.new → IfErr result (λ e. ((e ≡ NoSuchTable)
+        × (schema_at (B.state rows.old) table.now ≡ None)) ⊎ IsResource e) }
     ensures was_honest { B.is_honest rows.new → B.is_honest rows.old }
     ensures kept { B.keeps rows.old rows.new }
 {
@@ -52,16 +57,12 @@ fn find_schema<B: Rows>(alloc: Global, rows: &mut B, table: &str) -> Result<Sche
 }
 
 /// The row that has to stand under a key of a declared table.
-fn find_row<B: Rows>(
-    alloc: Global,
-    rows: &mut B,
-    table: &str,
-    key: &Key,
-) -> Result<Row, StoreError>
+fn find_row<B: Rows>(alloc: Global, rows: &mut B, table: &str, key: &Key) -> Result<Row, StoreError>
     requires { B.is_honest rows.old → IsDeclared (B.state rows.old) table.now }
     ensures found { B.is_honest rows.new → IfOk result (λ row. row_at (B.state rows.old) table.now key.now ≡ Some row) }
     ensures same { B.is_honest rows.new → OnOk result (B.state rows.new ≡ B.state rows.old) }
-    ensures refused { B.is_honest rows.new → IfErr result (λ e. ((e ≡ NoSuchRow) × (row_at (B.state rows.old) table.now key.now ≡ None)) ⊎ IsResource e) }
+    ensures refused { B.is_honest rows.new → IfErr result (λ e. ((e ≡ NoSuchRow)
+        × (row_at (B.state rows.old) table.now key.now ≡ None)) ⊎ IsResource e) }
     ensures was_honest { B.is_honest rows.new → B.is_honest rows.old }
     ensures kept { B.keeps rows.old rows.new }
 {
@@ -81,7 +82,8 @@ fn check_vacant<B: Rows>(
     requires { B.is_honest rows.old → IsDeclared (B.state rows.old) table.now }
     ensures vacant { B.is_honest rows.new → OnOk result (row_at (B.state rows.old) table.now key.now ≡ None) }
     ensures same { B.is_honest rows.new → OnOk result (B.state rows.new ≡ B.state rows.old) }
-    ensures refused { B.is_honest rows.new → IfErr result (λ e. ((e ≡ TakenKey) × IsSome (row_at (B.state rows.old) table.now key.now)) ⊎ IsResource e) }
+    ensures refused { B.is_honest rows.new → IfErr result (λ e. ((e ≡ TakenKey)
+        × IsSome (row_at (B.state rows.old) table.now key.now)) ⊎ IsResource e) }
     ensures was_honest { B.is_honest rows.new → B.is_honest rows.old }
     ensures kept { B.keeps rows.old rows.new }
 {
@@ -107,12 +109,7 @@ fn key_for(alloc: Global, schema: &Schema, row: &Row) -> Result<Key, StoreError>
 }
 
 /// What is told of a key that is written.
-fn note(
-    alloc: Global,
-    table: &str,
-    key: &Key,
-    former: Option<Row>,
-) -> Result<Written, StoreError>
+fn note(alloc: Global, table: &str, key: &Key, former: Option<Row>) -> Result<Written, StoreError>
     ensures noted { IfOk result (λ w. written_of w ≡ record { table = table.now; key = key.now; former = former }) }
     ensures refused { IfErr result IsResource }
 {
@@ -130,7 +127,8 @@ fn note_one(
     key: &Key,
     former: Option<Row>,
 ) -> Result<Vec<Written>, StoreError>
-    ensures noted { IfOk result (λ w. map written_of w.items ≡ record { table = table.now; key = key.now; former = former } ∷ []) }
+    ensures noted { IfOk result (λ w. map written_of w.items
+        ≡ record { table = table.now; key = key.now; former = former } ∷ []) }
     ensures refused { IfErr result IsResource }
 {
     let mut written = Vec::new(alloc);
@@ -144,9 +142,11 @@ fn insert_row<B: Rows>(
     table: &str,
     row: &Row,
 ) -> Result<Vec<Written>, StoreError>
-    ensures edited { B.is_honest rows.new → IfOk result (λ w. in_table (B.state rows.old) table.now (λ t. inserted (B.state rows.old) table.now t row.now)
+    ensures edited { B.is_honest rows.new
+        → IfOk result (λ w. in_table (B.state rows.old) table.now (λ t. inserted (B.state rows.old) table.now t row.now)
         ≡ Ok (record { state = B.state rows.new; written = map written_of w.items })) }
-    ensures refused { B.is_honest rows.new → IfErr result (λ e. (in_table (B.state rows.old) table.now (λ t. inserted (B.state rows.old) table.now t row.now) ≡ Err e) ⊎ IsResource e) }
+    ensures refused { B.is_honest rows.new
+        → IfErr result (λ e. (in_table (B.state rows.old) table.now (λ t. inserted (B.state rows.old) table.now t row.now) ≡ Err e) ⊎ IsResource e) }
     ensures was_honest { B.is_honest rows.new → B.is_honest rows.old }
     ensures kept { B.keeps rows.old rows.new }
 {
@@ -168,8 +168,10 @@ fn replace_row<B: Rows>(
     row: &Row,
 ) -> Result<Vec<Written>, StoreError>
     requires fits { B.is_honest rows.old → Fits (B.state rows.old) table.now key.now row.now }
-    ensures put { B.is_honest rows.new → OnOk result (B.state rows.new ≡ with_row (B.state rows.old) table.now key.now row.now) }
-    ensures told { IfOk result (λ w. map written_of w.items ≡ record { table = table.now; key = key.now; former = Some former } ∷ []) }
+    ensures put { B.is_honest rows.new → OnOk result (B.state rows.new
+        ≡ with_row (B.state rows.old) table.now key.now row.now) }
+    ensures told { IfOk result (λ w. map written_of w.items
+        ≡ record { table = table.now; key = key.now; former = Some former } ∷ []) }
     ensures refused { IfErr result IsResource }
     ensures was_honest { B.is_honest rows.new → B.is_honest rows.old }
     ensures kept { B.keeps rows.old rows.new }
@@ -194,7 +196,8 @@ fn move_row<B: Rows>(
         × (B.state rows.new ≡ with_row (without_row (B.state rows.old) table.now key.now) table.now next.now row.now)) }
     ensures told { IfOk result (λ w. map written_of w.items
         ≡ record { table = table.now; key = key.now; former = Some former } ∷ record { table = table.now; key = next.now; former = None } ∷ []) }
-    ensures refused { B.is_honest rows.new → IfErr result (λ e. ((e ≡ TakenKey) × IsSome (row_at (B.state rows.old) table.now next.now)) ⊎ IsResource e) }
+    ensures refused { B.is_honest rows.new → IfErr result (λ e. ((e ≡ TakenKey)
+        × IsSome (row_at (B.state rows.old) table.now next.now)) ⊎ IsResource e) }
     ensures was_honest { B.is_honest rows.new → B.is_honest rows.old }
     ensures kept { B.keeps rows.old rows.new }
 {
@@ -213,9 +216,11 @@ fn update_row<B: Rows>(
     key: &Key,
     row: &Row,
 ) -> Result<Vec<Written>, StoreError>
-    ensures edited { B.is_honest rows.new → IfOk result (λ w. in_table (B.state rows.old) table.now (λ t. updated (B.state rows.old) table.now t key.now row.now)
+    ensures edited { B.is_honest rows.new
+        → IfOk result (λ w. in_table (B.state rows.old) table.now (λ t. updated (B.state rows.old) table.now t key.now row.now)
         ≡ Ok (record { state = B.state rows.new; written = map written_of w.items })) }
-    ensures refused { B.is_honest rows.new → IfErr result (λ e. (in_table (B.state rows.old) table.now (λ t. updated (B.state rows.old) table.now t key.now row.now) ≡ Err e) ⊎ IsResource e) }
+    ensures refused { B.is_honest rows.new
+        → IfErr result (λ e. (in_table (B.state rows.old) table.now (λ t. updated (B.state rows.old) table.now t key.now row.now) ≡ Err e) ⊎ IsResource e) }
     ensures was_honest { B.is_honest rows.new → B.is_honest rows.old }
     ensures kept { B.keeps rows.old rows.new }
 {
@@ -235,9 +240,11 @@ fn delete_row<B: Rows>(
     table: &str,
     key: &Key,
 ) -> Result<Vec<Written>, StoreError>
-    ensures edited { B.is_honest rows.new → IfOk result (λ w. in_table (B.state rows.old) table.now (λ _. deleted (B.state rows.old) table.now key.now)
+    ensures edited { B.is_honest rows.new
+        → IfOk result (λ w. in_table (B.state rows.old) table.now (λ _. deleted (B.state rows.old) table.now key.now)
         ≡ Ok (record { state = B.state rows.new; written = map written_of w.items })) }
-    ensures refused { B.is_honest rows.new → IfErr result (λ e. (in_table (B.state rows.old) table.now (λ _. deleted (B.state rows.old) table.now key.now) ≡ Err e) ⊎ IsResource e) }
+    ensures refused { B.is_honest rows.new
+        → IfErr result (λ e. (in_table (B.state rows.old) table.now (λ _. deleted (B.state rows.old) table.now key.now) ≡ Err e) ⊎ IsResource e) }
     ensures was_honest { B.is_honest rows.new → B.is_honest rows.old }
     ensures kept { B.keeps rows.old rows.new }
 {

@@ -1,4 +1,20 @@
-//! User tables as keyed records in one SQL table.
+//! Tables of rows by key: in memory, and as records in one SQL table.
+//!
+//! ```rust
+//! let mut rows = MemRows::new(alloc);
+//! rows.declare(alloc, "t", &[name_a, name_b], &[true, false])?;
+//! let insert = Edit::Insert { table: name_t, row };
+//! let written = edit_in(alloc, &mut rows, &insert)?;
+//! assert_eq!(rt; rows.list(alloc, "t")?.len(), 1);
+//! ```
+//!
+//! `rows` says what holds rows: a finite map. `memory` does so in memory and `batch` over one
+//! transaction of a `store`. `schema` has what a table declares, `edit` the edits of rows, `editing`
+//! carries them out over any rows, and `fault` says why a call is refused.
+//!
+//! Below a batch, `tables` has the calls on the tables of a store, `declaration` and `stored_row` the
+//! bytes of schemas and rows, `records` the statements on the SQL table of records, and
+//! `transactions` those that begin and end a transaction.
 #![tactic(auto)]
 
 mod batch;

@@ -134,7 +134,8 @@ impl MemRows {
         keys: &[bool],
     ) -> Result<(), StoreError>
         ensures declared { OnOk result (Declares self.old name.now (schema_of columns.now keys.now) (Ok self.new)) }
-        ensures refused { IfErr result (λ e. (Declares self.old name.now (schema_of columns.now keys.now) (Err e)) ⊎ (e ≡ OutOfMemory)) }
+        ensures refused { IfErr result (λ e. (Declares self.old name.now (schema_of columns.now keys.now) (Err e))
+            ⊎ (e ≡ OutOfMemory)) }
         ensures unchanged { OnErr result (self.new ≡ self.old) }
     {
         if !is_table_name(name) {

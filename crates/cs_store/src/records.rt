@@ -7,8 +7,10 @@ ghost use Rattle.sqlite.specs.State.{HasCleanDisk, IsUnchanged, Shown, Survives}
 ghost use Rattle.sqlite.specs.Held.{state};
 ghost use Rattle.sqlite.specs.Values.{bound};
 ghost use Rattle.cs_store.specs.Faults.{IsResource};
-ghost use Rattle.cs_store.specs.Records.{HoldsRecords, Sets, ListsAll, ListsTable, records_in, Rests, GoesOn, KeepsCrash};
-ghost use Rattle.cs_store.specs.Records.{IsQuery, shown_record, shown_keyed, AreNumbered, AreRisingNumbers, record_schema, empty_schema};
+ghost use Rattle.cs_store.specs.Records.{HoldsRecords, Sets, ListsAll, ListsTable};
+ghost use Rattle.cs_store.specs.Records.{records_in, Rests, GoesOn, KeepsCrash};
+ghost use Rattle.cs_store.specs.Records.{IsQuery, shown_record, shown_keyed};
+ghost use Rattle.cs_store.specs.Records.{AreNumbered, AreRisingNumbers, record_schema, empty_schema};
 
 use crate::fault::StoreError;
 use sqlite::types::ValueRef;

@@ -51,7 +51,8 @@ pub trait Rows {
     /// Puts the row at its key in a declared table that it fits, in place of the one that stood there.
     fn put(&mut self, alloc: Global, table: &str, key: &Key, row: &Row) -> Result<(), StoreError>
         requires { is_honest self.old → Fits (state self.old) table.now key.now row.now }
-        ensures set { is_honest self.new → OnOk result (state self.new ≡ with_row (state self.old) table.now key.now row.now) }
+        ensures set { is_honest self.new → OnOk result (state self.new
+            ≡ with_row (state self.old) table.now key.now row.now) }
         ensures named { IfErr result IsResource }
         ensures was_honest { is_honest self.new → is_honest self.old }
         ensures kept { keeps self.old self.new };
@@ -59,7 +60,8 @@ pub trait Rows {
     /// Removes the row under a key of a declared table, if there is one.
     fn remove(&mut self, alloc: Global, table: &str, key: &Key) -> Result<(), StoreError>
         requires { is_honest self.old → IsDeclared (state self.old) table.now }
-        ensures removed { is_honest self.new → OnOk result (state self.new ≡ without_row (state self.old) table.now key.now) }
+        ensures removed { is_honest self.new → OnOk result (state self.new
+            ≡ without_row (state self.old) table.now key.now) }
         ensures named { IfErr result IsResource }
         ensures was_honest { is_honest self.new → is_honest self.old }
         ensures kept { keeps self.old self.new };
@@ -67,7 +69,8 @@ pub trait Rows {
     /// All rows of a declared table by the bytes of their keys, the smallest first.
     fn list(&mut self, alloc: Global, table: &str) -> Result<Vec<Row>, StoreError>
         requires { is_honest self.old → IsDeclared (state self.old) table.now }
-        ensures listed { is_honest self.new → IfOk result (λ rows. rows.items ≡ map.values (rows_at (state self.old) table.now)) }
+        ensures listed { is_honest self.new → IfOk result (λ rows. rows.items
+            ≡ map.values (rows_at (state self.old) table.now)) }
         ensures same { is_honest self.new → OnOk result (state self.new ≡ state self.old) }
         ensures refused { is_honest self.new → IfErr result IsResource }
         ensures named { IfErr result IsReadRefusal }

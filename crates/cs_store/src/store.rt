@@ -56,8 +56,10 @@ impl<S: Alter> Store<S> {
         alloc: Global,
         name: &str,
     ) -> Result<Option<Schema>, StoreError>
-        ensures found { HasCleanDisk (state S.Store self.new) → IfOk result (λ o. o ≡ schema_at (tables_in (state S.Store self.old).now) name.now) }
-        ensures same { HasCleanDisk (state S.Store self.new) → OnOk result ((state S.Store self.new).now ≡ (state S.Store self.old).now) }
+        ensures found { HasCleanDisk (state S.Store self.new)
+            → IfOk result (λ o. o ≡ schema_at (tables_in (state S.Store self.old).now) name.now) }
+        ensures same { HasCleanDisk (state S.Store self.new) → OnOk result ((state S.Store self.new).now
+            ≡ (state S.Store self.old).now) }
         ensures refused { HasCleanDisk (state S.Store self.new) → IfErr result IsResource }
         ensures named { IfErr result IsReadRefusal }
         ensures kept { KeepsStore (state S.Store self.old) (state S.Store self.new) }
@@ -72,9 +74,12 @@ impl<S: Alter> Store<S> {
         name: &str,
         key: &Key,
     ) -> Result<Option<Row>, StoreError>
-        ensures found { HasCleanDisk (state S.Store self.new) → IfOk result (λ o. o ≡ row_at (tables_in (state S.Store self.old).now) name.now key.now) }
-        ensures fits { HasCleanDisk (state S.Store self.new) → IfOk result (λ o. IfSome o (Fits (tables_in (state S.Store self.old).now) name.now key.now)) }
-        ensures same { HasCleanDisk (state S.Store self.new) → OnOk result ((state S.Store self.new).now ≡ (state S.Store self.old).now) }
+        ensures found { HasCleanDisk (state S.Store self.new)
+            → IfOk result (λ o. o ≡ row_at (tables_in (state S.Store self.old).now) name.now key.now) }
+        ensures fits { HasCleanDisk (state S.Store self.new)
+            → IfOk result (λ o. IfSome o (Fits (tables_in (state S.Store self.old).now) name.now key.now)) }
+        ensures same { HasCleanDisk (state S.Store self.new) → OnOk result ((state S.Store self.new).now
+            ≡ (state S.Store self.old).now) }
         ensures refused { HasCleanDisk (state S.Store self.new) → IfErr result IsResource }
         ensures named { IfErr result IsReadRefusal }
         ensures kept { KeepsStore (state S.Store self.old) (state S.Store self.new) }
@@ -83,13 +88,12 @@ impl<S: Alter> Store<S> {
     }
 
     /// The rows of a table by the bytes of their keys, and none where there is no table.
-    pub(crate) fn list_rows(
-        &mut self,
-        alloc: Global,
-        name: &str,
-    ) -> Result<Vec<Row>, StoreError>
-        ensures listed { HasCleanDisk (state S.Store self.new) → IfOk result (λ rows. rows.items ≡ map.values (rows_at (tables_in (state S.Store self.old).now) name.now)) }
-        ensures same { HasCleanDisk (state S.Store self.new) → OnOk result ((state S.Store self.new).now ≡ (state S.Store self.old).now) }
+    pub(crate) fn list_rows(&mut self, alloc: Global, name: &str) -> Result<Vec<Row>, StoreError>
+        ensures listed { HasCleanDisk (state S.Store self.new)
+            → IfOk result (λ rows. rows.items
+            ≡ map.values (rows_at (tables_in (state S.Store self.old).now) name.now)) }
+        ensures same { HasCleanDisk (state S.Store self.new) → OnOk result ((state S.Store self.new).now
+            ≡ (state S.Store self.old).now) }
         ensures refused { HasCleanDisk (state S.Store self.new) → IfErr result IsResource }
         ensures named { IfErr result IsReadRefusal }
         ensures kept { KeepsStore (state S.Store self.old) (state S.Store self.new) }
@@ -105,8 +109,10 @@ impl<S: Alter> Store<S> {
         key: &Key,
         row: &Row,
     ) -> Result<(), StoreError>
-        requires { HasCleanDisk (state S.Store self.old) → Fits (tables_in (state S.Store self.old).now) name.now key.now row.now }
-        ensures put { HasCleanDisk (state S.Store self.new) → OnOk result (tables_in (state S.Store self.new).now ≡ with_row (tables_in (state S.Store self.old).now) name.now key.now row.now) }
+        requires { HasCleanDisk (state S.Store self.old)
+            → Fits (tables_in (state S.Store self.old).now) name.now key.now row.now }
+        ensures put { HasCleanDisk (state S.Store self.new) → OnOk result (tables_in (state S.Store self.new).now
+            ≡ with_row (tables_in (state S.Store self.old).now) name.now key.now row.now) }
         ensures refused { IfErr result IsResource }
         ensures kept { KeepsStore (state S.Store self.old) (state S.Store self.new) }
     {
@@ -118,8 +124,11 @@ impl<S: Alter> Store<S> {
 
     /// Removes the row under a key of a declared table, if there is one. It is refused outside a batch.
     pub(crate) fn remove_row(&mut self, name: &str, key: &Key) -> Result<(), StoreError>
-        requires { HasCleanDisk (state S.Store self.old) → IsDeclared (tables_in (state S.Store self.old).now) name.now }
-        ensures removed { HasCleanDisk (state S.Store self.new) → OnOk result (tables_in (state S.Store self.new).now ≡ without_row (tables_in (state S.Store self.old).now) name.now key.now) }
+        requires { HasCleanDisk (state S.Store self.old)
+            → IsDeclared (tables_in (state S.Store self.old).now) name.now }
+        ensures removed { HasCleanDisk (state S.Store self.new)
+            → OnOk result (tables_in (state S.Store self.new).now
+            ≡ without_row (tables_in (state S.Store self.old).now) name.now key.now) }
         ensures refused { IfErr result IsResource }
         ensures kept { KeepsStore (state S.Store self.old) (state S.Store self.new) }
     {

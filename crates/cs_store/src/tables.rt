@@ -1,7 +1,8 @@
 //! The tables of a store, one call at a time: what its records stand for.
 ghost use Rattle.std.specs.FinMap as map;
 ghost use Rattle.cs_store.specs.declared.fault.StoreError.TheVariants.{DamagedStore as Damaged};
-ghost use Rattle.std.specs.Prelude.{◌≡◌, ◌⊎◌, map as map_list, IsTrue, OnOk, IfOk, IfErr, IfSome, Option, Some, List, option_map};
+ghost use Rattle.std.specs.Prelude.{◌≡◌, ◌⊎◌, map as map_list, IsTrue, OnOk, IfOk};
+ghost use Rattle.std.specs.Prelude.{IfErr, IfSome, Option, Some, List, option_map};
 ghost use Rattle.cs_value.specs.declared.value.OwnedValue.{OwnedValue};
 ghost use Rattle.cs_value.specs.Value.{IsRow};
 ghost use Rattle.cs_value.specs.Table.{IsKeyedRow};
@@ -31,8 +32,10 @@ pub(crate) fn find_schema<S: Alter>(
 ) -> Result<Option<Schema>, StoreError>
     ensures found { IsSound (state S.Store conn.old) → HasCleanDisk (state S.Store conn.new)
         → IfOk result (λ o. o ≡ schema_at (tables_in (state S.Store conn.old).now) name.now) }
-    ensures same { HasCleanDisk (state S.Store conn.new) → OnOk result ((state S.Store conn.new).now ≡ (state S.Store conn.old).now) }
-    ensures refused { IsSound (state S.Store conn.old) → HasCleanDisk (state S.Store conn.new) → IfErr result IsResource }
+    ensures same { HasCleanDisk (state S.Store conn.new) → OnOk result ((state S.Store conn.new).now
+        ≡ (state S.Store conn.old).now) }
+    ensures refused { IsSound (state S.Store conn.old) → HasCleanDisk (state S.Store conn.new)
+        → IfErr result IsResource }
     ensures named { IfErr result IsReadRefusal }
     ensures kept { KeepsStore (state S.Store conn.old) (state S.Store conn.new) }
 {
@@ -45,7 +48,8 @@ pub(crate) fn find_schema<S: Alter>(
 
 /// The schema whose declaration is stored, if one is.
 fn schema_in(alloc: Global, stored: Option<Vec<u8>>) -> Result<Option<Schema>, StoreError>
-    ensures found { (o : Option SchemaData) → IfSome o IsSchema → option_map (λ v. v.items) stored ≡ option_map declaration_bytes o
+    ensures found { (o : Option SchemaData) → IfSome o IsSchema
+        → option_map (λ v. v.items) stored ≡ option_map declaration_bytes o
         → Recovers result o }
     ensures named { IfErr result IsReadRefusal }
 {
@@ -66,8 +70,10 @@ pub(crate) fn find_row<S: Alter>(
         → IfOk result (λ o. o ≡ row_at (tables_in (state S.Store conn.old).now) name.now key.now) }
     ensures fits { IsSound (state S.Store conn.old) → HasCleanDisk (state S.Store conn.new)
         → IfOk result (λ o. IfSome o (Fits (tables_in (state S.Store conn.old).now) name.now key.now)) }
-    ensures same { HasCleanDisk (state S.Store conn.new) → OnOk result ((state S.Store conn.new).now ≡ (state S.Store conn.old).now) }
-    ensures refused { IsSound (state S.Store conn.old) → HasCleanDisk (state S.Store conn.new) → IfErr result IsResource }
+    ensures same { HasCleanDisk (state S.Store conn.new) → OnOk result ((state S.Store conn.new).now
+        ≡ (state S.Store conn.old).now) }
+    ensures refused { IsSound (state S.Store conn.old) → HasCleanDisk (state S.Store conn.new)
+        → IfErr result IsResource }
     ensures named { IfErr result IsReadRefusal }
     ensures kept { KeepsStore (state S.Store conn.old) (state S.Store conn.new) }
 {
@@ -88,8 +94,10 @@ fn find_row_of<S: Alter>(
     ensures found { IsSound (state S.Store conn.old) → HasCleanDisk (state S.Store conn.new)
         → schema_at (tables_in (state S.Store conn.old).now) name.now ≡ Some schema.now
         → Recovers result (row_at (tables_in (state S.Store conn.old).now) name.now key.now) }
-    ensures same { HasCleanDisk (state S.Store conn.new) → OnOk result ((state S.Store conn.new).now ≡ (state S.Store conn.old).now) }
-    ensures shows { IsSound (state S.Store conn.old) → HasCleanDisk (state S.Store conn.new) → OnOk result (HoldsState (state S.Store conn.old).now) }
+    ensures same { HasCleanDisk (state S.Store conn.new) → OnOk result ((state S.Store conn.new).now
+        ≡ (state S.Store conn.old).now) }
+    ensures shows { IsSound (state S.Store conn.old) → HasCleanDisk (state S.Store conn.new)
+        → OnOk result (HoldsState (state S.Store conn.old).now) }
     ensures named { IfErr result IsReadRefusal }
     ensures kept { KeepsStore (state S.Store conn.old) (state S.Store conn.new) }
 {
@@ -100,11 +108,7 @@ fn find_row_of<S: Alter>(
 }
 
 /// The row that is stored, if one is.
-fn row_in(
-    alloc: Global,
-    flags: &[u8],
-    stored: Option<Vec<u8>>,
-) -> Result<Option<Row>, StoreError>
+fn row_in(alloc: Global, flags: &[u8], stored: Option<Vec<u8>>) -> Result<Option<Row>, StoreError>
     ensures found { (o : Option (List OwnedValue)) → IfSome o (λ row. IsRow row × IsKeyedRow flags.now row)
         → option_map (λ v. v.items) stored ≡ option_map row_bytes o → Recovers result o }
     ensures named { IfErr result IsReadRefusal }
@@ -123,8 +127,10 @@ pub(crate) fn list_rows<S: Alter>(
 ) -> Result<Vec<Row>, StoreError>
     ensures listed { IsSound (state S.Store conn.old) → HasCleanDisk (state S.Store conn.new)
         → IfOk result (λ rows. rows.items ≡ map.values (rows_at (tables_in (state S.Store conn.old).now) name.now)) }
-    ensures same { HasCleanDisk (state S.Store conn.new) → OnOk result ((state S.Store conn.new).now ≡ (state S.Store conn.old).now) }
-    ensures refused { IsSound (state S.Store conn.old) → HasCleanDisk (state S.Store conn.new) → IfErr result IsResource }
+    ensures same { HasCleanDisk (state S.Store conn.new) → OnOk result ((state S.Store conn.new).now
+        ≡ (state S.Store conn.old).now) }
+    ensures refused { IsSound (state S.Store conn.old) → HasCleanDisk (state S.Store conn.new)
+        → IfErr result IsResource }
     ensures named { IfErr result IsReadRefusal }
     ensures kept { KeepsStore (state S.Store conn.old) (state S.Store conn.new) }
 {
@@ -144,7 +150,8 @@ fn list_rows_of<S: Alter>(
     ensures listed { IsSound (state S.Store conn.old) → HasCleanDisk (state S.Store conn.new)
         → schema_at (tables_in (state S.Store conn.old).now) name.now ≡ Some schema.now
         → RecoversList result (map.values (rows_at (tables_in (state S.Store conn.old).now) name.now)) }
-    ensures same { HasCleanDisk (state S.Store conn.new) → OnOk result ((state S.Store conn.new).now ≡ (state S.Store conn.old).now) }
+    ensures same { HasCleanDisk (state S.Store conn.new) → OnOk result ((state S.Store conn.new).now
+        ≡ (state S.Store conn.old).now) }
     ensures named { IfErr result IsReadRefusal }
     ensures kept { KeepsStore (state S.Store conn.old) (state S.Store conn.new) }
 {
@@ -157,7 +164,8 @@ fn list_rows_of<S: Alter>(
 /// The rows that are stored.
 fn rows_in(alloc: Global, flags: &[u8], listed: &[Keyed]) -> Result<Vec<Row>, StoreError>
     ensures read { IfOk result (λ rows. AreStored flags.now (map_list (λ e. e.1) listed.now) rows.items) }
-    ensures refused { IfErr result (λ e. ((e ≡ Damaged) × ((rows : List (List OwnedValue)) → ¬ (AreStored flags.now (map_list (λ e. e.1) listed.now) rows))) ⊎ IsResource e) }
+    ensures refused { IfErr result (λ e. ((e ≡ Damaged) × ((rows : List (List OwnedValue))
+        → ¬ (AreStored flags.now (map_list (λ e. e.1) listed.now) rows))) ⊎ IsResource e) }
 {
     let mut rows = Vec::new(alloc);
     for record in listed {
@@ -177,9 +185,12 @@ pub(crate) fn put_row<S: Alter>(
     key: &Key,
     row: &Row,
 ) -> Result<(), StoreError>
-    requires { HasCleanDisk (state S.Store conn.old) → Fits (tables_in (state S.Store conn.old).now) name.now key.now row.now }
-    ensures put { IsSound (state S.Store conn.old) → IsTrue (state S.Store conn.old).in_transaction → HasCleanDisk (state S.Store conn.new)
-        → OnOk result (tables_in (state S.Store conn.new).now ≡ with_row (tables_in (state S.Store conn.old).now) name.now key.now row.now) }
+    requires { HasCleanDisk (state S.Store conn.old)
+        → Fits (tables_in (state S.Store conn.old).now) name.now key.now row.now }
+    ensures put { IsSound (state S.Store conn.old) → IsTrue (state S.Store conn.old).in_transaction
+        → HasCleanDisk (state S.Store conn.new)
+        → OnOk result (tables_in (state S.Store conn.new).now
+        ≡ with_row (tables_in (state S.Store conn.old).now) name.now key.now row.now) }
     ensures refused { IfErr result IsResource }
     ensures kept { IsSound (state S.Store conn.old) → IsTrue (state S.Store conn.old).in_transaction
         → KeepsStore (state S.Store conn.old) (state S.Store conn.new) }
@@ -196,8 +207,10 @@ pub(crate) fn remove_row<S: Alter>(
     key: &Key,
 ) -> Result<(), StoreError>
     requires { HasCleanDisk (state S.Store conn.old) → IsDeclared (tables_in (state S.Store conn.old).now) name.now }
-    ensures removed { IsSound (state S.Store conn.old) → IsTrue (state S.Store conn.old).in_transaction → HasCleanDisk (state S.Store conn.new)
-        → OnOk result (tables_in (state S.Store conn.new).now ≡ without_row (tables_in (state S.Store conn.old).now) name.now key.now) }
+    ensures removed { IsSound (state S.Store conn.old) → IsTrue (state S.Store conn.old).in_transaction
+        → HasCleanDisk (state S.Store conn.new)
+        → OnOk result (tables_in (state S.Store conn.new).now
+        ≡ without_row (tables_in (state S.Store conn.old).now) name.now key.now) }
     ensures refused { IfErr result IsResource }
     ensures kept { IsSound (state S.Store conn.old) → IsTrue (state S.Store conn.old).in_transaction
         → KeepsStore (state S.Store conn.old) (state S.Store conn.new) }

@@ -9,7 +9,7 @@ put-requires g c = λ honest.
     let at_remove = c.in_ok-remove.ensures.was_honest honest in
     let removed = c.in_ok-remove.ensures.removed honest ∙ ap (λ (s : State). without_row s c.args.table.now c.args.key.now) (c.in_ok-check_vacant.ensures.same at_remove) in
     subst (λ (s : State). Fits s c.args.table.now c.args.next.now c.args.row.now) (sym removed)
-        (fits_without _ c.args.table.now c.args.key.now c.args.next.now c.args.row.now (c.requires.fits (c.in_ok-check_vacant.ensures.was_honest at_remove)))
+    (fits_without _ c.args.table.now c.args.key.now c.args.next.now c.args.row.now (c.requires.fits (c.in_ok-check_vacant.ensures.was_honest at_remove)))
 
 pub returns-in_err-put-clause-kept : goal.returns-in_err-put-clause-kept
 returns-in_err-put-clause-kept g c =

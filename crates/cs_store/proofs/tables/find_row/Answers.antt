@@ -1,4 +1,4 @@
-use Rattle.std.proofs.Common.{◌≡◌, Some, ap, sym, subst, OnOk, ◌∙◌}
+use Rattle.std.proofs.Common.{ap, sym, subst, OnOk, ◌∙◌}
 use Rattle.sqlite.specs.Held.{state}
 use Rattle.sqlite.specs.Effect.{Database}
 use Rattle.cs_value.specs.State.{schema_at, row_at}
@@ -17,8 +17,8 @@ returns-in-Some-clause-fits g c sound clean =
     let same = c.in_ok-schema.ensures.same before in
     let has = ap (λ (db : Database). schema_at (tables_in db) c.args.name.now) same ∙ sym (c.in_ok-schema.ensures.found sound before) ∙ c.in-Some.is in
     read_fits old.now c.args.name.now c.args.key.now c.find_row_of.result
-        (subst (λ (db : Database). Recovers c.find_row_of.result (row_at (tables_in db) c.args.name.now c.args.key.now)) same (c.find_row_of.ensures.found still clean has))
-        (subst (λ (db : Database). OnOk c.find_row_of.result (HoldsState db)) same (c.find_row_of.ensures.shows still clean))
+    (subst (λ (db : Database). Recovers c.find_row_of.result (row_at (tables_in db) c.args.name.now c.args.key.now)) same (c.find_row_of.ensures.found still clean has))
+    (subst (λ (db : Database). OnOk c.find_row_of.result (HoldsState db)) same (c.find_row_of.ensures.shows still clean))
 
 pub returns-in-Some-clause-kept : goal.returns-in-Some-clause-kept
 returns-in-Some-clause-kept g c = keeps_then c.find_schema.ensures.kept c.find_row_of.ensures.kept

@@ -1,4 +1,4 @@
-use Rattle.std.proofs.Common.{◌≡◌, inl, ap, sym, subst, List, ℕ, ◌∙◌}
+use Rattle.std.proofs.Common.{inl, ap, sym, subst, List, ℕ, ◌∙◌}
 use Rattle.std.specs.Option.{IfSome}
 use Rattle.sqlite.specs.Held.{state}
 use Rattle.cs_value.specs.Value.{IsRow}
@@ -23,8 +23,8 @@ returns-in-Ok-clause-found g c sound clean has =
     let stored = row_stored (records_in old.now) (tables_in old.now) name c.args.key.now holds.stores (declared_named old.now name c.args.schema.now has) in
     let fits = row_is (tables_in old.now) name c.args.key.now c.args.schema.now holds.stores.is_state has in
     c.row_in.ensures.found (row_at (tables_in old.now) name c.args.key.now)
-        (subst (λ (flags : List ℕ). IfSome (row_at (tables_in old.now) name c.args.key.now) (λ row. IsRow row × IsKeyedRow flags row)) (sym c.flags.ensures.same) fits)
-        (c.in-Ok.ensures.found clean holds.records ∙ ap (records_in old.now name) c.bytes.ensures ∙ stored)
+    (subst (λ (flags : List ℕ). IfSome (row_at (tables_in old.now) name c.args.key.now) (λ row. IsRow row × IsKeyedRow flags row)) (sym c.flags.ensures.same) fits)
+    (c.in-Ok.ensures.found clean holds.records ∙ ap (records_in old.now name) c.bytes.ensures ∙ stored)
 
 pub returns-in-Ok-clause-shows : goal.returns-in-Ok-clause-shows
 returns-in-Ok-clause-shows g c sound clean =

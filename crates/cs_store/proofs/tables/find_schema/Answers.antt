@@ -1,4 +1,4 @@
-use Rattle.std.proofs.Common.{◌≡◌, [], sym, ap, ◌∙◌}
+use Rattle.std.proofs.Common.{[], sym, ap, ◌∙◌}
 use Rattle.sqlite.specs.Held.{state}
 use Rattle.sqlite.specs.State.{HasCleanDisk}
 use Rattle.cs_value.specs.State.{schema_at}
@@ -20,7 +20,7 @@ recovered g c sound clean =
     let holds = shows_read old new sound c.find_record.ensures.keeps_crash clean (c.in_ok-found.ensures.reads clean) in
     let stored = schema_stored old.now c.args.name.now holds (is_named c.args.name.now c.if-is_empty.ensures) in
     c.schema_in.ensures.found (schema_at (tables_in old.now) c.args.name.now) (schema_is (tables_in old.now) c.args.name.now holds.stores.is_state)
-        (c.in_ok-found.ensures.found clean holds.records ∙ ap (records_in old.now []) c.as_bytes.ensures.value ∙ stored)
+    (c.in_ok-found.ensures.found clean holds.records ∙ ap (records_in old.now []) c.as_bytes.ensures.value ∙ stored)
 
 pub returns-clause-found : goal.returns-clause-found
 returns-clause-found g c sound clean = recovers_ok c.schema_in.result _ (recovered g c sound clean)

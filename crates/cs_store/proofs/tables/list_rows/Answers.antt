@@ -1,6 +1,5 @@
-use Rattle.std.proofs.Common.{◌≡◌, ◌∙◌, sym, ap}
+use Rattle.std.proofs.Common.{◌∙◌, sym, ap}
 use Rattle.std.specs.FinMap as map
-use Rattle.sqlite.specs.Held.{state}
 use Rattle.cs_value.specs.State.{RowMap}
 use Rattle.cs_store.proofs.MemoryLaws.{no_values}
 use Rattle.cs_store.proofs.ReadLaws.{no_rows_at}

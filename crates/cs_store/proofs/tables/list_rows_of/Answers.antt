@@ -1,9 +1,7 @@
-use Rattle.std.proofs.Common.{◌≡◌, inl, ap, sym, subst, map, List, ℕ}
-use Rattle.std.specs.FinMap as finite
+use Rattle.std.proofs.Common.{inl, map}
 use Rattle.sqlite.specs.Held.{state}
-use Rattle.cs_value.specs.State.{rows_at}
 use Rattle.cs_store.specs.Records.{records_in}
-use Rattle.cs_store.specs.Store.{AreStored, tables_in}
+use Rattle.cs_store.specs.Store.{tables_in}
 use Rattle.cs_store.proofs.StoreLaws.{rests_keeps}
 use Rattle.cs_store.proofs.StoredLists.{refused_named, rows_recovered, rows_are_stored}
 use Rattle.cs_store.proofs.ReadLaws.{shows_read, declared_named}
@@ -20,7 +18,7 @@ returns-in-Ok-clause-listed g c sound clean has =
     let name = c.args.name.now in
     let is = rows_are_stored (records_in old.now) (tables_in old.now) name c.args.schema.now c.in-Ok.listed.items holds.stores (declared_named old.now name c.args.schema.now has) has (c.in-Ok.ensures.listed clean holds.records) in
     rows_recovered c.rows_in.result c.flags.result.now (map (λ e. e.1) c.deref.result.now) _ c.rows_in.ensures.read c.rows_in.ensures.refused
-        (rw (c.flags.ensures.same, c.deref.ensures.value) is)
+    (rw (c.flags.ensures.same, c.deref.ensures.value) is)
 
 pub returns-in-Ok-clause-named : goal.returns-in-Ok-clause-named
 returns-in-Ok-clause-named g c = refused_named _ c.rows_in.result c.rows_in.ensures.refused

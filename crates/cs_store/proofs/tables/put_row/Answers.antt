@@ -11,7 +11,7 @@ returns-clause-put g c sound inside =
     let h = c.set_record.ensures in
     let spelled : c.deref.result.now ≡ row_bytes c.args.row.now = search rules in
     written_is old new c.set_record.result c.args.name.now c.bytes.result.now (Some c.deref.result.now) _ sound inside
-        (λ clean holds set. row_put old.now new.now c.args.name.now c.args.key.now c.args.row.now holds (c.requires clean) (rw (c.bytes.ensures, spelled) at set)) h.survives h.set
+    (λ clean holds set. row_put old.now new.now c.args.name.now c.args.key.now c.args.row.now holds (c.requires clean) (rw (c.bytes.ensures, spelled) at set)) h.survives h.set
 
 pub returns-clause-kept : goal.returns-clause-kept
 returns-clause-kept g c sound inside =
@@ -20,4 +20,4 @@ returns-clause-kept g c sound inside =
     let h = c.set_record.ensures in
     let spelled : c.deref.result.now ≡ row_bytes c.args.row.now = search rules in
     written_keeps old new c.set_record.result c.args.name.now c.bytes.result.now (Some c.deref.result.now) _ sound inside
-        (λ clean holds set. row_put old.now new.now c.args.name.now c.args.key.now c.args.row.now holds (c.requires clean) (rw (c.bytes.ensures, spelled) at set)) h.survives h.set h.goes_on h.rests
+    (λ clean holds set. row_put old.now new.now c.args.name.now c.args.key.now c.args.row.now holds (c.requires clean) (rw (c.bytes.ensures, spelled) at set)) h.survives h.set h.goes_on h.rests

@@ -1,5 +1,5 @@
-use Rattle.std.proofs.Common.{◌≡◌, Some, None, Option, List, ap, sym, ◌∙◌}
-use Rattle.std.specs.Option.{option_map, IfSome}
+use Rattle.std.proofs.Common.{◌≡◌, Some, None, List, ap, sym, ◌∙◌}
+use Rattle.std.specs.Option.{option_map}
 use Rattle.cs_value.specs.declared.value.OwnedValue.{OwnedValue}
 use Rattle.cs_value.specs.Spelling.{row_bytes}
 use Rattle.cs_value.proofs.KeyedRows.{length-IsKeyedRow}

@@ -1,6 +1,6 @@
-use Rattle.std.proofs.Common.{◌≡◌, Some, None, Option, ap, sym, ◌∙◌}
-use Rattle.std.specs.Option.{option_map, IfSome}
-use Rattle.cs_value.specs.State.{SchemaData, IsSchema}
+use Rattle.std.proofs.Common.{◌≡◌, Some, None, ap, sym, ◌∙◌}
+use Rattle.std.specs.Option.{option_map}
+use Rattle.cs_value.specs.State.{SchemaData}
 use Rattle.cs_store.specs.Declaration.{declaration_bytes}
 use Rattle.cs_store.proofs.DeclarationLaws.{declarations_apart}
 use Rattle.cs_store.proofs.tables.schema_in.Goals as goal

@@ -16,10 +16,10 @@ pub returns : goal.returns
 returns c =
     let es = c.self.inside.rows.entries in
     let all : c.values-row-items.result ≡ map_list (λ row. row.now) c.loop-row.yielded =
-        sym c.into_iter-row-iterator.ensures.into_iter_gives
-        ∙ rest_so_far (λ (row : Bor Row). row.now) c.loop-row.yielded c.into_iter-row-iterator.result c.loop-row.row-iterator c.loop-row.yielded_by
-        ∙ ap (λ rest. map_list (λ row. row.now) c.loop-row.yielded ++ rest) c.in-None.ensures.steps.0
-        ∙ append-nil _ in
+    sym c.into_iter-row-iterator.ensures.into_iter_gives
+    ∙ rest_so_far (λ (row : Bor Row). row.now) c.loop-row.yielded c.into_iter-row-iterator.result c.loop-row.row-iterator c.loop-row.yielded_by
+    ∙ ap (λ rest. map_list (λ row. row.now) c.loop-row.yielded ++ rest) c.in-None.ensures.steps.0
+    ∙ append-nil _ in
     c.loop-row.invariant ∙ sym all ∙ c.values-row-items.ensures.rest ∙ sym (seen_values es)
     ∙ ap (map_list (λ e. e.1)) (sym (seen_entries (λ k. k) (λ v. v) es c.values-row-items.ensures.ordered))
     ∙ ap (λ (t : TableData). map.values t.rows) c.self.view_is

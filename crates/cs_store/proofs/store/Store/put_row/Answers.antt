@@ -1,6 +1,3 @@
-use Rattle.std.proofs.Common.{◌≡◌}
-use Rattle.sqlite.specs.Held.{Held, state}
-use Rattle.cs_store.specs.Store.{KeepsStore}
 use Rattle.cs_store.proofs.StoreLaws.{in_transaction}
 use Rattle.cs_store.proofs.store.Store.put_row.Goals as goal
 
