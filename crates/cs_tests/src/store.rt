@@ -13,14 +13,29 @@ fn names(rt: &(impl Abort + AllocGlobal), first: &str, second: &str) -> Vec<Stri
     vec![in rt.alloc(); first, second].expect(rt, "memory")
 }
 
+/// A value that owns its content.
+fn owned(rt: &(impl Abort + AllocGlobal), value: Value<'_>) -> OwnedValue {
+    match value {
+        Value::Int(number) => OwnedValue::Int(number),
+        Value::Text(text) => {
+            assert!(rt; OwnedValue::fits(text.len()));
+            Value::Text(text).to_owned(rt.alloc()).expect(rt, "memory")
+        }
+        Value::Blob(bytes) => {
+            assert!(rt; OwnedValue::fits(bytes.len()));
+            Value::Blob(bytes).to_owned(rt.alloc()).expect(rt, "memory")
+        }
+        Value::Null => OwnedValue::Null,
+    }
+}
+
 /// The row of these values.
 fn row_of(rt: &(impl Abort + AllocGlobal), values: &[Value<'_>]) -> Row {
-    let mut owned = Vec::new(rt.alloc());
+    let mut row = Vec::new(rt.alloc());
     for value in values {
-        let value = (*value).to_owned(rt.alloc()).expect(rt, "memory");
-        owned.push(value).expect(rt, "memory");
+        row.push(owned(rt, *value)).expect(rt, "memory");
     }
-    Row::new(owned)
+    Row::new(row)
 }
 
 /// The key of an integer.
