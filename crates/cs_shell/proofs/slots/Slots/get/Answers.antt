@@ -1,4 +1,4 @@
-use Rattle.std.proofs.Common.{Vec, Global, ap, ◌∙◌, Some, None}
+use Rattle.std.proofs.Common.{ℕ, Vec, Global, ap, ◌∙◌, Some, None}
 use Rattle.cs_value.proofs.ByteMaps.{got_seen}
 use Rattle.cs_shell.proofs.slots.Slots.get.Goals as goal
 

@@ -1,4 +1,4 @@
-use Rattle.std.proofs.Common.{Vec, Global, ap, ◌∙◌}
+use Rattle.std.proofs.Common.{ℕ, Vec, Global, ap, ◌∙◌}
 use Rattle.std.specs.FinMap as map
 use Rattle.cs_value.proofs.ByteMaps.{seen_insert}
 use Rattle.cs_shell.proofs.slots.Slots.insert.Goals as goal
