@@ -1,4 +1,5 @@
 pub mod AnswerLaws
+pub mod CheckLaws
 pub mod DeclarationLaws
 pub mod EditLaws
 pub mod EditingLaws

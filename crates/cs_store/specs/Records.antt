@@ -142,6 +142,14 @@ pub record IsUndone (old new : State) : Type 0 where
   pub now : IsTrue new.is_open → new.now ≡ old.committed
   pub committed : IsTrue new.is_open → new.committed ≡ old.committed
 
+-- the connection shows what it showed, and what was committed stands; an open transaction is still open
+pub record KeepsContent (old new : State) : Type 0 where
+  pub was_open : IsTrue new.is_open → IsTrue old.is_open
+  pub mode : new.in_transaction ≡ old.in_transaction
+  pub inside : IsTrue new.in_transaction → IsTrue old.is_open → IsTrue new.is_open
+  pub now : IsTrue new.is_open → new.now ≡ old.now
+  pub committed : IsTrue new.is_open → new.committed ≡ old.committed
+
 -- a crash leaves nothing that it could not leave before
 abbrev pub KeepsCrash : State → State → Type 0
 KeepsCrash old new = Survives old new (λ _. ⊥)

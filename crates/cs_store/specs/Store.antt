@@ -1,6 +1,7 @@
 -- What a store over a connection holds: a state, as its records stand for it.
-use Rattle.std.specs.Prelude.{◌≡◌, ℕ, List, map, Vec, IsTrue, true, false, Result, Ok, Err}
+use Rattle.std.specs.Prelude.{◌≡◌, ◌⊎◌, ℕ, List, [], map as map_list, Vec, IsTrue, true, false, Result, Ok, Err}
 use Rattle.std.specs.List.{AllByRecursion}
+use Rattle.std.specs.FinMap as map
 use Rattle.std.specs.declared.alloc.Global.{Global}
 use Rattle.cs_value.specs.declared.value.OwnedValue.{OwnedValue}
 use Rattle.cs_value.specs.Value.{IsRow}
@@ -11,7 +12,7 @@ use Rattle.sqlite.specs.Effect.{Database}
 use Rattle.sqlite.specs.State.{State, HasCleanDisk, Shows, KeepsCommit}
 use Rattle.cs_store.specs.declared.fault.StoreError.{StoreError}
 use Rattle.cs_store.specs.Faults.{IsResource}
-use Rattle.cs_store.specs.Records.{HoldsRecords, records_in, KeepsCrash}
+use Rattle.cs_store.specs.Records.{HoldsRecords, records_in, GoesOn, KeepsCrash, empty_schema}
 use Rattle.cs_store.specs.Stored.{Stores, state_of}
 
 -- the state that a database's records stand for
@@ -22,6 +23,14 @@ tables_in db = state_of (db.trees 0)
 pub record HoldsState (db : Database) : Type 0 where
   pub records : HoldsRecords db
   pub stores : Stores (records_in db) (tables_in db)
+
+-- no record is there yet: the database declares nothing, or its table of records is empty
+abbrev pub IsVacant : Database → Type 0
+IsVacant db = (db.schema ≡ empty_schema) ⊎ (HoldsRecords db × (db.trees 0 ≡ []))
+
+-- the tables that a database holds: none where no record is there yet, else those that its records stand for
+abbrev pub HoldsTables : Database → tables.State → Type 0
+HoldsTables db held = (IsVacant db × (held ≡ map.empty)) ⊎ (HoldsRecords db × Stores (records_in db) held)
 
 -- while the connection is open, it shows a state, and a state was committed last; a transaction is open only there
 pub record IsStore (s : State) : Type 0 where
@@ -54,9 +63,24 @@ pub record Ends (old new : State) : Type 0 where
   pub inside : IsTrue old.in_transaction
   pub shown : Shows old new old.now old.now false
 
+-- a store is taken over: no transaction was open, and the tables that the database held are committed
+pub record Adopts (old new : State) : Type 0 where
+  pub outside : old.in_transaction ≡ false
+  pub was_open : IsTrue old.is_open
+  pub is_open : IsTrue new.is_open
+  pub held : HoldsTables old.now (tables_in new.now)
+  pub committed : new.committed ≡ new.now
+  pub autocommit : new.in_transaction ≡ false
+
+-- inside a transaction, the tables that the database held are held as a store holds them
+pub record SetsUp (old new : State) : Type 0 where
+  pub on : GoesOn old new
+  pub holds : HoldsState new.now
+  pub held : HoldsTables old.now (tables_in new.now)
+
 -- the bytes are those of the rows in turn, each a row under these flags
 pub record AreStored (flags : List ℕ) (stored : List (List ℕ)) (rows : List (List OwnedValue)) : Type 0 where
-  pub spelled : stored ≡ map row_bytes rows
+  pub spelled : stored ≡ map_list row_bytes rows
   pub each : AllByRecursion (λ row. IsRow row × IsKeyedRow flags row) rows
 
 -- a list that is read gives what is stored, or is refused memory

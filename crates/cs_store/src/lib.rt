@@ -18,6 +18,7 @@
 #![tactic(auto)]
 
 mod batch;
+mod check;
 mod declaration;
 mod edit;
 mod editing;

@@ -3,7 +3,7 @@ ghost use Rattle.std.specs.Prelude.{◌≡◌, true, false, IsTrue, IfErr, OnOk,
 ghost use Rattle.sqlite.specs.State.{HasCleanDisk, Shows, Survives};
 ghost use Rattle.sqlite.specs.Held.{state};
 ghost use Rattle.cs_store.specs.Faults.{IsResource};
-ghost use Rattle.cs_store.specs.Records.{IsUndone, Rests, KeepsCrash};
+ghost use Rattle.cs_store.specs.Records.{IsUndone, KeepsContent, Rests, KeepsCrash};
 
 use crate::fault::StoreError;
 use sqlite::{Alter, Connection};
@@ -14,11 +14,16 @@ pub(crate) fn begin<S: Alter>(conn: &mut Connection<S>) -> Result<(), StoreError
         → OnOk result (((state S.Store conn.old).in_transaction ≡ false)
         × Shows (state S.Store conn.old) (state S.Store conn.new)
         (state S.Store conn.old).now (state S.Store conn.old).committed true) }
+    ensures settled { HasCleanDisk (state S.Store conn.new)
+        → OnOk result ((state S.Store conn.old).now ≡ (state S.Store conn.old).committed) }
     ensures refused { IfErr result IsResource }
-    ensures rests { HasCleanDisk (state S.Store conn.new)
-        → OnErr result (Rests (state S.Store conn.old) (state S.Store conn.new)) }
+    ensures kept { HasCleanDisk (state S.Store conn.new)
+        → OnErr result (KeepsContent (state S.Store conn.old) (state S.Store conn.new)) }
     ensures survives { KeepsCrash (state S.Store conn.old) (state S.Store conn.new) }
 {
+    if !conn.is_autocommit() {
+        return Err(StoreError::StoreFault);
+    }
     conn.execute("BEGIN", &[])?;
     Ok(())
 }

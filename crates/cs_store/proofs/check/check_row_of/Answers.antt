@@ -1,0 +1,13 @@
+use Rattle.std.proofs.Common.{refl, inl, sym, ap, ◌∙◌, length, List, ℕ, subst, rules}
+use Rattle.std.specs.Cmp.Lexicographic.{same_text}
+use Rattle.cs_value.specs.declared.value.OwnedValue.{OwnedValue}
+use Rattle.cs_value.specs.Key.{row_key}
+use Rattle.cs_value.proofs.KeyedRows.{length-IsKeyedRow}
+use Rattle.cs_value.proofs.Spellings.{row_bytes_same}
+use Rattle.cs_store.proofs.check.check_row_of.Goals as goal
+
+pub of_row-requires : goal.of_row-requires
+of_row-requires c = ap (λ (fs : List ℕ). length fs) (c.flags-2.ensures.same ∙ sym c.flags.ensures.same) ∙ length-IsKeyedRow c.flags.result.now c.in_ok-row.row c.in_ok-row.ensures.found.1
+
+pub returns-clause-refused : goal.returns-clause-refused
+returns-clause-refused c = inl (refl, λ is. ?)

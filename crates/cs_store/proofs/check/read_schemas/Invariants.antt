@@ -1,0 +1,7 @@
+use Rattle.std.proofs.Common.{take}
+use Rattle.cs_store.specs.Valid.{AreDeclared}
+use Rattle.cs_store.proofs.check.read_schemas.Given as goal
+
+-- the schemas are those of the declarations so far
+abbrev pub invariant-loop-record : goal.invariant-loop-record
+invariant-loop-record l = AreDeclared (take l.record-index l.listed) l.schemas

@@ -1,0 +1,70 @@
+-- When records are those of a state, one record at a time: what a reader of a whole store has to look at.
+use Rattle.std.specs.Prelude.{◌≡◌, ◌≢◌, ℕ, List, [], Some, IsSome}
+use Rattle.std.specs.FinMap as map
+use Rattle.sqlite_rules.specs.Lists.{Has}
+use Rattle.cs_value.specs.Maps.{ByBytes}
+use Rattle.cs_value.specs.declared.value.OwnedValue.{OwnedValue}
+use Rattle.cs_value.specs.Spelling.{row_bytes}
+use Rattle.cs_value.specs.Table.{IsName}
+use Rattle.cs_value.specs.State.{SchemaData, IsSchema, IsRowAt}
+use Rattle.cs_store.specs.Records.{Records, RecordData}
+use Rattle.cs_store.specs.Declaration.{declaration_bytes, IsDeclaration}
+use Rattle.cs_store.specs.Stored.{version}
+
+-- a row of a declared table, under its own key
+pub record IsStoredRow (records : Records) (name key value : List ℕ) : Type 0 where
+  pub schema : SchemaData
+  pub is_schema : IsSchema schema
+  pub declared : records [] name ≡ Some (declaration_bytes schema)
+  pub row : List OwnedValue
+  pub fits : IsRowAt schema.flags key row
+  pub spelled : value ≡ row_bytes row
+
+-- the version stands under two empty texts, a declaration under each other key of the empty name, and under each other
+-- name the rows of a declared table
+pub record AreValid (records : Records) : Type 0 where
+  pub version_is : records [] [] ≡ Some version
+  pub tables : (name bytes : List ℕ) → name ≢ [] → records [] name ≡ Some bytes → IsName name × IsDeclaration bytes
+  pub rows : (name key value : List ℕ) → name ≢ [] → records name key ≡ Some value → IsStoredRow records name key value
+
+-- ---- what the private readers of a whole store look for
+
+-- the record is a declaration
+abbrev pub IsTableRecord : RecordData → Type 0
+IsTableRecord r = (r.tab ≡ []) × (r.key ≢ [])
+
+-- of the table of this name and schema
+pub record DeclaresTable (r : RecordData) (name : List ℕ) (schema : SchemaData) : Type 0 where
+  pub is_table : IsTableRecord r
+  pub own : r.key ≡ name
+  pub named : IsName name
+  pub is_schema : IsSchema schema
+  pub spelled : r.value ≡ declaration_bytes schema
+
+-- a declaration is of a table
+abbrev pub IsGoodTable : RecordData → Type 0
+IsGoodTable r = IsTableRecord r → IsName r.key × IsDeclaration r.value
+
+-- tables by name, and their schemas
+abbrev pub Schemas : Type 0
+Schemas = ByBytes SchemaData
+
+-- they are those of the declarations among the records
+pub record AreDeclared (listed : List RecordData) (schemas : Schemas) : Type 0 where
+  pub found : (name : List ℕ) (schema : SchemaData) → map.get schemas name ≡ Some schema
+      → (r : RecordData) × Has listed r × DeclaresTable r name schema
+  pub each : (r : RecordData) → Has listed r → IsTableRecord r → IsSome (map.get schemas r.key)
+
+-- the value is that of a row of a table of the schema, and the key is its own
+pub record IsRowOf (schema : SchemaData) (key value : List ℕ) : Type 0 where
+  pub row : List OwnedValue
+  pub fits : IsRowAt schema.flags key row
+  pub spelled : value ≡ row_bytes row
+
+-- the record is a row of a declared table
+abbrev pub IsRowRecord : Schemas → RecordData → Type 0
+IsRowRecord schemas r = (schema : SchemaData) × (map.get schemas r.tab ≡ Some schema) × IsRowOf schema r.key r.value
+
+-- a record under the name of a table is a row
+abbrev pub IsGoodRow : Schemas → RecordData → Type 0
+IsGoodRow schemas r = r.tab ≢ [] → IsRowRecord schemas r

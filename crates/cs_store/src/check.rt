@@ -1,0 +1,164 @@
+//! Whether records are those of tables.
+ghost use Rattle.std.specs.Prelude.{◌≡◌, ◌⊎◌, Some, IfOk, IfErr, IfSome, OnOk, MatchOption, [], string_bytes};
+ghost use Rattle.std.specs.Option.{option_copied};
+ghost use Rattle.std.specs.List.{AllByRecursion};
+ghost use Rattle.std.specs.FinMap as map;
+ghost use Rattle.cs_store.specs.declared.fault.StoreError.TheVariants.{DamagedStore as Damaged};
+ghost use Rattle.cs_store.specs.declared.fault.StoreError.TheVariants.{NoMemory as OutOfMemory};
+ghost use Rattle.cs_store.specs.Records.{Records, ListsAll};
+ghost use Rattle.cs_store.specs.Stored.{version};
+ghost use Rattle.cs_store.specs.Valid.{AreValid, AreDeclared, IsTableRecord, DeclaresTable};
+ghost use Rattle.cs_store.specs.Valid.{IsGoodTable, IsGoodRow, IsRowOf};
+ghost use Rattle.cs_value.specs.Table.{IsName};
+
+use crate::declaration::read_declaration;
+use crate::fault::StoreError;
+use crate::records::Record;
+use crate::schema::Schema;
+use crate::stored_row::read_row;
+use cs_value::{Key, NoMemory, is_table_name};
+use std::alloc::Global;
+use std::collections::BTreeMap;
+use std::marker::Model;
+use std::str;
+
+/// The schemas of tables, by name.
+#[derive(Debug, Drop)]
+struct Schemas {
+    by_name: BTreeMap<String, Schema>,
+}
+
+impl Model for Schemas {
+    ghost use Rattle.std.specs.Prelude.{map as map_list, string_bytes};
+    ghost use Rattle.std.specs.Coded.{coded_list, coded_ℕ};
+    ghost use Rattle.std.specs.FinMap as map;
+    ghost use Rattle.cs_value.specs.Maps.{ByBytes};
+    ghost use Rattle.cs_value.specs.State.{SchemaData, schema_code};
+
+    ghost Value = { ByBytes SchemaData };
+
+    ghost coded = { map.code (coded_list coded_ℕ) schema_code };
+
+    ghost view = { λ s. map.from_entries (map_list (λ e. (string_bytes e.0, e.1)) s.by_name.entries) };
+}
+
+impl Schemas {
+    fn new(alloc: Global) -> Schemas
+        ensures { result ≡ map.empty }
+    {
+        Schemas {
+            by_name: BTreeMap::new(alloc),
+        }
+    }
+
+    fn get(&self, name: &str) -> Option<&Schema>
+        ensures { option_copied result ≡ map.get self.now name.now }
+    {
+        self.by_name.get(name)
+    }
+
+    fn insert(&mut self, name: String, schema: Schema) -> Result<(), NoMemory>
+        ensures { OnOk result (self.new ≡ map.insert self.old (string_bytes name) schema) }
+    {
+        self.by_name.insert(name, schema)?;
+        Ok(())
+    }
+}
+
+/// Checks that records are those of tables: a declaration under each name, and rows of declared
+/// tables. The version is not looked at.
+pub(crate) fn check_records(alloc: Global, listed: &[Record]) -> Result<(), StoreError>
+    ensures valid { OnOk result ((records : Records) → ListsAll records listed.now
+        → records [] [] ≡ Some version → AreValid records) }
+    ensures refused { IfErr result (λ e. ((e ≡ Damaged)
+        × ((records : Records) → ListsAll records listed.now → ¬ AreValid records)) ⊎ (e ≡ OutOfMemory)) }
+{
+    match read_schemas(alloc, listed) {
+        Ok(schemas) => check_rows(alloc, &schemas, listed),
+        Err(error) => Err(error),
+    }
+}
+
+/// The schemas of the tables that the records declare.
+fn read_schemas(alloc: Global, listed: &[Record]) -> Result<Schemas, StoreError>
+    ensures read { IfOk result (AreDeclared listed.now) }
+    ensures refused { IfErr result (λ e. ((e ≡ Damaged) × (¬ AllByRecursion IsGoodTable listed.now))
+        ⊎ (e ≡ OutOfMemory)) }
+{
+    let mut schemas = Schemas::new(alloc);
+    for record in listed {
+        match read_table(alloc, record) {
+            Ok(Some((name, schema))) => schemas.insert(name, schema)?,
+            Ok(None) => {}
+            Err(error) => return Err(error),
+        }
+    }
+    Ok(schemas)
+}
+
+/// The table that a record declares, if it is a declaration.
+fn read_table(alloc: Global, stored: &Record) -> Result<Option<(String, Schema)>, StoreError>
+    ensures read { IfOk result (λ o. MatchOption o (¬ IsTableRecord stored.now)
+        (λ t. DeclaresTable stored.now (string_bytes t.0) t.1)) }
+    ensures refused { IfErr result (λ e. ((e ≡ Damaged) × (¬ IsGoodTable stored.now)) ⊎ (e ≡ OutOfMemory)) }
+{
+    if !stored.tab.is_empty() || stored.key.is_empty() {
+        return Ok(None);
+    }
+    let name = read_name(alloc, &stored.key)?;
+    let schema = read_declaration(alloc, &stored.value)?;
+    Ok(Some((name, schema)))
+}
+
+/// The name of a table.
+fn read_name(alloc: Global, bytes: &[u8]) -> Result<String, StoreError>
+    ensures read { IfOk result (λ name. IsName (string_bytes name) × (bytes.now ≡ string_bytes name)) }
+    ensures refused { IfErr result (λ e. ((e ≡ Damaged) × (¬ IsName bytes.now)) ⊎ (e ≡ OutOfMemory)) }
+{
+    match str::from_utf8(bytes) {
+        Ok(name) if is_table_name(name) => Ok(String::from_str(alloc, name)?),
+        _ => Err(StoreError::DamagedStore),
+    }
+}
+
+/// Checks that the records under the names of tables are rows of these.
+fn check_rows(alloc: Global, schemas: &Schemas, listed: &[Record]) -> Result<(), StoreError>
+    ensures rows { OnOk result (AllByRecursion (IsGoodRow schemas.now) listed.now) }
+    ensures refused { IfErr result (λ e. ((e ≡ Damaged) × (¬ AllByRecursion (IsGoodRow schemas.now) listed.now))
+        ⊎ (e ≡ OutOfMemory)) }
+{
+    for record in listed {
+        check_row(alloc, schemas, record)?;
+    }
+    Ok(())
+}
+
+/// Checks that a record, if it is under the name of a table, is a row of it.
+fn check_row(alloc: Global, schemas: &Schemas, stored: &Record) -> Result<(), StoreError>
+    ensures row { OnOk result (IsGoodRow schemas.now stored.now) }
+    ensures refused { IfErr result (λ e. ((e ≡ Damaged) × (¬ IsGoodRow schemas.now stored.now))
+        ⊎ (e ≡ OutOfMemory)) }
+{
+    if stored.tab.is_empty() {
+        return Ok(());
+    }
+    match schemas.get(stored.tab.as_str()) {
+        Some(schema) => check_row_of(alloc, schema, &stored.key, &stored.value),
+        None => Err(StoreError::DamagedStore),
+    }
+}
+
+/// Checks that this is a row of a table, under its own key.
+fn check_row_of(alloc: Global, schema: &Schema, key: &[u8], value: &[u8]) -> Result<(), StoreError>
+    ensures row { OnOk result (IsRowOf schema.now key.now value.now) }
+    ensures refused { IfErr result (λ e. ((e ≡ Damaged) × (¬ IsRowOf schema.now key.now value.now))
+        ⊎ (e ≡ OutOfMemory)) }
+{
+    let row = read_row(alloc, schema.flags(), value)?;
+    let own = Key::of_row(alloc, schema.flags(), &row)?;
+    if own.bytes() == key {
+        Ok(())
+    } else {
+        Err(StoreError::DamagedStore)
+    }
+}
