@@ -3,6 +3,7 @@ pub mod Records
 pub mod Rows
 pub mod Declaration
 pub mod Stored
+pub mod Valid
 pub mod Store
 pub mod Laws
 pub mod Editing
