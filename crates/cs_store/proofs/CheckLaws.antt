@@ -187,8 +187,16 @@ module _ (records : Records) (listed : List RecordData) (all : ListsAll records 
 
 -- ---- what a check answers
 
--- a check that fails where a property fails, refuses where that property is a consequence
-pub refused_by : {X : Type 0} (result : Result X StoreError) (P Q : Type 0) → (Q → P) → IfErr result (λ e. ((e ≡ DamagedStore) × (P → ⊥)) ⊎ (e ≡ NoMemory)) → IfErr result (λ e. ((e ≡ DamagedStore) × (Q → ⊥)) ⊎ (e ≡ NoMemory))
-refused_by (Ok x) P Q from h = tt
-refused_by (Err e) P Q from (inl damaged) = inl (damaged.0, λ q. damaged.1 (from q))
-refused_by (Err e) P Q from (inr memory) = inr memory
+-- where the rows are found good, the records are valid
+pub checked_all : {X : Type 0} (result : Result X StoreError) (listed : List RecordData) (schemas : Schemas) → AreDeclared listed schemas → OnOk result (AllByRecursion (IsGoodRow schemas) listed)
+    → OnOk result ((records : Records) → ListsAll records listed → records [] [] ≡ Some version → AreValid records)
+checked_all (Ok x) listed schemas declared rows records all first = checked_valid records listed all schemas declared rows first
+checked_all (Err e) listed schemas declared rows = tt
+
+-- where they are not, they are not valid
+pub refused_rows : {X : Type 0} (result : Result X StoreError) (listed : List RecordData) (schemas : Schemas) → AreDeclared listed schemas
+    → IfErr result (λ e. ((e ≡ DamagedStore) × (AllByRecursion (IsGoodRow schemas) listed → ⊥)) ⊎ (e ≡ NoMemory))
+    → IfErr result (λ e. ((e ≡ DamagedStore) × ((records : Records) → ListsAll records listed → AreValid records → ⊥)) ⊎ (e ≡ NoMemory))
+refused_rows (Ok x) listed schemas declared h = tt
+refused_rows (Err e) listed schemas declared (inl damaged) = inl (damaged.0, λ records all valid. damaged.1 (valid_rows records listed all schemas declared valid))
+refused_rows (Err e) listed schemas declared (inr memory) = inr memory

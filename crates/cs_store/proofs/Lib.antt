@@ -26,4 +26,5 @@ pub mod StoredReading
 pub mod StoredRowLaws
 pub mod TableLaws
 pub mod TransactionLaws
+pub mod ValidLaws
 pub mod WriteLaws

@@ -10,15 +10,15 @@ use Rattle.std.proofs.lemmas.Cmp.{nat_list_eq_equiv}
 use Rattle.sqlite_value.specs.Order.{Row, column}
 use Rattle.cs_value.specs.declared.value.OwnedValue.{OwnedValue}
 use Rattle.cs_value.specs.Spelling.{row_bytes}
-use Rattle.cs_value.specs.State.{SchemaData, TableData, IsTable, State, IsState}
+use Rattle.cs_value.specs.State.{SchemaData, IsSchema, TableData, IsRowAt, IsTable, State, IsState}
 use Rattle.cs_value.proofs.ByteMaps.{same_maps, tied_bytes}
 use Rattle.cs_value.proofs.KeyedRows.{length-IsKeyedRow}
 use Rattle.cs_store.specs.Records.{Records, content, same_bytes, is_under, records_of}
 use Rattle.cs_store.specs.Declaration.{declaration_bytes}
-use Rattle.cs_store.specs.Stored.{Stores, values_at, schema_in, entries_under, table_in, state_of}
+use Rattle.cs_store.specs.Stored.{Stores, values_at, entries_under, table_in, state_of}
 use Rattle.cs_store.proofs.MemoryLaws.{row_at_found}
 use Rattle.cs_store.proofs.RowLaws.{same_is}
-use Rattle.cs_store.proofs.StoredReading.{values_again, schema_again}
+use Rattle.cs_store.proofs.StoredReading.{values_again, schema_again, one_schema}
 
 -- the first of the rows is found, or what the others hold
 records_first : (name key : List ℕ) (row : Row) (rows : List Row) → records_of (row ∷ rows) name key ≡ cond (is_under name key row) (Some (content (column row 3))) (records_of rows name key)
@@ -103,11 +103,13 @@ no_nameless state is = at (get state []) refl
     at None e = refl
     at (Some table) e = absurd (let named = (is [] table e).named in omega (arith, named.some))
 
--- a row of a table is read by the count of its columns
+-- a row that fits a schema is read by the count of its columns
+pub fitting_read : (schema : SchemaData) (key : List ℕ) (row : List OwnedValue) → IsSchema schema → IsRowAt schema.flags key row → values_at (length schema.columns) (row_bytes row) ≡ Some row
+fitting_read schema key row is fit = ap (λ n. values_at n (row_bytes row)) (is.as_many ∙ length-IsKeyedRow schema.flags row fit.keyed) ∙ values_again row fit.values
+
+-- and so is a row of a table
 row_read : (table : TableData) (key : List ℕ) (row : List OwnedValue) → IsTable table → get table.rows key ≡ Some row → values_at (length table.schema.columns) (row_bytes row) ≡ Some row
-row_read table key row is found =
-    let fit = is.rows key row found in
-    ap (λ n. values_at n (row_bytes row)) (is.schema.as_many ∙ length-IsKeyedRow table.schema.flags row fit.keyed) ∙ values_again row fit.values
+row_read table key row is found = fitting_read table.schema key row is.schema (is.rows key row found)
 
 module _ (rows : List Row) (state : State) (is : Stores (records_of rows) state) where
   -- the rows of a table are read
@@ -152,7 +154,7 @@ module _ (records : Records) (s t : State) (first : Stores records s) (second : 
   same_rows (n ∷ name) a b in_s in_t same =
       let x = (first.is_state (n ∷ name) a in_s).is_table in
       let y = (second.is_state (n ∷ name) b in_t).is_table in
-      let schemas : a.schema ≡ b.schema = (let e = sym (schema_again a.schema x.schema) ∙ ap schema_in same ∙ schema_again b.schema y.schema in cc) in
+      let schemas = one_schema a.schema b.schema x.schema y.schema same in
       let rows : a.rows ≡ b.rows = same_maps _ _ (λ key.
       one_spelled row_bytes (values_at (length a.schema.columns)) (get a.rows key) (get b.rows key) (λ row e. row_read a key row x e)
       (λ row e. ap (λ (c : SchemaData). values_at (length c.columns) (row_bytes row)) schemas ∙ row_read b key row y e)

@@ -1,5 +1,5 @@
 -- What is spelled of rows and schemas is read.
-use Rattle.std.proofs.Common.{◌≡◌, ℕ, List, [], ◌∷◌, ◌++◌, length, drop, Some, Ok, refl, ap, ◌∙◌, append_assoc, arith}
+use Rattle.std.proofs.Common.{◌≡◌, ℕ, List, [], ◌∷◌, ◌++◌, length, drop, Some, Ok, refl, sym, ap, ◌∙◌, append_assoc, arith}
 use Rattle.std.specs.Option.{option_map}
 use Rattle.std.specs.List.{AllByRecursion}
 use Rattle.std.proofs.Math.Seq.{drop-append_seam, take-append_seam}
@@ -50,3 +50,7 @@ schema_again schema is =
     ap (counted_columns (count ++ rest)) (number_again (length schema.columns) rest (omega (arith, is.as_many, is.flags.few)))
     ∙ ap (columns_at (length schema.columns)) (drop-append_seam count rest)
     ∙ columns_again schema.flags schema.columns is.as_many is.named
+
+-- two schemas with one declaration are one
+pub one_schema : (a b : SchemaData) → IsSchema a → IsSchema b → declaration_bytes a ≡ declaration_bytes b → a ≡ b
+one_schema a b p q same = let e = sym (schema_again a p) ∙ ap schema_in same ∙ schema_again b q in cc

@@ -1,11 +1,11 @@
 //! Whether records are those of tables.
-ghost use Rattle.std.specs.Prelude.{◌≡◌, ◌⊎◌, Some, IfOk, IfErr, IfSome, OnOk, MatchOption, [], string_bytes};
+ghost use Rattle.std.specs.Prelude.{◌≡◌, ◌⊎◌, Some, IfOk, IfErr, IfSome, OnOk, MatchOption, List, [], ◌∷◌, ◌++◌, string_bytes};
 ghost use Rattle.std.specs.Option.{option_copied};
 ghost use Rattle.std.specs.List.{AllByRecursion};
 ghost use Rattle.std.specs.FinMap as map;
 ghost use Rattle.cs_store.specs.declared.fault.StoreError.TheVariants.{DamagedStore as Damaged};
 ghost use Rattle.cs_store.specs.declared.fault.StoreError.TheVariants.{NoMemory as OutOfMemory};
-ghost use Rattle.cs_store.specs.Records.{Records, ListsAll};
+ghost use Rattle.cs_store.specs.Records.{Records, RecordData, ListsAll};
 ghost use Rattle.cs_store.specs.Stored.{version};
 ghost use Rattle.cs_store.specs.Valid.{AreValid, AreDeclared, IsTableRecord, DeclaresTable};
 ghost use Rattle.cs_store.specs.Valid.{IsGoodTable, IsGoodRow, IsRowOf};
@@ -87,13 +87,22 @@ fn read_schemas(alloc: Global, listed: &[Record]) -> Result<Schemas, StoreError>
 {
     let mut schemas = Schemas::new(alloc);
     for record in listed {
-        match read_table(alloc, record) {
-            Ok(Some((name, schema))) => schemas.insert(name, schema)?,
-            Ok(None) => {}
-            Err(error) => return Err(error),
-        }
+        add_table(alloc, &mut schemas, record)?;
     }
     Ok(schemas)
+}
+
+/// Adds the table that a record declares, if it is a declaration.
+fn add_table(alloc: Global, schemas: &mut Schemas, stored: &Record) -> Result<(), StoreError>
+    ensures added { OnOk result ((before : List RecordData) → AreDeclared before schemas.old
+        → AreDeclared (before ++ stored.now ∷ []) schemas.new) }
+    ensures refused { IfErr result (λ e. ((e ≡ Damaged) × (¬ IsGoodTable stored.now)) ⊎ (e ≡ OutOfMemory)) }
+{
+    match read_table(alloc, stored) {
+        Ok(Some((name, schema))) => Ok(schemas.insert(name, schema)?),
+        Ok(None) => Ok(()),
+        Err(error) => Err(error),
+    }
 }
 
 /// The table that a record declares, if it is a declaration.

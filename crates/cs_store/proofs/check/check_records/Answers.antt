@@ -1,11 +1,16 @@
-use Rattle.cs_store.proofs.CheckLaws.{refused_by, valid_tables, valid_rows, checked_valid}
+use Rattle.std.proofs.Common.{inl, inr, Ok, Err}
+use Rattle.cs_store.specs.Valid.{AreValid, IsGoodRow}
+use Rattle.cs_store.proofs.CheckLaws.{refused_rows, valid_tables, checked_all}
 use Rattle.cs_store.proofs.check.check_records.Goals as goal
 
 pub returns-in-Err-clause-refused : goal.returns-in-Err-clause-refused
-returns-in-Err-clause-refused c = ?
+returns-in-Err-clause-refused c = elim c.in-Err.ensures.refused [
+  | inl damaged ↦ inl (damaged.0, λ records all valid. damaged.1 (valid_tables records c.args.listed.now all valid))
+  | inr memory ↦ inr memory
+]
 
 pub returns-in-Ok-clause-valid : goal.returns-in-Ok-clause-valid
-returns-in-Ok-clause-valid c = ?
+returns-in-Ok-clause-valid c = checked_all c.check_rows.result c.args.listed.now c.in-Ok.schemas c.in-Ok.ensures.read c.check_rows.ensures.rows
 
 pub returns-in-Ok-clause-refused : goal.returns-in-Ok-clause-refused
-returns-in-Ok-clause-refused c = ?
+returns-in-Ok-clause-refused c = refused_rows c.check_rows.result c.args.listed.now c.in-Ok.schemas c.in-Ok.ensures.read c.check_rows.ensures.refused

@@ -10,4 +10,14 @@ pub of_row-requires : goal.of_row-requires
 of_row-requires c = ap (λ (fs : List ℕ). length fs) (c.flags-2.ensures.same ∙ sym c.flags.ensures.same) ∙ length-IsKeyedRow c.flags.result.now c.in_ok-row.row c.in_ok-row.ensures.found.1
 
 pub returns-clause-refused : goal.returns-clause-refused
-returns-clause-refused c = inl (refl, λ is. ?)
+returns-clause-refused c = inl (
+  refl,
+  λ is.
+      let flags = c.args.schema.now.flags in
+      let read = c.in_ok-row.ensures.found in
+      let keyed = rw c.flags.ensures.same at read.1 in
+      let wide = sym (length-IsKeyedRow flags c.in_ok-row.row keyed) ∙ length-IsKeyedRow flags is.row is.fits.keyed in
+      let same : c.in_ok-row.row ≡ is.row = row_bytes_same c.in_ok-row.row is.row read.0 is.fits.values wide (sym read.2 ∙ is.spelled) in
+      let own = c.bytes.ensures ∙ c.in_ok-own.ensures ∙ ap (λ (fs : List ℕ). row_key fs c.in_ok-row.row) c.flags-2.ensures.same ∙ ap (λ (r : List OwnedValue). row_key flags r) same ∙ sym is.fits.own in
+      ?,
+)
