@@ -190,7 +190,7 @@ module _ (records : Records) (listed : List RecordData) (all : ListsAll records 
 -- where the rows are found good, the records are valid
 pub checked_all : {X : Type 0} (result : Result X StoreError) (listed : List RecordData) (schemas : Schemas) → AreDeclared listed schemas → OnOk result (AllByRecursion (IsGoodRow schemas) listed)
     → OnOk result ((records : Records) → ListsAll records listed → records [] [] ≡ Some version → AreValid records)
-checked_all (Ok x) listed schemas declared rows records all first = checked_valid records listed all schemas declared rows first
+checked_all (Ok x) listed schemas declared rows = λ records all first. checked_valid records listed all schemas declared rows first
 checked_all (Err e) listed schemas declared rows = tt
 
 -- where they are not, they are not valid

@@ -1,4 +1,4 @@
-use Rattle.std.proofs.Common.{refl, inl, sym, ap, ◌∙◌, length, List, ℕ, subst, rules}
+use Rattle.std.proofs.Common.{◌≡◌, refl, inl, sym, ap, ◌∙◌, length, List, ℕ, subst, rules}
 use Rattle.std.specs.Cmp.Lexicographic.{same_text}
 use Rattle.cs_value.specs.declared.value.OwnedValue.{OwnedValue}
 use Rattle.cs_value.specs.Key.{row_key}
