@@ -13,8 +13,8 @@
 //! carries them out over any rows, and `fault` says why a call is refused.
 //!
 //! Below a batch, `tables` has the calls on the tables of a store, `declaration` and `stored_row` the
-//! bytes of schemas and rows, `records` the statements on the SQL table of records, and
-//! `transactions` those that begin and end a transaction.
+//! bytes of schemas and rows, `layout` what a database declares, `records` the statements on the SQL
+//! table of records, and `transactions` those that begin and end a transaction.
 #![tactic(auto)]
 
 mod batch;
@@ -23,6 +23,7 @@ mod declaration;
 mod edit;
 mod editing;
 mod fault;
+mod layout;
 mod memory;
 mod records;
 mod rows;
