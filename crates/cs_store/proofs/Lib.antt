@@ -1,3 +1,4 @@
+pub mod AdoptionLaws
 pub mod AnswerLaws
 pub mod CheckLaws
 pub mod DeclarationLaws

@@ -55,14 +55,14 @@ schema_stored db name holds named = declaration_stored (records_in db) (tables_i
     in_parts None = refl
     in_parts (Some table) = refl
 
--- whether a name is empty
-pub is_unnamed : (name : List ℕ) → true ≡ (length name == 0) → name ≡ []
-is_unnamed [] h = refl
-is_unnamed (b ∷ name) h = absurd (let k : length (b ∷ name) ≡ 0 = eqb-true (length (b ∷ name)) 0 (sym h) in omega arith)
+-- whether a list is empty
+pub no_elements : {X : Type 0} (name : List X) → true ≡ (length name == 0) → name ≡ []
+no_elements [] h = refl
+no_elements (b ∷ name) h = absurd (let k : length (b ∷ name) ≡ 0 = eqb-true (length (b ∷ name)) 0 (sym h) in omega arith)
 
-pub is_named : (name : List ℕ) → false ≡ (length name == 0) → name ≢ []
-is_named [] h e = true≢false (sym h)
-is_named (b ∷ name) h e = absurd (let k : length (b ∷ name) ≡ 0 = ap length e in omega arith)
+pub some_elements : {X : Type 0} (name : List X) → false ≡ (length name == 0) → name ≢ []
+some_elements [] h e = true≢false (sym h)
+some_elements (b ∷ name) h e = absurd (let k : length (b ∷ name) ≡ 0 = ap length e in omega arith)
 
 -- a row that is found fits its table
 pub row_fits : (state : tables.State) (name key : List ℕ) (row : List OwnedValue) → tables.IsState state → tables.row_at state name key ≡ Some row → Fits state name key row

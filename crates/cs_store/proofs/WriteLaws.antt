@@ -35,12 +35,12 @@ pub shows_state : (s : State) → IsSound s → IsTrue s.in_transaction → HasC
 shows_state s sound inside clean = let store = sound clean in store.now (store.open_inside inside)
 
 -- what follows from two facts of a success
-on_ok_both : {X E : Type 0} (r : Result X E) (P Q R : Type 0) → (P → Q → R) → OnOk r P → OnOk r Q → OnOk r R
+pub on_ok_both : {X E : Type 0} (r : Result X E) (P Q R : Type 0) → (P → Q → R) → OnOk r P → OnOk r Q → OnOk r R
 on_ok_both (Ok x) P Q R f p q = f p q
 on_ok_both (Err e) P Q R f p q = tt
 
 -- what follows from one
-on_ok_then : {X E : Type 0} (r : Result X E) (P Q : Type 0) → (P → Q) → OnOk r P → OnOk r Q
+pub on_ok_then : {X E : Type 0} (r : Result X E) (P Q : Type 0) → (P → Q) → OnOk r P → OnOk r Q
 on_ok_then (Ok x) P Q f p = f p
 on_ok_then (Err e) P Q f p = tt
 

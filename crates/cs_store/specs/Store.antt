@@ -72,6 +72,11 @@ pub record Adopts (old new : State) : Type 0 where
   pub committed : new.committed ≡ new.now
   pub autocommit : new.in_transaction ≡ false
 
+-- a transaction is open
+pub record IsInside (s : State) : Type 0 where
+  pub is_open : IsTrue s.is_open
+  pub inside : IsTrue s.in_transaction
+
 -- inside a transaction, the tables that the database held are held as a store holds them
 pub record SetsUp (old new : State) : Type 0 where
   pub on : GoesOn old new

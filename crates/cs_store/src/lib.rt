@@ -17,6 +17,7 @@
 //! table of records, and `transactions` those that begin and end a transaction.
 #![tactic(auto)]
 
+mod adoption;
 mod batch;
 mod check;
 mod declaration;

@@ -111,6 +111,7 @@ pub(crate) fn set_record<S: Alter>(
     ensures refused { IfErr result IsResource }
     ensures rests { HasCleanDisk (state S.Store conn.new)
         → OnErr result (Rests (state S.Store conn.old) (state S.Store conn.new)) }
+    ensures was_clean { HasCleanDisk (state S.Store conn.new) → HasCleanDisk (state S.Store conn.old) }
     ensures survives { (HasCleanDisk (state S.Store conn.old) → HoldsRecords (state S.Store conn.old).now)
         → IsTrue (state S.Store conn.old).in_transaction
         → KeepsCrash (state S.Store conn.old) (state S.Store conn.new) }
@@ -295,6 +296,7 @@ pub(crate) fn make_table<S: Alter>(conn: &mut Connection<S>) -> Result<(), Store
     ensures refused { IfErr result IsResource }
     ensures rests { HasCleanDisk (state S.Store conn.new)
         → OnErr result (Rests (state S.Store conn.old) (state S.Store conn.new)) }
+    ensures was_clean { HasCleanDisk (state S.Store conn.new) → HasCleanDisk (state S.Store conn.old) }
     ensures survives { (HasCleanDisk (state S.Store conn.old) → (state S.Store conn.old).now.schema ≡ empty_schema)
         → IsTrue (state S.Store conn.old).in_transaction
         → KeepsCrash (state S.Store conn.old) (state S.Store conn.new) }

@@ -4,12 +4,12 @@ use Rattle.sqlite.specs.State.{HasCleanDisk}
 use Rattle.cs_value.specs.State.{schema_at}
 use Rattle.cs_store.specs.Records.{records_in}
 use Rattle.cs_store.specs.Store.{IsSound, Recovers, tables_in}
-use Rattle.cs_store.proofs.ReadLaws.{shows_read, recovers_ok, recovers_err, unnamed, is_unnamed, is_named, schema_is, schema_stored}
+use Rattle.cs_store.proofs.ReadLaws.{shows_read, recovers_ok, recovers_err, unnamed, no_elements, some_elements, schema_is, schema_stored}
 use Rattle.cs_store.proofs.tables.find_schema.Goals as goal
 
 pub returns-then-is_empty-clause-found : goal.returns-then-is_empty-clause-found
 returns-then-is_empty-clause-found g c sound clean =
-    let db = (state g.S.Store c.args.conn.now).now in sym (ap (schema_at (tables_in db)) (is_unnamed c.args.name.now c.if-is_empty.ensures) ∙ unnamed db)
+    let db = (state g.S.Store c.args.conn.now).now in sym (ap (schema_at (tables_in db)) (no_elements c.args.name.now c.if-is_empty.ensures) ∙ unnamed db)
 
 -- what is read is what is stored
 recovered : (g : _) (c : goal.After-schema_in g) → IsSound (state g.S.Store c.args.conn.now) → HasCleanDisk (state g.S.Store c.find_record.new.conn)
@@ -18,7 +18,7 @@ recovered g c sound clean =
     let old = state g.S.Store c.args.conn.now in
     let new = state g.S.Store c.find_record.new.conn in
     let holds = shows_read old new sound c.find_record.ensures.keeps_crash clean (c.in_ok-found.ensures.reads clean) in
-    let stored = schema_stored old.now c.args.name.now holds (is_named c.args.name.now c.if-is_empty.ensures) in
+    let stored = schema_stored old.now c.args.name.now holds (some_elements c.args.name.now c.if-is_empty.ensures) in
     c.schema_in.ensures.found (schema_at (tables_in old.now) c.args.name.now) (schema_is (tables_in old.now) c.args.name.now holds.stores.is_state)
     (c.in_ok-found.ensures.found clean holds.records ∙ ap (records_in old.now []) c.as_bytes.ensures.value ∙ stored)
 

@@ -1,0 +1,167 @@
+//! How a database is taken over as a store.
+ghost use Rattle.std.specs.Prelude.{◌≡◌, ◌⊎◌, [], IfErr, OnOk, OnErr};
+ghost use Rattle.cs_value.specs.State as tables;
+ghost use Rattle.sqlite.specs.State.{HasCleanDisk, KeepsCommit, IsUnchanged};
+ghost use Rattle.sqlite.specs.Effect.{IsDatabase};
+ghost use Rattle.sqlite.specs.Held.{state};
+ghost use Rattle.cs_store.specs.declared.fault.StoreError.TheVariants.{DamagedStore as Damaged};
+ghost use Rattle.cs_store.specs.Faults.{IsResource, IsReadRefusal};
+ghost use Rattle.cs_store.specs.Records.{HoldsRecords, ListsAll, KeepsContent, record_schema, empty_schema};
+ghost use Rattle.cs_store.specs.Records.{records_in};
+ghost use Rattle.cs_store.specs.Valid.{AreValid};
+ghost use Rattle.cs_store.specs.Store.{Adopts, HoldsTables, SetsUp, IsInside};
+
+use crate::check::check_records;
+use crate::fault::StoreError;
+use crate::layout::{declares_nothing, declares_records, names_records};
+use crate::records::{Record, all_records, find_record, has_row_numbers, make_table, set_record};
+use crate::transactions;
+use sqlite::{Alter, Connection};
+use std::alloc::Global;
+
+/// The version of the records of a store.
+const VERSION: &[u8] = &[1];
+
+/// Makes a store where the database holds none yet, and else checks the one there, in one transaction.
+/// Where it is refused, the database is as it was.
+pub(crate) fn adopt<S: Alter>(conn: &mut Connection<S>, alloc: Global) -> Result<(), StoreError>
+    ensures adopted { HasCleanDisk (state S.Store conn.new)
+        → OnOk result (Adopts (state S.Store conn.old) (state S.Store conn.new)) }
+    ensures refused { HasCleanDisk (state S.Store conn.new) → IfErr result (λ e. ((e ≡ Damaged)
+        × ((held : tables.State) → ¬ HoldsTables (state S.Store conn.old).now held)) ⊎ IsResource e) }
+    ensures named { IfErr result IsReadRefusal }
+    ensures kept { HasCleanDisk (state S.Store conn.new)
+        → OnErr result (KeepsContent (state S.Store conn.old) (state S.Store conn.new)) }
+{
+    transactions::begin(conn)?;
+    match set_up(conn, alloc) {
+        Ok(()) => transactions::commit(conn),
+        Err(error) => {
+            transactions::roll_back(conn);
+            Err(error)
+        }
+    }
+}
+
+/// Makes a store where the database holds none yet, and else checks the one there, inside a
+/// transaction.
+fn set_up<S: Alter>(conn: &mut Connection<S>, alloc: Global) -> Result<(), StoreError>
+    requires { HasCleanDisk (state S.Store conn.old) → IsInside (state S.Store conn.old) }
+    ensures set_up { HasCleanDisk (state S.Store conn.new)
+        → OnOk result (SetsUp (state S.Store conn.old) (state S.Store conn.new)) }
+    ensures refused { HasCleanDisk (state S.Store conn.new) → IfErr result (λ e. ((e ≡ Damaged)
+        × ((held : tables.State) → ¬ HoldsTables (state S.Store conn.old).now held)) ⊎ IsResource e) }
+    ensures named { IfErr result IsReadRefusal }
+    ensures commit { HasCleanDisk (state S.Store conn.new)
+        → OnErr result (KeepsCommit (state S.Store conn.old) (state S.Store conn.new)) }
+    ensures was_clean { HasCleanDisk (state S.Store conn.new) → HasCleanDisk (state S.Store conn.old) }
+{
+    let schema = conn.schema();
+    if declares_nothing(schema) {
+        make_store(conn)
+    } else if declares_records(schema) {
+        check_store(conn, alloc)
+    } else if names_records(schema) {
+        Err(StoreError::DamagedStore)
+    } else {
+        Err(StoreError::StoreFault)
+    }
+}
+
+/// Makes the table of records, in a database that declares nothing.
+fn make_store<S: Alter>(conn: &mut Connection<S>) -> Result<(), StoreError>
+    requires inside { HasCleanDisk (state S.Store conn.old) → IsInside (state S.Store conn.old) }
+    requires nothing { (state S.Store conn.old).now.schema ≡ empty_schema }
+    ensures set_up { HasCleanDisk (state S.Store conn.new)
+        → OnOk result (SetsUp (state S.Store conn.old) (state S.Store conn.new)) }
+    ensures refused { IfErr result IsResource }
+    ensures commit { HasCleanDisk (state S.Store conn.new)
+        → OnErr result (KeepsCommit (state S.Store conn.old) (state S.Store conn.new)) }
+    ensures was_clean { HasCleanDisk (state S.Store conn.new) → HasCleanDisk (state S.Store conn.old) }
+{
+    make_table(conn)?;
+    write_version(conn)
+}
+
+/// Writes the version, where there is no record yet.
+fn write_version<S: Alter>(conn: &mut Connection<S>) -> Result<(), StoreError>
+    requires inside { HasCleanDisk (state S.Store conn.old) → IsInside (state S.Store conn.old) }
+    requires empty { HasCleanDisk (state S.Store conn.old)
+        → HoldsRecords (state S.Store conn.old).now × ((state S.Store conn.old).now.trees 0 ≡ []) }
+    ensures set_up { HasCleanDisk (state S.Store conn.new)
+        → OnOk result (SetsUp (state S.Store conn.old) (state S.Store conn.new)) }
+    ensures refused { IfErr result IsResource }
+    ensures commit { HasCleanDisk (state S.Store conn.new)
+        → OnErr result (KeepsCommit (state S.Store conn.old) (state S.Store conn.new)) }
+    ensures was_clean { HasCleanDisk (state S.Store conn.new) → HasCleanDisk (state S.Store conn.old) }
+{
+    set_record(conn, "", b"", VERSION)
+}
+
+/// Checks the store of a database that declares the table of records, or makes one where that is
+/// empty.
+fn check_store<S: Alter>(conn: &mut Connection<S>, alloc: Global) -> Result<(), StoreError>
+    requires inside { HasCleanDisk (state S.Store conn.old) → IsInside (state S.Store conn.old) }
+    requires declared { (state S.Store conn.old).now.schema ≡ record_schema }
+    requires sound { HasCleanDisk (state S.Store conn.old) → IsDatabase (state S.Store conn.old).now }
+    ensures set_up { HasCleanDisk (state S.Store conn.new)
+        → OnOk result (SetsUp (state S.Store conn.old) (state S.Store conn.new)) }
+    ensures refused { HasCleanDisk (state S.Store conn.new) → IfErr result (λ e. ((e ≡ Damaged)
+        × ((held : tables.State) → ¬ HoldsTables (state S.Store conn.old).now held)) ⊎ IsResource e) }
+    ensures named { IfErr result IsReadRefusal }
+    ensures commit { HasCleanDisk (state S.Store conn.new)
+        → OnErr result (KeepsCommit (state S.Store conn.old) (state S.Store conn.new)) }
+    ensures was_clean { HasCleanDisk (state S.Store conn.new) → HasCleanDisk (state S.Store conn.old) }
+{
+    match has_row_numbers(conn) {
+        Ok(true) => check_numbered(conn, alloc),
+        Ok(false) => Err(StoreError::DamagedStore),
+        Err(error) => Err(error),
+    }
+}
+
+/// Checks the records, or makes a store where there is none.
+fn check_numbered<S: Alter>(conn: &mut Connection<S>, alloc: Global) -> Result<(), StoreError>
+    requires inside { HasCleanDisk (state S.Store conn.old) → IsInside (state S.Store conn.old) }
+    requires records { HasCleanDisk (state S.Store conn.old) → HoldsRecords (state S.Store conn.old).now }
+    ensures set_up { HasCleanDisk (state S.Store conn.new)
+        → OnOk result (SetsUp (state S.Store conn.old) (state S.Store conn.new)) }
+    ensures refused { HasCleanDisk (state S.Store conn.new) → IfErr result (λ e. ((e ≡ Damaged)
+        × ((held : tables.State) → ¬ HoldsTables (state S.Store conn.old).now held)) ⊎ IsResource e) }
+    ensures named { IfErr result IsReadRefusal }
+    ensures commit { HasCleanDisk (state S.Store conn.new)
+        → OnErr result (KeepsCommit (state S.Store conn.old) (state S.Store conn.new)) }
+    ensures was_clean { HasCleanDisk (state S.Store conn.new) → HasCleanDisk (state S.Store conn.old) }
+{
+    match all_records(conn, alloc) {
+        Ok(listed) if listed.is_empty() => write_version(conn),
+        Ok(listed) => check_listed(conn, alloc, &listed),
+        Err(error) => Err(error),
+    }
+}
+
+/// Checks these records, which are all that there are.
+fn check_listed<S: Alter>(
+    conn: &mut Connection<S>,
+    alloc: Global,
+    listed: &[Record],
+) -> Result<(), StoreError>
+    requires records { HasCleanDisk (state S.Store conn.old) → HoldsRecords (state S.Store conn.old).now
+        × ListsAll (records_in (state S.Store conn.old).now) listed.now }
+    ensures valid { HasCleanDisk (state S.Store conn.new)
+        → OnOk result (AreValid (records_in (state S.Store conn.old).now)) }
+    ensures refused { HasCleanDisk (state S.Store conn.new) → IfErr result (λ e. ((e ≡ Damaged)
+        × (¬ AreValid (records_in (state S.Store conn.old).now))) ⊎ IsResource e) }
+    ensures named { IfErr result IsReadRefusal }
+    ensures reads { HasCleanDisk (state S.Store conn.new)
+        → OnOk result (IsUnchanged (state S.Store conn.old) (state S.Store conn.new)) }
+    ensures commit { HasCleanDisk (state S.Store conn.new)
+        → OnErr result (KeepsCommit (state S.Store conn.old) (state S.Store conn.new)) }
+    ensures was_clean { HasCleanDisk (state S.Store conn.new) → HasCleanDisk (state S.Store conn.old) }
+{
+    match find_record(conn, "", b"") {
+        Ok(Some(version)) if version.as_slice() == VERSION => check_records(alloc, listed),
+        Ok(_) => Err(StoreError::DamagedStore),
+        Err(error) => Err(error),
+    }
+}
