@@ -1,13 +1,14 @@
 -- Stores stay stores, whatever a call answers.
 use Rattle.std.proofs.Common.{◌≡◌, Bool, true, false, not, IsTrue, inl, inr, refl, sym, subst, ◌∙◌, true≢false}
 use Rattle.sqlite.specs.State.{State, HasCleanDisk, KeepsCommit, IsUnchanged, IsRolledBack}
-use Rattle.cs_store.specs.Records.{Rests, GoesOn, KeepsCrash}
+use Rattle.cs_store.specs.Records.{Rests, GoesOn, KeepsContent, KeepsCrash}
 use Rattle.cs_store.specs.Store.{HoldsState, IsStore, KeepsStore}
 use Rattle.cs_store.specs.Laws.{was_clean}
 
 unchanged_store : (old new : State) → IsUnchanged old new → IsStore old → IsStore new
 unchanged_store old new same was = record {
   open_inside = λ k. same.0.is_open;
+  settled = λ out k. same.0.now_is ∙ was.settled (sym same.0.mode ∙ out) same.0.was_open ∙ sym same.0.committed_is;
   now = λ k. subst HoldsState (sym same.0.now_is) (was.now same.0.was_open);
   committed = λ k. subst HoldsState (sym same.0.committed_is) (was.committed same.0.was_open);
 }
@@ -15,6 +16,7 @@ unchanged_store old new same was = record {
 undone_store : (old new : State) → IsRolledBack old new → IsStore old → IsStore new
 undone_store old new undone was = record {
   open_inside = λ k. absurd (true≢false (sym k ∙ undone.autocommit));
+  settled = λ out k. (undone.undone k).0 ∙ sym (undone.undone k).1;
   now = λ k. subst HoldsState (sym (undone.undone k).0) (was.committed (undone.was_open k));
   committed = λ k. subst HoldsState (sym (undone.undone k).1) (was.committed (undone.was_open k));
 }
@@ -28,10 +30,28 @@ pub rests_commit : (old new : State) → Rests old new → KeepsCommit old new
 rests_commit old new (inl same) = record { was_open = λ k. same.0.was_open; committed = λ k. same.0.committed_is }
 rests_commit old new (inr undone) = record { was_open = undone.was_open; committed = λ k. (undone.undone k).1 }
 
+-- outside a transaction all that is shown is kept
+rests_content : (old new : State) → Rests old new → IsStore old → old.in_transaction ≡ false → KeepsContent old new
+rests_content old new (inl same) was out = record {
+  was_open = λ k. same.0.was_open;
+  mode = same.0.mode;
+  inside = λ k is. same.0.is_open;
+  now = λ k. same.0.now_is;
+  committed = λ k. same.0.committed_is;
+}
+rests_content old new (inr undone) was out = record {
+  was_open = undone.was_open;
+  mode = undone.autocommit ∙ sym out;
+  inside = λ k is. absurd (true≢false (sym k ∙ undone.autocommit));
+  now = λ k. (undone.undone k).0 ∙ sym (was.settled out (undone.was_open k));
+  committed = λ k. (undone.undone k).1;
+}
+
 -- a write in a transaction
 goes_on_store : (old new : State) → GoesOn old new → HoldsState new.now → IsStore old → IsStore new
 goes_on_store old new on holds was = record {
   open_inside = λ k. on.is_open;
+  settled = λ out k. absurd (true≢false (sym on.mode ∙ out));
   now = λ k. holds;
   committed = λ k. subst HoldsState (sym on.committed_is) (was.committed on.was_open);
 }
@@ -42,14 +62,16 @@ rests_keeps old new crash rests = record {
   crash = crash;
   commit = λ clean. rests_commit old new (rests clean);
   sound = λ sound clean. rests_store old new (rests clean) (sound (was_clean old new crash clean));
+  outside = λ sound clean out. rests_content old new (rests clean) (sound (was_clean old new crash clean)) out;
 }
 
 -- and so does a write that leaves a state
-pub write_keeps : (old new : State) → KeepsCrash old new → (HasCleanDisk new → GoesOn old new × HoldsState new.now) → KeepsStore old new
-write_keeps old new crash wrote = record {
+pub write_keeps : (old new : State) → IsTrue old.in_transaction → KeepsCrash old new → (HasCleanDisk new → GoesOn old new × HoldsState new.now) → KeepsStore old new
+write_keeps old new inside crash wrote = record {
   crash = crash;
   commit = λ clean. let on = (wrote clean).0 in record { was_open = λ k. on.was_open; committed = λ k. on.committed_is };
   sound = λ sound clean. let w = wrote clean in goes_on_store old new w.0 w.1 (sound (was_clean old new crash clean));
+  outside = λ sound clean out. absurd (true≢false (sym inside ∙ out));
 }
 
 -- a connection that is not in autocommit is in a transaction

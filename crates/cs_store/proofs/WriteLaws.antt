@@ -45,10 +45,10 @@ on_ok_then (Ok x) P Q f p = f p
 on_ok_then (Err e) P Q f p = tt
 
 -- a write that succeeds leaves a state, and else the database rests
-write_kept : {X E : Type 0} (result : Result X E) (old new : State) → KeepsCrash old new → (HasCleanDisk new → OnOk result (GoesOn old new × HoldsState new.now))
+write_kept : {X E : Type 0} (result : Result X E) (old new : State) → IsTrue old.in_transaction → KeepsCrash old new → (HasCleanDisk new → OnOk result (GoesOn old new × HoldsState new.now))
     → (HasCleanDisk new → OnErr result (Rests old new)) → KeepsStore old new
-write_kept (Ok x) old new crash wrote rests = write_keeps old new crash wrote
-write_kept (Err e) old new crash wrote rests = rests_keeps old new crash rests
+write_kept (Ok x) old new inside crash wrote rests = write_keeps old new inside crash wrote
+write_kept (Err e) old new inside crash wrote rests = rests_keeps old new crash rests
 
 -- a record is written in a transaction of a sound store, and this is what the state that is stored becomes
 module _ (old new : State) {X E : Type 0} (result : Result X E) (name key : List ℕ) (here : Option (List ℕ)) (next : tables.State) (sound : IsSound old) (inside : IsTrue old.in_transaction)
@@ -66,5 +66,5 @@ module _ (old new : State) {X E : Type 0} (result : Result X E) (name key : List
 
   pub written_keeps : (HasCleanDisk new → HoldsRecords old.now → IsTrue old.in_transaction → OnOk result (GoesOn old new)) → (HasCleanDisk new → OnErr result (Rests old new)) → KeepsStore old new
   written_keeps goes_on rests =
-      write_kept result old new crash
+      write_kept result old new inside crash
       (λ clean. on_ok_both result _ _ _ (λ set on. (on, (means (was_clean old new crash clean) (shown clean) set).0)) (sets clean (shown clean).records) (goes_on clean (shown clean).records inside)) rests

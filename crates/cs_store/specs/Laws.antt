@@ -1,20 +1,34 @@
 -- What calls on a store keep, one after another.
-use Rattle.std.proofs.Common.{inl, refl, ◌∙◌, arith}
+use Rattle.std.proofs.Common.{inl, refl, subst, IsTrue, ◌∙◌, arith}
 use Rattle.sqlite.specs.State.{State, HasCleanDisk}
 use Rattle.sqlite.proofs.StateLemmas.{survives_then}
-use Rattle.cs_store.specs.Records.{KeepsCrash}
+use Rattle.cs_store.specs.Records.{KeepsContent, KeepsCrash}
 use Rattle.cs_store.specs.Store.{KeepsStore}
 
 -- an honest disk was honest before
 pub was_clean : (old new : State) → KeepsCrash old new → HasCleanDisk new → HasCleanDisk old
 was_clean old new keeps clean = omega (arith, keeps.clean)
 
--- nothing is kept by doing nothing
+-- the content is kept by doing nothing, and by one call after another
+pub content_itself : {s : State} → KeepsContent s s
+content_itself {s} = record { was_open = λ k. k; mode = refl; inside = λ k is. is; now = λ k. refl; committed = λ k. refl }
+
+pub content_then : {a b c : State} → KeepsContent a b → KeepsContent b c → KeepsContent a c
+content_then {a} {b} {c} one two = record {
+  was_open = λ k. one.was_open (two.was_open k);
+  mode = two.mode ∙ one.mode;
+  inside = λ k is. two.inside k (one.inside (subst IsTrue two.mode k) is);
+  now = λ k. two.now k ∙ one.now (two.was_open k);
+  committed = λ k. two.committed k ∙ one.committed (two.was_open k);
+}
+
+-- a store is kept by doing nothing
 pub keeps_itself : {s : State} → KeepsStore s s
 keeps_itself {s} = record {
   crash = record { clean = omega arith; counts = omega arith; limit = refl; closes = λ clean k. inl k; shield = λ k. k; crash = λ clean db k. inl k };
   commit = λ clean. record { was_open = λ k. k; committed = λ k. refl };
   sound = λ k. k;
+  outside = λ sound clean out. content_itself;
 }
 
 -- one call after another
@@ -26,4 +40,6 @@ keeps_then {a} {b} {c} one two = record {
       let second = two.commit clean in
       record { was_open = λ k. first.was_open (second.was_open k); committed = λ k. second.committed k ∙ first.committed (second.was_open k) };
   sound = λ k. two.sound (one.sound k);
+  outside = λ sound clean out.
+      let first = one.outside sound (was_clean b c two.crash clean) out in content_then first (two.outside (one.sound sound) clean (first.mode ∙ out));
 }

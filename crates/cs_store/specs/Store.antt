@@ -12,7 +12,7 @@ use Rattle.sqlite.specs.Effect.{Database}
 use Rattle.sqlite.specs.State.{State, HasCleanDisk, Shows, KeepsCommit}
 use Rattle.cs_store.specs.declared.fault.StoreError.{StoreError}
 use Rattle.cs_store.specs.Faults.{IsResource}
-use Rattle.cs_store.specs.Records.{HoldsRecords, records_in, GoesOn, KeepsCrash, empty_schema}
+use Rattle.cs_store.specs.Records.{HoldsRecords, records_in, GoesOn, KeepsContent, KeepsCrash, empty_schema}
 use Rattle.cs_store.specs.Stored.{Stores, state_of}
 
 -- the state that a database's records stand for
@@ -32,9 +32,10 @@ IsVacant db = (db.schema ≡ empty_schema) ⊎ (HoldsRecords db × (db.trees 0 �
 abbrev pub HoldsTables : Database → tables.State → Type 0
 HoldsTables db held = (IsVacant db × (held ≡ map.empty)) ⊎ (HoldsRecords db × Stores (records_in db) held)
 
--- while the connection is open, it shows a state, and a state was committed last; a transaction is open only there
+-- while the connection is open, it shows a state, and a state was committed last, which it shows outside a transaction
 pub record IsStore (s : State) : Type 0 where
   pub open_inside : IsTrue s.in_transaction → IsTrue s.is_open
+  pub settled : s.in_transaction ≡ false → IsTrue s.is_open → s.now ≡ s.committed
   pub now : IsTrue s.is_open → HoldsState s.now
   pub committed : IsTrue s.is_open → HoldsState s.committed
 
@@ -42,11 +43,13 @@ pub record IsStore (s : State) : Type 0 where
 abbrev pub IsSound : State → Type 0
 IsSound s = HasCleanDisk s → IsStore s
 
--- what a call in a transaction keeps: what a crash leaves, what was committed last, and that this is a store
+-- what a call that commits nothing keeps: what a crash leaves, what was committed last, and that this is a store;
+-- outside a transaction, all that is shown
 pub record KeepsStore (old new : State) : Type 0 where
   pub crash : KeepsCrash old new
   pub commit : HasCleanDisk new → KeepsCommit old new
   pub sound : IsSound old → IsSound new
+  pub outside : IsSound old → HasCleanDisk new → old.in_transaction ≡ false → KeepsContent old new
 
 -- a reader of what is stored gives it back, or is refused memory
 abbrev pub Recovers : {X : Type 0} → Result X StoreError → X → Type 0
@@ -68,6 +71,7 @@ pub record Adopts (old new : State) : Type 0 where
   pub outside : old.in_transaction ≡ false
   pub was_open : IsTrue old.is_open
   pub is_open : IsTrue new.is_open
+  pub holds : HoldsState new.now
   pub held : HoldsTables old.now (tables_in new.now)
   pub committed : new.committed ≡ new.now
   pub autocommit : new.in_transaction ≡ false
