@@ -1,7 +1,7 @@
 -- Stores stay stores, whatever a call answers.
 use Rattle.std.proofs.Common.{◌≡◌, Bool, true, false, not, IsTrue, inl, inr, refl, sym, subst, ◌∙◌, true≢false}
 use Rattle.sqlite.specs.State.{State, HasCleanDisk, KeepsCommit, IsUnchanged, IsRolledBack}
-use Rattle.cs_store.specs.Records.{Rests, GoesOn, KeepsCrash}
+use Rattle.cs_store.specs.Records.{Rests, GoesOn, KeepsCrash, KeepsContent}
 use Rattle.cs_store.specs.Store.{HoldsState, IsStore, KeepsStore}
 use Rattle.cs_store.specs.Laws.{was_clean}
 
@@ -36,6 +36,39 @@ goes_on_store old new on holds was = record {
   committed = λ k. subst HoldsState (sym on.committed_is) (was.committed on.was_open);
 }
 
+-- outside a transaction, where what is shown was committed, such a call keeps both
+pub rests_keeps_content : (old new : State) → Rests old new → old.in_transaction ≡ false → (IsTrue old.is_open → old.now ≡ old.committed) → KeepsContent old new
+rests_keeps_content old new (inl same) closed settled = record {
+  was_open = λ k. same.0.was_open;
+  mode = same.0.mode;
+  inside = λ k was. same.0.is_open;
+  now = λ k. same.0.now_is;
+  committed = λ k. same.0.committed_is;
+}
+rests_keeps_content old new (inr undone) closed settled = record {
+  was_open = undone.was_open;
+  mode = undone.autocommit ∙ sym closed;
+  inside = λ k was. absurd (true≢false (sym k ∙ undone.autocommit));
+  now = λ k. (undone.undone k).0 ∙ sym (settled (undone.was_open k));
+  committed = λ k. (undone.undone k).1;
+}
+
+-- where the content is kept, a store stays one
+pub content_store : (old new : State) → KeepsContent old new → IsStore old → IsStore new
+content_store old new kept was = record {
+  open_inside = λ k. kept.inside k (was.open_inside (sym kept.mode ∙ k));
+  now = λ k. subst HoldsState (sym (kept.now k)) (was.now (kept.was_open k));
+  committed = λ k. subst HoldsState (sym (kept.committed k)) (was.committed (kept.was_open k));
+}
+
+-- a call that keeps the content keeps the store
+pub content_keeps : (old new : State) → KeepsCrash old new → (HasCleanDisk new → KeepsContent old new) → KeepsStore old new
+content_keeps old new crash keeps = record {
+  crash = crash;
+  commit = λ clean. let kept = keeps clean in record { was_open = kept.was_open; committed = kept.committed };
+  sound = λ sound clean. content_store old new (keeps clean) (sound (was_clean old new crash clean));
+}
+
 -- a call that rests keeps the store
 pub rests_keeps : (old new : State) → KeepsCrash old new → (HasCleanDisk new → Rests old new) → KeepsStore old new
 rests_keeps old new crash rests = record {
@@ -56,3 +89,8 @@ write_keeps old new crash wrote = record {
 pub in_transaction : (b : Bool) → false ≡ not b → IsTrue b
 in_transaction true e = refl
 in_transaction false e = absurd (true≢false (sym e))
+
+-- and one that is in autocommit is in none
+pub in_autocommit : (b : Bool) → true ≡ not b → b ≡ false
+in_autocommit true e = absurd (true≢false e)
+in_autocommit false e = refl
