@@ -30,23 +30,6 @@ pub rests_commit : (old new : State) → Rests old new → KeepsCommit old new
 rests_commit old new (inl same) = record { was_open = λ k. same.0.was_open; committed = λ k. same.0.committed_is }
 rests_commit old new (inr undone) = record { was_open = undone.was_open; committed = λ k. (undone.undone k).1 }
 
--- outside a transaction all that is shown is kept
-rests_content : (old new : State) → Rests old new → IsStore old → old.in_transaction ≡ false → KeepsContent old new
-rests_content old new (inl same) was out = record {
-  was_open = λ k. same.0.was_open;
-  mode = same.0.mode;
-  inside = λ k is. same.0.is_open;
-  now = λ k. same.0.now_is;
-  committed = λ k. same.0.committed_is;
-}
-rests_content old new (inr undone) was out = record {
-  was_open = undone.was_open;
-  mode = undone.autocommit ∙ sym out;
-  inside = λ k is. absurd (true≢false (sym k ∙ undone.autocommit));
-  now = λ k. (undone.undone k).0 ∙ sym (was.settled out (undone.was_open k));
-  committed = λ k. (undone.undone k).1;
-}
-
 -- a write in a transaction
 goes_on_store : (old new : State) → GoesOn old new → HoldsState new.now → IsStore old → IsStore new
 goes_on_store old new on holds was = record {
@@ -56,13 +39,48 @@ goes_on_store old new on holds was = record {
   committed = λ k. subst HoldsState (sym on.committed_is) (was.committed on.was_open);
 }
 
+-- outside a transaction, where what is shown was committed, a call that rests keeps both
+pub rests_keeps_content : (old new : State) → Rests old new → old.in_transaction ≡ false → (IsTrue old.is_open → old.now ≡ old.committed) → KeepsContent old new
+rests_keeps_content old new (inl same) closed settled = record {
+  was_open = λ k. same.0.was_open;
+  mode = same.0.mode;
+  inside = λ k was. same.0.is_open;
+  now = λ k. same.0.now_is;
+  committed = λ k. same.0.committed_is;
+}
+rests_keeps_content old new (inr undone) closed settled = record {
+  was_open = undone.was_open;
+  mode = undone.autocommit ∙ sym closed;
+  inside = λ k was. absurd (true≢false (sym k ∙ undone.autocommit));
+  now = λ k. (undone.undone k).0 ∙ sym (settled (undone.was_open k));
+  committed = λ k. (undone.undone k).1;
+}
+
+-- where the content is kept, a store stays one
+pub content_store : (old new : State) → KeepsContent old new → IsStore old → IsStore new
+content_store old new kept was = record {
+  open_inside = λ k. kept.inside k (was.open_inside (sym kept.mode ∙ k));
+  settled = λ out k. kept.now k ∙ was.settled (sym kept.mode ∙ out) (kept.was_open k) ∙ sym (kept.committed k);
+  now = λ k. subst HoldsState (sym (kept.now k)) (was.now (kept.was_open k));
+  committed = λ k. subst HoldsState (sym (kept.committed k)) (was.committed (kept.was_open k));
+}
+
+-- a call that keeps the content keeps the store
+pub content_keeps : (old new : State) → KeepsCrash old new → (HasCleanDisk new → KeepsContent old new) → KeepsStore old new
+content_keeps old new crash keeps = record {
+  crash = crash;
+  commit = λ clean. let kept = keeps clean in record { was_open = kept.was_open; committed = kept.committed };
+  sound = λ sound clean. content_store old new (keeps clean) (sound (was_clean old new crash clean));
+  outside = λ sound clean out. keeps clean;
+}
+
 -- a call that rests keeps the store
 pub rests_keeps : (old new : State) → KeepsCrash old new → (HasCleanDisk new → Rests old new) → KeepsStore old new
 rests_keeps old new crash rests = record {
   crash = crash;
   commit = λ clean. rests_commit old new (rests clean);
   sound = λ sound clean. rests_store old new (rests clean) (sound (was_clean old new crash clean));
-  outside = λ sound clean out. rests_content old new (rests clean) (sound (was_clean old new crash clean)) out;
+  outside = λ sound clean out. rests_keeps_content old new (rests clean) out ((sound (was_clean old new crash clean)).settled out);
 }
 
 -- and so does a write that leaves a state
@@ -78,3 +96,8 @@ write_keeps old new inside crash wrote = record {
 pub in_transaction : (b : Bool) → false ≡ not b → IsTrue b
 in_transaction true e = refl
 in_transaction false e = absurd (true≢false (sym e))
+
+-- and one that is in autocommit is in none
+pub in_autocommit : (b : Bool) → true ≡ not b → b ≡ false
+in_autocommit true e = absurd (true≢false e)
+in_autocommit false e = refl

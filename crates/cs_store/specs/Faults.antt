@@ -50,3 +50,7 @@ IsResource e = (e ≡ NoMemory) ⊎ (e ≡ StoreFault)
 -- what a read may refuse with, whatever the disk returns
 abbrev pub IsReadRefusal : StoreError → Type 0
 IsReadRefusal e = (e ≡ DamagedStore) ⊎ IsResource e
+
+-- what an edit of a row may refuse with, whatever the disk returns
+abbrev pub IsEditRefusal : StoreError → Type 0
+IsEditRefusal e = (e ≡ NoTable) ⊎ (e ≡ RowWidth) ⊎ (e ≡ NullInKey) ⊎ (e ≡ NoRow) ⊎ (e ≡ KeyTaken) ⊎ IsReadRefusal e

@@ -5,7 +5,7 @@ ghost use Rattle.cs_value.specs.Value.{IsRow};
 ghost use Rattle.cs_value.specs.Table.{IsKeyedRow};
 ghost use Rattle.cs_value.specs.State.{IsRowAt, schema_at, row_at, with_row, without_row};
 ghost use Rattle.cs_store.specs.Rows.{IsDeclared, Fits};
-ghost use Rattle.cs_store.specs.Faults.{IsResource};
+ghost use Rattle.cs_store.specs.Faults.{IsResource, IsEditRefusal};
 ghost use Rattle.cs_store.specs.Editing.{edited, written_of, row_fault, in_table, inserted, updated, deleted};
 ghost use Rattle.cs_store.specs.declared.fault.StoreError.TheVariants.{NoTable as NoSuchTable};
 ghost use Rattle.cs_store.specs.declared.fault.StoreError.TheVariants.{NoRow as NoSuchRow, KeyTaken as TakenKey};
@@ -22,7 +22,9 @@ use std::alloc::Global;
 /// Refuses, in this order: [`NoTable`](StoreError::NoTable); [`RowWidth`](StoreError::RowWidth) and
 /// [`NullInKey`](StoreError::NullInKey) for the given row; for an update and a deletion
 /// [`NoRow`](StoreError::NoRow); for an insertion, and for an update to another key,
-/// [`KeyTaken`](StoreError::KeyTaken).
+/// [`KeyTaken`](StoreError::KeyTaken). Beside these it refuses only with what the rows refuse with:
+/// [`NoMemory`](StoreError::NoMemory), [`StoreFault`](StoreError::StoreFault) or
+/// [`DamagedStore`](StoreError::DamagedStore).
 pub fn edit_in<B: Rows>(
     alloc: Global,
     rows: &mut B,
@@ -32,6 +34,8 @@ pub fn edit_in<B: Rows>(
         ≡ Ok (record { state = B.state rows.new; written = map written_of w.items })) }
     ensures refused { B.is_honest rows.new → IfErr result (λ e. (edited (B.state rows.old) edit.now ≡ Err e)
         ⊎ IsResource e) }
+    ensures named { IfErr result IsEditRefusal }
+    ensures was_honest { B.is_honest rows.new → B.is_honest rows.old }
     ensures kept { B.keeps rows.old rows.new }
 {
     match edit {
@@ -47,6 +51,7 @@ fn find_schema<B: Rows>(alloc: Global, rows: &mut B, table: &str) -> Result<Sche
     ensures same { B.is_honest rows.new → OnOk result (B.state rows.new ≡ B.state rows.old) }
     ensures refused { B.is_honest rows.new → IfErr result (λ e. ((e ≡ NoSuchTable)
         × (schema_at (B.state rows.old) table.now ≡ None)) ⊎ IsResource e) }
+    ensures named { IfErr result IsEditRefusal }
     ensures was_honest { B.is_honest rows.new → B.is_honest rows.old }
     ensures kept { B.keeps rows.old rows.new }
 {
@@ -63,6 +68,7 @@ fn find_row<B: Rows>(alloc: Global, rows: &mut B, table: &str, key: &Key) -> Res
     ensures same { B.is_honest rows.new → OnOk result (B.state rows.new ≡ B.state rows.old) }
     ensures refused { B.is_honest rows.new → IfErr result (λ e. ((e ≡ NoSuchRow)
         × (row_at (B.state rows.old) table.now key.now ≡ None)) ⊎ IsResource e) }
+    ensures named { IfErr result IsEditRefusal }
     ensures was_honest { B.is_honest rows.new → B.is_honest rows.old }
     ensures kept { B.keeps rows.old rows.new }
 {
@@ -84,6 +90,7 @@ fn check_vacant<B: Rows>(
     ensures same { B.is_honest rows.new → OnOk result (B.state rows.new ≡ B.state rows.old) }
     ensures refused { B.is_honest rows.new → IfErr result (λ e. ((e ≡ TakenKey)
         × IsSome (row_at (B.state rows.old) table.now key.now)) ⊎ IsResource e) }
+    ensures named { IfErr result IsEditRefusal }
     ensures was_honest { B.is_honest rows.new → B.is_honest rows.old }
     ensures kept { B.keeps rows.old rows.new }
 {
@@ -98,6 +105,7 @@ fn key_for(alloc: Global, schema: &Schema, row: &Row) -> Result<Key, StoreError>
     ensures key { IfOk result (λ key. IsRowAt schema.now.flags key row.now) }
     ensures fits { OnOk result (row_fault schema.now.flags row.now ≡ None) }
     ensures refused { IfErr result (λ e. (row_fault schema.now.flags row.now ≡ Some e) ⊎ IsResource e) }
+    ensures named { IfErr result IsEditRefusal }
 {
     if row.values().len() != schema.flags().len() {
         return Err(StoreError::RowWidth);
@@ -147,6 +155,7 @@ fn insert_row<B: Rows>(
         ≡ Ok (record { state = B.state rows.new; written = map written_of w.items })) }
     ensures refused { B.is_honest rows.new
         → IfErr result (λ e. (in_table (B.state rows.old) table.now (λ t. inserted (B.state rows.old) table.now t row.now) ≡ Err e) ⊎ IsResource e) }
+    ensures named { IfErr result IsEditRefusal }
     ensures was_honest { B.is_honest rows.new → B.is_honest rows.old }
     ensures kept { B.keeps rows.old rows.new }
 {
@@ -198,6 +207,7 @@ fn move_row<B: Rows>(
         ≡ record { table = table.now; key = key.now; former = Some former } ∷ record { table = table.now; key = next.now; former = None } ∷ []) }
     ensures refused { B.is_honest rows.new → IfErr result (λ e. ((e ≡ TakenKey)
         × IsSome (row_at (B.state rows.old) table.now next.now)) ⊎ IsResource e) }
+    ensures named { IfErr result IsEditRefusal }
     ensures was_honest { B.is_honest rows.new → B.is_honest rows.old }
     ensures kept { B.keeps rows.old rows.new }
 {
@@ -221,6 +231,7 @@ fn update_row<B: Rows>(
         ≡ Ok (record { state = B.state rows.new; written = map written_of w.items })) }
     ensures refused { B.is_honest rows.new
         → IfErr result (λ e. (in_table (B.state rows.old) table.now (λ t. updated (B.state rows.old) table.now t key.now row.now) ≡ Err e) ⊎ IsResource e) }
+    ensures named { IfErr result IsEditRefusal }
     ensures was_honest { B.is_honest rows.new → B.is_honest rows.old }
     ensures kept { B.keeps rows.old rows.new }
 {
@@ -245,6 +256,7 @@ fn delete_row<B: Rows>(
         ≡ Ok (record { state = B.state rows.new; written = map written_of w.items })) }
     ensures refused { B.is_honest rows.new
         → IfErr result (λ e. (in_table (B.state rows.old) table.now (λ _. deleted (B.state rows.old) table.now key.now) ≡ Err e) ⊎ IsResource e) }
+    ensures named { IfErr result IsEditRefusal }
     ensures was_honest { B.is_honest rows.new → B.is_honest rows.old }
     ensures kept { B.keeps rows.old rows.new }
 {

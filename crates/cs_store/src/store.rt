@@ -3,6 +3,7 @@ ghost use Rattle.std.specs.Prelude.{◌≡◌, IfOk, IfErr, OnOk, IfSome};
 ghost use Rattle.std.specs.FinMap as map;
 ghost use Rattle.cs_value.specs.State.{schema_at, row_at, rows_at, with_row, without_row};
 ghost use Rattle.cs_store.specs.Faults.{IsResource, IsReadRefusal};
+ghost use Rattle.cs_store.specs.Records.{KeepsContent, KeepsCrash};
 ghost use Rattle.cs_store.specs.Rows.{IsDeclared, Fits};
 ghost use Rattle.sqlite.specs.State.{HasCleanDisk};
 ghost use Rattle.sqlite.specs.Held.{state};
@@ -36,13 +37,25 @@ impl<S: Alter> Model for Store<S> {
 }
 
 impl<S: Alter> Store<S> {
+    ghost use Rattle.std.specs.Borrow.{sem, RestsIfErr};
+    ghost use Rattle.cs_store.specs.contracts.store.Store.{the_row};
+
     /// Begins a batch of writes, which last once it is committed and are undone where it is dropped.
     ///
-    /// Refused where the database refuses, and where a transaction is open.
+    /// Refused where the database refuses, and where a transaction is open. A refusal leaves what the
+    /// store shows and what was committed as they were. A crash leaves no more than it could before.
     pub fn begin(&mut self) -> Result<SqlBatch<'_, S>, StoreError>
+        ensures* refused { sem 𝓛 (RestsIfErr (the_row S.row S.Store) self.entry
+            (λ b. b.store.ghost_name) result
+            (λ last. KeepsCrash (state S.Store self.old) (state S.Store last)
+            × (HasCleanDisk (state S.Store last)
+            → KeepsContent (state S.Store self.old) (state S.Store last)))) }
+        ensures named { IfErr result IsResource }
         ensures same_reference { IfOk result (λ b. b.store.ghost_name ≡ self.entry.ghost_name) }
         ensures begun { IfOk result (λ b. HasCleanDisk (state S.Store b.store.now)
             → Begins (state S.Store self.old) (state S.Store b.store.now)) }
+        ensures survives { IfOk result (λ b. KeepsCrash (state S.Store self.old)
+            (state S.Store b.store.now)) }
     {
         match transactions::begin(&mut self.conn) {
             Ok(()) => Ok(SqlBatch { store: self }),
