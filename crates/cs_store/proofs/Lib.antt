@@ -1,5 +1,6 @@
 pub mod AnswerLaws
 pub mod DeclarationLaws
+pub mod EditExamples
 pub mod EditLaws
 pub mod EditingLaws
 pub mod Examples
@@ -18,6 +19,7 @@ pub mod SchemaLaws
 pub mod SetLaws
 pub mod StateOf
 pub mod StatementLaws
+pub mod StoreExamples
 pub mod StoreLaws
 pub mod StoredLaws
 pub mod StoredLists

@@ -21,7 +21,7 @@ use Rattle.cs_store.proofs.RowLaws.{same_is}
 use Rattle.cs_store.proofs.StoredReading.{values_again, schema_again, one_schema}
 
 -- the first of the rows is found, or what the others hold
-records_first : (name key : List ℕ) (row : Row) (rows : List Row) → records_of (row ∷ rows) name key ≡ cond (is_under name key row) (Some (content (column row 3))) (records_of rows name key)
+pub records_first : (name key : List ℕ) (row : Row) (rows : List Row) → records_of (row ∷ rows) name key ≡ cond (is_under name key row) (Some (content (column row 3))) (records_of rows name key)
 unfolding records_of
 records_first name key row rows =
     elim (is_under name key row) as (λ b. option_map (λ r. content (column r 3)) (cond b (Some row) (find (is_under name key) rows)) ≡ cond b (Some (content (column row 3))) (option_map (λ r. content (column r 3)) (find (is_under name key) rows)))
