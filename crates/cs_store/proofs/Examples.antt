@@ -10,7 +10,7 @@ use Rattle.cs_value.specs.Spelling.{counted}
 use Rattle.cs_store.specs.Declaration.{declaration_bytes}
 
 -- the table of columns a and b with key a
-abbrev two_columns : SchemaData
+abbrev pub two_columns : SchemaData
 two_columns = record { columns = codes "a" ∷ codes "b" ∷ []; flags = 1 ∷ 0 ∷ [] }
 
 -- its declaration: the count of its columns, and of each its flag and its counted name
@@ -43,7 +43,7 @@ names_are_apart (suc i) (suc zero) d lt below = absurd (omega arith)
 names_are_apart (suc i) (suc (suc j)) d lt below = absurd (omega arith)
 
 -- the table may be declared
-two_columns_is_schema : IsSchema two_columns
+pub two_columns_is_schema : IsSchema two_columns
 two_columns_is_schema = record {
   flags = record { bytes = (omega arith, (omega arith, tt)); few = omega arith; some_key = (0, 1, omega arith, refl, omega arith) };
   bits = (omega arith, (omega arith, tt));

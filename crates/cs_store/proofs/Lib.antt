@@ -2,6 +2,7 @@ pub mod AdoptionLaws
 pub mod AnswerLaws
 pub mod CheckLaws
 pub mod DeclarationLaws
+pub mod EditExamples
 pub mod EditLaws
 pub mod EditingLaws
 pub mod Examples
@@ -20,6 +21,7 @@ pub mod SchemaLaws
 pub mod SetLaws
 pub mod StateOf
 pub mod StatementLaws
+pub mod StoreExamples
 pub mod StoreLaws
 pub mod StoredLaws
 pub mod StoredLists

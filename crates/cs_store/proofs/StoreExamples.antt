@@ -1,0 +1,307 @@
+-- A store of two tables, and stores that are damaged, worked as examples.
+use Rattle.std.proofs.Common.{◌≡◌, ℕ, ℤ, pos, Bool, true, false, ◌&&◌, cond, List, [], ◌∷◌, length, Some, None, get_or, unwrap_or, codes, refl, sym, ap, ◌∙◌, subst, arith}
+use Rattle.std.specs.Char.{encode_utf8}
+use Rattle.std.specs.Str.{chars, is_utf8}
+use Rattle.std.specs.Option.{option_map}
+use Rattle.std.specs.Ordering.{nat_cmp}
+use Rattle.std.specs.Cmp.Lexicographic.{slice_cmp}
+use Rattle.std.specs.FinMap.{get, insert, empty, get-empty}
+use Rattle.std.proofs.lemmas.Cmp.{nat_list_eq_equiv}
+use Rattle.std.proofs.lemmas.Str.{IsUtf8-from_is_utf8}
+use Rattle.sqlite_value.specs.declared.value.Value.TheVariants as sql
+use Rattle.sqlite_value.specs.Order.{Row}
+use Rattle.cs_value.specs.declared.value.OwnedValue.{OwnedValue}
+use Rattle.cs_value.specs.declared.value.OwnedValue.TheVariants.{Int, Text, Null}
+use Rattle.cs_value.specs.Value.{IsRow}
+use Rattle.cs_value.specs.Varint.{leading_digits, varint}
+use Rattle.cs_value.specs.Spelling.{counted, value_bytes, row_bytes}
+use Rattle.cs_value.specs.Table.{IsName}
+use Rattle.cs_value.specs.Reading.{number_from, number_at, integer_at, counted_at, text_at, blob_at, field_at}
+use Rattle.cs_value.specs.State.{SchemaData, IsColumnName, IsSchema, TableData, RowMap, IsRowAt, IsTable, State, IsState, rows_at}
+use Rattle.cs_value.proofs.StateLaws.{empty_table, table_insert, empty_state, state_insert}
+use Rattle.cs_store.specs.Records.{Records, same_bytes, records_of}
+use Rattle.cs_store.specs.Declaration.{declaration_bytes}
+use Rattle.cs_store.specs.Stored.{version, stored_under, Stores, values_at, columns_at, schema_in, state_of}
+use Rattle.cs_store.specs.Valid.{AreValid}
+use Rattle.cs_store.proofs.Examples.{two_columns, two_columns_is_schema}
+use Rattle.cs_store.proofs.StateOf.{records_first, fitting_read, state_is}
+use Rattle.cs_store.proofs.StoredLaws.{get_put}
+use Rattle.cs_store.proofs.StoredReading.{schema_again}
+use Rattle.cs_store.proofs.ValidLaws.{stores_valid}
+
+-- texts, and spelling and reading, compute
+texts : Unit {0}
+unfolding encode_utf8 chars is_utf8
+texts = tt
+
+spelling : Unit {0}
+unfolding leading_digits varint counted value_bytes declaration_bytes
+spelling = tt
+
+reading : Unit {0}
+unfolding texts number_from number_at integer_at counted_at text_at blob_at field_at values_at columns_at
+reading = tt
+
+-- ---- two tables
+
+-- a table of one column, which is its key
+abbrev pub one_column : List ℕ → SchemaData
+one_column name = record { columns = name ∷ []; flags = 1 ∷ [] }
+
+-- the table t with these rows, and the table u of column c, which is empty
+abbrev pub table_t : RowMap → TableData
+table_t rows = record { schema = two_columns; rows = rows }
+
+abbrev pub table_u : TableData
+table_u = record { schema = one_column (codes "c"); rows = empty }
+
+abbrev pub tables : RowMap → State
+tables rows = insert (insert empty (codes "u") table_u) (codes "t") (table_t rows)
+
+-- the row (1, 'x') and its key
+abbrev pub row : List OwnedValue
+row = Int (pos 1) ∷ Text (codes "x") ∷ []
+
+abbrev pub key : List ℕ
+key = 0x01 ∷ 0 ∷ 0 ∷ 0 ∷ 0 ∷ 0 ∷ 0 ∷ 0 ∷ 1 ∷ []
+
+-- t with that row
+abbrev pub held : RowMap
+held = insert empty key row
+
+abbrev pub state : State
+state = tables held
+
+-- they are states
+
+c_is_name : IsColumnName (codes "c")
+unfolding texts
+c_is_name = record { some = omega arith; text = IsUtf8-from_is_utf8 (codes "c") refl; short = omega arith }
+
+pub one_column_is_schema : (name : List ℕ) → IsColumnName name → IsSchema (one_column name)
+one_column_is_schema name named = record {
+  flags = record { bytes = (omega arith, tt); few = omega arith; some_key = (0, 1, omega arith, refl, omega arith) };
+  bits = (omega arith, tt);
+  as_many = refl;
+  named = (named, tt);
+  apart = λ i j d lt below. absurd (omega arith);
+}
+
+pub t_is_name : IsName (codes "t")
+unfolding texts
+t_is_name = record { some = omega arith; text = IsUtf8-from_is_utf8 (codes "t") refl; no_zero = (λ same. absurd (omega (arith, same)), tt) }
+
+pub u_is_name : IsName (codes "u")
+unfolding texts
+u_is_name = record { some = omega arith; text = IsUtf8-from_is_utf8 (codes "u") refl; no_zero = (λ same. absurd (omega (arith, same)), tt) }
+
+row_is : IsRow row
+unfolding texts
+row_is = (record { sfits = omega arith }, ((IsUtf8-from_is_utf8 (codes "x") refl, omega arith), tt))
+
+row_fits : IsRowAt two_columns.flags key row
+unfolding spelling
+row_fits = record { values = row_is; keyed = (λ same. cc, tt); own = refl }
+
+table_t_is : IsTable (table_t held)
+table_t_is = table_insert (table_t empty) key row (empty_table two_columns two_columns_is_schema) row_fits
+
+state_is_state : IsState state
+state_is_state = state_insert _ (codes "t") _ (state_insert empty (codes "u") table_u empty_state u_is_name (empty_table (one_column (codes "c")) (one_column_is_schema (codes "c") c_is_name))) t_is_name table_t_is
+
+-- ---- their records
+
+-- a row of the table of records
+abbrev pub sql_row : ℤ → List ℕ → List ℕ → List ℕ → Row
+sql_row number tab key value = sql.Int number ∷ sql.Text tab ∷ sql.Blob key ∷ sql.Blob value ∷ []
+
+abbrev pub declaration : List ℕ
+declaration = 0x02 ∷ 0x01 ∷ 0x01 ∷ 0x61 ∷ 0x00 ∷ 0x01 ∷ 0x62 ∷ []
+
+abbrev pub value : List ℕ
+value = 0x01 ∷ 0 ∷ 0 ∷ 0 ∷ 0 ∷ 0 ∷ 0 ∷ 0 ∷ 1 ∷ 0x03 ∷ 0x01 ∷ 0x78 ∷ []
+
+-- the rows of the records of a version, of declarations of t and u, and of a row of t
+abbrev pub version_row : List ℕ → Row
+version_row bytes = sql_row (pos 1) [] [] bytes
+
+abbrev pub declaration_row : List ℕ → Row
+declaration_row bytes = sql_row (pos 2) [] (codes "t") bytes
+
+abbrev pub other_row : Row
+other_row = sql_row (pos 3) [] (codes "u") (0x01 ∷ 0x01 ∷ 0x01 ∷ 0x63 ∷ [])
+
+abbrev pub keyed_row : List ℕ → List ℕ → Row
+keyed_row key value = sql_row (pos 4) (codes "t") key value
+
+abbrev pub rows_with : List ℕ → List ℕ → List ℕ → List ℕ → List Row
+rows_with version declaration key value = version_row version ∷ declaration_row declaration ∷ other_row ∷ keyed_row key value ∷ []
+
+-- those of the state
+abbrev pub rows : List Row
+rows = rows_with (0x01 ∷ []) declaration key value
+
+-- a test of bytes may be turned
+turned : {X : Type 0} (s q : List ℕ) (x y : X) → cond (same_bytes s q) x y ≡ cond (same_bytes q s) x y
+turned s q x y = ap (λ b. cond b x y) (nat_list_eq_equiv.symm s q)
+
+-- the tables by name
+pub tables_at : (m : RowMap) (name : List ℕ) → get (tables m) name ≡ cond (same_bytes name (codes "t")) (Some (table_t m)) (cond (same_bytes name (codes "u")) (Some table_u) None)
+tables_at m name =
+    get_put (insert empty (codes "u") table_u) (codes "t") (table_t m) name
+    ∙ ap (cond (same_bytes name (codes "t")) (Some (table_t m))) (get_put empty (codes "u") table_u name ∙ ap (cond (same_bytes name (codes "u")) (Some table_u)) (get-empty (slice_cmp nat_cmp) name))
+
+-- and their rows
+rows_of_tables : (m : RowMap) (name : List ℕ) → rows_at (tables m) name ≡ cond (same_bytes name (codes "t")) m empty
+rows_of_tables m name =
+    ap (λ o. unwrap_or (option_map (λ (t : TableData). t.rows) o) empty) (tables_at m name) ∙ at (same_bytes name (codes "t")) (same_bytes name (codes "u"))
+  where
+    at : (t u : Bool) → unwrap_or (option_map (λ (t : TableData). t.rows) (cond t (Some (table_t m)) (cond u (Some table_u) None))) empty ≡ cond t m empty
+    at true u = refl
+    at false true = refl
+    at false false = refl
+
+-- the declarations that stand in the rows are those of the tables
+declarations_stored : (b : ℕ) (name : List ℕ) → records_of rows [] (b ∷ name) ≡ stored_under state [] (b ∷ name)
+unfolding records_of spelling
+declarations_stored b name =
+    let n = b ∷ name in
+    records_first [] n (declaration_row declaration) (other_row ∷ keyed_row key value ∷ [])
+    ∙ ap (cond (same_bytes (codes "t") n) (Some declaration)) (records_first [] n other_row (keyed_row key value ∷ []) ∙ turned (codes "u") n _ _)
+    ∙ turned (codes "t") n _ _
+    ∙ at (same_bytes n (codes "t")) (same_bytes n (codes "u"))
+    ∙ sym (ap (option_map (λ (t : TableData). declaration_bytes t.schema)) (tables_at held n))
+  where
+    at : (t u : Bool) → cond t (Some declaration) (cond u (Some (0x01 ∷ 0x01 ∷ 0x01 ∷ 0x63 ∷ [])) None)
+        ≡ option_map (λ (t : TableData). declaration_bytes t.schema) (cond t (Some (table_t held)) (cond u (Some table_u) None))
+    at true u = refl
+    at false true = refl
+    at false false = refl
+
+-- and the record of the row is its own
+row_stored : (b : ℕ) (name k : List ℕ) → records_of rows (b ∷ name) k ≡ stored_under state (b ∷ name) k
+unfolding records_of spelling
+row_stored b name k =
+    let n = b ∷ name in
+    records_first n k (keyed_row key value) []
+    ∙ at (same_bytes (codes "t") n) (same_bytes key k)
+    ∙ turned (codes "t") n _ _
+    ∙ ap (λ o. cond (same_bytes n (codes "t")) (option_map row_bytes o) None) (turned key k _ _ ∙ sym here)
+    ∙ into (same_bytes n (codes "t"))
+    ∙ sym (ap (λ (r : RowMap). option_map row_bytes (get r k)) (rows_of_tables held n))
+  where
+    at : (t r : Bool) → cond (t && r) (Some value) None ≡ cond t (option_map row_bytes (cond r (Some row) None)) None
+    at true true = refl
+    at true false = refl
+    at false r = refl
+
+    none : get (empty {K = List ℕ} {X = List OwnedValue} {R = slice_cmp nat_cmp}) k ≡ None
+    none = get-empty (slice_cmp nat_cmp) k
+
+    here : get held k ≡ cond (same_bytes k key) (Some row) None
+    here = get_put empty key row k ∙ ap (cond (same_bytes k key) (Some row)) none
+
+    into : (t : Bool) → cond t (option_map row_bytes (get held k)) None ≡ option_map row_bytes (get (cond t held empty) k)
+    into true = refl
+    into false = sym (ap (option_map row_bytes) none)
+
+-- the four rows store the state
+pub rows_store : Stores (records_of rows) state
+unfolding records_of
+rows_store = record { is_state = state_is_state; each = each }
+  where
+    each : (name key : List ℕ) → records_of rows name key ≡ stored_under state name key
+    each [] [] = refl
+    each [] (b ∷ name) = declarations_stored b name
+    each (b ∷ name) key = row_stored b name key
+
+-- so they are valid
+rows_are_valid : AreValid (records_of rows)
+rows_are_valid = stores_valid (records_of rows) state rows_store
+
+-- and the state is read of them
+pub rows_are_read : state_of rows ≡ state
+rows_are_read = state_is rows state rows_store
+
+-- ---- damaged records: those of the state, but for one change
+
+-- what is not valid stores no state
+pub no_state : (records : Records) → ¬ (AreValid records) → (state : State) → ¬ (Stores records state)
+no_state records damaged state is = damaged (stores_valid records state is)
+
+-- bytes under the empty name that are no declaration
+unread_declaration : (records : Records) (b : ℕ) (name bytes : List ℕ) → records [] (b ∷ name) ≡ Some bytes → schema_in bytes ≡ None → ¬ (AreValid records)
+unread_declaration records b name bytes found unread valid =
+    let declared = (valid.tables (b ∷ name) bytes (λ e. cc) found).1 in
+    let e = sym unread ∙ ap schema_in declared.2 ∙ schema_again declared.0 declared.1 in cc
+
+-- in valid records a row under the name of a declared table is read, and fits under its key
+record IsReadRow (schema : SchemaData) (key value : List ℕ) : Type 0 where
+  it : List OwnedValue
+  reads : values_at (length schema.columns) value ≡ Some it
+  fits : IsRowAt schema.flags key it
+
+read_row : (records : Records) (b : ℕ) (name key value declaration : List ℕ) (schema : SchemaData) → records [] (b ∷ name) ≡ Some declaration → schema_in declaration ≡ Some schema
+    → records (b ∷ name) key ≡ Some value → AreValid records → IsReadRow schema key value
+read_row records b name key value declaration schema declared is found valid =
+    let r = valid.rows (b ∷ name) key value (λ e. cc) found in
+    let spelled : declaration ≡ declaration_bytes r.schema = (let e = sym declared ∙ r.declared in cc) in
+    let read = sym is ∙ ap schema_in spelled ∙ schema_again r.schema r.is_schema in
+    let same : r.schema ≡ schema = cc in
+    subst (λ (s : SchemaData). IsReadRow s key value) same (record { it = r.row; reads = ap (values_at (length r.schema.columns)) r.spelled ∙ fitting_read r.schema key r.row r.is_schema r.fits; fits = r.fits })
+
+-- a row of the table t whose bytes are not read
+unread_row : (key value : List ℕ) → records_of (rows_with version declaration key value) (codes "t") key ≡ Some value → values_at 2 value ≡ None → ¬ (AreValid (records_of (rows_with version declaration key value)))
+unfolding records_of reading
+unread_row key value found unread valid =
+    let r = read_row (records_of (rows_with version declaration key value)) 0x74 [] key value declaration two_columns refl refl found valid in
+    let e = sym unread ∙ r.reads in cc
+
+-- and one whose bytes are those of a row that does not fit there
+misplaced_row : (key value : List ℕ) (row : List OwnedValue) → records_of (rows_with version declaration key value) (codes "t") key ≡ Some value → values_at 2 value ≡ Some row → ¬ (IsRowAt two_columns.flags key row)
+    → ¬ (AreValid (records_of (rows_with version declaration key value)))
+unfolding records_of reading
+misplaced_row key value row found reads misplaced valid =
+    let r = read_row (records_of (rows_with version declaration key value)) 0x74 [] key value declaration two_columns refl refl found valid in
+    let same : r.it ≡ row = (let e = sym r.reads ∙ reads in cc) in
+    misplaced (subst (IsRowAt two_columns.flags key) same r.fits)
+
+-- the version is 3, which is not known
+other_version_is_damage : ¬ (AreValid (records_of (rows_with (0x03 ∷ []) declaration key value)))
+unfolding records_of
+other_version_is_damage valid = absurd (omega (arith, ap (λ o. get_or (unwrap_or o []) 0 0) valid.version_is))
+
+-- the declaration of t has a byte more behind its columns
+long_declaration_is_damage : ¬ (AreValid (records_of (rows_with version (0x02 ∷ 0x01 ∷ 0x01 ∷ 0x61 ∷ 0x00 ∷ 0x01 ∷ 0x62 ∷ 0x00 ∷ []) key value)))
+unfolding records_of reading
+long_declaration_is_damage = unread_declaration _ 0x74 [] (0x02 ∷ 0x01 ∷ 0x01 ∷ 0x61 ∷ 0x00 ∷ 0x01 ∷ 0x62 ∷ 0x00 ∷ []) refl refl
+
+-- the row of t has a value for the first of two columns alone
+short_row_is_damage : ¬ (AreValid (records_of (rows_with version declaration key key)))
+unfolding records_of reading
+short_row_is_damage = unread_row key key refl refl
+
+-- the row (1, 'x') stands under the key of another
+other_key_is_damage : ¬ (AreValid (records_of (rows_with version declaration (0x01 ∷ 0 ∷ 0 ∷ 0 ∷ 0 ∷ 0 ∷ 0 ∷ 0 ∷ 2 ∷ []) value)))
+unfolding records_of reading spelling
+other_key_is_damage = misplaced_row (0x01 ∷ 0 ∷ 0 ∷ 0 ∷ 0 ∷ 0 ∷ 0 ∷ 0 ∷ 2 ∷ []) value row refl refl (λ fits. absurd (omega (arith, ap (λ (bytes : List ℕ). get_or bytes 8 0) fits.own)))
+
+-- the row has NULL in its key
+null_key_is_damage : ¬ (AreValid (records_of (rows_with version declaration (0x05 ∷ []) (0x05 ∷ 0x03 ∷ 0x01 ∷ 0x78 ∷ []))))
+unfolding records_of reading
+null_key_is_damage = misplaced_row (0x05 ∷ []) (0x05 ∷ 0x03 ∷ 0x01 ∷ 0x78 ∷ []) (Null ∷ Text (codes "x") ∷ []) refl refl (λ fits. fits.keyed.0 refl)
+
+-- the row has a real, which is no value
+real_is_damage : ¬ (AreValid (records_of (rows_with version declaration key (0x02 ∷ 0 ∷ 0 ∷ 0 ∷ 0 ∷ 0 ∷ 0 ∷ 0 ∷ 0 ∷ 0x03 ∷ 0x01 ∷ 0x78 ∷ []))))
+unfolding records_of reading
+real_is_damage = unread_row key (0x02 ∷ 0 ∷ 0 ∷ 0 ∷ 0 ∷ 0 ∷ 0 ∷ 0 ∷ 0 ∷ 0x03 ∷ 0x01 ∷ 0x78 ∷ []) refl refl
+
+-- there is no version
+no_version_is_damage : ¬ (AreValid (records_of (declaration_row declaration ∷ other_row ∷ keyed_row key value ∷ [])))
+unfolding records_of
+no_version_is_damage valid = let e = valid.version_is in cc
+
+-- a row stands under the name w, under which no table is declared
+no_table_is_damage : ¬ (AreValid (records_of (version_row version ∷ declaration_row declaration ∷ other_row ∷ keyed_row key value ∷ sql_row (pos 5) (codes "w") key value ∷ [])))
+unfolding records_of
+no_table_is_damage valid = let r = valid.rows (codes "w") key value (λ e. cc) refl in let e = r.declared in cc
