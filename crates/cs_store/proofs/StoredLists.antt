@@ -1,5 +1,5 @@
 -- The lists of records under a name are those of the state that is stored.
-use Rattle.std.proofs.Common.{◌≡◌, ◌≢◌, ◌⊎◌, ◌&&◌, Result, Ok, Err, IfOk, IfErr, Vec, Global, ◌++◌, ◌<◌, get_or, zero, suc, ℕ, List, [], ◌∷◌, length, map, inl, inr, Option, Some, None, Bool, true, false, cond, T, option_map, refl, sym, ap, ◌∙◌, subst, arith}
+use Rattle.std.proofs.Common.{◌≡◌, ◌≢◌, ◌⊎◌, ◌&&◌, Result, Ok, Err, IfOk, IfErr, Vec, Global, String, string_bytes, ◌++◌, ◌<◌, get_or, zero, suc, ℕ, List, [], ◌∷◌, length, map, inl, inr, Option, Some, None, Bool, true, false, cond, T, option_map, refl, sym, ap, ◌∙◌, subst, arith}
 use Rattle.std.specs.List.{AllByRecursion}
 use Rattle.std.specs.Ordering.{nat_cmp, eq_by_cmp, is_eq, is_lt}
 use Rattle.std.specs.declared.cmp.Ordering.{Ordering}
@@ -12,10 +12,10 @@ use Rattle.std.proofs.lemmas.Bool.{cases_Bool, and_parts, and_from}
 use Rattle.sqlite_trees.proofs.ListLemmas.{map-map, all-map}
 use Rattle.cs_value.specs.declared.value.OwnedValue.{OwnedValue}
 use Rattle.cs_value.specs.Value.{IsRow}
-use Rattle.cs_value.specs.Table.{IsKeyedRow}
+use Rattle.cs_value.specs.Table.{IsName, IsKeyedRow}
 use Rattle.cs_value.specs.Spelling.{row_bytes}
 use Rattle.cs_value.specs.Maps.{ByBytes}
-use Rattle.cs_value.specs.State.{SchemaData, RowMap, TableData, State, schema_at, rows_at}
+use Rattle.cs_value.specs.State.{SchemaData, RowMap, TableData, State, IsState, schema_at, rows_at}
 use Rattle.cs_value.proofs.ByteMaps.{tied_bytes}
 use Rattle.cs_value.proofs.KeyedRows.{length-IsKeyedRow}
 use Rattle.cs_value.proofs.Spellings.{row_bytes_same}
@@ -25,7 +25,7 @@ use Rattle.cs_store.specs.Stored.{version, Stores}
 use Rattle.cs_store.specs.declared.fault.StoreError.{StoreError}
 use Rattle.cs_store.specs.declared.fault.StoreError.TheVariants.{DamagedStore}
 use Rattle.cs_store.specs.Faults.{IsResource, IsReadRefusal}
-use Rattle.cs_store.specs.Store.{AreStored, RecoversList}
+use Rattle.cs_store.specs.Store.{AreNamed, AreStored, RecoversList}
 use Rattle.cs_value.proofs.Lists.{AllByRecursion-push}
 use Rattle.std.proofs.lemmas.List.{map-append}
 use Rattle.cs_store.proofs.MemoryLaws.{rows_at_found}
@@ -204,6 +204,21 @@ tables_listed records state listed is lists = same_lists listed (([], version) �
 pub names_listed : (records : Records) (state : State) (listed : Entries (List ℕ)) → Stores records state → ListsTable records [] listed → map (λ e. e.0) listed ≡ [] ∷ keys state
 names_listed records state listed is lists =
     ap (map (λ e. e.0)) (tables_listed records state listed is lists) ∙ ap (λ (names : List (List ℕ)). [] ∷ names) (map-map (λ e. e.0) (λ e. (e.0, declaration_bytes e.1.schema)) (entries state))
+
+-- each of them is a name
+pub names_are : (state : State) → IsState state → AllByRecursion IsName (keys state)
+names_are state is =
+    all-map IsName (λ e. e.0) (entries state)
+    (each_entry (λ name table. IsName name) (entries state) (entries_sorted state) (λ name table found. (is name table (get-entries state name ∙ found)).named))
+
+-- names that are read
+pub named_ok : (r : Result (Vec (String Global) Global) StoreError) (stored : List (List ℕ)) → AreNamed r stored → IfOk r (λ names. map string_bytes names.items ≡ stored)
+named_ok (Ok names) stored h = h
+named_ok (Err e) stored h = tt
+
+pub named_err : (r : Result (Vec (String Global) Global) StoreError) (stored : List (List ℕ)) → AreNamed r stored → IfErr r IsResource
+named_err (Ok names) stored h = tt
+named_err (Err e) stored h = h
 
 -- what a reader of rows refuses with
 pub refused_named : {X : Type 0} (W : StoreError → Type 0) (r : Result X StoreError) → IfErr r (λ e. ((e ≡ DamagedStore) × W e) ⊎ IsResource e) → IfErr r IsReadRefusal

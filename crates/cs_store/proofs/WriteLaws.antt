@@ -1,5 +1,9 @@
 -- What writes of records make of the state that is stored.
-use Rattle.std.proofs.Common.{◌≡◌, ℕ, List, Option, Some, None, Result, Ok, Err, OnOk, OnErr, IsTrue, sym, subst}
+use Rattle.std.proofs.Common.{◌≡◌, ℕ, List, [], Option, Some, None, option_map, Result, Ok, Err, IfErr, OnOk, OnErr, IsTrue, refl, sym, ap, subst, ◌∙◌}
+use Rattle.std.specs.FinMap as map
+use Rattle.cs_value.specs.Table.{IsName}
+use Rattle.cs_store.specs.declared.fault.StoreError.{StoreError}
+use Rattle.cs_store.specs.Declaration.{declaration_bytes}
 use Rattle.cs_value.specs.declared.value.OwnedValue.{OwnedValue}
 use Rattle.cs_value.specs.Spelling.{row_bytes}
 use Rattle.cs_value.specs.State as tables
@@ -10,7 +14,7 @@ use Rattle.cs_store.specs.Rows.{IsDeclared, Fits}
 use Rattle.cs_store.specs.Stored.{Stores}
 use Rattle.cs_store.specs.Store.{HoldsState, IsSound, KeepsStore, tables_in}
 use Rattle.cs_store.proofs.StateOf.{state_is}
-use Rattle.cs_store.proofs.StoredLaws.{stores_row, stores_no_row}
+use Rattle.cs_store.proofs.StoredLaws.{stores_row, stores_no_row, stores_table}
 use Rattle.cs_store.specs.Laws.{was_clean}
 use Rattle.cs_store.proofs.StoreLaws.{rests_keeps, write_keeps}
 
@@ -19,6 +23,14 @@ pub holds_next : (new : Database) (next : tables.State) → HoldsRecords new →
 holds_next new next records stores =
     let is = state_is (new.trees 0) next stores in
     (record { records = records; stores = subst (Stores (records_in new)) (sym is) stores }, is)
+
+-- a name without a schema is that of no table
+pub no_table : (state : tables.State) (name : List ℕ) → tables.schema_at state name ≡ None → map.get state name ≡ None
+no_table state name none = at (map.get state name) refl
+  where
+    at : (o : Option tables.TableData) → map.get state name ≡ o → map.get state name ≡ None
+    at None absent = absent
+    at (Some table) some = absurd (let e = sym none ∙ ap (option_map (λ (t : tables.TableData). t.schema)) some in cc)
 
 -- a row is put
 pub row_put : (old new : Database) (name key : List ℕ) (row : List OwnedValue) → HoldsState old → Fits (tables_in old) name key row → Sets old new name key (Some (row_bytes row))
@@ -43,6 +55,17 @@ on_ok_both (Err e) P Q R f p q = tt
 pub on_ok_then : {X E : Type 0} (r : Result X E) (P Q : Type 0) → (P → Q) → OnOk r P → OnOk r Q
 on_ok_then (Ok x) P Q f p = f p
 on_ok_then (Err e) P Q f p = tt
+
+-- what follows of a refusal
+pub on_refusal : {X : Type 0} (r : Result X StoreError) (P Q : StoreError → Type 0) → ((e : StoreError) → P e → Q e) → IfErr r P → IfErr r Q
+on_refusal (Ok x) P Q f h = tt
+on_refusal (Err e) P Q f h = f e h
+
+-- a table is declared
+pub table_put : (old new : Database) (name : List ℕ) (schema : tables.SchemaData) → HoldsState old → IsName name → tables.IsSchema schema → tables.schema_at (tables_in old) name ≡ None
+    → Sets old new [] name (Some (declaration_bytes schema)) → HoldsState new × (tables_in new ≡ tables.with_table (tables_in old) name schema)
+table_put old new name schema holds named is free set =
+    holds_next new _ set.holds (stores_table (records_in new) (records_in old) (tables_in old) name schema holds.stores named is (no_table (tables_in old) name free) set.change)
 
 -- a write that succeeds leaves a state, and else the database rests
 write_kept : {X E : Type 0} (result : Result X E) (old new : State) → IsTrue old.in_transaction → KeepsCrash old new → (HasCleanDisk new → OnOk result (GoesOn old new × HoldsState new.now))

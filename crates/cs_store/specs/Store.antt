@@ -1,8 +1,9 @@
 -- What a store over a connection holds: a state, as its records stand for it.
-use Rattle.std.specs.Prelude.{◌≡◌, ◌⊎◌, ℕ, List, [], map as map_list, Vec, IsTrue, true, false, Result, Ok, Err}
+use Rattle.std.specs.Prelude.{◌≡◌, ◌⊎◌, ℕ, List, [], map as map_list, Vec, IsTrue, true, false, None, Result, Ok, Err, string_bytes}
 use Rattle.std.specs.List.{AllByRecursion}
 use Rattle.std.specs.FinMap as map
 use Rattle.std.specs.declared.alloc.Global.{Global}
+use Rattle.std.specs.declared.string.String.{String}
 use Rattle.cs_value.specs.declared.value.OwnedValue.{OwnedValue}
 use Rattle.cs_value.specs.Value.{IsRow}
 use Rattle.cs_value.specs.Table.{IsKeyedRow}
@@ -66,15 +67,19 @@ pub record Ends (old new : State) : Type 0 where
   pub inside : IsTrue old.in_transaction
   pub shown : Shows old new old.now old.now false
 
+-- no transaction is open, and what is shown is committed
+pub record IsAtRest (s : State) : Type 0 where
+  pub is_open : IsTrue s.is_open
+  pub autocommit : s.in_transaction ≡ false
+  pub committed : s.committed ≡ s.now
+
 -- a store is taken over: no transaction was open, and the tables that the database held are committed
 pub record Adopts (old new : State) : Type 0 where
   pub outside : old.in_transaction ≡ false
   pub was_open : IsTrue old.is_open
-  pub is_open : IsTrue new.is_open
+  pub at_rest : IsAtRest new
   pub holds : HoldsState new.now
   pub held : HoldsTables old.now (tables_in new.now)
-  pub committed : new.committed ≡ new.now
-  pub autocommit : new.in_transaction ≡ false
 
 -- a transaction is open
 pub record IsInside (s : State) : Type 0 where
@@ -96,3 +101,13 @@ pub record AreStored (flags : List ℕ) (stored : List (List ℕ)) (rows : List 
 abbrev pub RecoversList : {X : Type 0} → Result (Vec X Global) StoreError → List X → Type 0
 RecoversList (Ok list) stored = list.items ≡ stored
 RecoversList (Err e) stored = IsResource e
+
+-- a table without rows is added, of a name that no table had
+pub record AddsTable (old : tables.State) (name : List ℕ) (schema : tables.SchemaData) (new : tables.State) : Type 0 where
+  pub free : map.get old name ≡ None
+  pub added : new ≡ tables.with_table old name schema
+
+-- names that are read give what is stored, or memory is refused
+abbrev pub AreNamed : Result (Vec (String Global) Global) StoreError → List (List ℕ) → Type 0
+AreNamed (Ok names) stored = map_list string_bytes names.items ≡ stored
+AreNamed (Err e) stored = IsResource e

@@ -1,10 +1,13 @@
 //! Batches: rows of a store that are written together.
-ghost use Rattle.std.specs.Prelude.{◌≡◌, OnOk, OnErr, IfErr};
+ghost use Rattle.std.specs.Prelude.{◌≡◌, ◌⊎◌, OnOk, OnErr, IfErr};
 ghost use Rattle.sqlite.specs.State.{HasCleanDisk, Survives};
 ghost use Rattle.sqlite.specs.Held.{state};
-ghost use Rattle.cs_store.specs.Faults.{IsResource};
+ghost use Rattle.cs_value.specs.Table.{IsName};
+ghost use Rattle.cs_store.specs.declared.fault.StoreError.TheVariants.{TableExists as TakenName};
+ghost use Rattle.cs_store.specs.Faults.{IsResource, IsReadRefusal};
+ghost use Rattle.cs_store.specs.Rows.{IsDeclared};
 ghost use Rattle.cs_store.specs.Records.{IsUndone, KeepsCrash};
-ghost use Rattle.cs_store.specs.Store.{Ends};
+ghost use Rattle.cs_store.specs.Store.{AddsTable, Ends, KeepsStore, tables_in};
 
 use crate::fault::StoreError;
 use crate::rows::Rows;
@@ -21,6 +24,26 @@ pub struct SqlBatch<'c, S: Alter> {
 }
 
 impl<S: Alter> SqlBatch<'_, S> {
+    /// Adds a table without rows.
+    pub(crate) fn declare(
+        &mut self,
+        alloc: Global,
+        name: &str,
+        schema: &Schema,
+    ) -> Result<(), StoreError>
+        requires { IsName name.now }
+        ensures declared { HasCleanDisk (state S.Store self.new.store.now)
+            → OnOk result (AddsTable (tables_in (state S.Store self.old.store.now).now) name.now schema.now
+            (tables_in (state S.Store self.new.store.now).now)) }
+        ensures refused { HasCleanDisk (state S.Store self.new.store.now) → IfErr result (λ e. ((e ≡ TakenName)
+            × IsDeclared (tables_in (state S.Store self.old.store.now).now) name.now) ⊎ IsResource e) }
+        ensures named { IfErr result (λ e. (e ≡ TakenName) ⊎ IsReadRefusal e) }
+        ensures same_reference { self.new.store.ghost_name ≡ self.old.store.ghost_name }
+        ensures kept { KeepsStore (state S.Store self.old.store.now) (state S.Store self.new.store.now) }
+    {
+        self.store.add_table(alloc, name, schema)
+    }
+
     /// Commits the writes of the batch. Where it is refused, the store is as when the batch began.
     pub fn commit(self) -> Result<(), StoreError>
         ensures committed { HasCleanDisk (state S.Store self.exit.0.now)
@@ -66,7 +89,7 @@ impl<S: Alter> Rows for SqlBatch<'_, S> {
     ghost keeps_then = { λ a b c one two. (two.0 ∙ one.0, laws.keeps_then one.1 two.1) };
 
     fn schema(&mut self, alloc: Global, table: &str) -> Result<Option<Schema>, StoreError> {
-        self.store.find_schema(alloc, table)
+        self.store.schema(alloc, table)
     }
 
     fn get(&mut self, alloc: Global, table: &str, key: &Key) -> Result<Option<Row>, StoreError> {

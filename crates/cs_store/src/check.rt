@@ -120,7 +120,7 @@ fn read_table(alloc: Global, stored: &Record) -> Result<Option<(String, Schema)>
 }
 
 /// The name of a table.
-fn read_name(alloc: Global, bytes: &[u8]) -> Result<String, StoreError>
+pub(crate) fn read_name(alloc: Global, bytes: &[u8]) -> Result<String, StoreError>
     ensures read { IfOk result (λ name. IsName (string_bytes name) × (bytes.now ≡ string_bytes name)) }
     ensures refused { IfErr result (λ e. ((e ≡ Damaged) × (¬ IsName bytes.now)) ⊎ (e ≡ OutOfMemory)) }
 {

@@ -20,6 +20,7 @@ use std::str;
 #[tactic(auto, unfolding(crate::specs::Declaration::declaration_bytes))]
 pub(crate) fn write_declaration(alloc: Global, schema: &Schema) -> Result<Vec<u8>, StoreError>
     ensures spelled { IfOk result (λ b. b.items ≡ declaration_bytes schema.now) }
+    ensures well_formed { OnOk result (IsSchema schema.now) }
     ensures refused { IfErr result (λ e. e ≡ OutOfMemory) }
 {
     let mut bytes = Vec::new(alloc);

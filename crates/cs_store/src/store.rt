@@ -1,22 +1,35 @@
 //! Stores: tables of rows in a database.
-ghost use Rattle.std.specs.Prelude.{◌≡◌, IfOk, IfErr, OnOk, IfSome};
+ghost use Rattle.std.specs.Prelude.{◌≡◌, ◌⊎◌, IfOk, IfErr, OnOk, OnErr, IfSome, None, Ok, Err, map as map_list, string_bytes};
 ghost use Rattle.std.specs.FinMap as map;
+ghost use Rattle.cs_value.specs.State as tables;
 ghost use Rattle.cs_value.specs.State.{schema_at, row_at, rows_at, with_row, without_row};
-ghost use Rattle.cs_store.specs.Faults.{IsResource, IsReadRefusal};
+ghost use Rattle.cs_store.specs.declared.fault.StoreError.TheVariants.{DamagedStore as Damaged, NoTable as NoSuchTable};
+ghost use Rattle.cs_store.specs.declared.fault.StoreError.TheVariants.{TableExists as TakenName};
+ghost use Rattle.cs_value.specs.Table.{IsName};
+ghost use Rattle.cs_store.specs.Faults.{IsResource, IsReadRefusal, IsEditRefusal};
+ghost use Rattle.cs_store.specs.Editing.{Declares, schema_of, edited, written_of};
 ghost use Rattle.cs_store.specs.Records.{KeepsContent, KeepsCrash};
 ghost use Rattle.cs_store.specs.Rows.{IsDeclared, Fits};
 ghost use Rattle.sqlite.specs.State.{HasCleanDisk};
 ghost use Rattle.sqlite.specs.Held.{state};
-ghost use Rattle.cs_store.specs.Store.{Begins, KeepsStore, tables_in};
+ghost use Rattle.sqlite.specs.Held.{Held};
+ghost use Rattle.sqlite.specs.Files.{file_state};
+ghost use Rattle.sqlite.specs.Start.{FindsIn};
+ghost use Rattle.sqlite.specs.Steps.{over_memory};
+ghost use Rattle.sqlite_wal.specs.Files.{image_at};
+ghost use Rattle.cs_store.specs.Store.{AddsTable, Adopts, Begins, HoldsTables, IsAtRest, KeepsStore, tables_in};
 
 use crate::batch::SqlBatch;
+use crate::edit::{Edit, Written};
+use crate::editing::edit_in;
 use crate::fault::StoreError;
 use crate::schema::Schema;
-use crate::{tables, transactions};
-use cs_value::{Key, Row};
-use sqlite::{Alter, Connection};
+use crate::{adoption, tables, transactions};
+use cs_value::{Key, Row, is_table_name};
+use sqlite::{Alter, Connection, FileFrom, FileStore, MemStore, Start};
 use std::alloc::Global;
 use std::marker::Model;
+use std::rt::HostRuntime;
 
 /// Tables of rows in a database, in memory or in a file.
 pub struct Store<S: Alter> {
@@ -34,6 +47,85 @@ impl<S: Alter> Model for Store<S> {
     ghost view = { λ s. s.conn };
 
     ghost invariant = { λ s. IsSound (state S.Store s.conn) };
+}
+
+impl Store<MemStore> {
+    /// A new store in memory, without tables.
+    ///
+    /// Refused where memory or the database refuses.
+    pub fn new_memory(alloc: Global) -> Result<Store<MemStore>, StoreError>
+        ensures empty { IfOk result (λ s. HasCleanDisk (state over_memory s)
+            → tables_in (state over_memory s).now ≡ map.empty) }
+        ensures at_rest { IfOk result (λ s. HasCleanDisk (state over_memory s) → IsAtRest (state over_memory s)) }
+        ensures named { IfErr result IsReadRefusal }
+    {
+        let conn = Connection::open_in_memory(alloc)?;
+        match Store::adopt(alloc, conn) {
+            Ok(store) => Ok(store),
+            Err((error, _conn)) => Err(error),
+        }
+    }
+}
+
+impl<S: Start> Store<FileStore<FileFrom<S>>> {
+    /// Opens the store in the database file at a path. Where there is no file one is made, with sums
+    /// of its pages or without. `start` stands for what the files are taken to hold.
+    ///
+    /// Refused as by [`adopt`](Store::adopt), and with [`StoreFault`](StoreError::StoreFault) for a
+    /// file that is no database or cannot be opened.
+    pub fn open_from(
+        rt: &HostRuntime,
+        path: &str,
+        new_has_sums: bool,
+        start: S,
+    ) -> Result<Store<FileStore<FileFrom<S>>>, StoreError>
+        ensures opened { IfOk result (λ s. HasCleanDisk (file_state s)
+            → (found : Held _) × FindsIn (image_at S.Start) (file_state found) × Adopts (file_state found) (file_state s)) }
+        ensures named { IfErr result IsReadRefusal }
+    {
+        match Connection::open_from(rt, path, new_has_sums, start) {
+            Ok(conn) => match Store::adopt(rt.alloc(), conn) {
+                Ok(store) => Ok(store),
+                Err((error, _conn)) => Err(error),
+            },
+            Err((error, _files)) => Err(StoreError::from(error)),
+        }
+    }
+}
+
+impl<S: Alter> Store<S> {
+    /// Takes a database over as a store, in one transaction. Where the database declares nothing, or
+    /// its table of records is empty, a new store is made there; else each record is checked.
+    ///
+    /// Refuses with [`DamagedStore`](StoreError::DamagedStore) where the records are not those of
+    /// tables, or a table of the name `rec` was declared otherwise, and with
+    /// [`StoreFault`](StoreError::StoreFault) where the database has other tables, where a transaction
+    /// is open, and where the database refuses. The connection is handed back as it was.
+    pub fn adopt(
+        alloc: Global,
+        mut conn: Connection<S>,
+    ) -> Result<Store<S>, (StoreError, Connection<S>)>
+        ensures adopted { IfOk result (λ s. HasCleanDisk (state S.Store s)
+            → Adopts (state S.Store conn) (state S.Store s)) }
+        ensures refused { IfErr result (λ e. HasCleanDisk (state S.Store e.1) → ((e.0 ≡ Damaged)
+            × ((held : tables.State) → ¬ HoldsTables (state S.Store conn).now held)) ⊎ IsResource e.0) }
+        ensures named { IfErr result (λ e. IsReadRefusal e.0) }
+        ensures kept { IfErr result (λ e. HasCleanDisk (state S.Store e.1)
+            → KeepsContent (state S.Store conn) (state S.Store e.1)) }
+    {
+        match adoption::adopt(&mut conn, alloc) {
+            Ok(()) => Ok(Store { conn }),
+            Err(error) => Err((error, conn)),
+        }
+    }
+
+    /// The connection to the database of the store.
+    pub fn into_connection(self) -> Connection<S>
+        ensures { result ≡ self }
+    {
+        let Store { conn } = self;
+        conn
+    }
 }
 
 impl<S: Alter> Store<S> {
@@ -63,12 +155,51 @@ impl<S: Alter> Store<S> {
         }
     }
 
-    /// The schema of a table, and none where no table has the name.
-    pub(crate) fn find_schema(
+    /// Declares a table without rows: the names of its columns, of which the marked ones are the key.
+    ///
+    /// Refuses with [`BadSchema`](StoreError::BadSchema) where the name or the columns make no table,
+    /// and then with [`TableExists`](StoreError::TableExists). A refusal changes nothing.
+    pub fn declare(
         &mut self,
         alloc: Global,
         name: &str,
-    ) -> Result<Option<Schema>, StoreError>
+        columns: &[String],
+        keys: &[bool],
+    ) -> Result<(), StoreError>
+        ensures declared { HasCleanDisk (state S.Store self.new)
+            → OnOk result (Declares (tables_in (state S.Store self.old).now) name.now
+            (schema_of columns.now keys.now) (Ok (tables_in (state S.Store self.new).now))) }
+        ensures refused { HasCleanDisk (state S.Store self.new)
+            → IfErr result (λ e. (Declares (tables_in (state S.Store self.old).now) name.now
+            (schema_of columns.now keys.now) (Err e)) ⊎ IsResource e) }
+        ensures at_rest { HasCleanDisk (state S.Store self.new) → OnOk result (IsAtRest (state S.Store self.new)) }
+        ensures kept { HasCleanDisk (state S.Store self.new)
+            → OnErr result (KeepsContent (state S.Store self.old) (state S.Store self.new)) }
+    {
+        if !is_table_name(name) {
+            return Err(StoreError::BadSchema);
+        }
+        let schema = Schema::new(alloc, columns, keys)?;
+        let mut batch = self.begin()?;
+        batch.declare(alloc, name, &schema)?;
+        batch.commit()
+    }
+
+    /// The names of the tables, by their bytes.
+    pub fn tables(&mut self, alloc: Global) -> Result<Vec<String>, StoreError>
+        ensures listed { HasCleanDisk (state S.Store self.new) → IfOk result (λ names. map_list string_bytes names.items
+            ≡ map.keys (tables_in (state S.Store self.old).now)) }
+        ensures same { HasCleanDisk (state S.Store self.new) → OnOk result ((state S.Store self.new).now
+            ≡ (state S.Store self.old).now) }
+        ensures refused { HasCleanDisk (state S.Store self.new) → IfErr result IsResource }
+        ensures named { IfErr result IsReadRefusal }
+        ensures kept { KeepsStore (state S.Store self.old) (state S.Store self.new) }
+    {
+        tables::list_tables(&mut self.conn, alloc)
+    }
+
+    /// The schema of a table, and none where no table has the name.
+    pub fn schema(&mut self, alloc: Global, name: &str) -> Result<Option<Schema>, StoreError>
         ensures found { HasCleanDisk (state S.Store self.new)
             → IfOk result (λ o. o ≡ schema_at (tables_in (state S.Store self.old).now) name.now) }
         ensures same { HasCleanDisk (state S.Store self.new) → OnOk result ((state S.Store self.new).now
@@ -78,6 +209,70 @@ impl<S: Alter> Store<S> {
         ensures kept { KeepsStore (state S.Store self.old) (state S.Store self.new) }
     {
         tables::find_schema(&mut self.conn, alloc, name)
+    }
+
+    /// The rows of a table, by the bytes of their keys.
+    ///
+    /// Refuses with [`NoTable`](StoreError::NoTable).
+    pub fn rows(&mut self, alloc: Global, name: &str) -> Result<Vec<Row>, StoreError>
+        ensures listed { HasCleanDisk (state S.Store self.new)
+            → IfOk result (λ rows. rows.items
+            ≡ map.values (rows_at (tables_in (state S.Store self.old).now) name.now)) }
+        ensures same { HasCleanDisk (state S.Store self.new) → OnOk result ((state S.Store self.new).now
+            ≡ (state S.Store self.old).now) }
+        ensures refused { HasCleanDisk (state S.Store self.new) → IfErr result (λ e. ((e ≡ NoSuchTable)
+            × (schema_at (tables_in (state S.Store self.old).now) name.now ≡ None)) ⊎ IsResource e) }
+        ensures named { IfErr result (λ e. (e ≡ NoSuchTable) ⊎ IsReadRefusal e) }
+        ensures kept { KeepsStore (state S.Store self.old) (state S.Store self.new) }
+    {
+        match self.schema(alloc, name) {
+            Ok(Some(_)) => self.list_rows(alloc, name),
+            Ok(None) => Err(StoreError::NoTable),
+            Err(error) => Err(error),
+        }
+    }
+
+    /// The row of a table under a key, and none where no row has the key.
+    ///
+    /// Refuses with [`NoTable`](StoreError::NoTable).
+    pub fn get(
+        &mut self,
+        alloc: Global,
+        name: &str,
+        key: &Key,
+    ) -> Result<Option<Row>, StoreError>
+        ensures found { HasCleanDisk (state S.Store self.new)
+            → IfOk result (λ o. o ≡ row_at (tables_in (state S.Store self.old).now) name.now key.now) }
+        ensures same { HasCleanDisk (state S.Store self.new) → OnOk result ((state S.Store self.new).now
+            ≡ (state S.Store self.old).now) }
+        ensures refused { HasCleanDisk (state S.Store self.new) → IfErr result (λ e. ((e ≡ NoSuchTable)
+            × (schema_at (tables_in (state S.Store self.old).now) name.now ≡ None)) ⊎ IsResource e) }
+        ensures named { IfErr result (λ e. (e ≡ NoSuchTable) ⊎ IsReadRefusal e) }
+        ensures kept { KeepsStore (state S.Store self.old) (state S.Store self.new) }
+    {
+        match self.schema(alloc, name) {
+            Ok(Some(_)) => self.find_row(alloc, name, key),
+            Ok(None) => Err(StoreError::NoTable),
+            Err(error) => Err(error),
+        }
+    }
+
+    /// Carries out an edit as [`edit_in`] does, and commits it. A refusal changes nothing.
+    pub fn edit(&mut self, alloc: Global, edit: &Edit) -> Result<Vec<Written>, StoreError>
+        ensures edited { HasCleanDisk (state S.Store self.new)
+            → IfOk result (λ w. edited (tables_in (state S.Store self.old).now) edit.now
+            ≡ Ok (record { state = tables_in (state S.Store self.new).now; written = map_list written_of w.items })) }
+        ensures refused { HasCleanDisk (state S.Store self.new) → IfErr result (λ e.
+            (edited (tables_in (state S.Store self.old).now) edit.now ≡ Err e) ⊎ IsResource e) }
+        ensures named { IfErr result IsEditRefusal }
+        ensures at_rest { HasCleanDisk (state S.Store self.new) → OnOk result (IsAtRest (state S.Store self.new)) }
+        ensures kept { HasCleanDisk (state S.Store self.new)
+            → OnErr result (KeepsContent (state S.Store self.old) (state S.Store self.new)) }
+    {
+        let mut batch = self.begin()?;
+        let written = edit_in(alloc, &mut batch, edit)?;
+        batch.commit()?;
+        Ok(written)
     }
 
     /// The row of a table under a key, and none where there is none.
@@ -149,5 +344,45 @@ impl<S: Alter> Store<S> {
             return Err(StoreError::StoreFault);
         }
         tables::remove_row(&mut self.conn, name, key)
+    }
+
+    /// Adds a table without rows, in a batch.
+    pub(crate) fn add_table(
+        &mut self,
+        alloc: Global,
+        name: &str,
+        schema: &Schema,
+    ) -> Result<(), StoreError>
+        requires { IsName name.now }
+        ensures declared { HasCleanDisk (state S.Store self.new)
+            → OnOk result (AddsTable (tables_in (state S.Store self.old).now) name.now schema.now
+            (tables_in (state S.Store self.new).now)) }
+        ensures refused { HasCleanDisk (state S.Store self.new) → IfErr result (λ e. ((e ≡ TakenName)
+            × IsDeclared (tables_in (state S.Store self.old).now) name.now) ⊎ IsResource e) }
+        ensures named { IfErr result (λ e. (e ≡ TakenName) ⊎ IsReadRefusal e) }
+        ensures kept { KeepsStore (state S.Store self.old) (state S.Store self.new) }
+    {
+        match self.schema(alloc, name) {
+            Ok(Some(_)) => Err(StoreError::TableExists),
+            Ok(None) => self.put_table(alloc, name, schema),
+            Err(error) => Err(error),
+        }
+    }
+
+    /// Declares a table without rows under a name that no table has. It is refused outside a batch.
+    fn put_table(&mut self, alloc: Global, name: &str, schema: &Schema) -> Result<(), StoreError>
+        requires named { IsName name.now }
+        requires free { HasCleanDisk (state S.Store self.old)
+            → schema_at (tables_in (state S.Store self.old).now) name.now ≡ None }
+        ensures declared { HasCleanDisk (state S.Store self.new)
+            → OnOk result (AddsTable (tables_in (state S.Store self.old).now) name.now schema.now
+            (tables_in (state S.Store self.new).now)) }
+        ensures refused { IfErr result IsResource }
+        ensures kept { KeepsStore (state S.Store self.old) (state S.Store self.new) }
+    {
+        if self.conn.is_autocommit() {
+            return Err(StoreError::StoreFault);
+        }
+        tables::put_table(&mut self.conn, alloc, name, schema)
     }
 }

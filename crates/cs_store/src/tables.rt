@@ -2,20 +2,25 @@
 ghost use Rattle.std.specs.FinMap as map;
 ghost use Rattle.cs_store.specs.declared.fault.StoreError.TheVariants.{DamagedStore as Damaged};
 ghost use Rattle.std.specs.Prelude.{◌≡◌, ◌⊎◌, map as map_list, IsTrue, OnOk, IfOk};
-ghost use Rattle.std.specs.Prelude.{IfErr, IfSome, Option, Some, List, option_map};
+ghost use Rattle.std.specs.Prelude.{IfErr, IfSome, Option, Some, None, ℕ, List, [], ◌∷◌, option_map, string_bytes};
+ghost use Rattle.std.specs.List.{AllByRecursion};
+ghost use Rattle.cs_value.specs.Table.{IsName};
 ghost use Rattle.cs_value.specs.declared.value.OwnedValue.{OwnedValue};
 ghost use Rattle.cs_value.specs.Value.{IsRow};
 ghost use Rattle.cs_value.specs.Table.{IsKeyedRow};
 ghost use Rattle.cs_value.specs.Spelling.{row_bytes};
-ghost use Rattle.cs_value.specs.State.{SchemaData, IsSchema, schema_at, row_at, rows_at, with_row, without_row};
+ghost use Rattle.cs_value.specs.State.{SchemaData, IsSchema, schema_at, row_at, rows_at};
+ghost use Rattle.cs_value.specs.State.{with_row, without_row};
 ghost use Rattle.cs_store.specs.Declaration.{declaration_bytes};
 ghost use Rattle.sqlite.specs.State.{HasCleanDisk};
 ghost use Rattle.sqlite.specs.Held.{state};
 ghost use Rattle.cs_store.specs.Faults.{IsResource, IsReadRefusal};
 ghost use Rattle.cs_store.specs.Rows.{IsDeclared, Fits};
-ghost use Rattle.cs_store.specs.Store.{HoldsState, IsSound, KeepsStore, Recovers, RecoversList, AreStored, tables_in};
+ghost use Rattle.cs_store.specs.Store.{HoldsState, IsSound, KeepsStore, Recovers, RecoversList};
+ghost use Rattle.cs_store.specs.Store.{AddsTable, AreNamed, AreStored, tables_in};
 
-use crate::declaration::read_declaration;
+use crate::check::read_name;
+use crate::declaration::{read_declaration, write_declaration};
 use crate::fault::StoreError;
 use crate::records::{Keyed, find_record, list_records, remove_record, set_record};
 use crate::schema::Schema;
@@ -216,4 +221,74 @@ pub(crate) fn remove_row<S: Alter>(
         → KeepsStore (state S.Store conn.old) (state S.Store conn.new) }
 {
     remove_record(conn, name, key.bytes())
+}
+
+/// The names of the tables, by their bytes.
+pub(crate) fn list_tables<S: Alter>(
+    conn: &mut Connection<S>,
+    alloc: Global,
+) -> Result<Vec<String>, StoreError>
+    ensures listed { IsSound (state S.Store conn.old) → HasCleanDisk (state S.Store conn.new)
+        → IfOk result (λ names. map_list string_bytes names.items ≡ map.keys (tables_in (state S.Store conn.old).now)) }
+    ensures same { HasCleanDisk (state S.Store conn.new) → OnOk result ((state S.Store conn.new).now
+        ≡ (state S.Store conn.old).now) }
+    ensures refused { IsSound (state S.Store conn.old) → HasCleanDisk (state S.Store conn.new)
+        → IfErr result IsResource }
+    ensures named { IfErr result IsReadRefusal }
+    ensures kept { KeepsStore (state S.Store conn.old) (state S.Store conn.new) }
+{
+    match list_records(conn, alloc, "") {
+        Ok(listed) => names_behind(alloc, &listed),
+        Err(error) => Err(error),
+    }
+}
+
+/// The names that records under the empty name are of, behind the first, which is the version's.
+fn names_behind(alloc: Global, listed: &[Keyed]) -> Result<Vec<String>, StoreError>
+    ensures read { (names : List (List ℕ)) → map_list (λ e. e.0) listed.now ≡ [] ∷ names → AllByRecursion IsName names
+        → AreNamed result names }
+    ensures named { IfErr result IsReadRefusal }
+{
+    match listed {
+        [_version, declared @ ..] => names_of(alloc, declared),
+        [] => Ok(Vec::new(alloc)),
+    }
+}
+
+/// The names that the records are of.
+fn names_of(alloc: Global, listed: &[Keyed]) -> Result<Vec<String>, StoreError>
+    ensures read { IfOk result (λ names. map_list string_bytes names.items ≡ map_list (λ e. e.0) listed.now) }
+    ensures refused { IfErr result (λ e. ((e ≡ Damaged) × (¬ AllByRecursion IsName (map_list (λ e. e.0) listed.now)))
+        ⊎ IsResource e) }
+{
+    let mut names = Vec::new(alloc);
+    for record in listed {
+        match read_name(alloc, &record.key) {
+            Ok(name) => names.push(name)?,
+            Err(error) => return Err(error),
+        }
+    }
+    Ok(names)
+}
+
+/// Declares a table without rows under a name that no table has, inside a transaction.
+pub(crate) fn put_table<S: Alter>(
+    conn: &mut Connection<S>,
+    alloc: Global,
+    name: &str,
+    schema: &Schema,
+) -> Result<(), StoreError>
+    requires named { IsName name.now }
+    requires free { HasCleanDisk (state S.Store conn.old)
+        → schema_at (tables_in (state S.Store conn.old).now) name.now ≡ None }
+    ensures declared { IsSound (state S.Store conn.old) → IsTrue (state S.Store conn.old).in_transaction
+        → HasCleanDisk (state S.Store conn.new)
+        → OnOk result (AddsTable (tables_in (state S.Store conn.old).now) name.now schema.now
+        (tables_in (state S.Store conn.new).now)) }
+    ensures refused { IfErr result IsResource }
+    ensures kept { IsSound (state S.Store conn.old) → IsTrue (state S.Store conn.old).in_transaction
+        → KeepsStore (state S.Store conn.old) (state S.Store conn.new) }
+{
+    let bytes = write_declaration(alloc, schema)?;
+    set_record(conn, "", name.as_bytes(), &bytes)
 }
