@@ -9,7 +9,10 @@ use Rattle.cs_value.specs.Value.{IsRow}
 use Rattle.cs_value.specs.Table.{IsKeyedRow}
 use Rattle.cs_value.specs.Spelling.{row_bytes}
 use Rattle.cs_value.specs.State as tables
+use Rattle.sqlite_trees.specs.Tree.{Trees}
+use Rattle.sqlite_wal.specs.Recovery.{Image}
 use Rattle.sqlite.specs.Effect.{Database}
+use Rattle.sqlite.specs.Files.{HoldsDatabase, AreFoundIn}
 use Rattle.sqlite.specs.State.{State, HasCleanDisk, Shows, KeepsCommit}
 use Rattle.cs_store.specs.declared.fault.StoreError.{StoreError}
 use Rattle.cs_store.specs.Faults.{IsResource}
@@ -75,6 +78,7 @@ pub record IsAtRest (s : State) : Type 0 where
 
 -- a store is taken over: no transaction was open, and the tables that the database held are committed
 pub record Adopts (old new : State) : Type 0 where
+  pub was_clean : HasCleanDisk old
   pub outside : old.in_transaction ≡ false
   pub was_open : IsTrue old.is_open
   pub at_rest : IsAtRest new
@@ -85,6 +89,14 @@ pub record Adopts (old new : State) : Type 0 where
 pub record IsInside (s : State) : Type 0 where
   pub is_open : IsTrue s.is_open
   pub inside : IsTrue s.in_transaction
+
+-- files that are opened as a store: the database that they held, whose tables the store holds
+pub record OpensFiles (image : Image) (new : State) : Type 0 where
+  pub db : Database
+  pub found : (trees : Trees) → HoldsDatabase image trees → db.trees ≡ trees
+  pub reads : AreFoundIn image db.trees
+  pub held : HoldsTables db (tables_in new.now)
+  pub at_rest : IsAtRest new
 
 -- inside a transaction, the tables that the database held are held as a store holds them
 pub record SetsUp (old new : State) : Type 0 where

@@ -12,12 +12,11 @@ ghost use Rattle.cs_store.specs.Records.{KeepsContent, KeepsCrash};
 ghost use Rattle.cs_store.specs.Rows.{IsDeclared, Fits};
 ghost use Rattle.sqlite.specs.State.{HasCleanDisk};
 ghost use Rattle.sqlite.specs.Held.{state};
-ghost use Rattle.sqlite.specs.Held.{Held};
 ghost use Rattle.sqlite.specs.Files.{file_state};
-ghost use Rattle.sqlite.specs.Start.{FindsIn};
 ghost use Rattle.sqlite.specs.Steps.{over_memory};
 ghost use Rattle.sqlite_wal.specs.Files.{image_at};
-ghost use Rattle.cs_store.specs.Store.{AddsTable, Adopts, Begins, HoldsTables, IsAtRest, KeepsStore, tables_in};
+ghost use Rattle.cs_store.specs.Store.{AddsTable, Adopts, Begins, HoldsTables, IsAtRest, KeepsStore, OpensFiles};
+ghost use Rattle.cs_store.specs.Store.{tables_in};
 
 use crate::batch::SqlBatch;
 use crate::edit::{Edit, Written};
@@ -80,7 +79,7 @@ impl<S: Start> Store<FileStore<FileFrom<S>>> {
         start: S,
     ) -> Result<Store<FileStore<FileFrom<S>>>, StoreError>
         ensures opened { IfOk result (λ s. HasCleanDisk (file_state s)
-            → (found : Held _) × FindsIn (image_at S.Start) (file_state found) × Adopts (file_state found) (file_state s)) }
+            → OpensFiles (image_at S.Start) (file_state s)) }
         ensures named { IfErr result IsReadRefusal }
     {
         match Connection::open_from(rt, path, new_has_sums, start) {
