@@ -1,8 +1,8 @@
 -- Stores stay stores, whatever a call answers.
 use Rattle.std.proofs.Common.{◌≡◌, Bool, true, false, not, IsTrue, inl, inr, refl, sym, subst, ◌∙◌, true≢false}
 use Rattle.sqlite.specs.State.{State, HasCleanDisk, KeepsCommit, IsUnchanged, IsRolledBack}
-use Rattle.cs_store.specs.Records.{Rests, GoesOn, KeepsContent, KeepsCrash}
-use Rattle.cs_store.specs.Store.{HoldsState, IsStore, KeepsStore}
+use Rattle.cs_store.specs.Records.{Rests, GoesOn, IsUndone, KeepsContent, KeepsCrash}
+use Rattle.cs_store.specs.Store.{HoldsState, IsStore, Begins, KeepsStore}
 use Rattle.cs_store.specs.Laws.{was_clean}
 
 unchanged_store : (old new : State) → IsUnchanged old new → IsStore old → IsStore new
@@ -91,6 +91,20 @@ write_keeps old new inside crash wrote = record {
   sound = λ sound clean. let w = wrote clean in goes_on_store old new w.0 w.1 (sound (was_clean old new crash clean));
   outside = λ sound clean out. absurd (true≢false (sym inside ∙ out));
 }
+
+-- a transaction that is undone leaves the content as it was
+pub undone_content : (old begun mid new : State) → Begins old begun → KeepsCommit begun mid → IsUndone mid new → KeepsContent old new
+undone_content old begun mid new begins keeps undone = record {
+  was_open = λ k. begins.shown.was_open;
+  mode = undone.autocommit ∙ sym begins.autocommit;
+  inside = λ k is. absurd (true≢false (sym k ∙ undone.autocommit));
+  now = λ k. undone.now k ∙ keeps.committed (undone.was_open k) ∙ begins.shown.committed_is ∙ sym begins.settled;
+  committed = λ k. undone.committed k ∙ keeps.committed (undone.was_open k) ∙ begins.shown.committed_is;
+}
+
+-- and so does a batch
+pub undone_batch : (old begun mid new : State) → (HasCleanDisk begun → Begins old begun) → KeepsStore begun mid → HasCleanDisk mid → IsUndone mid new → KeepsContent old new
+undone_batch old begun mid new begins keeps clean undone = undone_content old begun mid new (begins (was_clean begun mid keeps.crash clean)) (keeps.commit clean) undone
 
 -- a connection that is not in autocommit is in a transaction
 pub in_transaction : (b : Bool) → false ≡ not b → IsTrue b

@@ -1,12 +1,13 @@
 -- What calls on a store keep, one after another.
 use Rattle.std.proofs.Common.{inl, refl, subst, IsTrue, ◌∙◌, arith}
-use Rattle.sqlite.specs.State.{State, HasCleanDisk}
+use Rattle.sqlite_trees.specs.Tree.{Trees}
+use Rattle.sqlite.specs.State.{State, HasCleanDisk, Survives}
 use Rattle.sqlite.proofs.StateLemmas.{survives_then}
 use Rattle.cs_store.specs.Records.{KeepsContent, KeepsCrash}
 use Rattle.cs_store.specs.Store.{KeepsStore}
 
 -- an honest disk was honest before
-pub was_clean : (old new : State) → KeepsCrash old new → HasCleanDisk new → HasCleanDisk old
+pub was_clean : {P : Trees → Type 0} (old new : State) → Survives old new P → HasCleanDisk new → HasCleanDisk old
 was_clean old new keeps clean = omega (arith, keeps.clean)
 
 -- the content is kept by doing nothing, and by one call after another

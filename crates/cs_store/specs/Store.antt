@@ -63,6 +63,7 @@ Recovers (Err e) stored = IsResource e
 -- a transaction begins with what was committed
 pub record Begins (old new : State) : Type 0 where
   pub autocommit : old.in_transaction ≡ false
+  pub settled : old.now ≡ old.committed
   pub shown : Shows old new old.now old.committed true
 
 -- it ends, and what it shows is committed

@@ -1,7 +1,30 @@
+use Rattle.std.proofs.Common.{◌≡◌, OnErr, sym, subst, rules}
+use Rattle.sqlite.specs.Held.{state, Held}
+use Rattle.sqlite.specs.State.{HasCleanDisk}
+use Rattle.cs_store.specs.Laws.{was_clean}
+use Rattle.cs_store.specs.Records.{KeepsContent}
+use Rattle.cs_store.proofs.StoreLaws.{undone_batch}
+use Rattle.cs_store.proofs.QueryLaws.{on_err}
 use Rattle.cs_store.proofs.store.Store.edit.Goals as goal
 
 pub returns-in_err-written-clause-kept : goal.returns-in_err-written-clause-kept
-returns-in_err-written-clause-kept g c clean = ?
+returns-in_err-written-clause-kept g c clean =
+    let old = state g.S.Store c.args.self.now in
+    let begun = state g.S.Store c.in_ok-batch.batch.store.now in
+    let mid = state g.S.Store c.edit_in.new.rows.store.now in
+    let last = state g.S.Store c.drop-batch.new.self.0 in
+    let same : c.drop-batch.new.self.0 ≡ c.self-in_err-written-1.given.0 = search rules in
+    let last_clean : HasCleanDisk last = rw same clean in
+    let kept = undone_batch old begun mid last c.in_ok-batch.ensures.begun c.edit_in.ensures.kept.1 (was_clean mid last c.drop-batch.ensures.survives last_clean) (c.drop-batch.ensures.undone last_clean) in
+    rw (← same) (on_err c.from_residual-in_err-written.result (KeepsContent old last) kept)
 
 pub returns-in_err-commit-clause-kept : goal.returns-in_err-commit-clause-kept
-returns-in_err-commit-clause-kept g c clean = ?
+returns-in_err-commit-clause-kept g c clean =
+    let old = state g.S.Store c.args.self.now in
+    let begun = state g.S.Store c.in_ok-batch.batch.store.now in
+    let mid = state g.S.Store c.edit_in.new.rows.store.now in
+    let last = state g.S.Store c.commit.new.self.0 in
+    let same : c.commit.new.self.0 ≡ c.self-2-1.given.0 = search rules in
+    let last_clean : HasCleanDisk last = rw same clean in
+    let kept = undone_batch old begun mid last c.in_ok-batch.ensures.begun c.edit_in.ensures.kept.1 (was_clean mid last c.commit.ensures.survives last_clean) (c.in_err-commit.ensures.undone last_clean) in
+    rw (← same) (on_err c.from_residual-in_err-commit.result (KeepsContent old last) kept)
