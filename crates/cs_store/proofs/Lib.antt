@@ -2,6 +2,7 @@ pub mod AdoptionLaws
 pub mod AnswerLaws
 pub mod CheckLaws
 pub mod DeclarationLaws
+pub mod DeclareLaws
 pub mod EditExamples
 pub mod EditLaws
 pub mod EditingLaws

@@ -56,6 +56,10 @@ pub on_ok_then : {X E : Type 0} (r : Result X E) (P Q : Type 0) → (P → Q) �
 on_ok_then (Ok x) P Q f p = f p
 on_ok_then (Err e) P Q f p = tt
 
+pub on_err_then : {X E : Type 0} (r : Result X E) (P Q : Type 0) → (P → Q) → OnErr r P → OnErr r Q
+on_err_then (Ok x) P Q f p = tt
+on_err_then (Err e) P Q f p = f p
+
 -- what follows of a refusal
 pub on_refusal : {X : Type 0} (r : Result X StoreError) (P Q : StoreError → Type 0) → ((e : StoreError) → P e → Q e) → IfErr r P → IfErr r Q
 on_refusal (Ok x) P Q f h = tt

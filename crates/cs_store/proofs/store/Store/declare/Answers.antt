@@ -1,4 +1,11 @@
-use Rattle.std.proofs.Common.{◌≡◌, OnErr, sym, subst, rules}
+use Rattle.std.proofs.Common.{◌≡◌, OnErr, sym, subst, ◌∙◌, rules}
+use Rattle.std.proofs.lemmas.Result.{err_from_is_err_and}
+use Rattle.cs_value.specs.Table.{IsName}
+use Rattle.cs_value.specs.State.{SchemaData, IsSchema}
+use Rattle.cs_store.specs.Editing.{schema_of}
+use Rattle.cs_store.specs.Store.{AddsTable, tables_in}
+use Rattle.cs_store.proofs.DeclareLaws.{committed_declares, taken_declares}
+use Rattle.cs_store.proofs.WriteLaws.{on_err_then}
 use Rattle.sqlite.specs.Held.{state, Held}
 use Rattle.sqlite.specs.State.{HasCleanDisk}
 use Rattle.cs_store.specs.Laws.{was_clean}
@@ -9,9 +16,17 @@ use Rattle.cs_store.proofs.store.Store.declare.Goals as goal
 
 pub returns-in_err-declare-clause-refused : goal.returns-in_err-declare-clause-refused
 returns-in_err-declare-clause-refused g c clean =
+    let old = state g.S.Store c.args.self.now in
+    let begun = state g.S.Store c.in_ok-batch.batch.store.now in
+    let mid = state g.S.Store c.declare.new.self.store.now in
+    let last = state g.S.Store c.drop-batch.new.self.0 in
     let same : c.drop-batch.new.self.0 ≡ c.self-in_err-declare-1.given.0 = search rules in
-    let refused = c.in_err-declare.ensures.refused in
-    ?
+    let last_clean : HasCleanDisk last = rw same clean in
+    let mid_clean = was_clean mid last c.drop-batch.ensures.survives last_clean in
+    let named : IsName c.args.name.now = search rules in
+    let is : IsSchema (schema_of c.args.columns.now c.args.keys.now) = subst IsSchema (c.schema.view_is ∙ c.in_ok-schema.ensures.made) c.schema.invariant in
+    let p = err_from_is_err_and c.from_residual-in_err-declare.result c.from_residual-in_err-declare.ensures.1 in
+    rw (p.1, p.2) (taken_declares old begun mid c.in_ok-batch.ensures.begun c.declare.ensures.kept mid_clean c.args.name.now _ c.in_err-declare.field-0.0 (named, is) (c.in_err-declare.ensures.refused mid_clean))
 
 pub returns-in_err-declare-clause-kept : goal.returns-in_err-declare-clause-kept
 returns-in_err-declare-clause-kept g c clean =
@@ -26,11 +41,26 @@ returns-in_err-declare-clause-kept g c clean =
 
 pub returns-clause-declared : goal.returns-clause-declared
 returns-clause-declared g c clean =
-    let committed = c.commit.ensures.committed in
-    let added = c.in_ok-declare.ensures.declared in
+    let old = state g.S.Store c.args.self.now in
+    let begun = state g.S.Store c.in_ok-batch.batch.store.now in
+    let mid = state g.S.Store c.declare.new.self.store.now in
+    let last = state g.S.Store c.commit.new.self.0 in
+    let same : c.commit.new.self.0 ≡ c.self-2-1.given.0 = search rules in
+    let last_clean : HasCleanDisk last = rw same clean in
+    let mid_clean = was_clean mid last c.commit.ensures.survives last_clean in
+    let named : IsName c.args.name.now = search rules in
     let made = c.in_ok-schema.ensures.made in
-    let named = c.if-not-is_table_name in
-    ?
+    let is : IsSchema (schema_of c.args.columns.now c.args.keys.now) = subst IsSchema (c.schema.view_is ∙ made) c.schema.invariant in
+    let added = subst (λ (s : SchemaData). AddsTable (tables_in begun.now) c.args.name.now s (tables_in mid.now)) made (c.in_ok-declare.ensures.declared mid_clean) in
+    rw (← same) (committed_declares old begun mid c.in_ok-batch.ensures.begun c.declare.ensures.kept mid_clean last c.args.name.now _ c.commit.result (named, is) added (c.commit.ensures.committed last_clean))
 
 pub returns-clause-kept : goal.returns-clause-kept
-returns-clause-kept g c clean = ?
+returns-clause-kept g c clean =
+    let old = state g.S.Store c.args.self.now in
+    let begun = state g.S.Store c.in_ok-batch.batch.store.now in
+    let mid = state g.S.Store c.declare.new.self.store.now in
+    let last = state g.S.Store c.commit.new.self.0 in
+    let same : c.commit.new.self.0 ≡ c.self-2-1.given.0 = search rules in
+    let last_clean : HasCleanDisk last = rw same clean in
+    let mid_clean = was_clean mid last c.commit.ensures.survives last_clean in
+    rw (← same) (on_err_then c.commit.result _ (KeepsContent old last) (λ undone. undone_batch old begun mid last c.in_ok-batch.ensures.begun c.declare.ensures.kept mid_clean undone) (c.commit.ensures.undone last_clean))

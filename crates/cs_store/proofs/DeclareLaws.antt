@@ -1,0 +1,37 @@
+-- What a declaration in a batch makes of the tables that a store held.
+use Rattle.std.proofs.Common.{◌≡◌, ◌⊎◌, ℕ, List, Result, Ok, Err, OnOk, inl, inr, sym, ap, subst, ◌∙◌}
+use Rattle.std.specs.FinMap as map
+use Rattle.cs_value.specs.Table.{IsName}
+use Rattle.cs_value.specs.State as tables
+use Rattle.sqlite.specs.Effect.{Database}
+use Rattle.sqlite.specs.State.{State, HasCleanDisk}
+use Rattle.cs_store.specs.declared.fault.StoreError.{StoreError}
+use Rattle.cs_store.specs.declared.fault.StoreError.TheVariants.{TableExists}
+use Rattle.cs_store.specs.Faults.{IsResource}
+use Rattle.cs_store.specs.Rows.{IsDeclared}
+use Rattle.cs_store.specs.Editing.{IsDeclarable, Declares}
+use Rattle.cs_store.specs.Store.{AddsTable, Begins, Ends, KeepsStore, tables_in}
+use Rattle.cs_store.specs.Laws.{was_clean}
+
+-- a table that is added was declared
+added_declares : (old new : tables.State) (name : List ℕ) (schema : tables.SchemaData) → IsDeclarable name schema → AddsTable old name schema new → Declares old name schema (Ok new)
+added_declares old new name schema may added = (may, added.free, added.added)
+
+module _ (old begun mid : State) (begins : HasCleanDisk begun → Begins old begun) (keeps : KeepsStore begun mid) (clean : HasCleanDisk mid) where
+  -- the batch begins with the tables that the store held
+  same_tables : tables_in begun.now ≡ tables_in old.now
+  same_tables = ap (λ (db : Database). tables_in db) (begins (was_clean begun mid keeps.crash clean)).shown.now_is
+
+  -- a table that a batch added is declared once the batch is committed
+  pub committed_declares : (last : State) (name : List ℕ) (schema : tables.SchemaData) {X E : Type 0} (r : Result X E) → IsDeclarable name schema
+      → AddsTable (tables_in begun.now) name schema (tables_in mid.now) → OnOk r (Ends mid last) → OnOk r (Declares (tables_in old.now) name schema (Ok (tables_in last.now)))
+  committed_declares last name schema (Err e) may added ends = tt
+  committed_declares last name schema (Ok x) may added ends =
+      added_declares (tables_in old.now) (tables_in last.now) name schema may (subst (λ s. AddsTable s name schema (tables_in last.now)) same_tables
+      (subst (λ (db : Database). AddsTable (tables_in begun.now) name schema (tables_in db)) (sym ends.shown.now_is) added))
+
+  -- and a name that it found taken is refused
+  pub taken_declares : (name : List ℕ) (schema : tables.SchemaData) (e : StoreError) → IsDeclarable name schema → ((e ≡ TableExists) × IsDeclared (tables_in begun.now) name) ⊎ IsResource e
+      → Declares (tables_in old.now) name schema (Err e) ⊎ IsResource e
+  taken_declares name schema e may (inl taken) = inl (subst (λ x. Declares (tables_in old.now) name schema (Err x)) (sym taken.0) (may, subst (λ s. IsDeclared s name) same_tables taken.1))
+  taken_declares name schema e may (inr resource) = inr resource
