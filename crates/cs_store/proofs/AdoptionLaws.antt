@@ -5,14 +5,17 @@ use Rattle.sqlite_value.specs.Order.{Row, column}
 use Rattle.sqlite_schema.specs.declared.schema.Schema.{Schema}
 use Rattle.cs_value.specs.State as tables
 use Rattle.sqlite.specs.Effect.{Database}
-use Rattle.sqlite.specs.State.{State, IsUnchanged}
+use Rattle.sqlite.specs.State.{State, Opens, IsUnchanged}
+use Rattle.sqlite.specs.Start.{FindsIn}
+use Rattle.sqlite.specs.Files.{AreFoundIn}
+use Rattle.sqlite_wal.specs.Recovery.{Image}
 use Rattle.cs_store.specs.declared.fault.StoreError.{StoreError}
 use Rattle.cs_store.specs.declared.fault.StoreError.TheVariants.{DamagedStore, NoMemory}
 use Rattle.cs_store.specs.Faults.{IsResource}
 use Rattle.cs_store.specs.Records.{RecordData, HoldsRecords, ListsAll, Sets, GoesOn, content, same_bytes, is_under, records_of, records_in, record_schema, empty_schema}
 use Rattle.cs_store.specs.Stored.{version, Stores, state_of}
 use Rattle.cs_store.specs.Valid.{AreValid}
-use Rattle.cs_store.specs.Store.{HoldsState, HoldsTables, SetsUp, tables_in}
+use Rattle.cs_store.specs.Store.{HoldsState, HoldsTables, Adopts, OpensFiles, SetsUp, tables_in}
 use Rattle.cs_store.proofs.CheckLaws.{listed_there}
 use Rattle.cs_store.proofs.RowLaws.{same_itself}
 use Rattle.cs_store.proofs.StateOf.{records_first}
@@ -115,3 +118,15 @@ pub same_damage : {X : Type 0} (result : Result X StoreError) (old new : Databas
     → IfErr result (λ e. ((e ≡ DamagedStore) × ((held : tables.State) → HoldsTables new held → ⊥)) ⊎ IsResource e)
     → IfErr result (λ e. ((e ≡ DamagedStore) × ((held : tables.State) → HoldsTables old held → ⊥)) ⊎ IsResource e)
 same_damage result old new same h = subst (λ db. IfErr result (λ e. ((e ≡ DamagedStore) × ((held : tables.State) → HoldsTables db held → ⊥)) ⊎ IsResource e)) same h
+
+-- ---- files
+
+-- a store over files that were opened has the tables that they held
+pub opens_files : (image : Image) (found new : State) → FindsIn image found → Opens found → Adopts found new → OpensFiles image new
+opens_files image found new finds opens adopts = record {
+  db = found.now;
+  found = λ trees holds. ap (λ (db : Database). db.trees) opens.clean ∙ finds.holds trees holds;
+  reads = subst (λ (db : Database). AreFoundIn image db.trees) (sym opens.clean) finds.reads;
+  held = adopts.held;
+  at_rest = adopts.at_rest;
+}
