@@ -34,11 +34,11 @@ none_there rows none tab key = ap (λ (r : List Row). records_of r tab key) none
 pub none_listed : (rows : List Row) → ListsAll (records_of rows) [] → rows ≡ []
 none_listed [] lists = refl
 none_listed (row ∷ rows) lists = absurd (
-  let tab = content (column row 1) in
-  let key = content (column row 2) in
-  let own : is_under tab key row ≡ true = ap (λ b. b && same_bytes key key) (same_itself tab) ∙ same_itself key in
-  let some = records_first tab key row rows ∙ ap (λ b. cond b (Some (content (column row 3))) (records_of rows tab key)) own in
-  let e = lists.each tab key ∙ some in cc)
+    let tab = content (column row 1) in
+    let key = content (column row 2) in
+    let own : is_under tab key row ≡ true = ap (λ b. b && same_bytes key key) (same_itself tab) ∙ same_itself key in
+    let some = records_first tab key row rows ∙ ap (λ b. cond b (Some (content (column row 3))) (records_of rows tab key)) own in
+    let e = lists.each tab key ∙ some in cc)
 
 -- and no rows list none
 some_there : (rows : List Row) (listed : List RecordData) → ListsAll (records_of rows) listed → listed ≢ [] → rows ≢ []

@@ -234,12 +234,7 @@ impl<S: Alter> Store<S> {
     /// The row of a table under a key, and none where no row has the key.
     ///
     /// Refuses with [`NoTable`](StoreError::NoTable).
-    pub fn get(
-        &mut self,
-        alloc: Global,
-        name: &str,
-        key: &Key,
-    ) -> Result<Option<Row>, StoreError>
+    pub fn get(&mut self, alloc: Global, name: &str, key: &Key) -> Result<Option<Row>, StoreError>
         ensures found { HasCleanDisk (state S.Store self.new)
             → IfOk result (λ o. o ≡ row_at (tables_in (state S.Store self.old).now) name.now key.now) }
         ensures same { HasCleanDisk (state S.Store self.new) → OnOk result ((state S.Store self.new).now
