@@ -20,7 +20,7 @@ use Rattle.cs_store.specs.Records.{same_bytes}
 use Rattle.cs_store.specs.declared.edit.Edit.TheVariants.{Insert, Update, Delete}
 use Rattle.cs_store.specs.declared.fault.StoreError.{StoreError}
 use Rattle.cs_store.specs.declared.fault.StoreError.TheVariants.{TableExists, NoTable, BadSchema, KeyTaken, NoRow, RowWidth, NullInKey}
-use Rattle.cs_store.specs.Editing.{Declares, WrittenData, Edited, unless, when, written, inserted, moved, updated, deleted, found_table, in_table, edited}
+use Rattle.cs_store.specs.Editing.{Declares, WrittenData, Edited, unless, when, written, inserted_in, moved, updated_in, deleted_in, found_table, in_table, edited}
 use Rattle.cs_store.proofs.Examples.{two_columns, two_columns_is_schema}
 use Rattle.cs_store.proofs.MemoryLaws.{with_rows_found, rows_at_found, row_at_found}
 use Rattle.cs_store.proofs.StoredLaws.{get_put, get_taken}
@@ -125,7 +125,7 @@ module _ (table : String Global) (is_t : string_bytes table ≡ codes "t") where
   row_is_inserted : edited state (Insert table two_y) ≡ changed_to two_rows (wrote second_key None ∷ [])
   unfolding value_bytes
   row_is_inserted =
-      in_t held (λ name t. inserted state name t two_y)
+      in_t held (λ name t. inserted_in state name t two_y)
       ∙ ap (λ o. unless (when (is_some o) KeyTaken) (Ok (record { state = with_row state (codes "t") second_key two_y; written = wrote second_key o ∷ [] }))) no_second
       ∙ ap (λ (s : State). Ok (record { state = s; written = wrote second_key None ∷ [] })) (with_row_of_t held second_key two_y)
 
@@ -133,22 +133,22 @@ module _ (table : String Global) (is_t : string_bytes table ≡ codes "t") where
   taken_key_is_refused : edited state (Insert table (Int (pos 1) ∷ Text (codes "z") ∷ [])) ≡ Err KeyTaken
   unfolding value_bytes
   taken_key_is_refused =
-      in_t held (λ name t. inserted state name t (Int (pos 1) ∷ Text (codes "z") ∷ []))
+      in_t held (λ name t. inserted_in state name t (Int (pos 1) ∷ Text (codes "z") ∷ []))
       ∙ ap (λ o. unless (when (is_some o) KeyTaken) (Ok (record { state = with_row state (codes "t") key (Int (pos 1) ∷ Text (codes "z") ∷ []); written = wrote key o ∷ [] }))) first_stands
 
   -- nor is (1), which has one value for two columns
   short_row_is_refused : edited state (Insert table (Int (pos 1) ∷ [])) ≡ Err RowWidth
-  short_row_is_refused = in_t held (λ name t. inserted state name t (Int (pos 1) ∷ []))
+  short_row_is_refused = in_t held (λ name t. inserted_in state name t (Int (pos 1) ∷ []))
 
   -- nor is (NULL, 'z'), which has NULL in its key
   null_key_is_refused : edited state (Insert table (Null ∷ Text (codes "z") ∷ [])) ≡ Err NullInKey
-  null_key_is_refused = in_t held (λ name t. inserted state name t (Null ∷ Text (codes "z") ∷ []))
+  null_key_is_refused = in_t held (λ name t. inserted_in state name t (Null ∷ Text (codes "z") ∷ []))
 
   -- the row with key 1 becomes (1, 'y'): its key is written
   row_is_updated : edited state (Update table key one_y) ≡ changed_to (insert empty key one_y) (wrote key (Some row) ∷ [])
   unfolding value_bytes
   row_is_updated =
-      in_t held (λ name t. updated state name t key one_y)
+      in_t held (λ name t. updated_in state name t key one_y)
       ∙ ap (λ o. unless (when (not (is_some o)) NoRow) (Ok (record { state = with_row state (codes "t") key one_y; written = wrote key o ∷ [] }))) first_stands
       ∙ ap (λ (s : State). Ok (record { state = s; written = wrote key (Some row) ∷ [] })) (with_row_of_t held key one_y ∙ ap tables (put_again empty key row one_y))
 
@@ -156,7 +156,7 @@ module _ (table : String Global) (is_t : string_bytes table ≡ codes "t") where
   row_is_moved : edited state (Update table key two_y) ≡ changed_to (insert empty second_key two_y) (wrote key (Some row) ∷ wrote second_key None ∷ [])
   unfolding value_bytes
   row_is_moved =
-      in_t held (λ name t. updated state name t key two_y)
+      in_t held (λ name t. updated_in state name t key two_y)
       ∙ ap (λ o. unless (when (not (is_some o)) NoRow) (moved state (codes "t") key second_key two_y)) first_stands
       ∙ ap (λ o. unless (when (is_some o) KeyTaken) (Ok (record { state = with_row (without_row state (codes "t") key) (codes "t") second_key two_y; written = written state (codes "t") key ∷ wrote second_key o ∷ [] }))) no_second
       ∙ ap (λ o. Ok (record { state = with_row (without_row state (codes "t") key) (codes "t") second_key two_y; written = wrote key o ∷ wrote second_key None ∷ [] })) first_stands
@@ -167,7 +167,7 @@ module _ (table : String Global) (is_t : string_bytes table ≡ codes "t") where
   taken_key_is_not_updated : edited (tables two_rows) (Update table key two_y) ≡ Err KeyTaken
   unfolding value_bytes
   taken_key_is_not_updated =
-      in_t two_rows (λ name t. updated (tables two_rows) name t key two_y)
+      in_t two_rows (λ name t. updated_in (tables two_rows) name t key two_y)
       ∙ ap (λ o. unless (when (not (is_some o)) NoRow) (moved (tables two_rows) (codes "t") key second_key two_y)) (row_of_t two_rows key ∙ get_put held second_key two_y key ∙ get_put empty key row key)
       ∙ ap (λ o. unless (when (is_some o) KeyTaken) (Ok (record { state = with_row (without_row (tables two_rows) (codes "t") key) (codes "t") second_key two_y; written = written (tables two_rows) (codes "t") key ∷ wrote second_key o ∷ [] }))) (row_of_t two_rows second_key ∙ get_put held second_key two_y second_key)
 
@@ -175,24 +175,24 @@ module _ (table : String Global) (is_t : string_bytes table ≡ codes "t") where
   absent_row_is_not_updated : edited state (Update table second_key two_y) ≡ Err NoRow
   unfolding value_bytes
   absent_row_is_not_updated =
-      in_t held (λ name t. updated state name t second_key two_y)
+      in_t held (λ name t. updated_in state name t second_key two_y)
       ∙ ap (λ o. unless (when (not (is_some o)) NoRow) (Ok (record { state = with_row state (codes "t") second_key two_y; written = wrote second_key o ∷ [] }))) no_second
 
   -- what is wrong with the new row is told before that there is none to update
   wrong_row_is_told_first : edited state (Update table second_key (Null ∷ Text (codes "z") ∷ [])) ≡ Err NullInKey
-  wrong_row_is_told_first = in_t held (λ name t. updated state name t second_key (Null ∷ Text (codes "z") ∷ []))
+  wrong_row_is_told_first = in_t held (λ name t. updated_in state name t second_key (Null ∷ Text (codes "z") ∷ []))
 
   -- the row with key 1 is deleted: its key is written, and t is empty
   row_is_deleted : edited state (Delete table key) ≡ changed_to empty (wrote key (Some row) ∷ [])
   row_is_deleted =
-      in_t held (λ name t. deleted state name key)
+      in_t held (λ name t. deleted_in state name key)
       ∙ ap (λ o. unless (when (not (is_some o)) NoRow) (Ok (record { state = without_row state (codes "t") key; written = wrote key o ∷ [] }))) first_stands
       ∙ ap (λ (s : State). Ok (record { state = s; written = wrote key (Some row) ∷ [] })) (without_row_of_t held key ∙ ap tables taken_away)
 
   -- no row with key 2 is deleted
   absent_row_is_not_deleted : edited state (Delete table second_key) ≡ Err NoRow
   absent_row_is_not_deleted =
-      in_t held (λ name t. deleted state name second_key)
+      in_t held (λ name t. deleted_in state name second_key)
       ∙ ap (λ o. unless (when (not (is_some o)) NoRow) (Ok (record { state = without_row state (codes "t") second_key; written = wrote second_key o ∷ [] }))) no_second
 
 -- a table w is not there
@@ -201,12 +201,12 @@ no_table_is_refused table next is_w = ap (λ name. in_table state name (next nam
 
 -- so no row is inserted into it
 no_table_to_insert : (table : String Global) (r : List OwnedValue) → string_bytes table ≡ codes "w" → edited state (Insert table r) ≡ Err NoTable
-no_table_to_insert table r = no_table_is_refused table (λ name t. inserted state name t r)
+no_table_to_insert table r = no_table_is_refused table (λ name t. inserted_in state name t r)
 
 -- nor updated in it
 no_table_to_update : (table : String Global) (k : List ℕ) (r : List OwnedValue) → string_bytes table ≡ codes "w" → edited state (Update table k r) ≡ Err NoTable
-no_table_to_update table k r = no_table_is_refused table (λ name t. updated state name t k r)
+no_table_to_update table k r = no_table_is_refused table (λ name t. updated_in state name t k r)
 
 -- nor deleted
 no_table_to_delete : (table : String Global) (k : List ℕ) → string_bytes table ≡ codes "w" → edited state (Delete table k) ≡ Err NoTable
-no_table_to_delete table k = no_table_is_refused table (λ name t. deleted state name k)
+no_table_to_delete table k = no_table_is_refused table (λ name t. deleted_in state name k)

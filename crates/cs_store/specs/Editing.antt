@@ -62,7 +62,7 @@ row_fault flags row =
     else if has_null_key flags row then Some NullInKey
     else None
 
--- ? of the code: the first refusal, or what comes next
+-- the refusal, or what comes next
 abbrev pub unless : {X : Type 0} → Option StoreError → Result X StoreError → Result X StoreError
 unless None next = next
 unless (Some refusal) next = Err refusal
@@ -78,8 +78,8 @@ when false refusal = None
 abbrev pub written : State → List ℕ → List ℕ → WrittenData
 written state name key = record { table = name; key = key; former = row_at state name key }
 
-abbrev pub inserted : State → List ℕ → TableData → List OwnedValue → Result Edited StoreError
-inserted state name table row =
+abbrev pub inserted_in : State → List ℕ → TableData → List OwnedValue → Result Edited StoreError
+inserted_in state name table row =
     let key = row_key table.schema.flags row in
     unless (row_fault table.schema.flags row) (unless (when (has_row state name key) KeyTaken)
     (Ok (record { state = with_row state name key row; written = written state name key ∷ [] })))
@@ -88,18 +88,21 @@ inserted state name table row =
 abbrev pub moved : State → List ℕ → List ℕ → List ℕ → List OwnedValue → Result Edited StoreError
 moved state name key next row =
     unless (when (has_row state name next) KeyTaken)
-    (Ok (record { state = with_row (without_row state name key) name next row; written = written state name key ∷ written state name next ∷ [] }))
+    (Ok (record {
+      state = with_row (without_row state name key) name next row;
+      written = written state name key ∷ written state name next ∷ [];
+    }))
 
-abbrev pub updated : State → List ℕ → TableData → List ℕ → List OwnedValue → Result Edited StoreError
-updated state name table key row =
+abbrev pub updated_in : State → List ℕ → TableData → List ℕ → List OwnedValue → Result Edited StoreError
+updated_in state name table key row =
     let next = row_key table.schema.flags row in
     unless (row_fault table.schema.flags row) (unless (when (not (has_row state name key)) NoRow)
     (if same_bytes key next
     then Ok (record { state = with_row state name key row; written = written state name key ∷ [] })
     else moved state name key next row))
 
-abbrev pub deleted : State → List ℕ → List ℕ → Result Edited StoreError
-deleted state name key =
+abbrev pub deleted_in : State → List ℕ → List ℕ → Result Edited StoreError
+deleted_in state name key =
     unless (when (not (has_row state name key)) NoRow)
     (Ok (record { state = without_row state name key; written = written state name key ∷ [] }))
 
@@ -111,7 +114,16 @@ abbrev pub in_table : State → List ℕ → (TableData → Result Edited StoreE
 in_table state name next = found_table (map.get state name) next
 
 -- the state after the edit, with what was written in turn, or the first refusal
+abbrev pub inserted : State → List ℕ → List OwnedValue → Result Edited StoreError
+inserted state name row = in_table state name (λ table. inserted_in state name table row)
+
+abbrev pub updated : State → List ℕ → List ℕ → List OwnedValue → Result Edited StoreError
+updated state name key row = in_table state name (λ table. updated_in state name table key row)
+
+abbrev pub deleted : State → List ℕ → List ℕ → Result Edited StoreError
+deleted state name key = in_table state name (λ table. deleted_in state name key)
+
 abbrev pub edited : State → Edit → Result Edited StoreError
-edited state (Insert name row) = in_table state (string_bytes name) (λ table. inserted state (string_bytes name) table row)
-edited state (Update name key row) = in_table state (string_bytes name) (λ table. updated state (string_bytes name) table key row)
-edited state (Delete name key) = in_table state (string_bytes name) (λ table. deleted state (string_bytes name) key)
+edited state (Insert name row) = inserted state (string_bytes name) row
+edited state (Update name key row) = updated state (string_bytes name) key row
+edited state (Delete name key) = deleted state (string_bytes name) key

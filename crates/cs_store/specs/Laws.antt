@@ -12,7 +12,13 @@ was_clean old new keeps clean = omega (arith, keeps.clean)
 
 -- the content is kept by doing nothing, and by one call after another
 pub content_itself : {s : State} → KeepsContent s s
-content_itself {s} = record { was_open = λ k. k; mode = refl; inside = λ k is. is; now = λ k. refl; committed = λ k. refl }
+content_itself {s} = record {
+  was_open = λ k. k;
+  mode = refl;
+  inside = λ k is. is;
+  now = λ k. refl;
+  committed = λ k. refl;
+}
 
 pub content_then : {a b c : State} → KeepsContent a b → KeepsContent b c → KeepsContent a c
 content_then {a} {b} {c} one two = record {
@@ -26,7 +32,14 @@ content_then {a} {b} {c} one two = record {
 -- a store is kept by doing nothing
 pub keeps_itself : {s : State} → KeepsStore s s
 keeps_itself {s} = record {
-  crash = record { clean = omega arith; counts = omega arith; limit = refl; closes = λ clean k. inl k; shield = λ k. k; crash = λ clean db k. inl k };
+  crash = record {
+    clean = omega arith;
+    counts = omega arith;
+    limit = refl;
+    closes = λ clean k. inl k;
+    shield = λ k. k;
+    crash = λ clean db k. inl k;
+  };
   commit = λ clean. record { was_open = λ k. k; committed = λ k. refl };
   sound = λ k. k;
   outside = λ sound clean out. content_itself;
@@ -39,8 +52,12 @@ keeps_then {a} {b} {c} one two = record {
   commit = λ clean.
       let first = one.commit (was_clean b c two.crash clean) in
       let second = two.commit clean in
-      record { was_open = λ k. first.was_open (second.was_open k); committed = λ k. second.committed k ∙ first.committed (second.was_open k) };
+      record {
+        was_open = λ k. first.was_open (second.was_open k);
+        committed = λ k. second.committed k ∙ first.committed (second.was_open k);
+      };
   sound = λ k. two.sound (one.sound k);
   outside = λ sound clean out.
-      let first = one.outside sound (was_clean b c two.crash clean) out in content_then first (two.outside (one.sound sound) clean (first.mode ∙ out));
+      let first = one.outside sound (was_clean b c two.crash clean) out in
+      content_then first (two.outside (one.sound sound) clean (first.mode ∙ out));
 }

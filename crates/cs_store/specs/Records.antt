@@ -29,14 +29,23 @@ use Rattle.sqlite.specs.Listing.{understood}
 -- ---- the table
 
 abbrev pub required : List ℕ → Kind → Column
-required name k = record { name = name; kind = k; is_strict = true; not_null = true; default = Null; collation = Binary }
+required name k = record {
+  name = name;
+  kind = k;
+  is_strict = true;
+  not_null = true;
+  default = Null;
+  collation = Binary;
+}
 
 -- CREATE TABLE rec(tab TEXT NOT NULL, keyb BLOB NOT NULL, rowb BLOB NOT NULL, PRIMARY KEY(tab, keyb)) STRICT
 abbrev pub record_table : Table
 record_table = record {
   name = codes "rec";
   tree = 0;
-  columns = required (codes "tab") kind.Text ∷ required (codes "keyb") kind.Blob ∷ required (codes "rowb") kind.Blob ∷ [];
+  columns =
+      required (codes "tab") kind.Text ∷ required (codes "keyb") kind.Blob
+      ∷ required (codes "rowb") kind.Blob ∷ [];
   key = None;
   primary = 1 ∷ 2 ∷ [];
   uniques = (1 ∷ 2 ∷ []) ∷ [];
@@ -50,7 +59,11 @@ record_table = record {
 
 -- what a database with that table, and no other, declares
 abbrev pub record_schema : Schema
-record_schema = record { tables = record_table ∷ []; indexes = automatic record_table 0 (1 ∷ 2 ∷ []) 1 ∷ []; views = [] }
+record_schema = record {
+  tables = record_table ∷ [];
+  indexes = automatic record_table 0 (1 ∷ 2 ∷ []) 1 ∷ [];
+  views = [];
+}
 
 -- a database that declares nothing
 abbrev pub empty_schema : Schema

@@ -1,5 +1,6 @@
 -- What a store over a connection holds: a state, as its records stand for it.
-use Rattle.std.specs.Prelude.{◌≡◌, ◌⊎◌, ℕ, List, [], map as map_list, Vec, IsTrue, true, false, None, Result, Ok, Err, string_bytes}
+use Rattle.std.specs.Prelude.{◌≡◌, ◌⊎◌, ℕ, List, [], map as map_list, Vec, IsTrue, true, false}
+use Rattle.std.specs.Prelude.{None, Result, Ok, Err, string_bytes}
 use Rattle.std.specs.List.{AllByRecursion}
 use Rattle.std.specs.FinMap as map
 use Rattle.std.specs.declared.alloc.Global.{Global}
@@ -116,7 +117,8 @@ RecoversList (Ok list) stored = list.items ≡ stored
 RecoversList (Err e) stored = IsResource e
 
 -- a table without rows is added, of a name that no table had
-pub record AddsTable (old : tables.State) (name : List ℕ) (schema : tables.SchemaData) (new : tables.State) : Type 0 where
+pub record AddsTable (old : tables.State) (name : List ℕ) (schema : tables.SchemaData)
+    (new : tables.State) : Type 0 where
   pub free : map.get old name ≡ None
   pub added : new ≡ tables.with_table old name schema
 

@@ -46,7 +46,10 @@ value_before (Err e) others = None
 -- a name behind the count of its bytes, and the other columns behind it
 abbrev pub name_before : ℕ → List ℕ → Result (ℕ × ℕ) FieldFault → (List ℕ → Option SchemaData) → Option SchemaData
 name_before flag bytes (Ok (count, used)) others =
-    option_map (λ (s : SchemaData). let all : SchemaData = record { columns = take count (drop used bytes) ∷ s.columns; flags = flag ∷ s.flags } in all) (others (drop count (drop used bytes)))
+    option_map (λ (s : SchemaData). let all : SchemaData = record {
+      columns = take count (drop used bytes) ∷ s.columns;
+      flags = flag ∷ s.flags;
+    } in all) (others (drop count (drop used bytes)))
 name_before flag bytes (Err e) others = None
 
 -- so many values, and nothing behind them
@@ -74,13 +77,17 @@ schema_in bytes = counted_columns bytes (number_at bytes)
 abbrev pub entries_under : {X : Type 0} → (List ℕ → List ℕ → Option X) → List ℕ → List Row → ByBytes X
 entries_under read name rows =
     map.from_entries (flat_map (λ row. if same_bytes (content (column row 1)) name
-    then option_to_list (option_map (λ x. (content (column row 2), x)) (read (content (column row 2)) (content (column row 3)))) else []) rows)
+    then option_to_list (option_map (λ x. (content (column row 2), x))
+    (read (content (column row 2)) (content (column row 3)))) else []) rows)
 
 -- a table: its schema, and the rows under its name
 abbrev pub table_in : List Row → List ℕ → List ℕ → Option TableData
 table_in rows [] bytes = None
 table_in rows (b ∷ name) bytes =
-    option_map (λ (schema : SchemaData). let t : TableData = record { schema = schema; rows = entries_under (λ key value. values_at (length schema.columns) value) (b ∷ name) rows } in t)
+    option_map (λ (schema : SchemaData). let t : TableData = record {
+      schema = schema;
+      rows = entries_under (λ key value. values_at (length schema.columns) value) (b ∷ name) rows;
+    } in t)
     (schema_in bytes)
 
 -- the tables whose declarations stand in the rows

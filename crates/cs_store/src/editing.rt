@@ -151,10 +151,10 @@ fn insert_row<B: Rows>(
     row: &Row,
 ) -> Result<Vec<Written>, StoreError>
     ensures edited { B.is_honest rows.new
-        → IfOk result (λ w. in_table (B.state rows.old) table.now (λ t. inserted (B.state rows.old) table.now t row.now)
+        → IfOk result (λ w. inserted (B.state rows.old) table.now row.now
         ≡ Ok (record { state = B.state rows.new; written = map written_of w.items })) }
     ensures refused { B.is_honest rows.new
-        → IfErr result (λ e. (in_table (B.state rows.old) table.now (λ t. inserted (B.state rows.old) table.now t row.now) ≡ Err e) ⊎ IsResource e) }
+        → IfErr result (λ e. (inserted (B.state rows.old) table.now row.now ≡ Err e) ⊎ IsResource e) }
     ensures named { IfErr result IsEditRefusal }
     ensures was_honest { B.is_honest rows.new → B.is_honest rows.old }
     ensures kept { B.keeps rows.old rows.new }
@@ -204,7 +204,8 @@ fn move_row<B: Rows>(
     ensures moved { B.is_honest rows.new → OnOk result ((row_at (B.state rows.old) table.now next.now ≡ None)
         × (B.state rows.new ≡ with_row (without_row (B.state rows.old) table.now key.now) table.now next.now row.now)) }
     ensures told { IfOk result (λ w. map written_of w.items
-        ≡ record { table = table.now; key = key.now; former = Some former } ∷ record { table = table.now; key = next.now; former = None } ∷ []) }
+        ≡ record { table = table.now; key = key.now; former = Some former }
+        ∷ record { table = table.now; key = next.now; former = None } ∷ []) }
     ensures refused { B.is_honest rows.new → IfErr result (λ e. ((e ≡ TakenKey)
         × IsSome (row_at (B.state rows.old) table.now next.now)) ⊎ IsResource e) }
     ensures named { IfErr result IsEditRefusal }
@@ -227,10 +228,10 @@ fn update_row<B: Rows>(
     row: &Row,
 ) -> Result<Vec<Written>, StoreError>
     ensures edited { B.is_honest rows.new
-        → IfOk result (λ w. in_table (B.state rows.old) table.now (λ t. updated (B.state rows.old) table.now t key.now row.now)
+        → IfOk result (λ w. updated (B.state rows.old) table.now key.now row.now
         ≡ Ok (record { state = B.state rows.new; written = map written_of w.items })) }
     ensures refused { B.is_honest rows.new
-        → IfErr result (λ e. (in_table (B.state rows.old) table.now (λ t. updated (B.state rows.old) table.now t key.now row.now) ≡ Err e) ⊎ IsResource e) }
+        → IfErr result (λ e. (updated (B.state rows.old) table.now key.now row.now ≡ Err e) ⊎ IsResource e) }
     ensures named { IfErr result IsEditRefusal }
     ensures was_honest { B.is_honest rows.new → B.is_honest rows.old }
     ensures kept { B.keeps rows.old rows.new }
@@ -252,10 +253,10 @@ fn delete_row<B: Rows>(
     key: &Key,
 ) -> Result<Vec<Written>, StoreError>
     ensures edited { B.is_honest rows.new
-        → IfOk result (λ w. in_table (B.state rows.old) table.now (λ _. deleted (B.state rows.old) table.now key.now)
+        → IfOk result (λ w. deleted (B.state rows.old) table.now key.now
         ≡ Ok (record { state = B.state rows.new; written = map written_of w.items })) }
     ensures refused { B.is_honest rows.new
-        → IfErr result (λ e. (in_table (B.state rows.old) table.now (λ _. deleted (B.state rows.old) table.now key.now) ≡ Err e) ⊎ IsResource e) }
+        → IfErr result (λ e. (deleted (B.state rows.old) table.now key.now ≡ Err e) ⊎ IsResource e) }
     ensures named { IfErr result IsEditRefusal }
     ensures was_honest { B.is_honest rows.new → B.is_honest rows.old }
     ensures kept { B.keeps rows.old rows.new }

@@ -32,9 +32,15 @@ impl Model for Table {
 
     ghost coded = { table_code };
 
-    ghost view = { λ t. record { schema = t.schema; rows = map.from_entries (map_list (λ e. (e.0, e.1)) t.rows.entries) } };
+    ghost view = { λ t. record {
+      schema = t.schema;
+      rows = map.from_entries (map_list (λ e. (e.0, e.1)) t.rows.entries);
+    } };
 
-    ghost invariant = { λ t. IsTable (record { schema = t.schema; rows = map.from_entries (map_list (λ e. (e.0, e.1)) t.rows.entries) }) };
+    ghost invariant = { λ t. IsTable (record {
+      schema = t.schema;
+      rows = map.from_entries (map_list (λ e. (e.0, e.1)) t.rows.entries);
+    }) };
 }
 
 impl Table {

@@ -58,7 +58,8 @@ fn query_rows<S: Alter>(
 ) -> Result<Vec<Row>, StoreError>
     requires { IsQuery sql.now }
     ensures shown { HasCleanDisk (state S.Store conn.new)
-        → IfOk result (λ rows. Shown sql.now (bound params.now) (state S.Store conn.old) (state S.Store conn.new) rows.items) }
+        → IfOk result (λ rows. Shown sql.now (bound params.now) (state S.Store conn.old)
+        (state S.Store conn.new) rows.items) }
     ensures reads { HasCleanDisk (state S.Store conn.new)
         → OnOk result (IsUnchanged (state S.Store conn.old) (state S.Store conn.new)) }
     ensures refused { IfErr result IsResource }

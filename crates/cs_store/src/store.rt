@@ -1,5 +1,6 @@
 //! Stores: tables of rows in a database.
-ghost use Rattle.std.specs.Prelude.{◌≡◌, ◌⊎◌, IfOk, IfErr, OnOk, OnErr, IfSome, None, Ok, Err, map as map_list, string_bytes};
+ghost use Rattle.std.specs.Prelude.{◌≡◌, ◌⊎◌, IfOk, IfErr, OnOk, OnErr, IfSome, None, Ok, Err};
+ghost use Rattle.std.specs.Prelude.{map as map_list, string_bytes};
 ghost use Rattle.std.specs.FinMap as map;
 ghost use Rattle.cs_value.specs.State as tables;
 ghost use Rattle.cs_value.specs.State.{schema_at, row_at, rows_at, with_row, without_row};
