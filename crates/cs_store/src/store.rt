@@ -32,6 +32,7 @@ use std::marker::Model;
 use std::rt::HostRuntime;
 
 /// Tables of rows in a database, in memory or in a file.
+#[derive(Drop)]
 pub struct Store<S: Alter> {
     pub(crate) conn: Connection<S>,
 }
