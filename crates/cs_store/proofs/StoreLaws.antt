@@ -71,7 +71,7 @@ content_keeps old new crash keeps = record {
   crash = crash;
   commit = λ clean. let kept = keeps clean in record { was_open = kept.was_open; committed = kept.committed };
   sound = λ sound clean. content_store old new (keeps clean) (sound (was_clean old new crash clean));
-  outside = λ sound clean out. keeps clean;
+  outside = λ clean out settled. keeps clean;
 }
 
 -- a call that rests keeps the store
@@ -80,7 +80,7 @@ rests_keeps old new crash rests = record {
   crash = crash;
   commit = λ clean. rests_commit old new (rests clean);
   sound = λ sound clean. rests_store old new (rests clean) (sound (was_clean old new crash clean));
-  outside = λ sound clean out. rests_keeps_content old new (rests clean) out ((sound (was_clean old new crash clean)).settled out);
+  outside = λ clean out settled. rests_keeps_content old new (rests clean) out settled;
 }
 
 -- and so does a write that leaves a state
@@ -89,7 +89,7 @@ write_keeps old new inside crash wrote = record {
   crash = crash;
   commit = λ clean. let on = (wrote clean).0 in record { was_open = λ k. on.was_open; committed = λ k. on.committed_is };
   sound = λ sound clean. let w = wrote clean in goes_on_store old new w.0 w.1 (sound (was_clean old new crash clean));
-  outside = λ sound clean out. absurd (true≢false (sym inside ∙ out));
+  outside = λ clean out settled. absurd (true≢false (sym inside ∙ out));
 }
 
 -- a transaction that is undone leaves the content as it was

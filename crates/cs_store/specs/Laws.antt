@@ -1,5 +1,5 @@
 -- What calls on a store keep, one after another.
-use Rattle.std.proofs.Common.{inl, refl, subst, IsTrue, ◌∙◌, arith}
+use Rattle.std.proofs.Common.{◌≡◌, inl, refl, sym, subst, IsTrue, ◌∙◌, arith}
 use Rattle.sqlite_trees.specs.Tree.{Trees}
 use Rattle.sqlite.specs.State.{State, HasCleanDisk, Survives}
 use Rattle.sqlite.proofs.StateLemmas.{survives_then}
@@ -42,7 +42,7 @@ keeps_itself {s} = record {
   };
   commit = λ clean. record { was_open = λ k. k; committed = λ k. refl };
   sound = λ k. k;
-  outside = λ sound clean out. content_itself;
+  outside = λ clean out settled. content_itself;
 }
 
 -- one call after another
@@ -57,7 +57,9 @@ keeps_then {a} {b} {c} one two = record {
         committed = λ k. second.committed k ∙ first.committed (second.was_open k);
       };
   sound = λ k. two.sound (one.sound k);
-  outside = λ sound clean out.
-      let first = one.outside sound (was_clean b c two.crash clean) out in
-      content_then first (two.outside (one.sound sound) clean (first.mode ∙ out));
+  outside = λ clean out settled.
+      let first = one.outside (was_clean b c two.crash clean) out settled in
+      let still : IsTrue b.is_open → b.now ≡ b.committed =
+      λ k. first.now k ∙ settled (first.was_open k) ∙ sym (first.committed k) in
+      content_then first (two.outside clean (first.mode ∙ out) still);
 }

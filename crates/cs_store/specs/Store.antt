@@ -49,12 +49,13 @@ abbrev pub IsSound : State → Type 0
 IsSound s = HasCleanDisk s → IsStore s
 
 -- what a call that commits nothing keeps: what a crash leaves, what was committed last, and that this is a store;
--- outside a transaction, all that is shown
+-- outside a transaction, where what is shown was committed, all that is shown
 pub record KeepsStore (old new : State) : Type 0 where
   pub crash : KeepsCrash old new
   pub commit : HasCleanDisk new → KeepsCommit old new
   pub sound : IsSound old → IsSound new
-  pub outside : IsSound old → HasCleanDisk new → old.in_transaction ≡ false → KeepsContent old new
+  pub outside : HasCleanDisk new → old.in_transaction ≡ false → (IsTrue old.is_open → old.now ≡ old.committed)
+      → KeepsContent old new
 
 -- a reader of what is stored gives it back, or is refused memory
 abbrev pub Recovers : {X : Type 0} → Result X StoreError → X → Type 0
