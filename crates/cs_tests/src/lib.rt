@@ -1,7 +1,7 @@
 //! Tests of the public calls, of what no contract and no line of a script says.
 //!
 //! `value`, `wire`, `group`, `shell` and `store` have those of a crate each, and `refusals` the
-//! numbers, names and texts of what they refuse with.
+//! numbers, names and texts of what they refuse with. `stores` has those of stores over SQL.
 #![tactic(auto)]
 
 #[cfg(test)]
@@ -14,6 +14,8 @@ mod refusals;
 mod shell;
 #[cfg(test)]
 mod store;
+#[cfg(test)]
+mod stores;
 #[cfg(test)]
 mod value;
 #[cfg(test)]
