@@ -9,7 +9,7 @@ use sqlite::{Alter, MemStore};
 use std::process::Abort;
 
 /// What a store answers to the declaration of a table with the columns a and b.
-fn declaration<S: Alter>(
+pub(crate) fn declaration<S: Alter>(
     rt: &(impl Abort + AllocGlobal),
     store: &mut Store<S>,
     name: &str,
