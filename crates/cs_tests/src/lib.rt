@@ -1,11 +1,16 @@
 //! Tests of the public calls, of what no contract and no line of a script says.
 //!
 //! `value`, `wire`, `group`, `shell` and `store` have those of a crate each, and `refusals` the
-//! numbers, names and texts of what they refuse with.
+//! numbers, names and texts of what they refuse with. `stores` has those of stores over SQL,
+//! `adoption` those of what is taken over as a store, and `disk` those of stores in files.
 #![tactic(auto)]
 
 #[cfg(test)]
+mod adoption;
+#[cfg(test)]
 mod calling;
+#[cfg(test)]
+mod disk;
 #[cfg(test)]
 mod group;
 #[cfg(test)]
@@ -14,6 +19,8 @@ mod refusals;
 mod shell;
 #[cfg(test)]
 mod store;
+#[cfg(test)]
+mod stores;
 #[cfg(test)]
 mod value;
 #[cfg(test)]

@@ -7,7 +7,7 @@ use cs_value::{Key, OwnedValue, Row, Value};
 use std::process::Abort;
 
 /// Two names.
-fn names(rt: &(impl Abort + AllocGlobal), first: &str, second: &str) -> Vec<String> {
+pub(crate) fn names(rt: &(impl Abort + AllocGlobal), first: &str, second: &str) -> Vec<String> {
     let first = String::from_str(rt.alloc(), first).expect(rt, "memory");
     let second = String::from_str(rt.alloc(), second).expect(rt, "memory");
     vec![in rt.alloc(); first, second].expect(rt, "memory")
@@ -30,7 +30,7 @@ fn owned(rt: &(impl Abort + AllocGlobal), value: Value<'_>) -> OwnedValue {
 }
 
 /// The row of these values.
-fn row_of(rt: &(impl Abort + AllocGlobal), values: &[Value<'_>]) -> Row {
+pub(crate) fn row_of(rt: &(impl Abort + AllocGlobal), values: &[Value<'_>]) -> Row {
     let mut row = Vec::new(rt.alloc());
     for value in values {
         row.push(owned(rt, *value)).expect(rt, "memory");
@@ -39,12 +39,12 @@ fn row_of(rt: &(impl Abort + AllocGlobal), values: &[Value<'_>]) -> Row {
 }
 
 /// The key of an integer.
-fn key_of(rt: &(impl Abort + AllocGlobal), number: i64) -> Key {
+pub(crate) fn key_of(rt: &(impl Abort + AllocGlobal), number: i64) -> Key {
     Key::from_values(rt.alloc(), &[OwnedValue::Int(number)]).expect(rt, "memory")
 }
 
 /// Tables with t, which has no rows.
-fn tables(rt: &(impl Abort + AllocGlobal)) -> MemRows {
+pub(crate) fn tables(rt: &(impl Abort + AllocGlobal)) -> MemRows {
     let mut rows = MemRows::new(rt.alloc());
     let columns = names(rt, "a", "b");
     rows.declare(rt.alloc(), "t", &columns, &[true, false])
@@ -53,7 +53,11 @@ fn tables(rt: &(impl Abort + AllocGlobal)) -> MemRows {
 }
 
 /// The insertion of a row of these values.
-fn insertion(rt: &(impl Abort + AllocGlobal), table: &str, values: &[Value<'_>]) -> Edit {
+pub(crate) fn insertion(
+    rt: &(impl Abort + AllocGlobal),
+    table: &str,
+    values: &[Value<'_>],
+) -> Edit {
     Edit::Insert {
         table: String::from_str(rt.alloc(), table).expect(rt, "memory"),
         row: row_of(rt, values),
@@ -61,7 +65,12 @@ fn insertion(rt: &(impl Abort + AllocGlobal), table: &str, values: &[Value<'_>])
 }
 
 /// The update of the row with this key to one of these values.
-fn update(rt: &(impl Abort + AllocGlobal), table: &str, key: i64, values: &[Value<'_>]) -> Edit {
+pub(crate) fn update(
+    rt: &(impl Abort + AllocGlobal),
+    table: &str,
+    key: i64,
+    values: &[Value<'_>],
+) -> Edit {
     Edit::Update {
         table: String::from_str(rt.alloc(), table).expect(rt, "memory"),
         key: key_of(rt, key),
@@ -70,7 +79,7 @@ fn update(rt: &(impl Abort + AllocGlobal), table: &str, key: i64, values: &[Valu
 }
 
 /// The deletion of the row with this key.
-fn deletion(rt: &(impl Abort + AllocGlobal), table: &str, key: i64) -> Edit {
+pub(crate) fn deletion(rt: &(impl Abort + AllocGlobal), table: &str, key: i64) -> Edit {
     Edit::Delete {
         table: String::from_str(rt.alloc(), table).expect(rt, "memory"),
         key: key_of(rt, key),
