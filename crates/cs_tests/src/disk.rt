@@ -1,4 +1,4 @@
-//! Stores in files: made, closed and opened again, and one that SQLite wrote.
+//! Stores in files: made, closed and opened again, and one of a file that SQLite wrote.
 ghost use Rattle.std.specs.Prelude.{IsTrue};
 ghost use Rattle.sqlite_disk.specs.Memory.{memory_is_usable};
 
@@ -41,23 +41,6 @@ fn written(rt: &(impl Abort + AllocGlobal), mut file: Memory, part: (usize, &[u8
 {
     file.write_at(part.0, part.1).expect(rt, "a write");
     file
-}
-
-/// The file of a store with t, which has no rows.
-fn file_with_table(rt: &(impl Abort + AllocGlobal)) -> Memory
-    ensures { IsTrue (memory_is_usable result) }
-{
-    let mut store = adopted(rt, open(rt, Memory::new(rt.alloc())));
-    declaration(rt, &mut store, "t", &[true, false]).expect(rt, "a table");
-    closed(rt, store)
-}
-
-#[test]
-fn opens_a_file_again(rt: HostRuntime) {
-    let mut store = adopted(&rt, open(&rt, file_with_table(&rt)));
-    assert!(rt; count_tables(&rt, &mut store) == 1);
-    assert!(rt; !has_row(&rt, &mut store));
-    let _file = closed(&rt, store);
 }
 
 /// What is not zero in a file of three pages of 512 bytes, which SQLite 3.40.1 wrote: the table of
