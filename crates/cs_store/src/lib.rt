@@ -12,9 +12,10 @@
 //! transaction of a `store`. `schema` has what a table declares, `edit` the edits of rows, `editing`
 //! carries them out over any rows, and `fault` says why a call is refused.
 //!
-//! Below a batch, `tables` has the calls on the tables of a store, `declaration` and `stored_row` the
-//! bytes of schemas and rows, `layout` what a database declares, `records` the statements on the SQL
-//! table of records, and `transactions` those that begin and end a transaction.
+//! A database is taken over as a store by `adoption`: `layout` says what it declares, and `check`
+//! whether its records are those of tables. Below a batch, `tables` has the calls on the tables of a
+//! store, `declaration` and `stored_row` the bytes of schemas and rows, `records` the statements on
+//! the SQL table of records, and `transactions` those that begin and end a transaction.
 #![tactic(auto)]
 
 mod adoption;
