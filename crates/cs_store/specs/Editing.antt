@@ -78,6 +78,7 @@ when false refusal = None
 abbrev pub written : State → List ℕ → List ℕ → WrittenData
 written state name key = record { table = name; key = key; former = row_at state name key }
 
+-- what each kind of edit makes of a table that is there
 abbrev pub inserted_in : State → List ℕ → TableData → List OwnedValue → Result Edited StoreError
 inserted_in state name table row =
     let key = row_key table.schema.flags row in
