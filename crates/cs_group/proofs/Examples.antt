@@ -19,6 +19,7 @@ use Rattle.cs_group.specs.declared.merging.Merged.{Merged}
 use Rattle.cs_group.specs.declared.merging.Merged.TheVariants.{Keep, Becomes, Vanish}
 use Rattle.cs_group.specs.Inverse.{IsInverse}
 use Rattle.cs_group.specs.Net.{is_same, net_between}
+use Rattle.cs_group.proofs.ConflictLaws.{same_values, same_fields, same_itself}
 use Rattle.cs_group.specs.Joining.{laid_over, merged, joined, key_places, AgreesWith, AreJoinable, FirstClash}
 
 -- the row (1, 'y')
@@ -27,41 +28,6 @@ later = Int (pos 1) ∷ y ∷ []
 
 abbrev image : List OwnedValue → Option (List OwnedField)
 image row = Some (map Defined row)
-
--- ---- equal fields
-
--- fields that are found equal are one
-same_values : (v w : OwnedValue) → is_same (Defined v) (Defined w) ≡ true → v ≡ w
-same_values (Int z) (Int w) e = ap (λ (i : ℤ). Int i) ((Decides-int_eq z w).0 e)
-same_values (Text s) (Text t) e = ap (λ (b : List ℕ). Text b) (same_text s t (sym e))
-same_values (Blob s) (Blob t) e = ap (λ (b : List ℕ). Blob b) (same_text s t (sym e))
-same_values Null Null e = refl
-same_values (Int z) (Text t) e = absurd (true≢false (sym e))
-same_values (Int z) (Blob t) e = absurd (true≢false (sym e))
-same_values (Int z) Null e = absurd (true≢false (sym e))
-same_values (Text s) (Int w) e = absurd (true≢false (sym e))
-same_values (Text s) (Blob t) e = absurd (true≢false (sym e))
-same_values (Text s) Null e = absurd (true≢false (sym e))
-same_values (Blob s) (Int w) e = absurd (true≢false (sym e))
-same_values (Blob s) (Text t) e = absurd (true≢false (sym e))
-same_values (Blob s) Null e = absurd (true≢false (sym e))
-same_values Null (Int w) e = absurd (true≢false (sym e))
-same_values Null (Text t) e = absurd (true≢false (sym e))
-same_values Null (Blob t) e = absurd (true≢false (sym e))
-
-same_fields : (f g : OwnedField) → is_same f g ≡ true → f ≡ g
-same_fields Undefined Undefined e = refl
-same_fields Undefined (Defined w) e = absurd (true≢false (sym e))
-same_fields (Defined v) Undefined e = absurd (true≢false (sym e))
-same_fields (Defined v) (Defined w) e = ap (λ (x : OwnedValue). Defined x) (same_values v w e)
-
--- and each is found equal to itself
-same_itself : (f : OwnedField) → is_same f f ≡ true
-same_itself Undefined = refl
-same_itself (Defined (Int z)) = int_eq_equiv.refl z
-same_itself (Defined (Text t)) = nat_list_eq_equiv.refl t
-same_itself (Defined (Blob b)) = nat_list_eq_equiv.refl b
-same_itself (Defined Null) = refl
 
 -- ---- net changes
 

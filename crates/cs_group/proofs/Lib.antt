@@ -5,3 +5,6 @@ pub mod MergeLaws
 pub mod TextLaws
 pub mod JoinLaws
 pub mod Examples
+pub mod ConflictLaws
+pub mod ApplyLaws
+pub mod JudgingLaws

@@ -2,9 +2,14 @@ pub mod Inverse
 pub mod Net
 pub mod Joining
 pub mod Views
+pub mod Judging
+pub mod Conflicts
+pub mod Applying
+pub mod Laws
 pub use Rattle.cs_value.specs.Value
 pub use Rattle.cs_value.specs.Key
 pub use Rattle.cs_value.specs.Table
+pub use Rattle.cs_value.specs.State
 pub use Rattle.cs_value.specs.Refusals
 pub use Rattle.cs_wire.specs.Entry
 pub use Rattle.cs_wire.specs.Changeset

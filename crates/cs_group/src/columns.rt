@@ -45,7 +45,7 @@ fn have_same_columns(flags: &[u8], other: &[u8]) -> bool
 }
 
 /// Whether a column with this flag is one of the key.
-fn is_of_key(flag: u8) -> bool
+pub(crate) fn is_of_key(flag: u8) -> bool
     ensures { result ≡ by_flag flag false true }
 {
     flag != 0

@@ -1,4 +1,5 @@
-//! What two changesets make together: the inverse of a changeset, and the join of two.
+//! What changesets make together, and of tables: the inverse of a changeset, the join of two, and what one
+//! does to a row.
 //!
 //! ```rust
 //! // An INSERT of ('k', 'x') into the table t, whose first column is its key, and the UPDATE of that
@@ -12,21 +13,30 @@
 //! `inverse` makes the changeset that undoes another one, and `joining` one changeset of two: `columns`
 //! tells whether that can be, `entries` goes by the keys of a table, and `merging` makes one entry of
 //! two. `net` has the change from one row to another, `image` what entries say of rows before and
-//! after, and `fault` says why two changesets are not joined. `CALLING.md`, beside this folder, shows a
-//! caller.
+//! after, and `fault` says why two changesets are not joined.
+//!
+//! What a changeset does to the tables of a database: `judging` tells which tables it is for, `conflict`
+//! what a change meets at its row and what it leaves there, and `laws` has what holds of all states and
+//! changesets. `CALLING.md`, beside this folder, shows a caller.
 #![tactic(auto)]
 
 mod columns;
+mod conflict;
 mod entries;
 mod fault;
 mod image;
 mod inverse;
 mod joining;
+mod judging;
+mod laws;
 mod merging;
 mod net;
 
+pub use conflict::{Choice, Kind, conflict_kind, row_after};
 pub use fault::{ConcatFault, SchemaFault};
 pub use inverse::{changeset_inverses_law, inverse_twice_law, invert};
 pub use joining::concat;
+pub use judging::{Judgement, judge};
+pub use laws::{applied_once_law, applied_reverts_law, written_tells_law};
 pub use merging::{Merged, merge};
 pub use net::net_change;

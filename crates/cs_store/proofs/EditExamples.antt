@@ -14,13 +14,13 @@ use Rattle.cs_value.specs.declared.value.OwnedValue.TheVariants.{Int, Text, Null
 use Rattle.cs_value.specs.Spelling.{value_bytes}
 use Rattle.cs_value.specs.Table.{IsName}
 use Rattle.cs_value.specs.Maps.{ByBytes}
-use Rattle.cs_value.specs.State.{IsColumnName, TableData, RowMap, State, row_at, with_rows, with_row, without_row}
+use Rattle.cs_value.specs.State.{IsColumnName, TableData, RowMap, State, WrittenData, written_at, row_at, with_rows, with_row, without_row}
 use Rattle.cs_value.proofs.ByteMaps.{same_maps}
 use Rattle.cs_store.specs.Records.{same_bytes}
 use Rattle.cs_store.specs.declared.edit.Edit.TheVariants.{Insert, Update, Delete}
 use Rattle.cs_store.specs.declared.fault.StoreError.{StoreError}
 use Rattle.cs_store.specs.declared.fault.StoreError.TheVariants.{TableExists, NoTable, BadSchema, KeyTaken, NoRow, RowWidth, NullInKey}
-use Rattle.cs_store.specs.Editing.{Declares, WrittenData, Edited, unless, when, written, inserted_in, moved, updated_in, deleted_in, found_table, in_table, edited}
+use Rattle.cs_store.specs.Editing.{Declares, Edited, unless, when, inserted_in, moved, updated_in, deleted_in, found_table, in_table, edited}
 use Rattle.cs_store.proofs.Examples.{two_columns, two_columns_is_schema}
 use Rattle.cs_store.proofs.MemoryLaws.{with_rows_found, rows_at_found, row_at_found}
 use Rattle.cs_store.proofs.StoredLaws.{get_put, get_taken}
@@ -158,7 +158,7 @@ module _ (table : String Global) (is_t : string_bytes table ≡ codes "t") where
   row_is_moved =
       in_t held (λ name t. updated_in state name t key two_y)
       ∙ ap (λ o. unless (when (not (is_some o)) NoRow) (moved state (codes "t") key second_key two_y)) first_stands
-      ∙ ap (λ o. unless (when (is_some o) KeyTaken) (Ok (record { state = with_row (without_row state (codes "t") key) (codes "t") second_key two_y; written = written state (codes "t") key ∷ wrote second_key o ∷ [] }))) no_second
+      ∙ ap (λ o. unless (when (is_some o) KeyTaken) (Ok (record { state = with_row (without_row state (codes "t") key) (codes "t") second_key two_y; written = written_at state (codes "t") key ∷ wrote second_key o ∷ [] }))) no_second
       ∙ ap (λ o. Ok (record { state = with_row (without_row state (codes "t") key) (codes "t") second_key two_y; written = wrote key o ∷ wrote second_key None ∷ [] })) first_stands
       ∙ ap (λ (s : State). Ok (record { state = with_row s (codes "t") second_key two_y; written = wrote key (Some row) ∷ wrote second_key None ∷ [] })) (without_row_of_t held key ∙ ap tables taken_away)
       ∙ ap (λ (s : State). Ok (record { state = s; written = wrote key (Some row) ∷ wrote second_key None ∷ [] })) (with_row_of_t empty second_key two_y)
@@ -169,7 +169,7 @@ module _ (table : String Global) (is_t : string_bytes table ≡ codes "t") where
   taken_key_is_not_updated =
       in_t two_rows (λ name t. updated_in (tables two_rows) name t key two_y)
       ∙ ap (λ o. unless (when (not (is_some o)) NoRow) (moved (tables two_rows) (codes "t") key second_key two_y)) (row_of_t two_rows key ∙ get_put held second_key two_y key ∙ get_put empty key row key)
-      ∙ ap (λ o. unless (when (is_some o) KeyTaken) (Ok (record { state = with_row (without_row (tables two_rows) (codes "t") key) (codes "t") second_key two_y; written = written (tables two_rows) (codes "t") key ∷ wrote second_key o ∷ [] }))) (row_of_t two_rows second_key ∙ get_put held second_key two_y second_key)
+      ∙ ap (λ o. unless (when (is_some o) KeyTaken) (Ok (record { state = with_row (without_row (tables two_rows) (codes "t") key) (codes "t") second_key two_y; written = written_at (tables two_rows) (codes "t") key ∷ wrote second_key o ∷ [] }))) (row_of_t two_rows second_key ∙ get_put held second_key two_y second_key)
 
   -- no row with key 2 is updated
   absent_row_is_not_updated : edited state (Update table second_key two_y) ≡ Err NoRow

@@ -9,6 +9,7 @@ use Rattle.cs_value.specs.declared.value.OwnedValue.TheVariants.{Null}
 use Rattle.cs_value.specs.Table.{IsName}
 use Rattle.cs_value.specs.Key.{row_key}
 use Rattle.cs_value.specs.State.{SchemaData, IsSchema, TableData, State, row_at, with_table, with_row, without_row}
+use Rattle.cs_value.specs.State.{WrittenData, written_at}
 use Rattle.cs_store.specs.declared.fault.StoreError.{StoreError}
 use Rattle.cs_store.specs.declared.fault.StoreError.TheVariants.{TableExists, NoTable, BadSchema}
 use Rattle.cs_store.specs.declared.fault.StoreError.TheVariants.{KeyTaken, NoRow, RowWidth, NullInKey}
@@ -35,12 +36,6 @@ Declares state name schema (Err TableExists) = IsDeclarable name schema × IsSom
 Declares state name schema (Err _) = ⊥
 
 -- ---- editing
-
--- a key that was written, and the row that stood under it
-pub record WrittenData : Type 0 where
-  pub table : List ℕ
-  pub key : List ℕ
-  pub former : Option (List OwnedValue)
 
 abbrev pub written_of : Written → WrittenData
 written_of w = record { table = string_bytes w.table; key = w.key; former = w.former }
@@ -75,15 +70,12 @@ abbrev pub when : Bool → StoreError → Option StoreError
 when true refusal = Some refusal
 when false refusal = None
 
-abbrev pub written : State → List ℕ → List ℕ → WrittenData
-written state name key = record { table = name; key = key; former = row_at state name key }
-
 -- what each kind of edit makes of a table that is there
 abbrev pub inserted_in : State → List ℕ → TableData → List OwnedValue → Result Edited StoreError
 inserted_in state name table row =
     let key = row_key table.schema.flags row in
     unless (row_fault table.schema.flags row) (unless (when (has_row state name key) KeyTaken)
-    (Ok (record { state = with_row state name key row; written = written state name key ∷ [] })))
+    (Ok (record { state = with_row state name key row; written = written_at state name key ∷ [] })))
 
 -- a row that gets another key is removed, and put under that key
 abbrev pub moved : State → List ℕ → List ℕ → List ℕ → List OwnedValue → Result Edited StoreError
@@ -91,7 +83,7 @@ moved state name key next row =
     unless (when (has_row state name next) KeyTaken)
     (Ok (record {
       state = with_row (without_row state name key) name next row;
-      written = written state name key ∷ written state name next ∷ [];
+      written = written_at state name key ∷ written_at state name next ∷ [];
     }))
 
 abbrev pub updated_in : State → List ℕ → TableData → List ℕ → List OwnedValue → Result Edited StoreError
@@ -99,13 +91,13 @@ updated_in state name table key row =
     let next = row_key table.schema.flags row in
     unless (row_fault table.schema.flags row) (unless (when (not (has_row state name key)) NoRow)
     (if same_bytes key next
-    then Ok (record { state = with_row state name key row; written = written state name key ∷ [] })
+    then Ok (record { state = with_row state name key row; written = written_at state name key ∷ [] })
     else moved state name key next row))
 
 abbrev pub deleted_in : State → List ℕ → List ℕ → Result Edited StoreError
 deleted_in state name key =
     unless (when (not (has_row state name key)) NoRow)
-    (Ok (record { state = without_row state name key; written = written state name key ∷ [] }))
+    (Ok (record { state = without_row state name key; written = written_at state name key ∷ [] }))
 
 abbrev pub found_table : Option TableData → (TableData → Result Edited StoreError) → Result Edited StoreError
 found_table None next = Err NoTable

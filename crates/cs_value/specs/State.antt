@@ -89,6 +89,18 @@ with_row state name key row = with_rows state name (map.insert (rows_at state na
 abbrev pub without_row : State → List ℕ → List ℕ → State
 without_row state name key = with_rows state name (map.remove (rows_at state name) key)
 
+-- ---- what is told of a write
+
+-- a key that was written, and the row that stood under it before
+pub record WrittenData : Type 0 where
+  pub table : List ℕ
+  pub key : List ℕ
+  pub former : Option (List OwnedValue)
+
+-- a key of a state, with the row that stands under it
+abbrev pub written_at : State → List ℕ → List ℕ → WrittenData
+written_at state name key = record { table = name; key = key; former = row_at state name key }
+
 -- ---- the codes by which contracts compare states
 
 abbrev pub schema_code : Coded SchemaData

@@ -1,0 +1,5 @@
+use Rattle.cs_group.proofs.ApplyLaws.{applied_once}
+use Rattle.cs_group.proofs.laws.applied_once_law.Goals as goal
+
+pub returns : goal.returns
+returns c = applied_once

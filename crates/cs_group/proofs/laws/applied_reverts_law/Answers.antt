@@ -1,0 +1,5 @@
+use Rattle.cs_group.proofs.ApplyLaws.{applied_reverts}
+use Rattle.cs_group.proofs.laws.applied_reverts_law.Goals as goal
+
+pub returns : goal.returns
+returns c = applied_reverts

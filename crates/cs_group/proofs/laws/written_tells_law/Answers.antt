@@ -1,0 +1,5 @@
+use Rattle.cs_group.proofs.ApplyLaws.{written_tells}
+use Rattle.cs_group.proofs.laws.written_tells_law.Goals as goal
+
+pub returns : goal.returns
+returns c = written_tells

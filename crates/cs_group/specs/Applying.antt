@@ -1,0 +1,142 @@
+-- What a changeset does to a state: the interface of SQLite's session extension, under "sqlite3changeset_apply".
+use Rattle.std.specs.Prelude.{◌≡◌, ◌≢◌, ℕ, ◌<◌, if◌then◌else◌, List, [], length, map, take, All, HoldsAt}
+use Rattle.std.specs.Prelude.{filter, filter_map, Option, None, Some, option_map}
+use Rattle.std.specs.List.{flat_map}
+use Rattle.cs_value.specs.declared.value.OwnedValue.{OwnedValue}
+use Rattle.cs_value.specs.State.{State, WrittenData, schema_at, row_at, written_at}
+use Rattle.cs_wire.specs.declared.entry.Entry.{Entry}
+use Rattle.cs_wire.specs.Entry.{key_of}
+use Rattle.cs_wire.specs.Changeset.{HeaderData, GroupData}
+use Rattle.cs_group.specs.declared.judging.Judgement.TheVariants.{Wider}
+use Rattle.cs_group.specs.declared.conflict.Kind.{Kind}
+use Rattle.cs_group.specs.declared.conflict.Choice.{Choice}
+use Rattle.cs_group.specs.declared.conflict.Choice.TheVariants.{Omit}
+use Rattle.cs_group.specs.Judging.{judged, is_skipped, is_compatible}
+use Rattle.cs_group.specs.Conflicts.{conflict_kind, is_carried_out, entry_result}
+
+-- ---- the entries of a changeset
+
+-- an entry, with the table that it is of
+pub record PlacedEntry : Type 0 where
+  pub table : List ℕ
+  pub flags : List ℕ
+  pub entry : Entry
+
+abbrev pub placed_by : HeaderData → Entry → PlacedEntry
+placed_by header entry = record { table = header.name; flags = header.flags; entry = entry }
+
+abbrev pub placed_in : GroupData → List PlacedEntry
+placed_in group = map (placed_by group.header) group.entries
+
+-- the entries of the groups, in the order of the file
+abbrev pub placed : List GroupData → List PlacedEntry
+placed groups = flat_map placed_in groups
+
+-- the key of the row that the entry is of
+abbrev pub placed_key : PlacedEntry → List ℕ
+placed_key p = key_of p.flags p.entry.change
+
+-- the row that stands there
+abbrev pub current : State → PlacedEntry → Option (List OwnedValue)
+current state p = row_at state p.table (placed_key p)
+
+-- the entry is of another row than that of this table with this key
+abbrev pub IsElsewhere : PlacedEntry → List ℕ → List ℕ → Type 0
+IsElsewhere p table key = ¬ ((p.table ≡ table) × (placed_key p ≡ key))
+
+-- ---- which of them are applied
+
+-- the names of the tables whose changes are passed over
+abbrev pub skipped : State → List GroupData → List (List ℕ)
+skipped state changeset = map (λ g. g.header.name) (filter (λ g. is_skipped (judged state g)) changeset)
+
+-- the group at this place is the first whose table is wider
+pub record FirstWider (state : State) (changeset : List GroupData) (place : ℕ) : Type 0 where
+  pub within : place < length changeset
+  pub before : All (λ g. judged state g ≢ Wider) (take place changeset)
+  pub wider : HoldsAt (λ g. judged state g ≡ Wider) changeset place
+
+-- no table is wider
+abbrev pub NoneWider : State → List GroupData → Type 0
+NoneWider state changeset = All (λ g. judged state g ≢ Wider) changeset
+
+abbrev pub compatible_groups : State → List GroupData → List GroupData
+compatible_groups state changeset = filter (λ g. is_compatible (judged state g)) changeset
+
+-- the entries of the tables that are compatible, which alone are applied
+abbrev pub applicable : State → List GroupData → List PlacedEntry
+applicable state changeset = placed (compatible_groups state changeset)
+
+-- ---- conflicts
+
+pub record ConflictData : Type 0 where
+  pub kind : Kind
+  pub table : List ℕ
+  pub entry : Entry
+  pub current : Option (List OwnedValue)
+
+-- what is met by an entry, if it meets a conflict
+abbrev pub placed_kind : State → PlacedEntry → Option Kind
+placed_kind state p = conflict_kind p.entry.change (current state p)
+
+abbrev pub conflict_with : PlacedEntry → Option (List OwnedValue) → Option ConflictData
+conflict_with p row = option_map (λ kind. record { kind = kind; table = p.table; entry = p.entry; current = row })
+    (conflict_kind p.entry.change row)
+
+abbrev pub conflict_at : State → PlacedEntry → Option ConflictData
+conflict_at state p = conflict_with p (current state p)
+
+-- the conflicts that a changeset meets, in the order of the file
+abbrev pub conflicts : State → List GroupData → List ConflictData
+conflicts state changeset = filter_map (conflict_at state) (applicable state changeset)
+
+-- it meets none, and no table is wider
+pub record IsClean (state : State) (changeset : List GroupData) : Type 0 where
+  pub none_wider : NoneWider state changeset
+  pub no_conflict : conflicts state changeset ≡ []
+
+-- ---- the state afterwards
+
+-- a choice for each entry, which matters where that meets a conflict
+abbrev pub Choices : Type 0
+Choices = PlacedEntry → Choice
+
+-- a conflict, and what was chosen for it
+pub record MetData : Type 0 where
+  pub conflict : ConflictData
+  pub choice : Choice
+
+abbrev pub met_at : State → Choices → PlacedEntry → Option MetData
+met_at state choose p = option_map (λ k. record { conflict = k; choice = choose p }) (conflict_at state p)
+
+-- the conflicts with the choices, in the order of the file
+abbrev pub met : State → List GroupData → Choices → List MetData
+met state changeset choose = filter_map (met_at state choose) (applicable state changeset)
+
+abbrev pub written_for : State → Choices → PlacedEntry → Option WrittenData
+written_for state choose p =
+    if is_carried_out (placed_kind state p) (choose p) then Some (written_at state p.table (placed_key p)) else None
+
+-- the keys of the entries that are carried out, in the order of the file, with the rows that stood there
+abbrev pub written : State → List GroupData → Choices → List WrittenData
+written state changeset choose = filter_map (written_for state choose) (applicable state changeset)
+
+-- what an entry leaves at its key, if there is an afterwards
+abbrev pub placed_result : State → Choices → PlacedEntry → Option (Option (List OwnedValue))
+placed_result state choose p = entry_result p.flags p.entry.change (current state p) (choose p)
+
+-- a state that these entries make of another: with its tables, at the key of each entry what that leaves, and elsewhere
+-- the rows that stood there
+pub record AreApplied (old : State) (entries : List PlacedEntry) (choose : Choices) (new : State) : Type 0 where
+  pub schemas : (table : List ℕ) → schema_at new table ≡ schema_at old table
+  pub results : All (λ p. placed_result old choose p ≡ Some (current new p)) entries
+  pub others : (table key : List ℕ) → All (λ p. IsElsewhere p table key) entries
+      → row_at new table key ≡ row_at old table key
+
+-- the state after the changeset: the rows at the keys of compatible groups are the results
+abbrev pub IsApplied : State → List GroupData → Choices → State → Type 0
+IsApplied old changeset choose new = AreApplied old (applicable old changeset) choose new
+
+-- what is chosen does not matter where no conflict is met
+abbrev pub omit_all : Choices
+omit_all p = Omit
