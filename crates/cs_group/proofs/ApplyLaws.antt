@@ -159,9 +159,10 @@ undoes_entries : (header other : HeaderData) (es is : List Entry) → other ≡ 
 undoes_entries header other [] [] same fits h = tt
 undoes_entries header other [] (i ∷ is) same fits h = absurd h
 undoes_entries header other (e ∷ es) [] same fits h = absurd h
-undoes_entries header other (e ∷ es) (i ∷ is) same fits h =
-    (record { table = ap (λ (h : HeaderData). h.name) same; flags = ap (λ (h : HeaderData). h.flags) same; inverse = h.0; fits = fits.0 },
-    undoes_entries header other es is same fits.1 h.1)
+undoes_entries header other (e ∷ es) (i ∷ is) same fits h = (
+  record { table = ap (λ (h : HeaderData). h.name) same; flags = ap (λ (h : HeaderData). h.flags) same; inverse = h.0; fits = fits.0 },
+  undoes_entries header other es is same fits.1 h.1,
+)
 
 undoes_groups : (gs hs : List GroupData) → AllByRecursion IsGroup gs → AllZip IsInverseGroup gs hs → AllZip Undoes (placed gs) (placed hs)
 undoes_groups [] [] each h = tt
@@ -248,14 +249,15 @@ applied_reverts old changeset inverse choose again new is undoes clean applied =
     let qs = applicable new inverse in
     let groups = compatible_same old new applied.schemas changeset inverse (recursion_from_All IsGroup changeset is.each) undoes in
     let zip : AllZip Undoes ps qs = undoes_groups (compatible_groups old changeset) (compatible_groups new inverse) groups.0 groups.1 in
-    let all = undone_all old new choose again ps qs zip (no_conflict old ps clean.no_conflict) (recursion_from_All _ ps applied.results) in
-    (record {
-      none_wider = All-from_recursion _ inverse (none_wider old new applied.schemas changeset inverse undoes (recursion_from_All _ changeset clean.none_wider));
-      no_conflict = none_met new qs all.0;
-    },
-    record {
-      schemas = λ table. sym (applied.schemas table);
-      results = All-from_recursion _ qs all.1;
-      others = λ table key elsewhere.
-          sym (applied.others table key (All-from_recursion _ ps (all.2 table key (recursion_from_All _ qs elsewhere))));
-    })
+    let all = undone_all old new choose again ps qs zip (no_conflict old ps clean.no_conflict) (recursion_from_All _ ps applied.results) in (
+      record {
+        none_wider = All-from_recursion _ inverse (none_wider old new applied.schemas changeset inverse undoes (recursion_from_All _ changeset clean.none_wider));
+        no_conflict = none_met new qs all.0;
+      },
+      record {
+        schemas = λ table. sym (applied.schemas table);
+        results = All-from_recursion _ qs all.1;
+        others = λ table key elsewhere.
+            sym (applied.others table key (All-from_recursion _ ps (all.2 table key (recursion_from_All _ qs elsewhere))));
+      },
+    )

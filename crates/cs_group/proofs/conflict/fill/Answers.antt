@@ -13,9 +13,9 @@ loop-column-preserved c =
     let more = filled_more c.args.image.now row i _ c.loop-column-test.true (stands c.get.result row i c.get.ensures.lookup.3) in
     elim c.match-branch-2.branch [
       | in-Some+in_ok-push w ↦
-        let value = sym c.in_ok-value.ensures ∙ w.in-Some.is in
-        rw (w.values-is, next) (w.in_ok-push.ensures.items ∙ ap (λ (l : List OwnedValue). l ++ w.in-Some.value ∷ []) c.loop-column.invariant ∙ sym (rw value at more))
+          let value = sym c.in_ok-value.ensures ∙ w.in-Some.is in
+          rw (w.values-is, next) (w.in_ok-push.ensures.items ∙ ap (λ (l : List OwnedValue). l ++ w.in-Some.value ∷ []) c.loop-column.invariant ∙ sym (rw value at more))
       | in_default w ↦
-        let value = sym c.in_ok-value.ensures ∙ w.in_default.is in
-        rw (w.values-is, next) (c.loop-column.invariant ∙ sym (append-nil _) ∙ sym (rw value at more))
+          let value = sym c.in_ok-value.ensures ∙ w.in_default.is in
+          rw (w.values-is, next) (c.loop-column.invariant ∙ sym (append-nil _) ∙ sym (rw value at more))
     ]
