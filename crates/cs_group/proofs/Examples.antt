@@ -1,12 +1,9 @@
 -- The definitions on worked examples: the table t of two columns, of which the first is the key.
-use Rattle.std.proofs.Common.{◌≡◌, pos, Bool, true, false, List, [], ◌∷◌, map, codes, refl, zero, suc, arith, ℕ, ℤ, true≢false, sym, ap}
-use Rattle.std.specs.Cmp.Lexicographic.{same_text, nat_list_eq_equiv}
-use Rattle.std.proofs.lemmas.Cmp.{int_eq_equiv}
-use Rattle.std.proofs.lemmas.Bool.Decides.{Decides-int_eq}
+use Rattle.std.proofs.Common.{◌≡◌, pos, Bool, true, false, List, [], ◌∷◌, map, codes, refl, zero, suc, arith}
 use Rattle.std.specs.Prelude.{Option, Some, None}
 use Rattle.std.proofs.lemmas.List.Elements.{All-nil}
 use Rattle.cs_value.specs.declared.value.OwnedValue.{OwnedValue}
-use Rattle.cs_value.specs.declared.value.OwnedValue.TheVariants.{Int, Text, Blob, Null}
+use Rattle.cs_value.specs.declared.value.OwnedValue.TheVariants.{Int, Text, Null}
 use Rattle.cs_value.specs.declared.value.OwnedField.{OwnedField}
 use Rattle.cs_value.specs.declared.value.OwnedField.TheVariants.{Undefined, Defined}
 use Rattle.cs_value.specs.Spelling.{value_bytes, field_bytes}
@@ -18,8 +15,7 @@ use Rattle.cs_wire.proofs.Examples.{flags, x, y, row, update, idle_update, one_c
 use Rattle.cs_group.specs.declared.merging.Merged.{Merged}
 use Rattle.cs_group.specs.declared.merging.Merged.TheVariants.{Keep, Becomes, Vanish}
 use Rattle.cs_group.specs.Inverse.{IsInverse}
-use Rattle.cs_group.specs.Net.{is_same, net_between}
-use Rattle.cs_group.proofs.ConflictLaws.{same_values, same_fields, same_itself}
+use Rattle.cs_group.specs.Net.{net_between}
 use Rattle.cs_group.specs.Joining.{laid_over, merged, joined, key_places, AgreesWith, AreJoinable, FirstClash}
 
 -- the row (1, 'y')
@@ -198,5 +194,5 @@ joinable (suc k) d lt j e e_lt same = absurd (omega (arith, lt))
 insert_and_delete : IsInverse (one_change (Insert row)) (one_change (Delete row))
 insert_and_delete = (record { header = refl; entries = (record { indirect = refl; key = refl; image = refl }, tt) }, tt)
 
-update_and_back : IsInverse (one_change (update x y)) (one_change (update y x))
+pub update_and_back : IsInverse (one_change (update x y)) (one_change (update y x))
 update_and_back = (record { header = refl; entries = (record { indirect = refl; key = refl; image = refl }, tt) }, tt)

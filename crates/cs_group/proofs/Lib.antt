@@ -8,3 +8,4 @@ pub mod Examples
 pub mod ConflictLaws
 pub mod ApplyLaws
 pub mod JudgingLaws
+pub mod ApplyExamples
