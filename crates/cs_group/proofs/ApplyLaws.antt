@@ -1,27 +1,23 @@
 -- Changesets and the states that they make.
-use Rattle.std.proofs.Common.{◌≡◌, ◌≢◌, inl, inr, ◌⊎◌, ℕ, Bool, true, false, true≢false, cond, if◌then◌else◌, nat_eq, List, [], ◌∷◌, ◌++◌, map, filter, filter_map, All, Option, Some, None, option_map, refl, sym, ap, ◌∙◌}
+use Rattle.std.proofs.Common.{◌≡◌, ◌≢◌, inl, inr, ◌⊎◌, ℕ, Bool, true, false, cond, if◌then◌else◌, nat_eq, List, [], ◌∷◌, ◌++◌, map, filter_map, All, Option, Some, None, option_map, refl, sym, ap, ◌∙◌}
 use Rattle.std.specs.Prelude.{unwrap_or}
-use Rattle.std.specs.List.{AllByRecursion, AllZip, flat_map, cons_option}
+use Rattle.std.specs.List.{AllByRecursion, AllZip, cons_option}
 use Rattle.std.specs.FinMap.{get, empty}
 use Rattle.std.specs.Cmp.Lexicographic.{pointwise, same_text, other_text}
-use Rattle.std.proofs.lemmas.List.Elements.{All-nil, recursion_from_All, All-from_recursion}
+use Rattle.std.proofs.lemmas.List.Elements.{recursion_from_All, All-from_recursion}
 use Rattle.std.proofs.lemmas.Option.{none-some}
-use Rattle.cs_value.specs.declared.value.OwnedValue.{OwnedValue}
-use Rattle.cs_value.specs.State.{SchemaData, RowMap, TableData, State, WrittenData, schema_at, row_at, written_at}
+use Rattle.cs_value.specs.State.{SchemaData, TableData, State, WrittenData, schema_at, row_at, written_at}
 use Rattle.cs_value.proofs.ByteMaps.{same_maps}
 use Rattle.cs_wire.specs.declared.entry.Entry.{Entry}
 use Rattle.cs_wire.specs.Entry.{IsEntry}
-use Rattle.cs_wire.specs.Changeset.{HeaderData, GroupData, ImageData, IsGroup, IsChangeset}
+use Rattle.cs_wire.specs.Changeset.{HeaderData, GroupData, ImageData, IsGroup}
 use Rattle.cs_wire.specs.Inverse.{IsInverseEntry, IsInverseGroup}
-use Rattle.cs_group.specs.declared.judging.Judgement.{Judgement}
 use Rattle.cs_group.specs.declared.judging.Judgement.TheVariants.{Wider}
 use Rattle.cs_group.specs.declared.conflict.Kind.{Kind}
-use Rattle.cs_group.specs.declared.conflict.Choice.{Choice}
-use Rattle.cs_group.specs.Inverse.{IsInverse}
 use Rattle.cs_group.specs.Judging.{judgement, judged, is_compatible}
-use Rattle.cs_group.specs.Conflicts.{conflict_kind, row_after, is_carried_out, ends, entry_result}
-use Rattle.cs_group.specs.Applying.{PlacedEntry, placed_by, placed_in, placed, placed_key, current, IsElsewhere, compatible_groups, applicable, placed_kind, conflict_at, conflicts, NoneWider, IsClean, Choices, written_for, written, placed_result, AreApplied, IsApplied}
-use Rattle.cs_group.specs.Laws.{AppliedOnce, AppliedReverts, TellsFormer, WrittenTells}
+use Rattle.cs_group.specs.Conflicts.{row_after, is_carried_out, ends}
+use Rattle.cs_group.specs.Applying.{PlacedEntry, placed_by, placed_in, placed, placed_key, current, IsElsewhere, compatible_groups, applicable, placed_kind, conflict_at, Choices, written_for, written, placed_result}
+use Rattle.cs_group.specs.Laws.{AppliedOnce, AppliedReverts, WrittenTells}
 use Rattle.cs_group.proofs.ConflictLaws.{undone}
 
 -- ---- by the place of a row

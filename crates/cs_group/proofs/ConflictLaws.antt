@@ -1,5 +1,5 @@
 -- What rows, and the images of them that entries have, say of one another.
-use Rattle.std.proofs.Common.{◌≡◌, ◌≢◌, ℕ, zero, suc, ◌<◌, ◌≤◌, ◌++◌, take, drop, get_or, ℤ, Bool, true, false, true≢false, cond, ◌&&◌, if◌then◌else◌, List, [], ◌∷◌, length, map, Option, Some, None, option_map, refl, sym, ap, ◌∙◌, arith}
+use Rattle.std.proofs.Common.{◌≡◌, ◌≢◌, ℕ, zero, suc, ◌<◌, ◌≤◌, ◌++◌, take, drop, get_or, ℤ, Bool, true, false, true≢false, ◌&&◌, if◌then◌else◌, List, [], ◌∷◌, length, map, Option, Some, None, option_map, refl, sym, ap, ◌∙◌, arith}
 use Rattle.std.specs.Prelude.{unwrap_or, option_to_list, IfSome}
 use Rattle.std.specs.Option.{MatchOption}
 use Rattle.std.specs.List.{HoldsAt}
@@ -23,7 +23,6 @@ use Rattle.cs_wire.specs.Entry.{IsKeyedUpdate, IsChange, with_key, before_image,
 use Rattle.cs_value.specs.Spelling.{value_bytes, field_bytes}
 use Rattle.cs_value.specs.Table.{IsKeyedRow}
 use Rattle.cs_value.specs.Key.{row_key, image_key}
-use Rattle.cs_group.specs.declared.conflict.Kind.{Kind}
 use Rattle.cs_group.specs.declared.conflict.Kind.TheVariants.{Data, NotFound, Conflict}
 use Rattle.cs_group.specs.Net.{is_same}
 use Rattle.cs_group.specs.Conflicts.{has_values, value_in, filled, kind_between, conflict_kind, row_after}

@@ -1,5 +1,4 @@
-use Rattle.std.proofs.Common.{Bool, Some, None, if◌then◌else◌, Option, sym, ap, ◌∙◌}
-use Rattle.cs_group.specs.declared.conflict.Kind.{Kind}
+use Rattle.std.proofs.Common.{Bool, Some, None, if◌then◌else◌, ap, ◌∙◌}
 use Rattle.cs_group.specs.declared.conflict.Kind.TheVariants.{Data}
 use Rattle.cs_group.proofs.ConflictLaws.{same_rows}
 use Rattle.cs_group.proofs.conflict.conflict_kind.Goals as goal
