@@ -1,5 +1,6 @@
 -- What an entry meets where it is applied, and what it leaves: the interface of SQLite's session extension, under
--- "sqlite3changeset_apply", "constants passed to the conflict handler" and "constants returned by the conflict handler".
+-- "sqlite3changeset_apply", "constants passed to the conflict handler" and "constants returned by the conflict
+-- handler".
 use Rattle.std.specs.Prelude.{ℕ, Bool, true, false, ◌&&◌, if◌then◌else◌, List, [], ◌∷◌}
 use Rattle.std.specs.Prelude.{Option, None, Some, option_map, unwrap_or}
 use Rattle.cs_value.specs.declared.value.OwnedValue.{OwnedValue}

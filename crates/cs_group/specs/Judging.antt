@@ -1,6 +1,6 @@
 -- How the changes of a table stand to the table of that name: the interface of SQLite's session extension, under
--- "sqlite3changeset_apply". There a table may have more columns than the changes; that this is refused is this project's
--- own.
+-- "sqlite3changeset_apply". There a table may have more columns than the changes; that this is refused is this
+-- project's own.
 use Rattle.std.specs.Prelude.{ℕ, zero, suc, nat_lt, Bool, true, false, if◌then◌else◌, List, [], ◌∷◌, length}
 use Rattle.std.specs.Prelude.{Option, None, Some, option_map}
 use Rattle.cs_value.specs.State.{State, schema_at}

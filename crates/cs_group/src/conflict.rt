@@ -6,7 +6,8 @@ ghost use Rattle.cs_value.specs.Table.{IsKeyedRow};
 ghost use Rattle.cs_value.specs.Key.{row_key};
 ghost use Rattle.cs_wire.specs.Entry.{IsChange, key_of};
 ghost use Rattle.cs_group.specs.declared.conflict.Kind.TheVariants.{Data as DataKind, NotFound as NotFoundKind};
-ghost use Rattle.cs_group.specs.Conflicts.{conflict_kind as kind_of, row_after as row_of_change, has_values as values_of_image};
+ghost use Rattle.cs_group.specs.Conflicts.{conflict_kind as kind_of, row_after as row_of_change};
+ghost use Rattle.cs_group.specs.Conflicts.{has_values as values_of_image};
 ghost use Rattle.cs_group.specs.Conflicts.{filled, value_in as value_of_field};
 
 use crate::image::after_image;
