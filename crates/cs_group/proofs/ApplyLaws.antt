@@ -171,7 +171,7 @@ undoes_groups (g ∷ gs) (i ∷ hs) each h =
 
 module _ (old new : State) (schemas : (table : List ℕ) → schema_at new table ≡ schema_at old table) where
   -- the tables are judged alike
-  judged_same : (g h : GroupData) → h.header ≡ g.header → judged new h ≡ judged old g
+  pub judged_same : (g h : GroupData) → h.header ≡ g.header → judged new h ≡ judged old g
   judged_same g h same =
       ap (λ (k : HeaderData). judgement k.flags (option_map (λ (s : SchemaData). s.flags) (schema_at new k.name))) same
       ∙ ap (λ (o : Option SchemaData). judgement g.header.flags (option_map (λ (s : SchemaData). s.flags) o)) (schemas g.header.name)

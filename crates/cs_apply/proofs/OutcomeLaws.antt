@@ -1,0 +1,62 @@
+-- What a whole run comes to.
+use Rattle.std.proofs.Common.{◌≡◌, ℕ, List, [], ◌++◌, map, filter_map, All, Option, refl, sym, ap, subst, ◌∙◌}
+use Rattle.std.specs.Prelude.{string_bytes}
+use Rattle.std.proofs.lemmas.List.Elements.{All-nil}
+use Rattle.cs_value.specs.State.{State, WrittenData}
+use Rattle.cs_wire.specs.Changeset.{GroupData}
+use Rattle.cs_store.specs.declared.edit.Written.{Written}
+use Rattle.cs_store.specs.Editing.{written_of}
+use Rattle.cs_group.specs.declared.conflict.Choice.TheVariants as choice
+use Rattle.cs_group.specs.Applying.{ConflictData, MetData, NoneWider, applicable, conflict_at, met_at, written_for, skipped}
+use Rattle.cs_apply.specs.declared.conflict.Conflict.{Conflict}
+use Rattle.cs_apply.specs.declared.conflict.Met.{Met}
+use Rattle.cs_apply.specs.declared.report.Report.{Report}
+use Rattle.cs_apply.specs.declared.running.Direction.{Direction}
+use Rattle.cs_apply.specs.declared.fault.ApplyFault.{ApplyFault}
+use Rattle.cs_apply.specs.declared.fault.ApplyFault.TheVariants as fault
+use Rattle.cs_apply.specs.Report.{conflict_of, met_of}
+use Rattle.cs_apply.specs.Running.{Handler, IsReadAs, GoesOn, Applies, IsReached, EndsAt, Refuses}
+use Rattle.cs_apply.specs.Steps.{Carries, Stops, RefusesEntries}
+
+-- a report that tells nothing yet
+pub record IsEmpty (r : Report) : Type 0 where
+  pub conflicts : r.conflicts.items ≡ []
+  pub skipped : r.skipped.items ≡ []
+  pub written : r.written.items ≡ []
+
+module _ (chooses : Handler) (file : List ℕ) (direction : Direction) (old : State) (r t : Report) (changeset : List GroupData)
+    (read : IsReadAs file direction changeset) (none_wider : NoneWider old changeset) (empty : IsEmpty r) (mid : State) (same : mid ≡ old) where
+  pub applies_from : (new : State) → Carries chooses (applicable mid changeset) mid r new t → map string_bytes t.skipped.items ≡ map string_bytes r.skipped.items ++ skipped mid changeset
+      → Applies chooses file direction old t new
+  applies_from new ran told =
+      let carried = subst (λ (s : State). Carries chooses (applicable s changeset) s r new t) same ran in
+      record {
+        changeset = changeset;
+        read = read;
+        none_wider = none_wider;
+        choose = carried.choose;
+        applied = carried.applied;
+        conflicts = carried.conflicts ∙ ap (λ (l : List Met). map met_of l ++ filter_map (met_at old carried.choose) (applicable old changeset)) empty.conflicts;
+        chosen = carried.chosen (rw empty.conflicts (All-nil (GoesOn chooses)));
+        skipped = rw (empty.skipped, same) at told;
+        written = carried.written ∙ ap (λ (l : List Written). map written_of l ++ filter_map (written_for old carried.choose) (applicable old changeset)) empty.written;
+      }
+
+  reached : (conflict : Conflict) → Stops chooses (applicable old changeset) old r t conflict → IsReached chooses old changeset conflict
+  reached conflict ended = record {
+    earlier = t.conflicts.items;
+    later = ended.later;
+    chosen = ended.chosen (rw empty.conflicts (All-nil (GoesOn chooses)));
+    listed = rw empty.conflicts at ended.listed;
+  }
+
+  refuses_now : (e : ApplyFault) → RefusesEntries chooses (applicable old changeset) old r t e → Refuses chooses file direction old e
+  refuses_now (fault.Abort k) h = record { changeset = changeset; read = read; none_wider = none_wider; reached = reached k h.0; chosen = h.1 }
+  refuses_now (fault.Misuse k) h = (record { changeset = changeset; read = read; none_wider = none_wider; reached = reached k h.0; chosen = h.1 }, h.2)
+  refuses_now (fault.Store e) h = h
+  refuses_now fault.NoMemory h = tt
+  refuses_now (fault.Read f) h = absurd h
+  refuses_now (fault.Wider place) h = absurd h
+
+  pub refuses_from : (e : ApplyFault) → RefusesEntries chooses (applicable mid changeset) mid r t e → Refuses chooses file direction old e
+  refuses_from e ended = refuses_now e (subst (λ (s : State). RefusesEntries chooses (applicable s changeset) s r t e) same ended)

@@ -1,0 +1,277 @@
+-- How runs go on, one after another.
+use Rattle.std.proofs.Common.{◌≡◌, ◌≢◌, ℕ, Bool, true, false, true≢false, cond, if◌then◌else◌, ◌&&◌, ◌||◌, nat_eq, List, [], ◌∷◌, ◌++◌, map, filter_map, All, Option, Some, None, option_map, append_assoc, refl, sym, ap, ◌∙◌, arith}
+use Rattle.std.specs.List.{AllByRecursion, cons_option}
+use Rattle.std.specs.Cmp.Lexicographic.{pointwise, same_text, nat_list_eq_equiv}
+use Rattle.std.proofs.lemmas.List.{append-nil, map-append}
+use Rattle.std.proofs.lemmas.List.Elements.{filter_map-append, recursion_from_All, All-from_recursion}
+use Rattle.cs_value.specs.declared.value.OwnedValue.{OwnedValue}
+use Rattle.cs_value.specs.State.{State, WrittenData, row_at}
+use Rattle.cs_store.specs.Editing.{written_of}
+use Rattle.cs_group.specs.declared.conflict.Choice.{Choice}
+use Rattle.cs_group.specs.Conflicts.{conflict_kind, is_carried_out, entry_result}
+use Rattle.cs_group.specs.Applying.{PlacedEntry, placed_key, current, IsElsewhere, ConflictData, MetData, Choices, conflict_with, conflict_at, met_at, written_for, placed_result, AreApplied, omit_all}
+use Rattle.cs_apply.specs.declared.conflict.Conflict.{Conflict}
+use Rattle.cs_apply.specs.declared.conflict.Met.{Met}
+use Rattle.cs_apply.specs.declared.report.Report.{Report}
+use Rattle.cs_apply.specs.Report.{conflict_of, met_of}
+use Rattle.cs_apply.specs.Running.{Handler, GoesOn}
+use Rattle.cs_apply.specs.declared.fault.ApplyFault.{ApplyFault}
+use Rattle.cs_apply.specs.declared.fault.ApplyFault.TheVariants as fault
+use Rattle.cs_apply.specs.Steps.{Carries, Stops, RefusesEntries}
+
+-- ---- lists
+
+pub each_append : {X : Type 0} (P : X → Type 0) (xs ys : List X) → AllByRecursion P xs → AllByRecursion P ys → AllByRecursion P (xs ++ ys)
+each_append P [] ys p q = q
+each_append P (x ∷ xs) ys p q = (p.0, each_append P xs ys p.1 q)
+
+each_front : {X : Type 0} (P : X → Type 0) (xs ys : List X) → AllByRecursion P (xs ++ ys) → AllByRecursion P xs
+each_front P [] ys p = tt
+each_front P (x ∷ xs) ys p = (p.0, each_front P xs ys p.1)
+
+each_back : {X : Type 0} (P : X → Type 0) (xs ys : List X) → AllByRecursion P (xs ++ ys) → AllByRecursion P ys
+each_back P [] ys p = p
+each_back P (x ∷ xs) ys p = each_back P xs ys p.1
+
+pub each_by : {X : Type 0} (P Q : X → Type 0) (xs : List X) → ((x : X) → P x → Q x) → AllByRecursion P xs → AllByRecursion Q xs
+each_by P Q [] f p = tt
+each_by P Q (x ∷ xs) f p = (f x p.0, each_by P Q xs f p.1)
+
+each_both : {X : Type 0} (P Q R : X → Type 0) (xs : List X) → ((x : X) → P x → Q x → R x) → AllByRecursion P xs → AllByRecursion Q xs → AllByRecursion R xs
+each_both P Q R [] f p q = tt
+each_both P Q R (x ∷ xs) f p q = (f x p.0 q.0, each_both P Q R xs f p.1 q.1)
+
+filter_map_same : {X Y : Type 0} (f g : X → Option Y) (xs : List X) → AllByRecursion (λ x. f x ≡ g x) xs → filter_map f xs ≡ filter_map g xs
+filter_map_same f g [] same = refl
+filter_map_same f g (x ∷ xs) same = let first = same.0 in let others = filter_map_same f g xs same.1 in cc (first, others)
+
+-- ---- entries of other rows
+
+-- each of the second entries is of another row than each of the first
+abbrev pub Apart : List PlacedEntry → List PlacedEntry → Type 0
+Apart ps qs = AllByRecursion (λ q. AllByRecursion (λ p. IsElsewhere p q.table (placed_key q)) ps) qs
+
+flip : (p q : PlacedEntry) → IsElsewhere p q.table (placed_key q) → IsElsewhere q p.table (placed_key p)
+flip p q apart here = apart (sym here.0, sym here.1)
+
+apart_head : (p : PlacedEntry) (ps qs : List PlacedEntry) → Apart (p ∷ ps) qs → AllByRecursion (λ q. IsElsewhere q p.table (placed_key p)) qs
+apart_head p ps [] apart = tt
+apart_head p ps (q ∷ qs) apart = (flip p q apart.0.0, apart_head p ps qs apart.1)
+
+apart_tail : (p : PlacedEntry) (ps qs : List PlacedEntry) → Apart (p ∷ ps) qs → Apart ps qs
+apart_tail p ps [] apart = tt
+apart_tail p ps (q ∷ qs) apart = (apart.0.1, apart_tail p ps qs apart.1)
+
+-- whether an entry is of the row of one of these
+abbrev is_at : PlacedEntry → PlacedEntry → Bool
+is_at q p = pointwise nat_eq p.table q.table && pointwise nat_eq (placed_key p) (placed_key q)
+
+abbrev is_among : List PlacedEntry → PlacedEntry → Bool
+is_among [] q = false
+is_among (p ∷ ps) q = is_at q p || is_among ps q
+
+at_itself : (p : PlacedEntry) → is_at p p ≡ true
+at_itself p = rw (nat_list_eq_equiv.refl p.table, nat_list_eq_equiv.refl (placed_key p)) refl
+
+not_at : (p q : PlacedEntry) → IsElsewhere p q.table (placed_key q) → is_at q p ≡ false
+not_at p q apart = by (pointwise nat_eq p.table q.table) (pointwise nat_eq (placed_key p) (placed_key q)) refl refl
+  where
+    by : (a b : Bool) → a ≡ pointwise nat_eq p.table q.table → b ≡ pointwise nat_eq (placed_key p) (placed_key q) → (a && b) ≡ false
+    by true true e f = absurd (apart (same_text p.table q.table e, same_text (placed_key p) (placed_key q) f))
+    by true false e f = refl
+    by false b e f = refl
+
+not_among : (ps : List PlacedEntry) (q : PlacedEntry) → AllByRecursion (λ p. IsElsewhere p q.table (placed_key q)) ps → is_among ps q ≡ false
+not_among [] q apart = refl
+not_among (p ∷ ps) q apart = rw (not_at p q apart.0, not_among ps q apart.1) refl
+
+among_more : (a b : Bool) → b ≡ true → (a || b) ≡ true
+among_more true b e = refl
+among_more false b e = e
+
+all_among : (ps : List PlacedEntry) → AllByRecursion (λ p. is_among ps p ≡ true) ps
+all_among [] = tt
+all_among (p ∷ ps) = (rw (at_itself p) refl, each_by _ _ ps (λ q e. among_more (is_at q p) (is_among ps q) e) (all_among ps))
+
+-- ---- one run after another
+
+abbrev met_by : PlacedEntry → Option (List OwnedValue) → Choice → Option MetData
+met_by p row choice = option_map (λ k. record { conflict = k; choice = choice }) (conflict_with p row)
+
+abbrev written_by : PlacedEntry → Option (List OwnedValue) → Choice → Option WrittenData
+written_by p row choice = if is_carried_out (conflict_kind p.entry.change row) choice then Some (record { table = p.table; key = placed_key p; former = row }) else None
+
+-- the choices of the first run for its entries, and else those of the second
+abbrev both_choices : List PlacedEntry → Choices → Choices → Choices
+both_choices ps first second p = if is_among ps p then first p else second p
+
+module _ (ps qs : List PlacedEntry) (a b : State) (first second : Choices) (apart : Apart ps qs) (applied : AreApplied a ps first b) where
+  abbrev both : Choices
+  both = both_choices ps first second
+
+  chosen_first : AllByRecursion (λ p. both p ≡ first p) ps
+  chosen_first = each_by _ _ ps (λ p e. rw e refl) (all_among ps)
+
+  -- the rows of the second run are as before the first
+  same_rows : AllByRecursion (λ q. current b q ≡ current a q) qs
+  same_rows = each_by _ _ qs (λ q away. applied.others q.table (placed_key q) (All-from_recursion _ ps away)) apart
+
+  chosen_second : AllByRecursion (λ q. both q ≡ second q) qs
+  chosen_second = each_by _ _ qs (λ q away. rw (not_among ps q away) refl) apart
+
+  -- what is told by row and choice is told alike
+  by_row : {Y : Type 0} (f : PlacedEntry → Option (List OwnedValue) → Choice → Option Y)
+      → filter_map (λ p. f p (current a p) (first p)) ps ++ filter_map (λ q. f q (current b q) (second q)) qs ≡ filter_map (λ p. f p (current a p) (both p)) (ps ++ qs)
+  by_row {Y} f =
+      let one : filter_map (λ p. f p (current a p) (first p)) ps ≡ filter_map (λ p. f p (current a p) (both p)) ps =
+      filter_map_same _ _ ps (each_by _ _ ps (λ p e. ap (f p (current a p)) (sym e)) chosen_first) in
+      let two : filter_map (λ q. f q (current b q) (second q)) qs ≡ filter_map (λ q. f q (current a q) (both q)) qs =
+      filter_map_same _ _ qs (each_both _ _ _ qs (λ q row e. ap (λ o. f q o (second q)) row ∙ ap (f q (current a q)) (sym e)) same_rows chosen_second) in
+      ap (λ (l : List Y). l ++ filter_map (λ q. f q (current b q) (second q)) qs) one
+      ∙ ap (λ (l : List Y). filter_map (λ p. f p (current a p) (both p)) ps ++ l) two
+      ∙ sym (filter_map-append (λ p. f p (current a p) (both p)) ps qs)
+
+turned : (ps qs : List PlacedEntry) → Apart ps qs → Apart qs ps
+turned [] qs apart = tt
+turned (p ∷ ps) qs apart = (apart_head p ps qs apart, turned ps qs (apart_tail p ps qs apart))
+
+module _ (ps qs : List PlacedEntry) (a b d : State) (first second : Choices) (apart : Apart ps qs) (one : AreApplied a ps first b) (two : AreApplied b qs second d) where
+  result_first : (p : PlacedEntry) → both_choices ps first second p ≡ first p → AllByRecursion (λ q. IsElsewhere q p.table (placed_key p)) qs
+      → placed_result a first p ≡ Some (current b p) → placed_result a (both_choices ps first second) p ≡ Some (current d p)
+  result_first p same away result =
+      ap (entry_result p.flags p.entry.change (current a p)) same ∙ result ∙ ap Some (sym (two.others p.table (placed_key p) (All-from_recursion _ qs away)))
+
+  result_second : (q : PlacedEntry) → current b q ≡ current a q → both_choices ps first second q ≡ second q
+      → placed_result b second q ≡ Some (current d q) → placed_result a (both_choices ps first second) q ≡ Some (current d q)
+  result_second q row same result =
+      ap (λ (o : Option (List OwnedValue)). entry_result q.flags q.entry.change o (both_choices ps first second q)) (sym row) ∙ ap (entry_result q.flags q.entry.change (current b q)) same ∙ result
+
+  abbrev Left : State → Choices → State → PlacedEntry → Type 0
+  Left old choose new p = placed_result old choose p ≡ Some (current new p)
+
+  abbrev Away : PlacedEntry → Type 0
+  Away p = AllByRecursion (λ q. IsElsewhere q p.table (placed_key p)) qs
+
+  abbrev ChosenFirst : PlacedEntry → Type 0
+  ChosenFirst p = both_choices ps first second p ≡ first p
+
+  abbrev ChosenSecond : PlacedEntry → Type 0
+  ChosenSecond q = both_choices ps first second q ≡ second q
+
+  results_first : AllByRecursion (Left a (both_choices ps first second) d) ps
+  results_first =
+      each_both (λ p. ChosenFirst p × Away p) (Left a first b) (Left a (both_choices ps first second) d) ps (λ p h result. result_first p h.0 h.1 result)
+      (each_both ChosenFirst Away (λ p. ChosenFirst p × Away p) ps (λ p same away. (same, away)) (chosen_first ps qs a b first second apart one) (turned ps qs apart))
+      (recursion_from_All (Left a first b) ps one.results)
+
+  results_second : AllByRecursion (Left a (both_choices ps first second) d) qs
+  results_second =
+      each_both (λ q. (current b q ≡ current a q) × ChosenSecond q) (Left b second d) (Left a (both_choices ps first second) d) qs (λ q h result. result_second q h.0 h.1 result)
+      (each_both (λ q. current b q ≡ current a q) ChosenSecond (λ q. (current b q ≡ current a q) × ChosenSecond q) qs (λ q row same. (row, same)) (same_rows ps qs a b first second apart one) (chosen_second ps qs a b first second apart one))
+      (recursion_from_All (Left b second d) qs two.results)
+
+  applied_then : AreApplied a (ps ++ qs) (both_choices ps first second) d
+  applied_then = record {
+    schemas = λ table. two.schemas table ∙ one.schemas table;
+    results = All-from_recursion (Left a (both_choices ps first second) d) (ps ++ qs) (each_append (Left a (both_choices ps first second) d) ps qs results_first results_second);
+    others = λ table key away.
+        let all = recursion_from_All (λ p. IsElsewhere p table key) (ps ++ qs) away in
+        two.others table key (All-from_recursion (λ p. IsElsewhere p table key) qs (each_back (λ p. IsElsewhere p table key) ps qs all))
+        ∙ one.others table key (All-from_recursion (λ p. IsElsewhere p table key) ps (each_front (λ p. IsElsewhere p table key) ps qs all));
+  }
+
+module _ (chooses : Handler) where
+  pub carries_none : (s : State) (r : Report) → Carries chooses [] s r s r
+  carries_none s r = record {
+    choose = omit_all;
+    applied = record { schemas = λ table. refl; results = λ k x lt. absurd (omega arith); others = λ table key away. refl };
+    conflicts = sym (append-nil (map met_of r.conflicts.items));
+    chosen = λ all. all;
+    written = sym (append-nil (map written_of r.written.items));
+  }
+
+  module _ (ps qs : List PlacedEntry) (a b : State) (r s : Report) (apart : Apart ps qs) (one : Carries chooses ps a r b s) where
+    pub carries_then : (d : State) (t : Report) → Carries chooses qs b s d t → Carries chooses (ps ++ qs) a r d t
+    carries_then d t two = record {
+      choose = both_choices ps one.choose two.choose;
+      applied = applied_then ps qs a b d one.choose two.choose apart one.applied two.applied;
+      conflicts =
+          two.conflicts ∙ ap (λ (l : List MetData). l ++ filter_map (met_at b two.choose) qs) one.conflicts
+          ∙ append_assoc (map met_of r.conflicts.items) (filter_map (met_at a one.choose) ps) (filter_map (met_at b two.choose) qs)
+          ∙ ap (λ (l : List MetData). map met_of r.conflicts.items ++ l) (by_row ps qs a b one.choose two.choose apart one.applied met_by);
+      chosen = λ all. two.chosen (one.chosen all);
+      written =
+          two.written ∙ ap (λ (l : List WrittenData). l ++ filter_map (written_for b two.choose) qs) one.written
+          ∙ append_assoc (map written_of r.written.items) (filter_map (written_for a one.choose) ps) (filter_map (written_for b two.choose) qs)
+          ∙ ap (λ (l : List WrittenData). map written_of r.written.items ++ l) (by_row ps qs a b one.choose two.choose apart one.applied written_by);
+    }
+
+-- ---- a run that ends
+
+abbrev conflicts_of : List Met → List ConflictData
+conflicts_of ms = map (λ m. conflict_of m.conflict) ms
+
+told_conflicts : (ms : List Met) → map (λ (d : MetData). d.conflict) (map met_of ms) ≡ conflicts_of ms
+told_conflicts [] = refl
+told_conflicts (m ∷ ms) = ap (λ (l : List ConflictData). conflict_of m.conflict ∷ l) (told_conflicts ms)
+
+met_conflicts : (s : State) (choose : Choices) (ps : List PlacedEntry) → map (λ (d : MetData). d.conflict) (filter_map (met_at s choose) ps) ≡ filter_map (conflict_at s) ps
+met_conflicts s choose [] = refl
+met_conflicts s choose (p ∷ ps) = at (conflict_at s p) (met_conflicts s choose ps)
+  where
+    at : (o : Option ConflictData) → map (λ (d : MetData). d.conflict) (filter_map (met_at s choose) ps) ≡ filter_map (conflict_at s) ps
+        → map (λ (d : MetData). d.conflict) (cons_option (option_map (λ k. record { conflict = k; choice = choose p }) o) (filter_map (met_at s choose) ps)) ≡ cons_option o (filter_map (conflict_at s) ps)
+    at None others = others
+    at (Some k) others = ap (λ (l : List ConflictData). k ∷ l) others
+
+module _ (chooses : Handler) (ps : List PlacedEntry) (a : State) (r : Report) where
+  carried_conflicts : (b : State) (s : Report) → Carries chooses ps a r b s → conflicts_of s.conflicts.items ≡ conflicts_of r.conflicts.items ++ filter_map (conflict_at a) ps
+  carried_conflicts b s one =
+      sym (told_conflicts s.conflicts.items) ∙ ap (map (λ (d : MetData). d.conflict)) one.conflicts
+      ∙ map-append (λ (d : MetData). d.conflict) (map met_of r.conflicts.items) (filter_map (met_at a one.choose) ps)
+      ∙ ap (λ (l : List ConflictData). l ++ map (λ (d : MetData). d.conflict) (filter_map (met_at a one.choose) ps)) (told_conflicts r.conflicts.items)
+      ∙ ap (λ (l : List ConflictData). conflicts_of r.conflicts.items ++ l) (met_conflicts a one.choose ps)
+
+  -- entries behind the end of the run
+  pub stops_more : (qs : List PlacedEntry) (t : Report) (k : Conflict) → Stops chooses ps a r t k → Stops chooses (ps ++ qs) a r t k
+  stops_more qs t k ended = record {
+    later = ended.later ++ filter_map (conflict_at a) qs;
+    chosen = ended.chosen;
+    listed =
+        ap (λ (l : List ConflictData). conflicts_of r.conflicts.items ++ l) (filter_map-append (conflict_at a) ps qs)
+        ∙ sym (append_assoc (conflicts_of r.conflicts.items) (filter_map (conflict_at a) ps) (filter_map (conflict_at a) qs))
+        ∙ ap (λ (l : List ConflictData). l ++ filter_map (conflict_at a) qs) ended.listed
+        ∙ append_assoc (conflicts_of t.conflicts.items) (conflict_of k ∷ ended.later) (filter_map (conflict_at a) qs);
+  }
+
+  -- and entries before it
+  pub stops_then : (qs : List PlacedEntry) (b : State) (s t : Report) (k : Conflict) → Apart ps qs → Carries chooses ps a r b s → Stops chooses qs b s t k → Stops chooses (ps ++ qs) a r t k
+  stops_then qs b s t k apart one ended =
+      let same : filter_map (conflict_at b) qs ≡ filter_map (conflict_at a) qs =
+      filter_map_same _ _ qs (each_by _ _ qs (λ q row. ap (conflict_with q) row) (same_rows ps qs a b one.choose one.choose apart one.applied)) in
+      record {
+        later = ended.later;
+        chosen = λ all. ended.chosen (one.chosen all);
+        listed =
+            ap (λ (l : List ConflictData). conflicts_of r.conflicts.items ++ l) (filter_map-append (conflict_at a) ps qs)
+            ∙ sym (append_assoc (conflicts_of r.conflicts.items) (filter_map (conflict_at a) ps) (filter_map (conflict_at a) qs))
+            ∙ ap (λ (l : List ConflictData). l ++ filter_map (conflict_at a) qs) (sym (carried_conflicts b s one))
+            ∙ ap (λ (l : List ConflictData). conflicts_of s.conflicts.items ++ l) (sym same)
+            ∙ ended.listed;
+      }
+
+  pub refuses_more : (qs : List PlacedEntry) (t : Report) (e : ApplyFault) → RefusesEntries chooses ps a r t e → RefusesEntries chooses (ps ++ qs) a r t e
+  refuses_more qs t (fault.Abort k) h = (stops_more qs t k h.0, h.1)
+  refuses_more qs t (fault.Misuse k) h = (stops_more qs t k h.0, h.1, h.2)
+  refuses_more qs t (fault.Store e) h = h
+  refuses_more qs t fault.NoMemory h = h
+  refuses_more qs t (fault.Read f) h = absurd h
+  refuses_more qs t (fault.Wider place) h = absurd h
+
+  pub refuses_then : (qs : List PlacedEntry) (b : State) (s t : Report) (e : ApplyFault) → Apart ps qs → Carries chooses ps a r b s → RefusesEntries chooses qs b s t e → RefusesEntries chooses (ps ++ qs) a r t e
+  refuses_then qs b s t (fault.Abort k) apart one h = (stops_then qs b s t k apart one h.0, h.1)
+  refuses_then qs b s t (fault.Misuse k) apart one h = (stops_then qs b s t k apart one h.0, h.1, h.2)
+  refuses_then qs b s t (fault.Store e) apart one h = h
+  refuses_then qs b s t fault.NoMemory apart one h = h
+  refuses_then qs b s t (fault.Read f) apart one h = absurd h
+  refuses_then qs b s t (fault.Wider place) apart one h = absurd h

@@ -1,0 +1,21 @@
+use Rattle.std.proofs.Common.{rules}
+use Rattle.std.specs.Fn.{FnReturnsAt}
+use Rattle.sqlite.specs.Held.{state}
+use Rattle.cs_value.specs.State.{State}
+use Rattle.cs_store.specs.Store.{tables_in}
+use Rattle.cs_group.specs.declared.conflict.Choice.{Choice}
+use Rattle.cs_apply.specs.declared.conflict.Conflict.{Conflict}
+use Rattle.cs_apply.specs.declared.running.Direction.TheVariants.{Inverse}
+use Rattle.cs_apply.specs.Running.{Applies, Refuses, AlwaysAborts, IsResource}
+use Rattle.cs_apply.proofs.RevertLaws.{reverts_ok, reverts_err, refuses_weaker, if_err_by, match_by}
+use Rattle.cs_apply.proofs.store.revert.Goals as goal
+
+pub returns-clause-refused : goal.returns-clause-refused
+returns-clause-refused g c = λ clean.
+    if_err_by _ _ c.run.result (λ e refuses. refuses_weaker _ AlwaysAborts (λ k chosen given. search rules) c.args.file.now Inverse _ e refuses) (c.run.ensures.refused clean)
+
+pub returns-clause-reverts : goal.returns-clause-reverts
+returns-clause-reverts g c = λ clean before leads.
+    let law = c.changeset_files_law.ensures in
+    match_by _ _ _ IsResource c.run.result (λ report applies. reverts_ok _ law c.args.file.now before _ _ report leads applies) (λ e refuses. reverts_err law c.args.file.now before _ e leads (refuses_weaker _ AlwaysAborts (λ k chosen given. search rules) c.args.file.now Inverse _ e refuses))
+    (c.run.ensures.applied clean) (c.run.ensures.refused clean)

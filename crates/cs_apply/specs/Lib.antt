@@ -1,0 +1,4 @@
+pub mod Faults
+pub mod Report
+pub mod Running
+pub mod Steps

@@ -1,0 +1,111 @@
+-- What a run over rows does with a file.
+use Rattle.std.specs.Prelude.{◌≡◌, ◌⊎◌, ◌∷◌, ◌++◌, ℕ, false, List, map, All, Some, string_bytes}
+use Rattle.cs_value.specs.State.{State}
+use Rattle.cs_wire.specs.Changeset.{GroupData, IsChangeset, file_bytes}
+use Rattle.cs_wire.specs.ReadFaults.{ReadFails}
+use Rattle.cs_store.specs.declared.fault.StoreError.TheVariants.{DamagedStore, StoreFault}
+use Rattle.cs_store.specs.Editing.{written_of}
+use Rattle.cs_group.specs.declared.conflict.Kind.TheVariants.{NotFound}
+use Rattle.cs_group.specs.declared.conflict.Choice.{Choice}
+use Rattle.cs_group.specs.declared.conflict.Choice.TheVariants as choice
+use Rattle.cs_group.specs.Inverse.{IsInverse}
+use Rattle.cs_group.specs.Conflicts.{ends}
+use Rattle.cs_group.specs.Applying.{ConflictData, Choices, FirstWider, NoneWider, IsClean, IsApplied, conflicts, met, skipped, written}
+use Rattle.cs_apply.specs.declared.conflict.Conflict.{Conflict}
+use Rattle.cs_apply.specs.declared.conflict.Met.{Met}
+use Rattle.cs_apply.specs.declared.report.Report.{Report}
+use Rattle.cs_apply.specs.declared.running.Direction.{Direction}
+use Rattle.cs_apply.specs.declared.running.Direction.TheVariants.{Forward, Inverse}
+use Rattle.cs_apply.specs.declared.fault.ApplyFault.{ApplyFault}
+use Rattle.cs_apply.specs.declared.fault.ApplyFault.TheVariants.{Read, Wider, Abort, Misuse, Store, NoMemory}
+use Rattle.cs_apply.specs.Report.{conflict_of, met_of}
+
+-- what a handler may choose for a conflict
+abbrev pub Handler : Type 1
+Handler = Conflict → Choice → Type 0
+
+-- the file is read as this changeset: as its own, or as the inverse of that
+abbrev pub IsReadAs : List ℕ → Direction → List GroupData → Type 0
+IsReadAs file Forward changeset = IsChangeset changeset × (file ≡ file_bytes changeset)
+IsReadAs file Inverse changeset = (read : List GroupData)
+    × IsChangeset read × (file ≡ file_bytes read) × IsInverse read changeset × IsChangeset changeset
+
+-- the handler chose so, and the run goes on
+pub record GoesOn (chooses : Handler) (m : Met) : Type 0 where
+  pub chosen : chooses m.conflict m.choice
+  pub goes_on : ends (Some m.conflict.kind) m.choice ≡ false
+
+-- a file is applied, with what the report tells
+pub record Applies (chooses : Handler) (file : List ℕ) (direction : Direction) (old : State) (report : Report)
+    (new : State) : Type 0 where
+  pub changeset : List GroupData
+  pub read : IsReadAs file direction changeset
+  pub none_wider : NoneWider old changeset
+  pub choose : Choices
+  pub applied : IsApplied old changeset choose new
+  pub conflicts : map met_of report.conflicts.items ≡ met old changeset choose
+  pub chosen : All (GoesOn chooses) report.conflicts.items
+  pub skipped : map string_bytes report.skipped.items ≡ skipped old changeset
+  pub written : map written_of report.written.items ≡ written old changeset choose
+
+-- the conflict is one of a changeset, and for each before it the handler chose to go on
+pub record IsReached (chooses : Handler) (old : State) (changeset : List GroupData) (conflict : Conflict) : Type 0 where
+  pub earlier : List Met
+  pub later : List ConflictData
+  pub chosen : All (GoesOn chooses) earlier
+  pub listed : conflicts old changeset ≡ map (λ m. conflict_of m.conflict) earlier ++ conflict_of conflict ∷ later
+
+-- the run ends at a conflict, with this choice
+pub record EndsAt (chooses : Handler) (file : List ℕ) (direction : Direction) (old : State) (conflict : Conflict)
+    (choice : Choice) : Type 0 where
+  pub changeset : List GroupData
+  pub read : IsReadAs file direction changeset
+  pub none_wider : NoneWider old changeset
+  pub reached : IsReached chooses old changeset conflict
+  pub chosen : chooses conflict choice
+
+pub record IsWider (file : List ℕ) (direction : Direction) (old : State) (place : ℕ) : Type 0 where
+  pub changeset : List GroupData
+  pub read : IsReadAs file direction changeset
+  pub first : FirstWider old changeset place
+
+-- why a file is not applied
+abbrev pub Refuses : Handler → List ℕ → Direction → State → ApplyFault → Type 0
+Refuses chooses file direction old (Read fault) = ReadFails file fault.kind fault.place
+Refuses chooses file direction old (Wider place) = IsWider file direction old place
+Refuses chooses file direction old (Abort conflict) = EndsAt chooses file direction old conflict choice.Abort
+Refuses chooses file direction old (Misuse conflict) =
+    EndsAt chooses file direction old conflict choice.Replace × (conflict.kind ≡ NotFound)
+Refuses chooses file direction old (Store error) = error ≡ StoreFault
+Refuses chooses file direction old NoMemory = Unit {0}
+
+-- memory was refused, or the database refused
+abbrev pub IsResource : ApplyFault → Type 0
+IsResource fault = (fault ≡ NoMemory) ⊎ (fault ≡ Store StoreFault)
+
+-- what a run may be refused with by the store, whatever the disk returns
+abbrev pub IsNamed : ApplyFault → Type 0
+IsNamed (Store error) = (error ≡ DamagedStore) ⊎ (error ≡ StoreFault)
+IsNamed fault = Unit {0}
+
+-- why a file is not read
+abbrev pub RefusesFile : List ℕ → ApplyFault → Type 0
+RefusesFile file (Read fault) = ReadFails file fault.kind fault.place
+RefusesFile file NoMemory = Unit {0}
+RefusesFile file (Wider place) = ⊥
+RefusesFile file (Abort conflict) = ⊥
+RefusesFile file (Misuse conflict) = ⊥
+RefusesFile file (Store error) = ⊥
+
+-- the handler that aborts at each conflict
+abbrev pub AlwaysAborts : Handler
+AlwaysAborts conflict chosen = chosen ≡ choice.Abort
+
+-- the changeset of a file leads from a state to another without a conflict
+pub record Leads (file : List ℕ) (before after : State) : Type 0 where
+  pub changeset : List GroupData
+  pub is_changeset : IsChangeset changeset
+  pub is_file : file ≡ file_bytes changeset
+  pub clean : IsClean before changeset
+  pub choose : Choices
+  pub applied : IsApplied before changeset choose after

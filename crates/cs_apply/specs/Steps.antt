@@ -1,0 +1,104 @@
+-- How a run goes on, entry by entry.
+use Rattle.std.specs.Prelude.{◌≡◌, ℕ, Bool, false, List, ◌∷◌, ◌++◌, map, filter_map, All, Option, None, Some}
+use Rattle.std.specs.Prelude.{option_map, option_to_list}
+use Rattle.cs_value.specs.declared.value.OwnedValue.{OwnedValue}
+use Rattle.cs_value.specs.State.{State, SchemaData, schema_at, with_row, without_row}
+use Rattle.cs_wire.specs.Changeset.{HeaderData, GroupData}
+use Rattle.cs_store.specs.declared.fault.StoreError.TheVariants.{StoreFault}
+use Rattle.cs_store.specs.Editing.{written_of}
+use Rattle.cs_group.specs.declared.conflict.Kind.TheVariants.{NotFound}
+use Rattle.cs_group.specs.declared.conflict.Choice.{Choice}
+use Rattle.cs_group.specs.declared.conflict.Choice.TheVariants as choice
+use Rattle.cs_group.specs.Conflicts.{conflict_kind, ends, is_carried_out}
+use Rattle.cs_group.specs.Joining.{key_places}
+use Rattle.cs_group.specs.Applying.{FirstWider, PlacedEntry, ConflictData, Choices, AreApplied, conflict_with, conflict_at}
+use Rattle.cs_group.specs.Applying.{met_at, written_for}
+use Rattle.cs_apply.specs.declared.conflict.Conflict.{Conflict}
+use Rattle.cs_apply.specs.declared.conflict.Met.{Met}
+use Rattle.cs_apply.specs.declared.fault.ApplyFault.{ApplyFault}
+use Rattle.cs_apply.specs.declared.fault.ApplyFault.TheVariants.{Read, Wider, Abort, Misuse, Store, NoMemory}
+use Rattle.cs_apply.specs.declared.report.Report.{Report}
+use Rattle.cs_apply.specs.Report.{conflict_of, met_of}
+use Rattle.cs_apply.specs.Running.{Handler, GoesOn}
+
+-- the table is there, with these columns and this key
+pub record HasTable (state : State) (header : HeaderData) : Type 0 where
+  pub schema : SchemaData
+  pub found : schema_at state header.name ≡ Some schema
+  pub same : key_places schema.flags ≡ key_places header.flags
+
+-- these entries are applied to a state, and the report goes on with them
+pub record Carries (chooses : Handler) (entries : List PlacedEntry) (before : State) (report : Report) (after : State)
+    (next : Report) : Type 0 where
+  pub choose : Choices
+  pub applied : AreApplied before entries choose after
+  pub conflicts : map met_of next.conflicts.items
+      ≡ map met_of report.conflicts.items ++ filter_map (met_at before choose) entries
+  pub chosen : All (GoesOn chooses) report.conflicts.items → All (GoesOn chooses) next.conflicts.items
+  pub written : map written_of next.written.items
+      ≡ map written_of report.written.items ++ filter_map (written_for before choose) entries
+
+-- the run ends at a conflict of one of these entries, and the report has those before it
+pub record Stops (chooses : Handler) (entries : List PlacedEntry) (before : State) (report next : Report)
+    (conflict : Conflict) : Type 0 where
+  pub later : List ConflictData
+  pub chosen : All (GoesOn chooses) report.conflicts.items → All (GoesOn chooses) next.conflicts.items
+  pub listed : map (λ m. conflict_of m.conflict) report.conflicts.items ++ filter_map (conflict_at before) entries
+      ≡ map (λ m. conflict_of m.conflict) next.conflicts.items ++ conflict_of conflict ∷ later
+
+-- why entries are not carried out
+abbrev pub RefusesEntries : Handler → List PlacedEntry → State → Report → Report → ApplyFault → Type 0
+RefusesEntries chooses entries before report next (Abort conflict) =
+    Stops chooses entries before report next conflict × chooses conflict choice.Abort
+RefusesEntries chooses entries before report next (Misuse conflict) =
+    Stops chooses entries before report next conflict × chooses conflict choice.Replace × (conflict.kind ≡ NotFound)
+RefusesEntries chooses entries before report next (Store error) = error ≡ StoreFault
+RefusesEntries chooses entries before report next NoMemory = Unit {0}
+RefusesEntries chooses entries before report next (Read fault) = ⊥
+RefusesEntries chooses entries before report next (Wider place) = ⊥
+
+-- why the tables of a changeset are refused
+abbrev pub RefusesWider : State → List GroupData → ApplyFault → Type 0
+RefusesWider state changeset (Wider place) = FirstWider state changeset place
+RefusesWider state changeset (Store error) = error ≡ StoreFault
+RefusesWider state changeset NoMemory = Unit {0}
+RefusesWider state changeset (Read fault) = ⊥
+RefusesWider state changeset (Abort conflict) = ⊥
+RefusesWider state changeset (Misuse conflict) = ⊥
+
+-- an entry, before it is carried out: what it meets, what was chosen for that, and whether it is carried out
+pub record Settles (chooses : Handler) (p : PlacedEntry) (row : Option (List OwnedValue)) (conflicts next : List Met)
+    (is_carried : Bool) : Type 0 where
+  pub choice : Choice
+  pub goes_on : ends (conflict_kind p.entry.change row) choice ≡ false
+  pub carried : is_carried ≡ is_carried_out (conflict_kind p.entry.change row) choice
+  pub told : map met_of next ≡ map met_of conflicts
+      ++ option_to_list (option_map (λ k. record { conflict = k; choice = choice }) (conflict_with p row))
+  pub chosen : All (GoesOn chooses) conflicts → All (GoesOn chooses) next
+
+-- why the run ends at a conflict
+abbrev pub fault_by : Conflict → Choice → ApplyFault
+fault_by conflict choice.Omit = Misuse conflict
+fault_by conflict choice.Replace = Misuse conflict
+fault_by conflict choice.Abort = Abort conflict
+
+-- it ends the run, and is told no more
+pub record EndsRun (p : PlacedEntry) (row : Option (List OwnedValue)) (conflicts next : List Met) (conflict : Conflict) :
+    Type 0 where
+  pub is : conflict_with p row ≡ Some (conflict_of conflict)
+  pub same : next ≡ conflicts
+
+abbrev pub Unsettled : Handler → PlacedEntry → Option (List OwnedValue) → List Met → List Met → ApplyFault → Type 0
+Unsettled chooses p row conflicts next (Abort conflict) =
+    EndsRun p row conflicts next conflict × chooses conflict choice.Abort
+Unsettled chooses p row conflicts next (Misuse conflict) =
+    EndsRun p row conflicts next conflict × chooses conflict choice.Replace × (conflict.kind ≡ NotFound)
+Unsettled chooses p row conflicts next NoMemory = Unit {0}
+Unsettled chooses p row conflicts next (Store error) = ⊥
+Unsettled chooses p row conflicts next (Read fault) = ⊥
+Unsettled chooses p row conflicts next (Wider place) = ⊥
+
+-- the row stands at the key, or none does
+abbrev pub with_result : State → List ℕ → List ℕ → Option (List OwnedValue) → State
+with_result state table key None = without_row state table key
+with_result state table key (Some row) = with_row state table key row

@@ -1,0 +1,55 @@
+//! Conflicts, and what was chosen for them.
+ghost use Rattle.std.specs.Prelude.{◌≡◌, IfOk, option_map};
+ghost use Rattle.cs_apply.specs.Report.{conflict_of};
+
+use cs_group::{Choice, Kind};
+use cs_value::{NoMemory, Row};
+use cs_wire::Entry;
+use std::alloc::Global;
+
+/// A conflict: an entry that does not find what it says.
+#[derive(Debug, Drop)]
+pub struct Conflict {
+    pub kind: Kind,
+    /// The name of the table.
+    pub table: String,
+    pub entry: Entry,
+    /// The row that stands at the key of the entry, if there is one.
+    pub current: Option<Row>,
+}
+
+/// A conflict that was met, and what was chosen for it.
+#[derive(Debug, Drop)]
+pub struct Met {
+    pub conflict: Conflict,
+    pub choice: Choice,
+}
+
+impl Conflict {
+    /// A conflict of its own of what it is told of.
+    pub(crate) fn copy_of(
+        alloc: Global,
+        kind: Kind,
+        table: &str,
+        entry: &Entry,
+        current: Option<&Row>,
+    ) -> Result<Conflict, NoMemory>
+        ensures { IfOk result (λ c. conflict_of c ≡ record {
+          kind = kind;
+          table = table.now;
+          entry = entry.now;
+          current = option_map (λ r. r.now) current.entry;
+        }) }
+    {
+        let current = match current {
+            None => None,
+            Some(row) => Some(row.copy(alloc)?),
+        };
+        Ok(Conflict {
+            kind,
+            table: String::from_str(alloc, table)?,
+            entry: entry.copy(alloc)?,
+            current,
+        })
+    }
+}

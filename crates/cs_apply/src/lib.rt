@@ -1,0 +1,33 @@
+//! Changesets applied to tables of rows, and reverted.
+//!
+//! ```rust
+//! // Each conflict ends the call, and nothing is changed.
+//! let report = apply(alloc, &mut store, file, &|_| Choice::Abort)?;
+//! assert!(rt; report.is_clean());
+//! // The same file gives the rows back.
+//! revert(alloc, &mut store, file)?;
+//! ```
+//!
+//! `running` takes a file through any rows: `judging` says which of its tables are compatible, and
+//! `entry` carries out one entry after another. `store` does so in a batch of a store, which is
+//! committed or dropped. `conflict` is what a handler is asked and what it chose, `policy` a handler
+//! that goes by the kind, `report` what a run tells, and `fault` why it is refused. `CALLING.md`, beside
+//! this folder, shows a caller.
+#![tactic(auto)]
+
+mod conflict;
+mod entry;
+mod fault;
+mod judging;
+mod policy;
+mod report;
+mod running;
+mod store;
+
+pub use conflict::{Conflict, Met};
+pub use cs_group::{Choice, Kind};
+pub use fault::ApplyFault;
+pub use policy::Policy;
+pub use report::Report;
+pub use running::{Direction, run_in};
+pub use store::{apply, revert};

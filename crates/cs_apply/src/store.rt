@@ -1,0 +1,103 @@
+//! Changesets applied to stores.
+ghost use Rattle.std.specs.Prelude.{◌≡◌, [], IfOk, IfErr, OnOk, OnErr, MatchResult};
+ghost use Rattle.std.specs.Fn.{FnReturnsAt};
+ghost use Rattle.sqlite.specs.State.{HasCleanDisk};
+ghost use Rattle.sqlite.specs.Held.{state};
+ghost use Rattle.cs_value.specs.State.{State};
+ghost use Rattle.cs_store.specs.Records.{KeepsContent};
+ghost use Rattle.cs_store.specs.Store.{IsAtRest, tables_in};
+ghost use Rattle.cs_group.specs.declared.conflict.Choice.TheVariants.{Abort as AbortChoice};
+ghost use Rattle.cs_apply.specs.declared.running.Direction.TheVariants.{Forward as ForwardRun, Inverse as InverseRun};
+ghost use Rattle.cs_apply.specs.Running.{Applies, Refuses, AlwaysAborts, Leads, IsNamed, IsResource};
+
+use crate::conflict::Conflict;
+use crate::fault::ApplyFault;
+use crate::report::Report;
+use crate::running::{Direction, run_in};
+use cs_group::Choice;
+use cs_store::Store;
+use cs_wire::changeset_files_law;
+use sqlite::Alter;
+use std::alloc::Global;
+
+/// Applies the changeset of a file to a store in one transaction, as [`run_in`] does. A refusal changes
+/// nothing.
+pub fn apply<S: Alter, H: Fn(&Conflict) -> Choice>(
+    alloc: Global,
+    store: &mut Store<S>,
+    file: &[u8],
+    handler: &H,
+) -> Result<Report, ApplyFault>
+    requires { H.IsAlwaysCallable handler.now }
+    ensures applied { HasCleanDisk (state S.Store store.new) → IfOk result (λ report.
+        Applies (FnReturnsAt H.Fn handler.now) file.now ForwardRun (tables_in (state S.Store store.old).now) report
+        (tables_in (state S.Store store.new).now)) }
+    ensures refused { HasCleanDisk (state S.Store store.new) → IfErr result
+        (Refuses (FnReturnsAt H.Fn handler.now) file.now ForwardRun (tables_in (state S.Store store.old).now)) }
+    ensures named { IfErr result IsNamed }
+    ensures at_rest { HasCleanDisk (state S.Store store.new) → OnOk result (IsAtRest (state S.Store store.new)) }
+    ensures kept { HasCleanDisk (state S.Store store.new)
+        → OnErr result (KeepsContent (state S.Store store.old) (state S.Store store.new)) }
+{
+    run(alloc, store, file, Direction::Forward, handler)
+}
+
+/// Applies the inverse of the changeset of a file to a store in one transaction. Each conflict ends the
+/// call. A refusal changes nothing.
+///
+/// On the tables that an apply of the file left without a conflict it meets none, and gives the tables
+/// back that were there before, unless memory is refused, or the database refuses.
+pub fn revert<S: Alter>(
+    alloc: Global,
+    store: &mut Store<S>,
+    file: &[u8],
+) -> Result<Report, ApplyFault>
+    ensures applied { HasCleanDisk (state S.Store store.new) → IfOk result (λ report.
+        Applies AlwaysAborts file.now InverseRun (tables_in (state S.Store store.old).now) report
+        (tables_in (state S.Store store.new).now)) }
+    ensures refused { HasCleanDisk (state S.Store store.new) → IfErr result
+        (Refuses AlwaysAborts file.now InverseRun (tables_in (state S.Store store.old).now)) }
+    ensures reverts { HasCleanDisk (state S.Store store.new) → (before : State)
+        → Leads file.now before (tables_in (state S.Store store.old).now)
+        → MatchResult result (λ report. (report.conflicts.items ≡ [])
+        × (tables_in (state S.Store store.new).now ≡ before)) IsResource }
+    ensures named { IfErr result IsNamed }
+    ensures at_rest { HasCleanDisk (state S.Store store.new) → OnOk result (IsAtRest (state S.Store store.new)) }
+    ensures kept { HasCleanDisk (state S.Store store.new)
+        → OnErr result (KeepsContent (state S.Store store.old) (state S.Store store.new)) }
+{
+    changeset_files_law();
+    run(alloc, store, file, Direction::Inverse, &abort)
+}
+
+/// Aborts at each conflict.
+fn abort(_conflict: &Conflict) -> Choice
+    ensures { result ≡ AbortChoice }
+{
+    Choice::Abort
+}
+
+/// Runs a file in a batch of a store.
+fn run<S: Alter, H: Fn(&Conflict) -> Choice>(
+    alloc: Global,
+    store: &mut Store<S>,
+    file: &[u8],
+    direction: Direction,
+    handler: &H,
+) -> Result<Report, ApplyFault>
+    requires { H.IsAlwaysCallable handler.now }
+    ensures applied { HasCleanDisk (state S.Store store.new) → IfOk result (λ report.
+        Applies (FnReturnsAt H.Fn handler.now) file.now direction (tables_in (state S.Store store.old).now) report
+        (tables_in (state S.Store store.new).now)) }
+    ensures refused { HasCleanDisk (state S.Store store.new) → IfErr result
+        (Refuses (FnReturnsAt H.Fn handler.now) file.now direction (tables_in (state S.Store store.old).now)) }
+    ensures named { IfErr result IsNamed }
+    ensures at_rest { HasCleanDisk (state S.Store store.new) → OnOk result (IsAtRest (state S.Store store.new)) }
+    ensures kept { HasCleanDisk (state S.Store store.new)
+        → OnErr result (KeepsContent (state S.Store store.old) (state S.Store store.new)) }
+{
+    let mut batch = store.begin()?;
+    let report = run_in(alloc, &mut batch, file, direction, handler)?;
+    batch.commit()?;
+    Ok(report)
+}
