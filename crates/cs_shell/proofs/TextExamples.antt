@@ -1,5 +1,6 @@
--- The readable texts of changesets, on a table `t` of two columns, of which the first is the key.
-use Rattle.std.proofs.Common.{◌≡◌, negsuc, true, false, List, [], ◌∷◌, ◌++◌, codes, refl}
+-- The readable texts of changesets, and of what applying one did, on a table `t` of two columns, of which the first is the
+-- key.
+use Rattle.std.proofs.Common.{◌≡◌, negsuc, true, false, List, [], ◌∷◌, ◌++◌, Some, codes, refl}
 use Rattle.std.specs.Fmt.{digits}
 use Rattle.hex.specs.Hex.{encode_with}
 use Rattle.cs_value.specs.declared.value.OwnedValue.{OwnedValue}
@@ -7,10 +8,13 @@ use Rattle.cs_value.specs.declared.value.OwnedValue.TheVariants.{Int, Text, Blob
 use Rattle.cs_wire.specs.declared.entry.Change.TheVariants.{Insert, Delete}
 use Rattle.cs_wire.proofs.Examples.{one_change, x, y, row, update, idle_update}
 use Rattle.cs_shell.specs.Texts.{doubled, literal, separated, field_text, header_text, entry_text, group_text, dump_of}
-use Rattle.cs_shell.specs.Texts.{assignment, condition, statement, sql_of}
+use Rattle.cs_group.specs.declared.conflict.Kind.TheVariants.{Conflict}
+use Rattle.cs_group.specs.declared.conflict.Choice.TheVariants.{Replace}
+use Rattle.cs_group.specs.Applying.{ConflictData}
+use Rattle.cs_shell.specs.Texts.{assignment, condition, statement, sql_of, skip_text, met_text, count_text}
 
 computing : Unit {0}
-unfolding digits encode_with doubled literal separated field_text header_text entry_text group_text assignment condition statement
+unfolding digits encode_with doubled literal separated field_text header_text entry_text group_text assignment condition statement skip_text met_text count_text
 computing = tt
 
 -- literals
@@ -96,3 +100,29 @@ update_to_null_is_sql = refl
 quoted_name_is_sql : statement (codes "a\"b") (Insert row) ≡ codes "INSERT INTO \"a\"\"b\" VALUES(1, 'x');\n"
 unfolding computing
 quoted_name_is_sql = refl
+
+-- what an apply did
+
+-- the insertion of (1, 'x') met a row
+met_insert : ConflictData
+met_insert = record {
+  kind = Conflict;
+  table = codes "t";
+  entry = record { indirect = false; change = Insert row };
+  current = Some row;
+}
+
+-- which was replaced
+met_is_told : met_text (record { conflict = met_insert; choice = Replace }) ≡ codes "conflict 3 conflict replace 't'\n"
+unfolding computing met_insert
+met_is_told = refl
+
+-- a table was passed over
+skip_is_told : skip_text (codes "z") ≡ codes "warning 17 skipped 'z'\n"
+unfolding computing
+skip_is_told = refl
+
+-- no entry was carried out
+count_is_told : count_text 0 ≡ codes "applied 0\n"
+unfolding computing
+count_is_told = refl

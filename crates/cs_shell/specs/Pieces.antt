@@ -4,8 +4,8 @@ use Rattle.std.specs.Borrow.{Bor}
 use Rattle.cs_value.specs.declared.value.OwnedValue.{OwnedValue}
 use Rattle.cs_value.specs.declared.value.OwnedField.{OwnedField}
 use Rattle.cs_value.specs.declared.value.OwnedField.TheVariants.{Undefined, Defined}
-use Rattle.cs_shell.specs.declared.texts.dump.Piece.{Piece}
-use Rattle.cs_shell.specs.declared.texts.dump.Piece.TheVariants as dump
+use Rattle.cs_shell.specs.declared.texts.piece.Piece.{Piece}
+use Rattle.cs_shell.specs.declared.texts.piece.Piece.TheVariants as line
 use Rattle.cs_shell.specs.declared.texts.sql.Piece.{Piece as SqlPiece}
 use Rattle.cs_shell.specs.declared.texts.sql.Piece.TheVariants as sql
 use Rattle.cs_shell.specs.declared.texts.sql.Terms.{Terms}
@@ -14,13 +14,13 @@ use Rattle.cs_shell.specs.Texts.{quoted, literal, separated, fields_text, assign
 use Rattle.cs_shell.specs.Texts.{conditions, assignments}
 
 -- what a piece of a line is printed as
-abbrev pub dump_piece_text : Piece → List ℕ
-dump_piece_text (dump.Bytes bytes) = bytes.now
-dump_piece_text (dump.Number n) = decimal n
-dump_piece_text (dump.Quoted text) = quoted 39 text.now
-dump_piece_text (dump.Flags flags) = separated (codes ",") (map decimal flags.now)
-dump_piece_text (dump.Row row) = fields_text (map Defined row.now)
-dump_piece_text (dump.Record fields) = fields_text fields.now
+abbrev pub line_piece_text : Piece → List ℕ
+line_piece_text (line.Bytes bytes) = bytes.now
+line_piece_text (line.Number n) = decimal n
+line_piece_text (line.Quoted text) = quoted 39 text.now
+line_piece_text (line.Flags flags) = separated (codes ",") (map decimal flags.now)
+line_piece_text (line.Row row) = fields_text (map Defined row.now)
+line_piece_text (line.Record fields) = fields_text fields.now
 
 -- the value of a field, if there is one
 abbrev pub HoldsValue : Option (Bor OwnedValue) → OwnedField → Type 0

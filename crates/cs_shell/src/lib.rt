@@ -1,5 +1,5 @@
-//! The `changeset` tool as a library: inverting, joining and printing the files of SQLite changesets, by
-//! calls, by the lines of a script and by the words of a command line.
+//! The `changeset` tool as a library: inverting, joining, printing and applying the files of SQLite
+//! changesets, by calls, by the lines of a script and by the words of a command line.
 //!
 //! ```rust
 //! // An INSERT of ('x') into the table t of one column, and the DELETE of that row.
@@ -12,9 +12,11 @@
 //! `files` makes files of files, and `fault` says why not. `texts` has the readable texts of
 //! changesets, and `gather` what is gathered of them before it is written. `lines` is the grammar of a
 //! script's lines, `slots` what they name, `reply` what they are answered, `print` how that is
-//! printed, and `script` runs them. `told` has the streams, `words` the command line.
+//! printed, and `script` runs them. `told` has the streams, `words` the command line, and `command` what
+//! that does with a file.
 #![tactic(auto)]
 
+mod command;
 mod fault;
 mod files;
 mod gather;
@@ -32,6 +34,6 @@ pub use cs_wire::{ReadError, ReadFault, ReadFaultKind};
 pub use fault::{FileFault, OutputFault, ToolFault};
 pub use files::{concat_bytes, invert_bytes};
 pub use script::{Status, run_slots};
-pub use texts::{dump_text, sql_text};
+pub use texts::{dump_text, report_text, sql_text};
 pub use told::Told;
 pub use words::{print_usage, run_words};

@@ -3,12 +3,14 @@ ghost use Rattle.std.specs.Prelude.{[]};
 ghost use Rattle.std.specs.List.{flat_map};
 ghost use Rattle.cs_shell.specs.Calls.{Writes};
 ghost use Rattle.cs_shell.specs.Script.{error_line, number_detail, refusal_text, reply_text};
+ghost use Rattle.cs_shell.specs.Failures.{fault_line};
 ghost use Rattle.cs_shell.specs.Replies.{reply_of};
 
 use crate::fault::OutputFault;
 use crate::reply::{Refusal, Reply};
-use crate::texts::dump_text;
+use crate::texts::{conflict_line, dump_text};
 use crate::told::Told;
+use cs_apply::ApplyFault;
 use cs_value::{Fault, NoMemory};
 use itoa::Buffer;
 use std::io::Write;
@@ -97,6 +99,24 @@ pub(crate) fn write_refusal<W: Write>(
         Refusal::EmptySlot => write_error(out, 62, "EmptySlot"),
         Refusal::BadHex => write_error(out, 66, "BadHex"),
         Refusal::LineText => write_error(out, 68, "LineText"),
+    }
+}
+
+/// Writes the error line of an apply that is refused.
+pub(crate) fn write_apply_fault<W: Write>(
+    out: &mut Told<W>,
+    fault: &ApplyFault,
+) -> Result<(), OutputFault>
+    ensures { Writes W.contents result out.old out.new (fault_line fault.now) }
+{
+    let (code, name) = (fault.code(), fault.name());
+    match fault {
+        ApplyFault::Read(fault) => write_error_at(out, code, name, fault.place),
+        ApplyFault::Wider(place) => write_error_at(out, code, name, *place),
+        ApplyFault::Abort(conflict) => conflict_line(code, name, conflict, out),
+        ApplyFault::Misuse(conflict) => conflict_line(code, name, conflict, out),
+        ApplyFault::Store(_) => write_error(out, code, name),
+        ApplyFault::NoMemory => write_error(out, code, name),
     }
 }
 

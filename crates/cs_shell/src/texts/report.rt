@@ -1,0 +1,170 @@
+//! The text of what an apply did.
+ghost use Rattle.std.specs.Prelude.{◌≡◌, length, string_bytes};
+ghost use Rattle.std.specs.List.{flat_map};
+ghost use Rattle.cs_apply.specs.Report.{met_of};
+ghost use Rattle.cs_shell.specs.Gathering.{Gathers};
+ghost use Rattle.cs_shell.specs.Texts.{kind_number as number_of, kind_text as text_of, choice_text as text_of_choice};
+ghost use Rattle.cs_shell.specs.Texts.{skip_text, met_text, count_text, report_of};
+ghost use Rattle.cs_shell.specs.Script.{error_line};
+ghost use Rattle.cs_shell.specs.Failures.{conflict_detail};
+
+use crate::fault::OutputFault;
+use crate::gather::Gather;
+use crate::texts::list::{Print, add_each};
+use crate::texts::piece::Piece;
+use crate::told::Told;
+use cs_apply::{Choice, Conflict, Kind, Met, Report};
+use std::io::Write;
+
+/// The number of a kind of conflict, which is SQLite's.
+fn kind_number(kind: Kind) -> usize
+    ensures { result ≡ number_of kind }
+{
+    match kind {
+        Kind::Data => 1,
+        Kind::NotFound => 2,
+        Kind::Conflict => 3,
+    }
+}
+
+/// The name of a kind of conflict.
+fn kind_name(kind: Kind) -> &'static [u8]
+    ensures { result.now ≡ text_of kind }
+{
+    match kind {
+        Kind::Data => b"data",
+        Kind::NotFound => b"notfound",
+        Kind::Conflict => b"conflict",
+    }
+}
+
+/// The name of a choice.
+fn choice_name(choice: Choice) -> &'static [u8]
+    ensures { result.now ≡ text_of_choice choice }
+{
+    match choice {
+        Choice::Omit => b"omit",
+        Choice::Replace => b"replace",
+        Choice::Abort => b"abort",
+    }
+}
+
+/// Adds the line of a table that was passed over.
+#[tactic(auto, unfolding(crate::specs::Texts::skip_text))]
+fn add_skip<W: Write>(
+    gather: &mut Gather,
+    out: &mut Told<W>,
+    table: &str,
+) -> Result<(), OutputFault>
+    ensures { Gathers W.contents result gather.old gather.new out.old out.new (skip_text table.now) }
+{
+    add_each(
+        gather,
+        out,
+        &[
+            Piece::Bytes(b"warning 17 skipped "),
+            Piece::Quoted(table),
+            Piece::Bytes(b"\n"),
+        ],
+    )
+}
+
+/// Adds the lines of tables that were passed over.
+fn add_skips<W: Write>(
+    gather: &mut Gather,
+    out: &mut Told<W>,
+    tables: &[String],
+) -> Result<(), OutputFault>
+    ensures { Gathers W.contents result gather.old gather.new out.old out.new
+        (flat_map (λ table. skip_text (string_bytes table)) tables.now) }
+{
+    for table in tables {
+        add_skip(gather, out, table.as_str())?;
+    }
+    Ok(())
+}
+
+#[tactic(auto, unfolding(crate::specs::Texts::met_text))]
+impl Print for Met {
+    ghost text = { λ met. met_text (met_of met) };
+
+    fn print<W: Write>(&self, gather: &mut Gather, out: &mut Told<W>) -> Result<(), OutputFault> {
+        let conflict = &self.conflict;
+        add_each(
+            gather,
+            out,
+            &[
+                Piece::Bytes(b"conflict "),
+                Piece::Number(kind_number(conflict.kind)),
+                Piece::Bytes(b" "),
+                Piece::Bytes(kind_name(conflict.kind)),
+                Piece::Bytes(b" "),
+                Piece::Bytes(choice_name(self.choice)),
+                Piece::Bytes(b" "),
+                Piece::Quoted(conflict.table.as_str()),
+                Piece::Bytes(b"\n"),
+            ],
+        )
+    }
+}
+
+/// Adds the line with the count of the entries that were carried out.
+#[tactic(auto, unfolding(crate::specs::Texts::count_text))]
+fn add_count<W: Write>(
+    gather: &mut Gather,
+    out: &mut Told<W>,
+    count: usize,
+) -> Result<(), OutputFault>
+    ensures { Gathers W.contents result gather.old gather.new out.old out.new (count_text count) }
+{
+    add_each(
+        gather,
+        out,
+        &[
+            Piece::Bytes(b"applied "),
+            Piece::Number(count),
+            Piece::Bytes(b"\n"),
+        ],
+    )
+}
+
+/// Adds the lines of a report.
+pub(super) fn add_report<W: Write>(
+    gather: &mut Gather,
+    out: &mut Told<W>,
+    report: &Report,
+) -> Result<(), OutputFault>
+    ensures { Gathers W.contents result gather.old gather.new out.old out.new (report_of report.now) }
+{
+    add_skips(gather, out, &report.skipped)?;
+    add_each(gather, out, &report.conflicts)?;
+    add_count(gather, out, report.written.len())
+}
+
+/// Adds the line of an error that is about a conflict.
+pub(super) fn add_conflict_error<'a, W: Write>(
+    gather: &mut Gather,
+    out: &mut Told<W>,
+    code: u8,
+    name: &'a str,
+    conflict: &'a Conflict,
+) -> Result<(), OutputFault>
+    ensures { Gathers W.contents result gather.old gather.new out.old out.new
+        (error_line code name.now (conflict_detail conflict.now)) }
+{
+    add_each(
+        gather,
+        out,
+        &[
+            Piece::Bytes(b"error "),
+            Piece::Number(usize::from(code)),
+            Piece::Bytes(b" "),
+            Piece::Bytes(name.as_bytes()),
+            Piece::Bytes(b" "),
+            Piece::Bytes(kind_name(conflict.kind)),
+            Piece::Bytes(b" "),
+            Piece::Quoted(conflict.table.as_str()),
+            Piece::Bytes(b"\n"),
+        ],
+    )
+}
