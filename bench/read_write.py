@@ -76,10 +76,10 @@ def written(child):
         return "-"
 
 
-def measure(words, printed):
+def measure(words, printed, runs=RUNS):
     """The shortest of some runs, in seconds, the largest memory of one, in bytes, and its calls that write."""
     best, peak, writes = None, 0, "-"
-    for _ in range(RUNS):
+    for _ in range(runs):
         with open(printed, "wb") as output:
             start = time.perf_counter()
             child = subprocess.Popen(words, stdout=output)
