@@ -6,3 +6,4 @@ pub mod CarryLaws
 pub mod ProgressLaws
 pub mod OutcomeLaws
 pub mod RevertLaws
+pub mod CrashLaws

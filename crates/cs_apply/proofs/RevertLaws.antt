@@ -1,13 +1,13 @@
 -- What reverting gives back.
-use Rattle.std.proofs.Common.{◌≡◌, ◌≢◌, inl, inr, ℕ, List, [], ◌∷◌, ◌++◌, map, All, get_or, Option, Some, None, filter_map, option_map, refl, sym, ap, subst, ◌∙◌, true≢false}
+use Rattle.std.proofs.Common.{◌≡◌, inl, inr, ℕ, List, [], ◌∷◌, ◌++◌, map, All, Option, Some, None, filter_map, refl, sym, ap, subst, ◌∙◌}
 use Rattle.std.specs.Prelude.{Result, Ok, Err, IfOk, IfErr, MatchResult}
 use Rattle.cs_value.specs.State.{State}
-use Rattle.cs_wire.specs.Changeset.{GroupData, IsChangeset, file_bytes}
+use Rattle.cs_wire.specs.Changeset.{GroupData}
 use Rattle.cs_wire.specs.Laws.{ChangesetFiles}
 use Rattle.cs_group.specs.declared.conflict.Choice.{Choice}
 use Rattle.cs_group.specs.declared.conflict.Choice.TheVariants as choice
 use Rattle.cs_group.specs.Inverse.{IsInverse}
-use Rattle.cs_group.specs.Applying.{PlacedEntry, ConflictData, MetData, Choices, applicable, conflict_at, met_at, conflicts, met, IsClean, IsApplied, omit_all}
+use Rattle.cs_group.specs.Applying.{PlacedEntry, ConflictData, Choices, applicable, conflict_at, met_at, IsClean, IsApplied, omit_all}
 use Rattle.cs_group.proofs.ApplyLaws.{applied_once, applied_reverts}
 use Rattle.cs_apply.specs.declared.conflict.Conflict.{Conflict}
 use Rattle.cs_apply.specs.declared.conflict.Met.{Met}
@@ -80,6 +80,20 @@ refuses_weaker P Q f file direction old (fault.Abort k) h = ends_weaker P Q f fi
 refuses_weaker P Q f file direction old (fault.Misuse k) h = (ends_weaker P Q f file direction old k choice.Replace h.0, h.1)
 refuses_weaker P Q f file direction old (fault.Store x) h = h
 refuses_weaker P Q f file direction old fault.NoMemory h = h
+
+pub applies_weaker : (P Q : Handler) → ((k : Conflict) (c : Choice) → P k c → Q k c) → (file : List ℕ) (direction : Direction) (old : State) (report : Report) (new : State)
+    → Applies P file direction old report new → Applies Q file direction old report new
+applies_weaker P Q f file direction old report new applies = record {
+  changeset = applies.changeset;
+  read = applies.read;
+  none_wider = applies.none_wider;
+  choose = applies.choose;
+  applied = applies.applied;
+  conflicts = applies.conflicts;
+  chosen = goes_weaker P Q f report.conflicts.items applies.chosen;
+  skipped = applies.skipped;
+  written = applies.written;
+}
 
 -- what is said of an error says more of it
 pub if_err_by : {A E : Type 0} (P Q : E → Type 0) (r : Result A E) → ((e : E) → P e → Q e) → IfErr r P → IfErr r Q

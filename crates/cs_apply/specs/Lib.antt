@@ -1,3 +1,4 @@
+pub mod Crash
 pub mod Faults
 pub mod Report
 pub mod Running

@@ -1,13 +1,8 @@
 use Rattle.std.proofs.Common.{rules}
-use Rattle.std.specs.Fn.{FnReturnsAt}
-use Rattle.sqlite.specs.Held.{state}
-use Rattle.cs_value.specs.State.{State}
-use Rattle.cs_store.specs.Store.{tables_in}
-use Rattle.cs_group.specs.declared.conflict.Choice.{Choice}
-use Rattle.cs_apply.specs.declared.conflict.Conflict.{Conflict}
 use Rattle.cs_apply.specs.declared.running.Direction.TheVariants.{Inverse}
-use Rattle.cs_apply.specs.Running.{Applies, Refuses, AlwaysAborts, IsResource}
+use Rattle.cs_apply.specs.Running.{AlwaysAborts, IsResource}
 use Rattle.cs_apply.proofs.RevertLaws.{reverts_ok, reverts_err, refuses_weaker, if_err_by, match_by}
+use Rattle.cs_apply.proofs.CrashLaws.{crash_weaker}
 use Rattle.cs_apply.proofs.store.revert.Goals as goal
 
 pub returns-clause-refused : goal.returns-clause-refused
@@ -19,3 +14,7 @@ returns-clause-reverts g c = λ clean before leads.
     let law = c.changeset_files_law.ensures in
     match_by _ _ _ IsResource c.run.result (λ report applies. reverts_ok _ law c.args.file.now before _ _ report leads applies) (λ e refuses. reverts_err law c.args.file.now before _ e leads (refuses_weaker _ AlwaysAborts (λ k chosen given. search rules) c.args.file.now Inverse _ e refuses))
     (c.run.ensures.applied clean) (c.run.ensures.refused clean)
+
+pub returns-clause-survives : goal.returns-clause-survives
+returns-clause-survives g c =
+    crash_weaker _ AlwaysAborts (λ k chosen given. search rules) c.args.file.now Inverse _ _ _ c.run.ensures.survives
