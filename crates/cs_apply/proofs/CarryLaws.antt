@@ -1,25 +1,24 @@
 -- One entry, applied.
-use Rattle.std.proofs.Common.{◌≡◌, ℕ, Bool, true, false, true≢false, List, [], ◌∷◌, ◌++◌, map, filter_map, Option, Some, None, option_map, refl, sym, ap, ◌∙◌}
+use Rattle.std.proofs.Common.{◌≡◌, ℕ, Bool, true, false, List, [], ◌∷◌, ◌++◌, map, filter_map, Option, Some, None, option_map, refl, sym, ap, ◌∙◌}
 use Rattle.std.specs.Prelude.{option_to_list, Result, Ok, Err, OnOk}
 use Rattle.std.proofs.lemmas.Option.{none-some}
-use Rattle.std.specs.List.{AllByRecursion, cons_option}
+use Rattle.std.specs.List.{cons_option}
 use Rattle.std.specs.FinMap.{get}
 use Rattle.std.proofs.lemmas.List.{append-nil}
 use Rattle.std.proofs.lemmas.List.Elements.{All-nil, All-cons, All-head}
 use Rattle.cs_value.specs.declared.value.OwnedValue.{OwnedValue}
-use Rattle.cs_value.specs.State.{SchemaData, TableData, State, WrittenData, schema_at, row_at}
+use Rattle.cs_value.specs.State.{TableData, State, schema_at, row_at}
 use Rattle.cs_wire.specs.Changeset.{HeaderData}
 use Rattle.cs_store.specs.Editing.{written_of}
 use Rattle.cs_group.specs.declared.conflict.Choice.{Choice}
-use Rattle.cs_group.specs.Conflicts.{conflict_kind, row_after, ends, is_carried_out, entry_result}
-use Rattle.cs_group.specs.Applying.{PlacedEntry, placed_key, current, IsElsewhere, ConflictData, MetData, Choices, conflict_with, conflict_at, met_at, written_for, placed_result, AreApplied}
+use Rattle.cs_group.specs.Conflicts.{conflict_kind, row_after, ends, is_carried_out}
+use Rattle.cs_group.specs.Applying.{PlacedEntry, placed_key, current, IsElsewhere, MetData, Choices, conflict_with, conflict_at, met_at, placed_result}
 use Rattle.cs_apply.specs.declared.conflict.Conflict.{Conflict}
-use Rattle.cs_apply.specs.declared.conflict.Met.{Met}
 use Rattle.cs_apply.specs.declared.fault.ApplyFault.{ApplyFault}
 use Rattle.cs_apply.specs.declared.fault.ApplyFault.TheVariants as fault
 use Rattle.cs_apply.specs.declared.report.Report.{Report}
 use Rattle.cs_apply.specs.Report.{conflict_of, met_of}
-use Rattle.cs_apply.specs.Running.{Handler, GoesOn}
+use Rattle.cs_apply.specs.Running.{Handler}
 use Rattle.cs_apply.specs.Steps.{HasTable, Settles, Unsettled, EndsRun, Carries, Stops, RefusesEntries, with_result}
 use Rattle.cs_apply.proofs.WriteLaws.{result_schemas, result_here, result_elsewhere}
 

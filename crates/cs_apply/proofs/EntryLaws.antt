@@ -1,5 +1,5 @@
 -- The row of an entry, in the table that is there.
-use Rattle.std.proofs.Common.{◌≡◌, ℕ, Bool, true, false, true≢false, List, [], ◌∷◌, ◌++◌, map, All, Option, Some, None, option_map, refl, sym, ap, ◌∙◌}
+use Rattle.std.proofs.Common.{◌≡◌, ℕ, Bool, true, false, true≢false, List, [], ◌∷◌, ◌++◌, map, Option, Some, None, option_map, refl, sym, ap, ◌∙◌}
 use Rattle.std.specs.Prelude.{IfSome}
 use Rattle.std.proofs.lemmas.List.{append-nil, map-append}
 use Rattle.std.proofs.lemmas.List.Elements.{All-nil, All-cons, All-append}
@@ -8,7 +8,7 @@ use Rattle.cs_value.specs.declared.value.OwnedValue.{OwnedValue}
 use Rattle.cs_value.specs.Value.{IsRow}
 use Rattle.cs_value.specs.Table.{IsKeyedRow}
 use Rattle.cs_value.specs.Key.{row_key}
-use Rattle.cs_value.specs.State.{SchemaData, TableData, State, schema_at}
+use Rattle.cs_value.specs.State.{SchemaData, TableData, State}
 use Rattle.cs_wire.specs.declared.entry.Change.TheVariants.{Insert}
 use Rattle.cs_wire.specs.Changeset.{HeaderData}
 use Rattle.cs_store.specs.Rows.{Fits}

@@ -1,21 +1,20 @@
 -- What a whole run comes to.
-use Rattle.std.proofs.Common.{◌≡◌, ℕ, List, [], ◌++◌, map, filter_map, All, Option, refl, sym, ap, subst, ◌∙◌}
+use Rattle.std.proofs.Common.{◌≡◌, ℕ, List, [], ◌++◌, map, filter_map, ap, subst, ◌∙◌}
 use Rattle.std.specs.Prelude.{string_bytes}
 use Rattle.std.proofs.lemmas.List.Elements.{All-nil}
-use Rattle.cs_value.specs.State.{State, WrittenData}
+use Rattle.cs_value.specs.State.{State}
 use Rattle.cs_wire.specs.Changeset.{GroupData}
 use Rattle.cs_store.specs.declared.edit.Written.{Written}
 use Rattle.cs_store.specs.Editing.{written_of}
-use Rattle.cs_group.specs.declared.conflict.Choice.TheVariants as choice
-use Rattle.cs_group.specs.Applying.{ConflictData, MetData, NoneWider, applicable, conflict_at, met_at, written_for, skipped}
+use Rattle.cs_group.specs.Applying.{NoneWider, applicable, met_at, written_for, skipped}
 use Rattle.cs_apply.specs.declared.conflict.Conflict.{Conflict}
 use Rattle.cs_apply.specs.declared.conflict.Met.{Met}
 use Rattle.cs_apply.specs.declared.report.Report.{Report}
 use Rattle.cs_apply.specs.declared.running.Direction.{Direction}
 use Rattle.cs_apply.specs.declared.fault.ApplyFault.{ApplyFault}
 use Rattle.cs_apply.specs.declared.fault.ApplyFault.TheVariants as fault
-use Rattle.cs_apply.specs.Report.{conflict_of, met_of}
-use Rattle.cs_apply.specs.Running.{Handler, IsReadAs, GoesOn, Applies, IsReached, EndsAt, Refuses}
+use Rattle.cs_apply.specs.Report.{met_of}
+use Rattle.cs_apply.specs.Running.{Handler, IsReadAs, GoesOn, Applies, IsReached, Refuses}
 use Rattle.cs_apply.specs.Steps.{Carries, Stops, RefusesEntries}
 
 -- a report that tells nothing yet

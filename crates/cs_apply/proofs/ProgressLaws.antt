@@ -1,14 +1,13 @@
 -- Entries and groups, applied one after another.
-use Rattle.std.proofs.Common.{◌≡◌, ◌≢◌, ℕ, ◌<◌, ◌≤◌, ◌+◌, List, [], ◌∷◌, ◌++◌, length, take, drop, get_or, map, Option, option_map, refl, sym, ap, subst, append_assoc, ◌∙◌, arith}
-use Rattle.std.specs.Prelude.{string_bytes}
+use Rattle.std.proofs.Common.{◌≡◌, ◌≢◌, ℕ, ◌<◌, ◌+◌, List, [], ◌∷◌, ◌++◌, length, take, drop, get_or, map, refl, sym, ap, subst, append_assoc, ◌∙◌, arith}
 use Rattle.std.proofs.lemmas.List.{take-append-drop, map-append, append-nil}
-use Rattle.cs_value.specs.State.{SchemaData, State, schema_at}
+use Rattle.cs_value.specs.State.{State}
 use Rattle.cs_wire.specs.declared.entry.Entry.{Entry}
-use Rattle.cs_wire.specs.Changeset.{HeaderData, GroupData, IsGroup, IsChangeset}
+use Rattle.cs_wire.specs.Changeset.{GroupData, IsGroup, IsChangeset}
 use Rattle.cs_store.specs.Editing.{written_of}
 use Rattle.cs_group.specs.declared.judging.Judgement.{Judgement}
 use Rattle.cs_group.specs.declared.judging.Judgement.TheVariants.{Skipped, Wider, Compatible}
-use Rattle.cs_group.specs.Judging.{judgement, judged}
+use Rattle.cs_group.specs.Judging.{judged}
 use Rattle.cs_group.specs.Applying.{PlacedEntry, placed_by, placed_in, applicable, skipped, omit_all}
 use Rattle.cs_group.proofs.ApplyLaws.{judged_same}
 use Rattle.cs_apply.specs.declared.fault.ApplyFault.{ApplyFault}

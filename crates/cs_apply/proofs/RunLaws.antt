@@ -1,5 +1,5 @@
 -- The groups and entries of a changeset, one after another.
-use Rattle.std.proofs.Common.{◌≡◌, ◌≢◌, inl, inr, ℕ, zero, suc, ◌<◌, ◌≤◌, ◌+◌, Bool, true, false, true≢false, cond, if◌then◌else◌, nat_lt, List, [], ◌∷◌, ◌++◌, length, take, get_or, map, filter, All, AllPairs, Option, Some, None, option_map, refl, sym, ap, subst, ◌∙◌, arith}
+use Rattle.std.proofs.Common.{◌≡◌, ◌≢◌, inl, inr, ℕ, zero, suc, ◌<◌, ◌≤◌, ◌+◌, Bool, true, false, true≢false, cond, if◌then◌else◌, nat_lt, List, [], ◌∷◌, ◌++◌, length, take, get_or, map, filter, AllPairs, Option, Some, None, option_map, refl, sym, ap, subst, ◌∙◌, arith}
 use Rattle.std.specs.List.{AllByRecursion, flat_map}
 use Rattle.std.proofs.lemmas.Bool.{ltb-false}
 use Rattle.std.proofs.lemmas.List.{take_more, take_all, map-append, append-nil}
@@ -13,7 +13,7 @@ use Rattle.cs_group.specs.declared.judging.Judgement.{Judgement}
 use Rattle.cs_group.specs.declared.judging.Judgement.TheVariants.{Skipped, Wider, Compatible}
 use Rattle.cs_group.specs.Joining.{key_places}
 use Rattle.cs_group.specs.Judging.{leads, judgement, judged, is_compatible, is_skipped}
-use Rattle.cs_group.specs.Applying.{PlacedEntry, placed_by, placed_in, placed, placed_key, IsElsewhere, compatible_groups, applicable, skipped, NoneWider, FirstWider}
+use Rattle.cs_group.specs.Applying.{placed_by, placed_in, placed, placed_key, IsElsewhere, compatible_groups, applicable, skipped, NoneWider, FirstWider}
 use Rattle.cs_apply.specs.declared.fault.ApplyFault.{ApplyFault}
 use Rattle.cs_apply.specs.Running.{IsResource}
 use Rattle.cs_apply.specs.Steps.{HasTable, RefusesWider}

@@ -1,11 +1,11 @@
 -- How runs go on, one after another.
-use Rattle.std.proofs.Common.{◌≡◌, ◌≢◌, ℕ, Bool, true, false, true≢false, cond, if◌then◌else◌, ◌&&◌, ◌||◌, nat_eq, List, [], ◌∷◌, ◌++◌, map, filter_map, All, Option, Some, None, option_map, append_assoc, refl, sym, ap, ◌∙◌, arith}
+use Rattle.std.proofs.Common.{◌≡◌, Bool, true, false, if◌then◌else◌, ◌&&◌, ◌||◌, nat_eq, List, [], ◌∷◌, ◌++◌, map, filter_map, Option, Some, None, option_map, append_assoc, refl, sym, ap, ◌∙◌, arith}
 use Rattle.std.specs.List.{AllByRecursion, cons_option}
 use Rattle.std.specs.Cmp.Lexicographic.{pointwise, same_text, nat_list_eq_equiv}
 use Rattle.std.proofs.lemmas.List.{append-nil, map-append}
 use Rattle.std.proofs.lemmas.List.Elements.{filter_map-append, recursion_from_All, All-from_recursion}
 use Rattle.cs_value.specs.declared.value.OwnedValue.{OwnedValue}
-use Rattle.cs_value.specs.State.{State, WrittenData, row_at}
+use Rattle.cs_value.specs.State.{State, WrittenData}
 use Rattle.cs_store.specs.Editing.{written_of}
 use Rattle.cs_group.specs.declared.conflict.Choice.{Choice}
 use Rattle.cs_group.specs.Conflicts.{conflict_kind, is_carried_out, entry_result}
@@ -14,7 +14,7 @@ use Rattle.cs_apply.specs.declared.conflict.Conflict.{Conflict}
 use Rattle.cs_apply.specs.declared.conflict.Met.{Met}
 use Rattle.cs_apply.specs.declared.report.Report.{Report}
 use Rattle.cs_apply.specs.Report.{conflict_of, met_of}
-use Rattle.cs_apply.specs.Running.{Handler, GoesOn}
+use Rattle.cs_apply.specs.Running.{Handler}
 use Rattle.cs_apply.specs.declared.fault.ApplyFault.{ApplyFault}
 use Rattle.cs_apply.specs.declared.fault.ApplyFault.TheVariants as fault
 use Rattle.cs_apply.specs.Steps.{Carries, Stops, RefusesEntries}

@@ -1,11 +1,11 @@
 -- A row that is written, and the rows of a state.
-use Rattle.std.proofs.Common.{◌≡◌, ◌≢◌, ℕ, Bool, true, false, true≢false, cond, List, Option, Some, None, option_map, refl, sym, ap, ◌∙◌}
-use Rattle.std.specs.Prelude.{IsSome, unwrap_or}
+use Rattle.std.proofs.Common.{◌≡◌, ℕ, Bool, true, false, cond, List, Option, Some, None, option_map, refl, sym, ap, ◌∙◌}
+use Rattle.std.specs.Prelude.{unwrap_or}
 use Rattle.std.specs.Ordering.{nat_cmp, is_eq}
 use Rattle.std.specs.Cmp.Lexicographic.{slice_cmp, nat_list_cmp_total}
 use Rattle.std.specs.FinMap.{get, insert, remove, empty, get-insert, get-remove}
 use Rattle.cs_value.specs.declared.value.OwnedValue.{OwnedValue}
-use Rattle.cs_value.specs.State.{TableData, RowMap, State, schema_at, rows_at, row_at, with_rows, with_row, without_row}
+use Rattle.cs_value.specs.State.{TableData, RowMap, State, schema_at, rows_at, row_at, with_rows}
 use Rattle.cs_value.proofs.ByteMaps.{tied_bytes, self_tied}
 use Rattle.cs_apply.specs.Steps.{with_result}
 

@@ -2,7 +2,6 @@ use Rattle.std.proofs.Common.{◌≡◌, true, false, Some, option_map, refl, sy
 use Rattle.std.specs.Fn.{FnReturnsAt}
 use Rattle.std.proofs.lemmas.Fn.{says_at}
 use Rattle.cs_group.specs.Conflicts.{conflict_kind, ends}
-use Rattle.cs_group.specs.declared.conflict.Kind.{Kind}
 use Rattle.cs_group.specs.Applying.{ConflictData, placed_by}
 use Rattle.cs_apply.proofs.EntryLaws.{conflict_is, unsettled, settled, replaced_by}
 use Rattle.cs_apply.proofs.entry.settle.Goals as goal

@@ -1,6 +1,5 @@
-use Rattle.std.proofs.Common.{sym, ap, ◌∙◌, rules}
+use Rattle.std.proofs.Common.{sym, ◌∙◌, rules}
 use Rattle.cs_value.specs.Value.{IsRow}
-use Rattle.cs_value.specs.Table.{IsKeyedRow}
 use Rattle.cs_apply.proofs.EntryLaws.{keyed_here, fits_here}
 use Rattle.cs_apply.proofs.entry.write.Goals as goal
 
