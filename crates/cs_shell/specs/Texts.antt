@@ -17,7 +17,7 @@ use Rattle.cs_group.specs.declared.conflict.Kind.{Kind}
 use Rattle.cs_group.specs.declared.conflict.Kind.TheVariants as kind
 use Rattle.cs_group.specs.declared.conflict.Choice.{Choice}
 use Rattle.cs_group.specs.declared.conflict.Choice.TheVariants as choice
-use Rattle.cs_group.specs.Applying.{ConflictData, MetData}
+use Rattle.cs_group.specs.Applying.{MetData}
 use Rattle.cs_apply.specs.declared.report.Report.{Report}
 use Rattle.cs_apply.specs.Report.{met_of}
 
