@@ -19,7 +19,7 @@ import unittest
 
 from stores import (
     RECORDS, UNDEFINED, VERSION, Table, count_changes, delete, header, insert, read_records, read_store, run_schema,
-    run_sql, shown, update, write_store,
+    run_sql, run_statements, shown, update, write_store,
 )
 
 HERE = pathlib.Path(__file__).resolve().parent
@@ -207,6 +207,12 @@ class Files(ProgramTest):
         self.make("a.cs", UPDATE)
         self.expect(["a.cs", "dump"], 0, "table 't' columns 2 flags 1,0\nupdate 0 old 1,'x' new -,'y'\n")
         self.expect(["a.cs", "sql"], 0, "UPDATE \"t\" SET c2='y' WHERE c1=1 AND c2='x';\n")
+        self.make("a.cs", T + delete(1, None) + insert(2, b"\xff") + update((3, UNDEFINED), (UNDEFINED, UNDEFINED)))
+        self.expect(["a.cs", "sql"], 0, (
+            'DELETE FROM "t" WHERE c1=1 AND c2 IS NULL;\n'
+            "INSERT INTO \"t\" VALUES(2, X'ff');\n"
+            'UPDATE "t" SET c1=3 WHERE c1=3;\n'
+        ))
 
     @NEEDS_FULL
     def test_texts_that_are_not_written(self):
@@ -226,6 +232,17 @@ class Scripts(ProgramTest):
         script = b".hex a\n\xff\n.load a 0f\n.hex a\n"
         printed = "error 62 EmptySlot\nerror 68 LineText\n0f\n"
         self.assertEqual(self.run_program(stdin=script), (1, printed, ""))
+
+    def test_longest_script(self):
+        """What a script of so many line feeds, and something behind them, prints."""
+        for feeds, behind, status, printed in (
+            (16_777_216, b"", 0, ""),
+            (16_777_210, b".hex q", 1, "error 62 EmptySlot\n"),
+            (16_777_217, b"", 1, "error 63 ScriptTooLong\n"),
+            (16_777_210, b".hex qq", 1, "error 63 ScriptTooLong\n"),
+        ):
+            with self.subTest(feeds=feeds, behind=behind):
+                self.assertEqual(self.run_program(stdin=b"\n" * feeds + behind), (status, printed, ""))
 
     def test_script_that_is_not_read(self):
         folder = os.open(self.folder, os.O_RDONLY)
@@ -498,6 +515,14 @@ class Recorded(StoreTest):
         if recorded.exists():
             self.assertEqual(inverse, recorded.read_bytes())
         return inverse
+
+    def test_accepted_files_as_sql(self):
+        for case in json.loads((RECORDED / "rows.json").read_text(encoding="utf-8")):
+            with self.subTest(file=case["file"]):
+                before = run_schema(case["schema"], case["start"])
+                status, text, reported = self.run_program(RECORDED / case["file"], "sql")
+                self.assertEqual((status, reported), (0, ""))
+                self.assertEqual(shown(run_statements(before, text)), case["after"])
 
     def test_refused_files(self):
         self.write(tables_of((1, "x")))

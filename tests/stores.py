@@ -191,6 +191,19 @@ def table_of(base, name):
     return table
 
 
+def run_statements(tables, text):
+    """The tables that SQLite has after the statements of a text, in which the columns are c1, c2 and so on."""
+    with contextlib.closing(sqlite3.connect(":memory:")) as base:
+        for name, table in tables.items():
+            columns = ["c%d" % (place + 1) for place in range(len(table.columns))]
+            keys = [column for column, of_key in zip(columns, table.keys) if of_key]
+            base.execute("CREATE TABLE %s(%s, PRIMARY KEY(%s))" % (name, ", ".join(columns), ", ".join(keys)))
+            marks = ", ".join("?" for _ in columns)
+            base.executemany("INSERT INTO %s VALUES(%s)" % (name, marks), table.rows)
+        base.executescript(text)
+        return {name: table_of(base, name) for name in tables}
+
+
 def literal(value):
     """A value as a literal of SQL."""
     if value is None:

@@ -1,9 +1,8 @@
 //! Inverses, joins and net changes.
 
-use crate::{DELETE, INSERT, UPDATE, WIDER_INSERT};
+use crate::{DELETE, INSERT, UPDATE};
 use cs_group::{
-    ConcatFault, Merged, SchemaFault, changeset_inverses_law, concat, inverse_twice_law, invert,
-    merge, net_change,
+    Merged, changeset_inverses_law, concat, inverse_twice_law, invert, merge, net_change,
 };
 use cs_value::{Field, OwnedValue, Row, Value};
 use cs_wire::{Change, Changeset, Entry, Header, read, write};
@@ -81,13 +80,6 @@ fn joins_changesets(rt: HostRuntime) {
         file.as_slice()
             == b"T\x02\x01\x00t\x00\x12\x00\x01\x00\x00\x00\x00\x00\x00\x00\x01\x03\x01y".as_slice()
     );
-}
-
-#[test]
-fn refuses_tables_that_differ(rt: HostRuntime) {
-    let (first, second) = (changeset_of(&rt, INSERT), changeset_of(&rt, WIDER_INSERT));
-    let error = concat(rt.alloc(), &first, &second).expect_err(&rt, "another table");
-    assert!(rt; error == ConcatFault::Fault(SchemaFault { place: 0 }));
 }
 
 #[test]

@@ -31,15 +31,6 @@ fn writes_what_was_read(rt: HostRuntime) {
     assert!(rt; file.as_slice() == UPDATE && changeset != Changeset::new(rt.alloc()));
 }
 
-#[test]
-fn headers_that_fit(rt: HostRuntime) {
-    assert!(rt; Header::fits("t", &[1, 0]));
-    assert!(rt; !Header::fits("", &[1, 0]));
-    assert!(rt; !Header::fits("a\0", &[1, 0]));
-    assert!(rt; !Header::fits("t", &[]));
-    assert!(rt; !Header::fits("t", &[0, 0]));
-}
-
 /// The header of a table of this name, with a key of one column before another.
 fn header_of(rt: &(impl Abort + AllocGlobal), name: &str) -> Header {
     let flags = [2, 0];
@@ -66,13 +57,6 @@ fn insertion(rt: &(impl Abort + AllocGlobal), key: OwnedValue) -> Entry {
         indirect: false,
         change: Change::Insert(Row::new(values)),
     }
-}
-
-#[test]
-fn entries_that_fit(rt: HostRuntime) {
-    let header = header_of(&rt, "t");
-    assert!(rt; header.admits(&insertion(&rt, OwnedValue::Int(2))));
-    assert!(rt; !header.admits(&insertion(&rt, OwnedValue::Null)));
 }
 
 /// A group of a table of this name, with the insertion of 1.
