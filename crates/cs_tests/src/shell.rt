@@ -8,7 +8,6 @@ use cs_shell::{
 use cs_wire::read;
 use std::io::{ErrorKind, Read, Write};
 use std::process::Abort;
-use std::rt::Files;
 use std::{fs, io};
 
 #[test]
@@ -122,7 +121,7 @@ fn words_of(rt: &(impl Abort + AllocGlobal), words: &[&str]) -> Vec<String> {
 }
 
 /// Runs words without a line of script, and answers the exit status and how many bytes are reported.
-fn end_of(rt: &(impl Files + AllocGlobal + Abort), words: &[&str]) -> (u8, usize) {
+fn end_of(rt: &HostRuntime, words: &[&str]) -> (u8, usize) {
     let mut err = Vec::new(rt.alloc());
     let status = run_words(
         rt,

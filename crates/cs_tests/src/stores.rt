@@ -60,15 +60,16 @@ pub(crate) fn are(
     true
 }
 
-/// Whether a store has t alone, with its columns and its key.
+/// Whether a store has t alone.
 fn has_only_t<S: Alter>(rt: &(impl Abort + AllocGlobal), store: &mut Store<S>) -> bool {
     let tables = store.tables(rt.alloc()).expect(rt, "names");
-    assert!(rt; tables.len() == 1 && tables.first().expect(rt, "a name").as_str() == "t");
-    match store.schema(rt.alloc(), "t").expect(rt, "memory") {
-        Some(schema) => {
-            schema.flags() == [1, 0].as_slice()
-                && schema.columns() == names(rt, "a", "b").as_slice()
-        }
+    tables.len() == 1 && tables.first().expect(rt, "a name").as_str() == "t"
+}
+
+/// Whether a store has a table of this name, whose first column of two is its key.
+fn has_schema<S: Alter>(rt: &(impl Abort + AllocGlobal), store: &mut Store<S>, name: &str) -> bool {
+    match store.schema(rt.alloc(), name).expect(rt, "memory") {
+        Some(schema) => schema.flags() == [1, 0].as_slice(),
         None => false,
     }
 }
@@ -97,22 +98,17 @@ fn has_no_rows<S: Alter>(
 #[test]
 fn tables_of_a_store(rt: HostRuntime) {
     let mut store = store_with_table(&rt);
-    for (name, keys, error) in [
-        ("t", [true, false].as_slice(), StoreError::TableExists),
-        ("u", [false, false].as_slice(), StoreError::BadSchema),
-        ("", [true, false].as_slice(), StoreError::BadSchema),
-    ] {
-        assert!(rt; declaration(&rt, &mut store, name, keys) == Err(error));
-    }
+    let again = declaration(&rt, &mut store, "t", &[true, false]);
+    assert!(rt; again == Err(StoreError::TableExists));
     assert!(rt; has_only_t(&rt, &mut store));
+    assert!(rt; has_schema(&rt, &mut store, "t") && !has_schema(&rt, &mut store, "u"));
     assert!(rt; found(&rt, &mut store, "t") == Ok(None));
-    assert!(rt; found(&rt, &mut store, "u") == Err(StoreError::NoTable));
     assert!(rt; has_no_rows(&rt, &mut store, "u"));
     end(store);
 }
 
 /// An edit of borrowed values.
-#[derive(Clone, Copy, Debug)]
+#[derive(Clone, Copy)]
 enum Call {
     Insert(&'static str, &'static [Value<'static>]),
     Update(&'static str, i64, &'static [Value<'static>]),
@@ -251,30 +247,23 @@ fn told<B: Rows>(
     count(edit_in(rt.alloc(), rows, &edit_of(rt, call)))
 }
 
-/// Asserts what rows answer to the edits in turn, and what they hold behind each.
-fn expect_answers<B: Rows>(rt: &(impl Abort + AllocGlobal), rows: &mut B) {
-    for (call, answer, held) in CASES {
-        assert!(rt; told(rt, rows, call) == answer, "at {call:?}");
-        assert!(rt; are(rt, &listed(rt, rows), held), "after {call:?}");
+/// Asserts what rows answer to edits in turn, and what they hold behind each.
+fn expect_answers<B: Rows>(rt: &(impl Abort + AllocGlobal), rows: &mut B, cases: &[Case]) {
+    for (place, case) in cases.iter().enumerate() {
+        let (call, answer, held) = *case;
+        assert!(rt; told(rt, rows, call) == answer, "at {place}");
+        assert!(rt; are(rt, &listed(rt, rows), held), "at {place}");
     }
 }
 
-#[test]
-fn edits_in_memory(rt: HostRuntime) {
-    expect_answers(&rt, &mut tables(&rt));
-}
-
-/// Asserts it of a batch.
-fn expect_answers_in_batch<S: Alter>(rt: &(impl Abort + AllocGlobal), store: &mut Store<S>) {
+/// Asserts it of a batch, which is dropped.
+fn expect_answers_in_batch<S: Alter>(
+    rt: &(impl Abort + AllocGlobal),
+    store: &mut Store<S>,
+    cases: &[Case],
+) {
     let mut batch = store.begin().expect(rt, "a batch");
-    expect_answers(rt, &mut batch);
-}
-
-#[test]
-fn edits_in_a_batch(rt: HostRuntime) {
-    let mut store = store_with_table(&rt);
-    expect_answers_in_batch(&rt, &mut store);
-    end(store);
+    expect_answers(rt, &mut batch, cases);
 }
 
 /// What a store answers to an edit.
@@ -286,12 +275,25 @@ fn edited<S: Alter>(
     count(store.edit(rt.alloc(), &edit_of(rt, call)))
 }
 
-#[test]
-fn edits_of_a_store(rt: HostRuntime) {
-    let mut store = store_with_table(&rt);
-    for (call, answer, held) in CASES {
-        assert!(rt; edited(&rt, &mut store, call) == answer, "at {call:?}");
-        assert!(rt; are(&rt, &rows_of(&rt, &mut store), held), "after {call:?}");
+/// Asserts it of a store.
+fn expect_answers_of_store<S: Alter>(
+    rt: &(impl Abort + AllocGlobal),
+    store: &mut Store<S>,
+    cases: &[Case],
+) {
+    for (place, case) in cases.iter().enumerate() {
+        let (call, answer, held) = *case;
+        assert!(rt; edited(rt, store, call) == answer, "at {place}");
+        assert!(rt; are(rt, &rows_of(rt, store), held), "at {place}");
     }
+}
+
+#[test]
+fn edits(rt: HostRuntime) {
+    let cases = &CASES;
+    expect_answers(&rt, &mut tables(&rt), cases);
+    let mut store = store_with_table(&rt);
+    expect_answers_in_batch(&rt, &mut store, cases);
+    expect_answers_of_store(&rt, &mut store, cases);
     end(store);
 }
