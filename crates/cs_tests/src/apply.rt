@@ -3,12 +3,12 @@
 //! The table t of these tests has the columns a and b, of which a is the key. The integers of the
 //! files are 1, but where their last byte says otherwise.
 
-use crate::store::tables;
-use crate::stores::{are, end, listed, rows_of, store_with_table};
+use crate::store::{row_of, tables};
+use crate::stores::{end, listed, rows_of, store_with_table};
 use crate::{DELETE, INSERT, UPDATE, WIDER_INSERT};
 use cs_apply::{ApplyFault, Choice, Conflict, Direction, Kind, Report, apply, revert, run_in};
 use cs_store::{Rows, Store};
-use cs_value::{Fault, Value};
+use cs_value::{Fault, Row, Value};
 use sqlite::Alter;
 use std::process::Abort;
 
@@ -56,82 +56,67 @@ const TEN_AND_UPDATE: &[u8] = b"T\x02\x01\x00t\x00\
 \x12\x00\x01\x00\x00\x00\x00\x00\x00\x00\x0b\x05\
 \x17\x00\x01\x00\x00\x00\x00\x00\x00\x00\x01\x03\x01x\x00\x03\x01y";
 
-/// How many conflicts are told, tables passed over and keys written, or the number, the class and
-/// the name of the refusal.
-type Answer = Result<[usize; 3], (u8, u8, &'static str)>;
-
-/// The row of t.
-const X: &[[Value<'static>; 2]] = &[[Value::Int(1), Value::Text("x")]];
-
-const Y: &[[Value<'static>; 2]] = &[[Value::Int(1), Value::Text("y")]];
-
-const Z: &[[Value<'static>; 2]] = &[[Value::Int(1), Value::Text("z")]];
-
-/// What a call is refused with.
-const ABORT: Answer = Err((41, 4, "Abort"));
-
-const MISUSE: Answer = Err((42, 21, "Misuse"));
+/// The number of a refusal, or 0, and how many conflicts are told, tables passed over and keys
+/// written.
+type Answer = [usize; 4];
 
 /// A file that gives t its rows, a file that is applied to these, what is chosen for each conflict,
-/// the answer, and the rows behind it.
-type Case = (
-    &'static [u8],
-    &'static [u8],
-    Choice,
-    Answer,
-    &'static [[Value<'static>; 2]],
-);
+/// the answer, and b of the row (1, b) that t has then alone, which is empty where it has none.
+type Case = (&'static [u8], &'static [u8], Choice, Answer, &'static str);
 
 const CASES: [Case; 25] = [
     // Data: the row that is deleted or updated is another.
-    (OTHER, DELETE, Choice::Omit, Ok([1, 0, 0]), Z),
-    (OTHER, DELETE, Choice::Replace, Ok([1, 0, 1]), &[]),
-    (OTHER, DELETE, Choice::Abort, ABORT, Z),
-    (OTHER, UPDATE, Choice::Omit, Ok([1, 0, 0]), Z),
-    (OTHER, UPDATE, Choice::Replace, Ok([1, 0, 1]), Y),
-    (OTHER, UPDATE, Choice::Abort, ABORT, Z),
+    (OTHER, DELETE, Choice::Omit, [0, 1, 0, 0], "z"),
+    (OTHER, DELETE, Choice::Replace, [0, 1, 0, 1], ""),
+    (OTHER, DELETE, Choice::Abort, [41, 0, 0, 0], "z"),
+    (OTHER, UPDATE, Choice::Omit, [0, 1, 0, 0], "z"),
+    (OTHER, UPDATE, Choice::Replace, [0, 1, 0, 1], "y"),
+    (OTHER, UPDATE, Choice::Abort, [41, 0, 0, 0], "z"),
     // NotFound: there is no row to delete or to update.
-    (b"", DELETE, Choice::Omit, Ok([1, 0, 0]), &[]),
-    (b"", UPDATE, Choice::Replace, MISUSE, &[]),
-    (b"", INSERT_DELETE, Choice::Replace, MISUSE, &[]),
-    (b"", INSERT_DELETE, Choice::Abort, ABORT, &[]),
-    (b"", EMPTY, Choice::Abort, ABORT, &[]),
+    (b"", DELETE, Choice::Omit, [0, 1, 0, 0], ""),
+    (b"", UPDATE, Choice::Replace, [42, 0, 0, 0], ""),
+    (b"", INSERT_DELETE, Choice::Replace, [42, 0, 0, 0], ""),
+    (b"", INSERT_DELETE, Choice::Abort, [41, 0, 0, 0], ""),
+    (b"", EMPTY, Choice::Abort, [41, 0, 0, 0], ""),
     // Conflict: there is a row at the key.
-    (OTHER, INSERT, Choice::Omit, Ok([1, 0, 0]), Z),
-    (OTHER, INSERT, Choice::Replace, Ok([1, 0, 1]), X),
-    (OTHER, INSERT, Choice::Abort, ABORT, Z),
-    (OTHER, TEN_AND_UPDATE, Choice::Abort, ABORT, Z),
+    (OTHER, INSERT, Choice::Omit, [0, 1, 0, 0], "z"),
+    (OTHER, INSERT, Choice::Replace, [0, 1, 0, 1], "x"),
+    (OTHER, INSERT, Choice::Abort, [41, 0, 0, 0], "z"),
+    (OTHER, TEN_AND_UPDATE, Choice::Abort, [41, 0, 0, 0], "z"),
     // No conflict.
-    (INSERT, b"", Choice::Abort, Ok([0, 0, 0]), X),
-    (INSERT, UPDATE, Choice::Abort, Ok([0, 0, 1]), Y),
-    (INSERT, DELETE, Choice::Abort, Ok([0, 0, 1]), &[]),
-    (INSERT, SAME, Choice::Abort, Ok([0, 0, 1]), X),
-    (INSERT, EMPTY, Choice::Abort, Ok([0, 0, 1]), X),
+    (INSERT, b"", Choice::Abort, [0, 0, 0, 0], "x"),
+    (INSERT, UPDATE, Choice::Abort, [0, 0, 0, 1], "y"),
+    (INSERT, DELETE, Choice::Abort, [0, 0, 0, 1], ""),
+    (INSERT, SAME, Choice::Abort, [0, 0, 0, 1], "x"),
+    (INSERT, EMPTY, Choice::Abort, [0, 0, 0, 1], "x"),
     // Tables that are not there, or are others.
-    (b"", TWO_TABLES, Choice::Abort, Ok([0, 1, 1]), X),
-    (INSERT, WIDER_INSERT, Choice::Abort, Ok([0, 1, 0]), X),
-    (INSERT, OTHER_KEY, Choice::Abort, Ok([0, 1, 0]), X),
-    (INSERT, NARROWER, Choice::Abort, Err((40, 17, "Wider")), X),
+    (b"", TWO_TABLES, Choice::Abort, [0, 0, 1, 1], "x"),
+    (INSERT, WIDER_INSERT, Choice::Abort, [0, 0, 1, 0], "x"),
+    (INSERT, OTHER_KEY, Choice::Abort, [0, 0, 1, 0], "x"),
+    (INSERT, NARROWER, Choice::Abort, [40, 0, 0, 0], "x"),
     // No changeset.
-    (
-        b"",
-        KEY_TWICE,
-        Choice::Omit,
-        Err((18, 11, "DuplicateKey")),
-        &[],
-    ),
+    (b"", KEY_TWICE, Choice::Omit, [18, 0, 0, 0], ""),
 ];
 
 /// What is told of a run.
 fn answer(run: Result<Report, ApplyFault>) -> Answer {
     match run {
-        Ok(report) => Ok([
+        Ok(report) => [
+            0,
             report.conflicts.len(),
             report.skipped.len(),
             report.written.len(),
-        ]),
-        Err(fault) => Err((fault.code(), fault.class(), fault.name())),
+        ],
+        Err(fault) => [fault.code() as usize, 0, 0, 0],
     }
+}
+
+/// Whether rows are (1, b) alone, or none where b is empty.
+fn is_row(rt: &(impl Abort + AllocGlobal), rows: &[Row], b: &str) -> bool {
+    if b.is_empty() {
+        return rows.is_empty();
+    }
+    rows.len() == 1 && rows.first() == Some(&row_of(rt, &[Value::Int(1), Value::Text(b)]))
 }
 
 /// What rows answer to a file, with one choice for all conflicts.
@@ -148,7 +133,7 @@ fn run<B: Rows>(
 /// What rows with t answer to the files of a case in turn, of which the first one succeeds.
 fn run_case<B: Rows>(rt: &(impl Abort + AllocGlobal), rows: &mut B, case: &Case) -> Answer {
     let (before, file, choice, _, _) = *case;
-    assert!(rt; run(rt, rows, before, Choice::Abort).is_ok());
+    assert!(rt; run(rt, rows, before, Choice::Abort)[0] == 0);
     run(rt, rows, file, choice)
 }
 
@@ -157,7 +142,7 @@ fn holds_in_memory(rt: &(impl Abort + AllocGlobal), case: &Case) -> bool {
     let (_, _, _, wanted, after) = *case;
     let mut rows = tables(rt);
     let answer = run_case(rt, &mut rows, case);
-    answer == wanted && (answer.is_err() || are(rt, &listed(rt, &mut rows), after))
+    answer == wanted && (answer[0] > 0 || is_row(rt, &listed(rt, &mut rows), after))
 }
 
 /// What a batch of a store answers to a file. It is committed, or dropped where the file is refused.
@@ -169,9 +154,10 @@ fn run_batch<S: Alter>(
 ) -> Answer {
     let mut batch = store.begin().expect(rt, "a batch");
     let answer = run(rt, &mut batch, file, choice);
-    match answer {
-        Ok(_) => batch.commit().expect(rt, "a commit"),
-        Err(_) => drop(batch),
+    if answer[0] == 0 {
+        batch.commit().expect(rt, "a commit");
+    } else {
+        drop(batch);
     }
     answer
 }
@@ -191,13 +177,13 @@ fn applied<S: Alter>(
 fn holds_in_a_store(rt: &(impl Abort + AllocGlobal), case: &Case, by_batch: bool) -> bool {
     let (before, file, choice, wanted, after) = *case;
     let mut store = store_with_table(rt);
-    assert!(rt; applied(rt, &mut store, before, Choice::Abort).is_ok());
+    assert!(rt; applied(rt, &mut store, before, Choice::Abort)[0] == 0);
     let answer = if by_batch {
         run_batch(rt, &mut store, file, choice)
     } else {
         applied(rt, &mut store, file, choice)
     };
-    let holds = answer == wanted && are(rt, &rows_of(rt, &mut store), after);
+    let holds = answer == wanted && is_row(rt, &rows_of(rt, &mut store), after);
     end(store);
     holds
 }
@@ -223,11 +209,11 @@ fn reverted<S: Alter>(
 #[test]
 fn reverts_what_was_applied(rt: HostRuntime) {
     let mut store = store_with_table(&rt);
-    assert!(rt; applied(&rt, &mut store, INSERT, Choice::Abort).is_ok());
-    assert!(rt; applied(&rt, &mut store, UPDATE, Choice::Abort).is_ok());
-    assert!(rt; reverted(&rt, &mut store, SAME) == ABORT);
-    assert!(rt; reverted(&rt, &mut store, UPDATE) == Ok([0, 0, 1]));
-    assert!(rt; are(&rt, &rows_of(&rt, &mut store), X));
+    assert!(rt; applied(&rt, &mut store, INSERT, Choice::Abort)[0] == 0);
+    assert!(rt; applied(&rt, &mut store, UPDATE, Choice::Abort)[0] == 0);
+    assert!(rt; reverted(&rt, &mut store, SAME) == [41, 0, 0, 0]);
+    assert!(rt; reverted(&rt, &mut store, UPDATE) == [0, 0, 0, 1]);
+    assert!(rt; is_row(&rt, &rows_of(&rt, &mut store), "x"));
     end(store);
 }
 
@@ -249,8 +235,24 @@ fn asked<B: Rows>(rt: &(impl Abort + AllocGlobal), rows: &mut B, file: &[u8]) ->
 #[test]
 fn asks_a_handler(rt: HostRuntime) {
     let mut rows = tables(&rt);
-    assert!(rt; asked(&rt, &mut rows, OTHER) == Ok([0, 0, 1]));
-    assert!(rt; asked(&rt, &mut rows, INSERT) == Ok([1, 0, 1]));
-    assert!(rt; asked(&rt, &mut rows, INSERT_DELETE) == Ok([0, 0, 2]));
-    assert!(rt; asked(&rt, &mut rows, DELETE) == ABORT);
+    assert!(rt; asked(&rt, &mut rows, OTHER) == [0, 0, 0, 1]);
+    assert!(rt; asked(&rt, &mut rows, INSERT) == [0, 1, 0, 1]);
+    assert!(rt; asked(&rt, &mut rows, INSERT_DELETE) == [0, 0, 0, 2]);
+    assert!(rt; asked(&rt, &mut rows, DELETE) == [41, 0, 0, 0]);
+}
+
+/// Why the DELETE of a row that is not there is refused, with one choice for all conflicts.
+fn refusal(rt: &(impl Abort + AllocGlobal), choice: Choice) -> ApplyFault {
+    let handler = |_: &Conflict| choice;
+    let mut rows = tables(rt);
+    let direction = Direction::Forward;
+    run_in(rt.alloc(), &mut rows, DELETE, direction, &handler).expect_err(rt, "a refusal")
+}
+
+#[test]
+fn names_of_refusals(rt: HostRuntime) {
+    let fault = refusal(&rt, Choice::Abort);
+    assert!(rt; fault.class() == 4 && fault.name() == "Abort");
+    let fault = refusal(&rt, Choice::Replace);
+    assert!(rt; fault.class() == 21 && fault.name() == "Misuse");
 }

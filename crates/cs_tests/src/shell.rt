@@ -121,11 +121,11 @@ fn words_of(rt: &(impl Abort + AllocGlobal), words: &[&str]) -> Vec<String> {
 }
 
 /// Runs words without a line of script, and answers the exit status and how many bytes are reported.
-fn end_of(rt: &HostRuntime, words: &[&str]) -> (u8, usize) {
+fn end_of(rt: &HostRuntime, words: &[String]) -> (u8, usize) {
     let mut err = Vec::new(rt.alloc());
     let status = run_words(
         rt,
-        &words_of(rt, words),
+        words,
         &mut Told::new(b"".as_slice()),
         &mut Told::new(Closed { fails: true }),
         &mut Told::new(&mut err),
@@ -136,7 +136,8 @@ fn end_of(rt: &HostRuntime, words: &[&str]) -> (u8, usize) {
 #[test]
 fn writes_the_inverse(rt: HostRuntime) {
     fs::write(&rt, "in_place.cs", INSERT).expect(&rt, "a file");
-    assert!(rt; end_of(&rt, &["changeset", "in_place.cs", "invert", "in_place.cs"]) == (0, 0));
+    let words = words_of(&rt, &["changeset", "in_place.cs", "invert", "in_place.cs"]);
+    assert!(rt; end_of(&rt, &words) == (0, 0));
     let held = fs::read(&rt, "in_place.cs").expect(&rt, "a file");
     fs::remove_file(&rt, "in_place.cs").expect(&rt, "a file");
     assert!(rt; held.as_slice() == DELETE);
@@ -147,5 +148,6 @@ fn prints_the_usage(rt: HostRuntime) {
     let mut err = Vec::new(rt.alloc());
     assert!(rt; print_usage(&mut Told::new(&mut err)) == 2);
     assert!(rt; err.starts_with(b"Usage: changeset "));
-    assert!(rt; end_of(&rt, &["changeset", "a.cs", "frob"]) == (2, err.len()));
+    let words = words_of(&rt, &["changeset", "a.cs", "frob"]);
+    assert!(rt; end_of(&rt, &words) == (2, err.len()));
 }
