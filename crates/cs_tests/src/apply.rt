@@ -64,7 +64,7 @@ type Answer = [usize; 4];
 /// the answer, and b of the row (1, b) that t has then alone, which is empty where it has none.
 type Case = (&'static [u8], &'static [u8], Choice, Answer, &'static str);
 
-const CASES: [Case; 25] = [
+const CASES: &[Case] = &[
     // Data: the row that is deleted or updated is another.
     (OTHER, DELETE, Choice::Omit, [0, 1, 0, 0], "z"),
     (OTHER, DELETE, Choice::Replace, [0, 1, 0, 1], ""),

@@ -141,7 +141,7 @@ const MOVED: &[[Value<'static>; 2]] = &[
 ];
 
 /// The edits of a table t without rows, in turn.
-const CASES: [Case; 18] = [
+const CASES: &[Case] = &[
     (
         Call::Insert("t", &[Value::Int(2), Value::Text("x")]),
         Ok(1),
@@ -290,10 +290,9 @@ fn expect_answers_of_store<S: Alter>(
 
 #[test]
 fn edits(rt: HostRuntime) {
-    let cases = &CASES;
-    expect_answers(&rt, &mut tables(&rt), cases);
+    expect_answers(&rt, &mut tables(&rt), CASES);
     let mut store = store_with_table(&rt);
-    expect_answers_in_batch(&rt, &mut store, cases);
-    expect_answers_of_store(&rt, &mut store, cases);
+    expect_answers_in_batch(&rt, &mut store, CASES);
+    expect_answers_of_store(&rt, &mut store, CASES);
     end(store);
 }
