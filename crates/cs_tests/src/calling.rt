@@ -1,8 +1,12 @@
-//! Callers of `cs_wire` and of `cs_group`, as `CALLING.md` of these crates shows them.
+//! Callers of `cs_wire`, `cs_group` and `cs_apply`, as `CALLING.md` of these crates shows them.
 
+use crate::stores::{end, store_with_table};
 use crate::{DELETE, INSERT, UPDATE, WIDER_INSERT};
+use cs_apply::{ApplyFault, Choice, Policy, apply};
 use cs_group::{ConcatFault, concat, invert};
+use cs_store::Store;
 use cs_wire::{Changeset, Entry, ReadError, read, write};
+use sqlite::Alter;
 use std::alloc::Global;
 use std::process::Abort;
 
@@ -65,4 +69,25 @@ fn undoes_two_files(rt: HostRuntime) {
         let undo = undo_of(rt.alloc(), first, second).expect(&rt, "memory");
         assert!(rt; undo.as_deref() == undone);
     }
+}
+
+/// Applies a file, with each row in the way replaced, and tells how many keys were written.
+fn replay<S: Alter>(alloc: Global, store: &mut Store<S>, file: &[u8]) -> Result<usize, ApplyFault> {
+    let policy = Policy {
+        on_data: Choice::Replace,
+        on_notfound: Choice::Omit,
+        on_conflict: Choice::Replace,
+    };
+    let report = apply(alloc, store, file, &|conflict| policy.choose(conflict))?;
+    Ok(report.written.len())
+}
+
+#[test]
+fn replays_files(rt: HostRuntime) {
+    let mut store = store_with_table(&rt);
+    for (file, count) in [(INSERT, 1), (INSERT, 1), (DELETE, 1), (DELETE, 0)] {
+        let written = replay(rt.alloc(), &mut store, file).expect(&rt, "no refusal");
+        assert!(rt; written == count);
+    }
+    end(store);
 }

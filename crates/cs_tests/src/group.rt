@@ -1,24 +1,9 @@
-//! Inverses, joins and net changes.
+//! Entries of one key that become one, and net changes. Inverses and joins are in `calling`.
 
-use crate::{DELETE, INSERT, UPDATE, WIDER_INSERT};
-use cs_group::{
-    ConcatFault, Merged, SchemaFault, changeset_inverses_law, concat, inverse_twice_law, invert,
-    merge, net_change,
-};
+use cs_group::{Merged, changeset_inverses_law, inverse_twice_law, merge, net_change};
 use cs_value::{Field, OwnedValue, Row, Value};
-use cs_wire::{Change, Changeset, Entry, Header, read, write};
+use cs_wire::{Change, Entry, Header};
 use std::process::Abort;
-
-/// The changeset of a file.
-fn changeset_of(rt: &(impl Abort + AllocGlobal), file: &[u8]) -> Changeset {
-    read(rt.alloc(), file).expect(rt, "a changeset")
-}
-
-#[test]
-fn inverts_a_changeset(rt: HostRuntime) {
-    let inverse = invert(rt.alloc(), changeset_of(&rt, INSERT)).expect(&rt, "memory");
-    assert!(rt; inverse == changeset_of(&rt, DELETE));
-}
 
 /// The header of a table of two columns, of which the first is the key.
 fn header(rt: &(impl Abort + AllocGlobal)) -> Header {
@@ -70,24 +55,6 @@ fn changes_of_rows(rt: HostRuntime) {
     assert!(rt; none.is_none());
     let some = net_change(alloc, &[1, 0], Some(&row), Some(&other)).expect(&rt, "memory");
     assert!(rt; matches!(some, Some(Change::Update { .. })));
-}
-
-#[test]
-fn joins_changesets(rt: HostRuntime) {
-    let (first, second) = (changeset_of(&rt, INSERT), changeset_of(&rt, UPDATE));
-    let joined = concat(rt.alloc(), &first, &second).expect(&rt, "a join");
-    let file = write(rt.alloc(), &joined).expect(&rt, "memory");
-    assert!(rt;
-        file.as_slice()
-            == b"T\x02\x01\x00t\x00\x12\x00\x01\x00\x00\x00\x00\x00\x00\x00\x01\x03\x01y".as_slice()
-    );
-}
-
-#[test]
-fn refuses_tables_that_differ(rt: HostRuntime) {
-    let (first, second) = (changeset_of(&rt, INSERT), changeset_of(&rt, WIDER_INSERT));
-    let error = concat(rt.alloc(), &first, &second).expect_err(&rt, "another table");
-    assert!(rt; error == ConcatFault::Fault(SchemaFault { place: 0 }));
 }
 
 #[test]

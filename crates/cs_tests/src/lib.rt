@@ -1,16 +1,16 @@
 //! Tests of the public calls, of what no contract and no line of a script says.
 //!
-//! `value`, `wire`, `group`, `shell` and `store` have those of a crate each, and `refusals` the
-//! numbers, names and texts of what they refuse with. `stores` has those of stores over SQL,
-//! `adoption` those of what is taken over as a store, and `disk` those of stores in files.
+//! `value`, `wire`, `group`, `shell`, `store` and `apply` have those of a crate each, and `refusals`
+//! the numbers, names and texts of what they refuse with. `stores` has those of stores over SQL,
+//! `adoption` those of what is taken over as a store, and `calling` the callers of `CALLING.md`.
 #![tactic(auto)]
 
 #[cfg(test)]
 mod adoption;
 #[cfg(test)]
-mod calling;
+mod apply;
 #[cfg(test)]
-mod disk;
+mod calling;
 #[cfg(test)]
 mod group;
 #[cfg(test)]
@@ -30,6 +30,10 @@ mod wire;
 #[cfg(test)]
 const INSERT: &[u8] = b"T\x02\x01\x00t\x00\x12\x00\x01\x00\x00\x00\x00\x00\x00\x00\x01\x03\x01x";
 
+/// The DELETE of that row.
+#[cfg(test)]
+const DELETE: &[u8] = b"T\x02\x01\x00t\x00\x09\x00\x01\x00\x00\x00\x00\x00\x00\x00\x01\x03\x01x";
+
 /// The UPDATE of that 'x' to 'y'.
 #[cfg(test)]
 const UPDATE: &[u8] =
@@ -39,7 +43,3 @@ const UPDATE: &[u8] =
 #[cfg(test)]
 const WIDER_INSERT: &[u8] =
     b"T\x03\x01\x00\x00t\x00\x12\x00\x01\x00\x00\x00\x00\x00\x00\x00\x01\x05\x05";
-
-/// The DELETE of that row.
-#[cfg(test)]
-const DELETE: &[u8] = b"T\x02\x01\x00t\x00\x09\x00\x01\x00\x00\x00\x00\x00\x00\x00\x01\x03\x01x";

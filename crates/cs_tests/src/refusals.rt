@@ -1,5 +1,6 @@
 //! Numbers, classes, names and texts of what calls refuse with.
 
+use cs_apply::ApplyFault;
 use cs_shell::{FileFault, OutputFault, SchemaFault, ToolFault};
 use cs_store::StoreError;
 use cs_value::{Fault, FieldFault, FieldFaultKind, ImageFault, NoMemory};
@@ -155,6 +156,7 @@ fn faults_of_calls_on_files(rt: HostRuntime) {
     );
     expect_named(&rt, &FileFault::Read(READ_FAULT), 16, 11, "Unpaired");
     expect_named(&rt, &OutputFault, 72, 10, "OutputFault");
+    expect_named(&rt, &ApplyFault::Wider(3), 40, 17, "Wider");
     let text = "a table has other columns or another key at group 3";
     expect_text(&rt, &schema, text);
     expect_text(&rt, &ToolFault::Fault(FileFault::Schema(schema)), text);

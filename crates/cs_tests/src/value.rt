@@ -33,25 +33,6 @@ fn numbers(rt: HostRuntime) {
 }
 
 #[test]
-fn numbers_refused(rt: HostRuntime) {
-    for (bytes, kind, place) in [
-        (b"".as_slice(), FieldFaultKind::Truncated, 0),
-        (b"\x81".as_slice(), FieldFaultKind::Truncated, 1),
-        (b"\x80\x01".as_slice(), FieldFaultKind::BadVarint, 0),
-        (
-            b"\x88\x80\x80\x80\x00".as_slice(),
-            FieldFaultKind::BadVarint,
-            0,
-        ),
-    ] {
-        assert!(rt;
-            varint_read(bytes) == Err(FieldFault { kind, place }),
-            "at {place}"
-        );
-    }
-}
-
-#[test]
 fn fields(rt: HostRuntime) {
     for (bytes, field) in [
         (b"\x00".as_slice(), Field::Undefined),
@@ -69,12 +50,6 @@ fn fields(rt: HostRuntime) {
         field_write(&mut out, &read).expect(&rt, "memory");
         assert!(rt; out.as_slice() == bytes);
     }
-}
-
-#[test]
-fn lengths(rt: HostRuntime) {
-    assert!(rt; OwnedValue::fits(2_147_483_647));
-    assert!(rt; !OwnedValue::fits(2_147_483_648));
 }
 
 #[test]
@@ -132,30 +107,6 @@ fn images(rt: HostRuntime) {
     image_write(&mut out, &image).expect(&rt, "memory");
     assert!(rt; out.as_slice() == &IMAGE[..10]);
     assert!(rt; Image::new(image.into_fields()) == copy);
-}
-
-#[test]
-fn images_refused(rt: HostRuntime) {
-    for (bytes, columns, kind, place) in [
-        (
-            b"\x05\x03\x01\xff".as_slice(),
-            2,
-            FieldFaultKind::BadText,
-            3,
-        ),
-        (
-            b"\x05\x00".as_slice(),
-            usize::MAX,
-            FieldFaultKind::Truncated,
-            2,
-        ),
-    ] {
-        let fault = ImageFault::Fault(FieldFault { kind, place });
-        assert!(rt;
-            image_read(rt.alloc(), bytes, columns) == Err(fault),
-            "at {place}"
-        );
-    }
 }
 
 #[test]

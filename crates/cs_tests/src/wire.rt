@@ -1,44 +1,10 @@
-//! Changesets, their parts and their files.
+//! The parts of changesets. Changesets and their files are in `calling`.
 
-use cs_value::{OwnedField, OwnedValue, Row};
+use cs_value::{OwnedValue, Row};
 use cs_wire::{
-    Change, Changeset, Entry, Group, Header, changeset_files_law, entry_inverses_law, read,
-    row_keys_law, write,
+    Change, Entry, Group, Header, changeset_files_law, entry_inverses_law, row_keys_law,
 };
 use std::process::Abort;
-
-/// An UPDATE of 'x' to the blob ff where the key of the table t is 1, made indirectly.
-const UPDATE: &[u8] =
-    b"T\x02\x01\x00t\x00\x17\x01\x01\x00\x00\x00\x00\x00\x00\x00\x01\x03\x01x\x00\x04\x01\xff";
-
-#[test]
-fn reads_an_update(rt: HostRuntime) {
-    let changeset = read(rt.alloc(), UPDATE).expect(&rt, "a changeset");
-    let group = changeset.groups().first().expect(&rt, "a group");
-    let entry = group.entries().first().expect(&rt, "an entry");
-    let Change::Update { old, new } = &entry.change else {
-        panic!(rt; "no update");
-    };
-    assert!(rt; entry.indirect && old.fields().len() == 2 && new.fields().len() == 2);
-    assert!(rt; old.fields().first() != Some(&OwnedField::Undefined));
-    assert!(rt; new.fields().first() == Some(&OwnedField::Undefined));
-}
-
-#[test]
-fn writes_what_was_read(rt: HostRuntime) {
-    let changeset = read(rt.alloc(), UPDATE).expect(&rt, "a changeset");
-    let file = write(rt.alloc(), &changeset).expect(&rt, "memory");
-    assert!(rt; file.as_slice() == UPDATE && changeset != Changeset::new(rt.alloc()));
-}
-
-#[test]
-fn headers_that_fit(rt: HostRuntime) {
-    assert!(rt; Header::fits("t", &[1, 0]));
-    assert!(rt; !Header::fits("", &[1, 0]));
-    assert!(rt; !Header::fits("a\0", &[1, 0]));
-    assert!(rt; !Header::fits("t", &[]));
-    assert!(rt; !Header::fits("t", &[0, 0]));
-}
 
 /// The header of a table of this name, with a key of one column before another.
 fn header_of(rt: &(impl Abort + AllocGlobal), name: &str) -> Header {
@@ -66,13 +32,6 @@ fn insertion(rt: &(impl Abort + AllocGlobal), key: OwnedValue) -> Entry {
         indirect: false,
         change: Change::Insert(Row::new(values)),
     }
-}
-
-#[test]
-fn entries_that_fit(rt: HostRuntime) {
-    let header = header_of(&rt, "t");
-    assert!(rt; header.admits(&insertion(&rt, OwnedValue::Int(2))));
-    assert!(rt; !header.admits(&insertion(&rt, OwnedValue::Null)));
 }
 
 /// A group of a table of this name, with the insertion of 1.

@@ -1,0 +1,258 @@
+//! Changesets applied to rows in memory and to stores, and reverted.
+//!
+//! The table t of these tests has the columns a and b, of which a is the key. The integers of the
+//! files are 1, but where their last byte says otherwise.
+
+use crate::store::{row_of, tables};
+use crate::stores::{end, listed, rows_of, store_with_table};
+use crate::{DELETE, INSERT, UPDATE, WIDER_INSERT};
+use cs_apply::{ApplyFault, Choice, Conflict, Direction, Kind, Report, apply, revert, run_in};
+use cs_store::{Rows, Store};
+use cs_value::{Fault, Row, Value};
+use sqlite::Alter;
+use std::process::Abort;
+
+/// An INSERT of (1, 'z').
+const OTHER: &[u8] = b"T\x02\x01\x00t\x00\x12\x00\x01\x00\x00\x00\x00\x00\x00\x00\x01\x03\x01z";
+
+/// An INSERT of (2, 'q'), and the DELETE of (1, 'x').
+const INSERT_DELETE: &[u8] = b"T\x02\x01\x00t\x00\
+\x12\x00\x01\x00\x00\x00\x00\x00\x00\x00\x02\x03\x01q\
+\x09\x00\x01\x00\x00\x00\x00\x00\x00\x00\x01\x03\x01x";
+
+/// An UPDATE of 'x' to 'x'.
+const SAME: &[u8] =
+    b"T\x02\x01\x00t\x00\x17\x00\x01\x00\x00\x00\x00\x00\x00\x00\x01\x03\x01x\x00\x03\x01x";
+
+/// An UPDATE that modifies no column.
+const EMPTY: &[u8] = b"T\x02\x01\x00t\x00\x17\x00\x01\x00\x00\x00\x00\x00\x00\x00\x01\x00\x00\x00";
+
+/// The INSERT of (1, 'x') into a table z, and then into t.
+const TWO_TABLES: &[u8] = b"T\x02\x01\x00z\x00\x12\x00\x01\x00\x00\x00\x00\x00\x00\x00\x01\x03\x01x\
+T\x02\x01\x00t\x00\x12\x00\x01\x00\x00\x00\x00\x00\x00\x00\x01\x03\x01x";
+
+/// An INSERT into a table t whose second column is its key.
+const OTHER_KEY: &[u8] = b"T\x02\x00\x01t\x00\x12\x00\x01\x00\x00\x00\x00\x00\x00\x00\x01\x03\x01x";
+
+/// An INSERT into a table z, and one into a table t of one column.
+const NARROWER: &[u8] = b"T\x01\x01z\x00\x12\x00\x03\x01x\
+T\x01\x01t\x00\x12\x00\x01\x00\x00\x00\x00\x00\x00\x00\x01";
+
+/// The INSERT and the DELETE of one row, in one table.
+const KEY_TWICE: &[u8] = b"T\x02\x01\x00t\x00\x12\x00\x01\x00\x00\x00\x00\x00\x00\x00\x01\x03\x01x\
+\x09\x00\x01\x00\x00\x00\x00\x00\x00\x00\x01\x03\x01x";
+
+/// Ten INSERTs, of keys from 2 to 11, and an UPDATE of 'x' to 'y'.
+const TEN_AND_UPDATE: &[u8] = b"T\x02\x01\x00t\x00\
+\x12\x00\x01\x00\x00\x00\x00\x00\x00\x00\x02\x05\
+\x12\x00\x01\x00\x00\x00\x00\x00\x00\x00\x03\x05\
+\x12\x00\x01\x00\x00\x00\x00\x00\x00\x00\x04\x05\
+\x12\x00\x01\x00\x00\x00\x00\x00\x00\x00\x05\x05\
+\x12\x00\x01\x00\x00\x00\x00\x00\x00\x00\x06\x05\
+\x12\x00\x01\x00\x00\x00\x00\x00\x00\x00\x07\x05\
+\x12\x00\x01\x00\x00\x00\x00\x00\x00\x00\x08\x05\
+\x12\x00\x01\x00\x00\x00\x00\x00\x00\x00\x09\x05\
+\x12\x00\x01\x00\x00\x00\x00\x00\x00\x00\x0a\x05\
+\x12\x00\x01\x00\x00\x00\x00\x00\x00\x00\x0b\x05\
+\x17\x00\x01\x00\x00\x00\x00\x00\x00\x00\x01\x03\x01x\x00\x03\x01y";
+
+/// The number of a refusal, or 0, and how many conflicts are told, tables passed over and keys
+/// written.
+type Answer = [usize; 4];
+
+/// A file that gives t its rows, a file that is applied to these, what is chosen for each conflict,
+/// the answer, and b of the row (1, b) that t has then alone, which is empty where it has none.
+type Case = (&'static [u8], &'static [u8], Choice, Answer, &'static str);
+
+const CASES: &[Case] = &[
+    // Data: the row that is deleted or updated is another.
+    (OTHER, DELETE, Choice::Omit, [0, 1, 0, 0], "z"),
+    (OTHER, DELETE, Choice::Replace, [0, 1, 0, 1], ""),
+    (OTHER, DELETE, Choice::Abort, [41, 0, 0, 0], "z"),
+    (OTHER, UPDATE, Choice::Omit, [0, 1, 0, 0], "z"),
+    (OTHER, UPDATE, Choice::Replace, [0, 1, 0, 1], "y"),
+    (OTHER, UPDATE, Choice::Abort, [41, 0, 0, 0], "z"),
+    // NotFound: there is no row to delete or to update.
+    (b"", DELETE, Choice::Omit, [0, 1, 0, 0], ""),
+    (b"", UPDATE, Choice::Replace, [42, 0, 0, 0], ""),
+    (b"", INSERT_DELETE, Choice::Replace, [42, 0, 0, 0], ""),
+    (b"", INSERT_DELETE, Choice::Abort, [41, 0, 0, 0], ""),
+    (b"", EMPTY, Choice::Abort, [41, 0, 0, 0], ""),
+    // Conflict: there is a row at the key.
+    (OTHER, INSERT, Choice::Omit, [0, 1, 0, 0], "z"),
+    (OTHER, INSERT, Choice::Replace, [0, 1, 0, 1], "x"),
+    (OTHER, INSERT, Choice::Abort, [41, 0, 0, 0], "z"),
+    (OTHER, TEN_AND_UPDATE, Choice::Abort, [41, 0, 0, 0], "z"),
+    // No conflict.
+    (INSERT, b"", Choice::Abort, [0, 0, 0, 0], "x"),
+    (INSERT, UPDATE, Choice::Abort, [0, 0, 0, 1], "y"),
+    (INSERT, DELETE, Choice::Abort, [0, 0, 0, 1], ""),
+    (INSERT, SAME, Choice::Abort, [0, 0, 0, 1], "x"),
+    (INSERT, EMPTY, Choice::Abort, [0, 0, 0, 1], "x"),
+    // Tables that are not there, or are others.
+    (b"", TWO_TABLES, Choice::Abort, [0, 0, 1, 1], "x"),
+    (INSERT, WIDER_INSERT, Choice::Abort, [0, 0, 1, 0], "x"),
+    (INSERT, OTHER_KEY, Choice::Abort, [0, 0, 1, 0], "x"),
+    (INSERT, NARROWER, Choice::Abort, [40, 0, 0, 0], "x"),
+    // No changeset.
+    (b"", KEY_TWICE, Choice::Omit, [18, 0, 0, 0], ""),
+];
+
+/// What is told of a run.
+fn answer(run: Result<Report, ApplyFault>) -> Answer {
+    match run {
+        Ok(report) => [
+            0,
+            report.conflicts.len(),
+            report.skipped.len(),
+            report.written.len(),
+        ],
+        Err(fault) => [fault.code() as usize, 0, 0, 0],
+    }
+}
+
+/// Whether rows are (1, b) alone, or none where b is empty.
+fn is_row(rt: &(impl Abort + AllocGlobal), rows: &[Row], b: &str) -> bool {
+    if b.is_empty() {
+        return rows.is_empty();
+    }
+    rows.len() == 1 && rows.first() == Some(&row_of(rt, &[Value::Int(1), Value::Text(b)]))
+}
+
+/// What rows answer to a file, with one choice for all conflicts.
+fn run<B: Rows>(
+    rt: &(impl Abort + AllocGlobal),
+    rows: &mut B,
+    file: &[u8],
+    choice: Choice,
+) -> Answer {
+    let handler = |_: &Conflict| choice;
+    answer(run_in(rt.alloc(), rows, file, Direction::Forward, &handler))
+}
+
+/// What rows with t answer to the files of a case in turn, of which the first one succeeds.
+fn run_case<B: Rows>(rt: &(impl Abort + AllocGlobal), rows: &mut B, case: &Case) -> Answer {
+    let (before, file, choice, _, _) = *case;
+    assert!(rt; run(rt, rows, before, Choice::Abort)[0] == 0);
+    run(rt, rows, file, choice)
+}
+
+/// Whether rows in memory answer to a case as they should, and hold what they should then.
+fn holds_in_memory(rt: &(impl Abort + AllocGlobal), case: &Case) -> bool {
+    let (_, _, _, wanted, after) = *case;
+    let mut rows = tables(rt);
+    let answer = run_case(rt, &mut rows, case);
+    answer == wanted && (answer[0] > 0 || is_row(rt, &listed(rt, &mut rows), after))
+}
+
+/// What a batch of a store answers to a file. It is committed, or dropped where the file is refused.
+fn run_batch<S: Alter>(
+    rt: &(impl Abort + AllocGlobal),
+    store: &mut Store<S>,
+    file: &[u8],
+    choice: Choice,
+) -> Answer {
+    let mut batch = store.begin().expect(rt, "a batch");
+    let answer = run(rt, &mut batch, file, choice);
+    if answer[0] == 0 {
+        batch.commit().expect(rt, "a commit");
+    } else {
+        drop(batch);
+    }
+    answer
+}
+
+/// What a store answers to a file.
+fn applied<S: Alter>(
+    rt: &(impl Abort + AllocGlobal),
+    store: &mut Store<S>,
+    file: &[u8],
+    choice: Choice,
+) -> Answer {
+    let handler = |_: &Conflict| choice;
+    answer(apply(rt.alloc(), store, file, &handler))
+}
+
+/// Whether a store answers so too, by a batch or by itself.
+fn holds_in_a_store(rt: &(impl Abort + AllocGlobal), case: &Case, by_batch: bool) -> bool {
+    let (before, file, choice, wanted, after) = *case;
+    let mut store = store_with_table(rt);
+    assert!(rt; applied(rt, &mut store, before, Choice::Abort)[0] == 0);
+    let answer = if by_batch {
+        run_batch(rt, &mut store, file, choice)
+    } else {
+        applied(rt, &mut store, file, choice)
+    };
+    let holds = answer == wanted && is_row(rt, &rows_of(rt, &mut store), after);
+    end(store);
+    holds
+}
+
+#[test]
+fn files_applied(rt: HostRuntime) {
+    for (place, case) in CASES.iter().enumerate() {
+        assert!(rt; holds_in_memory(&rt, case), "at {place}");
+        assert!(rt; holds_in_a_store(&rt, case, true), "at {place}");
+        assert!(rt; holds_in_a_store(&rt, case, false), "at {place}");
+    }
+}
+
+/// What a store answers to a file that is reverted.
+fn reverted<S: Alter>(
+    rt: &(impl Abort + AllocGlobal),
+    store: &mut Store<S>,
+    file: &[u8],
+) -> Answer {
+    answer(revert(rt.alloc(), store, file))
+}
+
+#[test]
+fn reverts_what_was_applied(rt: HostRuntime) {
+    let mut store = store_with_table(&rt);
+    assert!(rt; applied(&rt, &mut store, INSERT, Choice::Abort)[0] == 0);
+    assert!(rt; applied(&rt, &mut store, UPDATE, Choice::Abort)[0] == 0);
+    assert!(rt; reverted(&rt, &mut store, SAME) == [41, 0, 0, 0]);
+    assert!(rt; reverted(&rt, &mut store, UPDATE) == [0, 0, 0, 1]);
+    assert!(rt; is_row(&rt, &rows_of(&rt, &mut store), "x"));
+    end(store);
+}
+
+/// Replaces rows of t that are in the way, and aborts at other conflicts.
+fn replace_in_t(conflict: &Conflict) -> Choice {
+    if conflict.table.as_str() == "t" && conflict.kind == Kind::Conflict {
+        Choice::Replace
+    } else {
+        Choice::Abort
+    }
+}
+
+/// What rows answer to a file, with that handler.
+fn asked<B: Rows>(rt: &(impl Abort + AllocGlobal), rows: &mut B, file: &[u8]) -> Answer {
+    let direction = Direction::Forward;
+    answer(run_in(rt.alloc(), rows, file, direction, &replace_in_t))
+}
+
+#[test]
+fn asks_a_handler(rt: HostRuntime) {
+    let mut rows = tables(&rt);
+    assert!(rt; asked(&rt, &mut rows, OTHER) == [0, 0, 0, 1]);
+    assert!(rt; asked(&rt, &mut rows, INSERT) == [0, 1, 0, 1]);
+    assert!(rt; asked(&rt, &mut rows, INSERT_DELETE) == [0, 0, 0, 2]);
+    assert!(rt; asked(&rt, &mut rows, DELETE) == [41, 0, 0, 0]);
+}
+
+/// Why the DELETE of a row that is not there is refused, with one choice for all conflicts.
+fn refusal(rt: &(impl Abort + AllocGlobal), choice: Choice) -> ApplyFault {
+    let handler = |_: &Conflict| choice;
+    let mut rows = tables(rt);
+    let direction = Direction::Forward;
+    run_in(rt.alloc(), &mut rows, DELETE, direction, &handler).expect_err(rt, "a refusal")
+}
+
+#[test]
+fn names_of_refusals(rt: HostRuntime) {
+    let fault = refusal(&rt, Choice::Abort);
+    assert!(rt; fault.class() == 4 && fault.name() == "Abort");
+    let fault = refusal(&rt, Choice::Replace);
+    assert!(rt; fault.class() == 21 && fault.name() == "Misuse");
+}

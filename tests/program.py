@@ -1,0 +1,548 @@
+#!/usr/bin/env python3
+"""Tests of the program as it is built: its words, the files that it reads and writes, and its exit statuses.
+
+What the program is to print is written out here, by the documents. Stores are written and read by Python's own
+sqlite3 (`stores.py`), and `recorded/` has files that SQLite's session extension recorded. The program has to be built
+first, as the gate does, or by `rt run` in `crates/changeset`.
+
+usage: tests/program.py [PROGRAM]
+"""
+import contextlib
+import json
+import os
+import pathlib
+import sqlite3
+import subprocess
+import sys
+import tempfile
+import unittest
+
+from stores import (
+    RECORDS, UNDEFINED, VERSION, Table, count_changes, delete, header, insert, read_records, read_store, run_schema,
+    run_sql, run_statements, shown, update, write_store,
+)
+
+HERE = pathlib.Path(__file__).resolve().parent
+RECORDED = HERE / "recorded"
+PROGRAM = HERE.parent / "crates/changeset/out/changeset"
+
+USAGE = """\
+Usage: changeset [--data C] [--notfound C] [--conflict C] FILE COMMAND ...
+COMMANDs:
+  apply STORE        Apply the changeset to the store STORE
+  concat FILE2 OUT   Concatenate FILE and FILE2 into OUT
+  dump               Show the complete content of the changeset
+  invert OUT         Write an inverted changeset into file OUT
+  sql                Give a pseudo-SQL rendering of the changeset
+  shell              Run a script from standard input on the store FILE
+C is omit, replace or abort (the default).
+"""
+
+# The header of a table t of two columns, of which the first is the key, and the key 1.
+T = header("t", 1, 0)
+KEY = b"\x01\x00\x00\x00\x00\x00\x00\x00\x01"
+
+INSERT = T + insert(1, "x")
+DELETE = T + delete(1, "x")
+UPDATE = T + update((1, "x"), (UNDEFINED, "y"))
+WIDER_INSERT = header("t", 1, 0, 0) + insert(1, None, None)
+
+INPUT_FAULT = "error 71 InputFault\n"
+OUTPUT_FAULT = "error 72 OutputFault\n"
+DAMAGED_STORE = "error 37 DamagedStore\n"
+STORE_FAULT = "error 38 StoreFault\n"
+
+NEEDS_FULL = unittest.skipUnless(os.path.exists("/dev/full"), "no /dev/full")
+
+
+def tables_of(*rows, columns=("a", "b"), keys=(True, False), name="t"):
+    """A table with these rows, of which the first column is the key unless said otherwise."""
+    return {name: Table(columns, keys, list(rows))}
+
+
+class ProgramTest(unittest.TestCase):
+    """A test that runs the program in a folder of its own."""
+
+    def setUp(self):
+        folder = tempfile.TemporaryDirectory()
+        self.addCleanup(folder.cleanup)
+        self.folder = pathlib.Path(folder.name)
+
+    @contextlib.contextmanager
+    def case(self, **what):
+        """One case of a table of them, in a folder of its own."""
+        with self.subTest(**what), tempfile.TemporaryDirectory() as folder:
+            self.folder = pathlib.Path(folder)
+            yield
+
+    def make(self, name, content):
+        """Makes a file of these bytes."""
+        (self.folder / name).write_bytes(content)
+
+    def bytes_of(self, name):
+        """The bytes of a file."""
+        return (self.folder / name).read_bytes()
+
+    def run_program(self, *words, stdin=b"", stdout=subprocess.PIPE):
+        """Runs the program, and answers its exit status and what it prints to both streams."""
+        source = {"stdin": stdin} if isinstance(stdin, int) else {"input": stdin}
+        done = subprocess.run(
+            [PROGRAM, *words], cwd=self.folder, stdout=stdout, stderr=subprocess.PIPE, timeout=120, **source
+        )
+        return done.returncode, (done.stdout or b"").decode(), done.stderr.decode()
+
+    def run_full(self, *words, stdin=b""):
+        """Runs the program with a standard output that takes nothing."""
+        with open("/dev/full", "wb") as full:
+            return self.run_program(*words, stdin=stdin, stdout=full)
+
+    def expect(self, words, status, printed="", reported=""):
+        """Runs the program, and asserts its exit status and what it prints to both streams."""
+        self.assertEqual(self.run_program(*words), (status, printed, reported), words)
+
+    def expect_files(self, *names):
+        """Asserts which files there are."""
+        self.assertEqual(sorted(os.listdir(self.folder)), sorted(names))
+
+
+class Words(ProgramTest):
+    """Words that fit no command."""
+
+    def test_usage(self):
+        self.make("a.cs", INSERT)
+        for words in (
+            ["a.cs"],
+            ["--help"],
+            ["a.cs", "frob"],
+            ["a.cs", "frob", "o"],
+            ["a.cs", "invert"],
+            ["a.cs", "invert", "o", "p"],
+            ["a.cs", "concat", "o"],
+            ["a.cs", "dump", "o"],
+            ["a.cs", "apply"],
+            ["a.cs", "apply", "o", "p"],
+        ):
+            with self.subTest(words=words):
+                self.expect(words, 2, "", USAGE)
+        self.expect_files("a.cs")
+
+    def test_words_that_are_not_utf_8(self):
+        self.make("a.cs", INSERT)
+        self.expect([b"a.cs", b"invert", b"\xff"], 2, "", USAGE)
+        self.expect_files("a.cs")
+
+
+class Files(ProgramTest):
+    """Inverses, joins and texts of files."""
+
+    def test_inverse(self):
+        self.make("a.cs", INSERT)
+        self.expect(["a.cs", "invert", "o.cs"], 0)
+        self.assertEqual(self.bytes_of("o.cs"), DELETE)
+        self.assertEqual(self.bytes_of("a.cs"), INSERT)
+
+    def test_inverse_in_place(self):
+        self.make("a.cs", INSERT)
+        self.expect(["a.cs", "invert", "a.cs"], 0)
+        self.assertEqual(self.bytes_of("a.cs"), DELETE)
+
+    def test_longer_out_is_replaced(self):
+        self.make("a.cs", INSERT)
+        self.make("o.cs", b"x" * 10_000)
+        self.expect(["a.cs", "invert", "o.cs"], 0)
+        self.assertEqual(self.bytes_of("o.cs"), DELETE)
+
+    def test_join_in_place(self):
+        self.make("a.cs", UPDATE)
+        self.make("b.cs", DELETE)
+        self.expect(["b.cs", "concat", "a.cs", "b.cs"], 0)
+        self.assertEqual(self.bytes_of("b.cs"), DELETE)
+        self.assertEqual(self.bytes_of("a.cs"), UPDATE)
+
+    def test_join_that_is_refused(self):
+        self.make("a.cs", INSERT)
+        self.make("wide.cs", WIDER_INSERT)
+        self.make("p.cs", b"P")
+        for words, line in (
+            (["a.cs", "concat", "wide.cs", "o"], "error 43 Schema 0\n"),
+            (["a.cs", "concat", "none", "o"], INPUT_FAULT),
+            (["a.cs", "concat", "p.cs", "o"], "error 3 Patchset 0\n"),
+            (["p.cs", "concat", "none", "o"], INPUT_FAULT),
+        ):
+            with self.subTest(words=words):
+                self.expect(words, 1, "", line)
+        self.expect_files("a.cs", "wide.cs", "p.cs")
+
+    def test_file_that_is_missing(self):
+        (self.folder / "folder").mkdir()
+        for words in (
+            ["none", "invert", "o"], ["none", "dump"], ["none", "sql"], ["none", "apply", "s"], ["folder", "dump"],
+        ):
+            with self.subTest(words=words):
+                self.expect(words, 1, "", INPUT_FAULT)
+        self.expect_files("folder")
+
+    def test_out_that_cannot_be_opened(self):
+        self.make("a.cs", INSERT)
+        self.expect(["a.cs", "invert", "no folder/o"], 1, "", OUTPUT_FAULT)
+        self.expect(["a.cs", "concat", "a.cs", "no folder/o"], 1, "", OUTPUT_FAULT)
+        self.expect_files("a.cs")
+
+    def test_changesets_that_are_refused(self):
+        for content, line in (
+            (b"P", "error 3 Patchset 0\n"),
+            (b"A", "error 2 NotTable 0\n"),
+            (T, "error 9 EmptyGroup 6\n"),
+            (INSERT[:-1], "error 1 Truncated 19\n"),
+            (T + b"\x12\x00" + KEY + b"\x02", "error 13 RealValue 17\n"),
+            (INSERT + delete(1, "x"), "error 18 DuplicateKey 20\n"),
+        ):
+            self.make("a.cs", content)
+            for words in (["a.cs", "invert", "o"], ["a.cs", "dump"], ["a.cs", "sql"]):
+                with self.subTest(words=words, line=line):
+                    self.expect(words, 1, "", line)
+        self.expect_files("a.cs")
+
+    def test_texts(self):
+        self.make("a.cs", UPDATE)
+        self.expect(["a.cs", "dump"], 0, "table 't' columns 2 flags 1,0\nupdate 0 old 1,'x' new -,'y'\n")
+        self.expect(["a.cs", "sql"], 0, "UPDATE \"t\" SET c2='y' WHERE c1=1 AND c2='x';\n")
+        self.make("a.cs", T + delete(1, None) + insert(2, b"\xff") + update((3, UNDEFINED), (UNDEFINED, UNDEFINED)))
+        self.expect(["a.cs", "sql"], 0, (
+            'DELETE FROM "t" WHERE c1=1 AND c2 IS NULL;\n'
+            "INSERT INTO \"t\" VALUES(2, X'ff');\n"
+            'UPDATE "t" SET c1=3 WHERE c1=3;\n'
+        ))
+
+    @NEEDS_FULL
+    def test_texts_that_are_not_written(self):
+        self.make("a.cs", INSERT)
+        for command in ("dump", "sql"):
+            self.assertEqual(self.run_full("a.cs", command), (1, "", OUTPUT_FAULT))
+
+
+class Scripts(ProgramTest):
+    """The standard input, run as a script."""
+
+    def test_script(self):
+        self.assertEqual(self.run_program(stdin=b".load a 0f\n.hex a"), (0, "0f\n", ""))
+        self.assertEqual(self.run_program(stdin=b""), (0, "", ""))
+
+    def test_script_with_a_refused_line(self):
+        script = b".hex a\n\xff\n.load a 0f\n.hex a\n"
+        printed = "error 62 EmptySlot\nerror 68 LineText\n0f\n"
+        self.assertEqual(self.run_program(stdin=script), (1, printed, ""))
+
+    def test_longest_script(self):
+        """What a script of so many line feeds, and something behind them, prints."""
+        for feeds, behind, status, printed in (
+            (16_777_216, b"", 0, ""),
+            (16_777_210, b".hex q", 1, "error 62 EmptySlot\n"),
+            (16_777_217, b"", 1, "error 63 ScriptTooLong\n"),
+            (16_777_210, b".hex qq", 1, "error 63 ScriptTooLong\n"),
+        ):
+            with self.subTest(feeds=feeds, behind=behind):
+                self.assertEqual(self.run_program(stdin=b"\n" * feeds + behind), (status, printed, ""))
+
+    def test_script_that_is_not_read(self):
+        folder = os.open(self.folder, os.O_RDONLY)
+        self.addCleanup(os.close, folder)
+        self.assertEqual(self.run_program(stdin=folder), (1, "", INPUT_FAULT))
+
+    @NEEDS_FULL
+    def test_answers_that_are_not_written(self):
+        self.assertEqual(self.run_full(stdin=b".hex a"), (1, "", OUTPUT_FAULT))
+
+
+class StoreTest(ProgramTest):
+    """A test with changesets that are applied to a store."""
+
+    def write(self, tables, **how):
+        """Has SQLite write the store."""
+        write_store(self.folder / "store", tables, **how)
+
+    def read(self):
+        """The tables of the store, as SQLite reads it."""
+        return read_store(self.folder / "store")
+
+    def apply(self, changeset):
+        """Applies a changeset to the store."""
+        self.make("a.cs", changeset)
+        return self.run_program("a.cs", "apply", "store")
+
+    def expect_applied(self, changeset, printed):
+        """Applies a changeset, which succeeds with this report."""
+        self.assertEqual(self.apply(changeset), (0, printed, ""))
+
+    def expect_refused(self, changeset, line):
+        """Applies a changeset, which is refused with this line, and leaves the store."""
+        before = self.read()
+        self.assertEqual(self.apply(changeset), (1, "", line))
+        self.assertEqual(self.read(), before)
+
+
+class Applies(StoreTest):
+    """Changesets that are applied to a store, or refused."""
+
+    def test_update_and_its_inverse(self):
+        self.write(tables_of((1, "x")))
+        self.expect_applied(UPDATE, "applied 1\n")
+        self.assertEqual(self.read(), tables_of((1, "y")))
+        self.expect(["a.cs", "invert", "inverse.cs"], 0)
+        self.expect_applied(self.bytes_of("inverse.cs"), "applied 1\n")
+        self.assertEqual(self.read(), tables_of((1, "x")))
+
+    def test_insert_and_delete(self):
+        self.write(tables_of())
+        self.expect_applied(INSERT, "applied 1\n")
+        self.assertEqual(self.read(), tables_of((1, "x")))
+        self.expect_applied(DELETE, "applied 1\n")
+        self.assertEqual(self.read(), tables_of())
+
+    def test_empty_changeset(self):
+        self.write(tables_of((1, "x")))
+        self.expect_applied(b"", "applied 0\n")
+        self.assertEqual(self.read(), tables_of((1, "x")))
+
+    def test_updates_that_modify_nothing(self):
+        self.write(tables_of((1, "x")))
+        for entry in (update((1, "x"), (UNDEFINED, "x")), update((1, UNDEFINED), (UNDEFINED, UNDEFINED))):
+            self.expect_applied(T + entry, "applied 1\n")
+            self.assertEqual(self.read(), tables_of((1, "x")))
+
+    def test_conflicts_abort(self):
+        """What stands in the table, the entries, and the kind of the conflict that ends the call."""
+        same = update((1, UNDEFINED), (UNDEFINED, UNDEFINED))
+        for rows, entries, kind in (
+            ([(1, "z")], [insert(1, "x")], "conflict"),
+            ([(1, "x")], [insert(1, "x")], "conflict"),
+            ([], [insert(2, "q"), delete(1, "x")], "notfound"),
+            ([], [update((1, "x"), (UNDEFINED, "y"))], "notfound"),
+            ([], [same], "notfound"),
+            ([(1, "y")], [delete(1, "x")], "data"),
+            ([(1, "z")], [update((1, "x"), (UNDEFINED, "y"))], "data"),
+            ([(11, "x")], [insert(key, "n") for key in range(1, 12)], "conflict"),
+        ):
+            with self.case(rows=rows, kind=kind):
+                self.write(tables_of(*rows))
+                self.expect_refused(T + b"".join(entries), f"error 41 Abort {kind} 't'\n")
+
+    def test_changesets_that_are_refused(self):
+        self.write(tables_of((2, "q")))
+        for changeset, line in (
+            (INSERT + delete(1, "x"), "error 18 DuplicateKey 20\n"),
+            (INSERT + b"P", "error 3 Patchset 20\n"),
+            (T + b"\x12\x00" + KEY + b"\x02", "error 13 RealValue 17\n"),
+            (INSERT[:-1], "error 1 Truncated 19\n"),
+        ):
+            with self.subTest(line=line):
+                self.expect_refused(changeset, line)
+
+    def test_tables_that_are_skipped(self):
+        missing = header("it's", 1, 0) + insert(1, "x")
+        wider = header("t", 1, 0, 0) + insert(1, "x", None)
+        self.write(tables_of())
+        self.expect_applied(missing + INSERT, "warning 17 skipped 'it''s'\napplied 1\n")
+        self.assertEqual(self.read(), tables_of((1, "x")))
+        self.expect_applied(wider + missing, "warning 17 skipped 't'\nwarning 17 skipped 'it''s'\napplied 0\n")
+        self.assertEqual(self.read(), tables_of((1, "x")))
+
+    def test_table_with_another_key_is_skipped(self):
+        tables = tables_of(keys=(False, True))
+        self.write(tables)
+        self.expect_applied(INSERT, "warning 17 skipped 't'\napplied 0\n")
+        self.assertEqual(self.read(), tables)
+
+    def test_wider_table(self):
+        self.write(tables_of(columns=("a", "b", "c"), keys=(True, False, False)))
+        self.expect_refused(INSERT, "error 40 Wider 0\n")
+        self.expect_refused(header("z", 1) + insert(1) + INSERT, "error 40 Wider 1\n")
+
+    @NEEDS_FULL
+    def test_report_that_is_not_written(self):
+        self.write(tables_of())
+        self.make("a.cs", INSERT)
+        self.assertEqual(self.run_full("a.cs", "apply", "store"), (1, "", OUTPUT_FAULT))
+        self.assertEqual(self.read(), tables_of((1, "x")))
+
+    def test_large_store(self):
+        """Thousands of rows, of which some are updated, some deleted and others inserted."""
+        self.write(tables_of(*((key, "row %d" % key) for key in range(3000))))
+        entries = [delete(key, "row %d" % key) for key in range(0, 1000)]
+        entries += [update((key, "row %d" % key), (UNDEFINED, "r" * (key % 700))) for key in range(1000, 2000)]
+        entries += [insert(key, b"\xff" * 40) for key in range(3000, 4000)]
+        self.expect_applied(T + b"".join(entries), "applied 3000\n")
+        rows = [(key, "r" * (key % 700)) for key in range(1000, 2000)]
+        rows += [(key, "row %d" % key) for key in range(2000, 3000)]
+        rows += [(key, b"\xff" * 40) for key in range(3000, 4000)]
+        self.assertEqual(self.read(), tables_of(*rows))
+
+
+# The declaration of the table t, and its row (1, 'x').
+TABLE = ("", b"t", b"\x02\x01\x01a\x00\x01b")
+ROW = ("t", KEY, KEY + b"\x03\x01x")
+
+# Records that are those of no tables, and what is wrong with them.
+DAMAGED = (
+    ("no declaration", [VERSION, ROW]),
+    ("another version", [("", b"", b"\x03")]),
+    ("no version", [TABLE]),
+    ("a byte too many behind a declaration", [VERSION, ("", b"t", b"\x02\x01\x01a\x00\x01b\x00")]),
+    ("a byte too few of a declaration", [VERSION, ("", b"t", b"\x02\x01\x01a\x00\x01")]),
+    ("a long count of columns", [VERSION, ("", b"t", b"\x80\x02\x01\x01a\x00\x01b")]),
+    ("no column", [VERSION, ("", b"t", b"\x00")]),
+    ("no key column", [VERSION, ("", b"t", b"\x02\x00\x01a\x00\x01b")]),
+    ("another byte for a column", [VERSION, ("", b"t", b"\x02\x02\x01a\x00\x01b")]),
+    ("a column twice", [VERSION, ("", b"t", b"\x02\x01\x01a\x00\x01a")]),
+    ("a column without a name", [VERSION, ("", b"t", b"\x02\x01\x01a\x00\x00")]),
+    ("a column's name that is not UTF-8", [VERSION, ("", b"t", b"\x02\x01\x01a\x00\x01\xff")]),
+    ("a name that is not UTF-8", [VERSION, ("", b"\xff", b"\x01\x01\x01a")]),
+    ("a zero byte in a name", [VERSION, ("", b"t\x00", b"\x01\x01\x01a")]),
+    ("one field", [VERSION, TABLE, ("t", KEY, KEY)]),
+    ("the key of another row", [VERSION, TABLE, ("t", KEY[:-1] + b"\x02", ROW[2])]),
+    ("NULL in the key", [VERSION, TABLE, ("t", b"\x05", b"\x05\x05")]),
+    ("a real number", [VERSION, TABLE, ("t", KEY, KEY + b"\x02" + bytes(8))]),
+    ("a field that is not defined", [VERSION, TABLE, ("t", KEY, KEY + b"\x00")]),
+    ("a byte too many behind a row", [VERSION, TABLE, ("t", KEY, KEY + b"\x05\x00")]),
+    ("a text that is not UTF-8", [VERSION, TABLE, ("t", KEY, KEY + b"\x03\x01\xff")]),
+)
+
+
+class Stores(StoreTest):
+    """Files that are opened as stores, or made, or refused."""
+
+    def test_store_that_is_missing_is_made(self):
+        self.expect_applied(INSERT, "warning 17 skipped 't'\napplied 0\n")
+        self.assertEqual(read_records(self.folder / "store"), [VERSION])
+        self.expect_applied(b"", "applied 0\n")
+        self.assertEqual(self.read(), {})
+
+    def test_file_without_a_table_becomes_a_store(self):
+        for texts in ([], [RECORDS], [RECORDS, "PRAGMA user_version = 1"]):
+            with self.case(texts=texts):
+                run_sql(self.folder / "store", *texts)
+                self.expect_applied(b"", "applied 0\n")
+                self.assertEqual(read_records(self.folder / "store"), [VERSION])
+
+    def test_files_of_sqlite(self):
+        """Files of other page sizes, with a rollback journal or a log: the store's file alone has what was written."""
+        rows = [(key, "row %d" % key) for key in range(200)]
+        for page_size in (512, 1024, 4096, 65536):
+            for log in (False, True):
+                with self.case(page_size=page_size, log=log):
+                    self.write(tables_of(*rows), page_size=page_size, log=log)
+                    self.expect_applied(T + delete(7, "row 7") + insert(-1, None), "applied 2\n")
+                    (self.folder / "store-wal").unlink(missing_ok=True)
+                    left = rows[:7] + rows[8:] + [(-1, None)]
+                    self.assertEqual(self.read(), tables_of(*left))
+
+    def test_damaged_records(self):
+        for what, records in DAMAGED:
+            with self.case(what=what):
+                run_sql(self.folder / "store", RECORDS, records=records)
+                self.assertEqual(self.apply(INSERT), (1, "", DAMAGED_STORE))
+                self.assertEqual(read_records(self.folder / "store"), sorted(records))
+
+    def test_other_databases(self):
+        for text, line in (
+            ("CREATE TABLE rec(x)", DAMAGED_STORE),
+            ("CREATE TABLE other(x)", STORE_FAULT),
+            ("CREATE VIEW rec AS SELECT 1", STORE_FAULT),
+        ):
+            with self.case(text=text):
+                run_sql(self.folder / "store", text)
+                self.assertEqual(self.apply(INSERT), (1, "", line))
+                self.assertEqual(self.declared(), [text])
+
+    def declared(self):
+        """The texts that declare what the store's file has."""
+        base = sqlite3.connect(self.folder / "store")
+        self.addCleanup(base.close)
+        return [text for text, in base.execute("SELECT sql FROM sqlite_master")]
+
+    def test_file_that_is_no_database(self):
+        for content in (b"no database at all", b"no database" * 1000):
+            self.make("store", content)
+            self.assertEqual(self.apply(INSERT), (1, "", STORE_FAULT))
+            self.assertEqual(self.bytes_of("store"), content)
+
+    def test_store_that_cannot_be_opened(self):
+        self.make("a.cs", INSERT)
+        self.expect(["a.cs", "apply", "no folder/store"], 1, "", STORE_FAULT)
+        self.expect_files("a.cs")
+
+    def test_store_is_opened_before_the_changeset_is_read(self):
+        run_sql(self.folder / "store", RECORDS, records=[TABLE])
+        self.assertEqual(self.apply(b"P"), (1, "", DAMAGED_STORE))
+
+
+# The recorded files that are refused, and how.
+REFUSED = (
+    ("patchset-insert.cs", "error 3 Patchset 0\n"),
+    ("patchset-mix.cs", "error 3 Patchset 0\n"),
+    ("real-insert.cs", "error 13 RealValue 17\n"),
+    ("real-key.cs", "error 13 RealValue 8\n"),
+    ("real-late.cs", "error 13 RealValue 43\n"),
+)
+
+
+class Recorded(StoreTest):
+    """Files that SQLite recorded: applied as SQLite did it, and undone by their inverses."""
+
+    def test_accepted_files(self):
+        for case in json.loads((RECORDED / "rows.json").read_text(encoding="utf-8")):
+            with self.case(file=case["file"]):
+                self.expect_there_and_back(RECORDED / case["file"], case)
+
+    def expect_there_and_back(self, file, case):
+        """Applies a file to the rows before it, and then its inverse to the rows after it."""
+        before = run_schema(case["schema"], case["start"])
+        self.write(before)
+        printed = self.apply(file.read_bytes())
+        after = self.read()
+        self.assertEqual(shown(after), case["after"])
+        report = (0, "applied %d\n" % count_changes(before, after), "")
+        self.assertEqual(printed, report)
+        self.assertEqual(self.apply(self.inverse_of(file)), report)
+        self.assertEqual(self.read(), before)
+
+    def inverse_of(self, file):
+        """The program's inverse of a file, which is that of SQLite where that was recorded."""
+        self.expect([file, "invert", "inverse.cs"], 0)
+        inverse = self.bytes_of("inverse.cs")
+        recorded = file.with_suffix(".inverse.cs")
+        if recorded.exists():
+            self.assertEqual(inverse, recorded.read_bytes())
+        return inverse
+
+    def test_accepted_files_as_sql(self):
+        for case in json.loads((RECORDED / "rows.json").read_text(encoding="utf-8")):
+            with self.subTest(file=case["file"]):
+                before = run_schema(case["schema"], case["start"])
+                status, text, reported = self.run_program(RECORDED / case["file"], "sql")
+                self.assertEqual((status, reported), (0, ""))
+                self.assertEqual(shown(run_statements(before, text)), case["after"])
+
+    def test_refused_files(self):
+        self.write(tables_of((1, "x")))
+        for name, line in REFUSED:
+            with self.subTest(file=name):
+                self.expect_refused((RECORDED / name).read_bytes(), line)
+                self.expect([RECORDED / name, "invert", "o"], 1, "", line)
+        self.assertFalse((self.folder / "o").exists())
+
+
+def main():
+    global PROGRAM
+    words = sys.argv[1:]
+    if words and not words[0].startswith("-"):
+        PROGRAM = pathlib.Path(words.pop(0)).resolve()
+    if not PROGRAM.is_file():
+        sys.exit(f"no program at {PROGRAM}: build it by `rt run` in crates/changeset")
+    if sqlite3.sqlite_version_info < (3, 37):
+        sys.exit(f"SQLite {sqlite3.sqlite_version} has no STRICT tables: 3.37 or later is needed")
+    unittest.main(argv=[sys.argv[0], *words])
+
+
+if __name__ == "__main__":
+    main()
