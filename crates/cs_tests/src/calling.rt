@@ -1,10 +1,12 @@
-//! Callers of `cs_wire`, `cs_group` and `cs_apply`, as `CALLING.md` of these crates shows them.
+//! Callers of `cs_wire`, `cs_group`, `cs_store` and `cs_apply`, as `CALLING.md` of these crates shows
+//! them.
 
-use crate::stores::{end, store_with_table};
+use crate::stores::{end, rows_of, store_with_table};
 use crate::{DELETE, INSERT, UPDATE, WIDER_INSERT};
 use cs_apply::{ApplyFault, Choice, Policy, apply};
 use cs_group::{ConcatFault, concat, invert};
-use cs_store::Store;
+use cs_store::{Edit, Rows, Store, StoreError, edit_in};
+use cs_value::{OwnedValue, Row};
 use cs_wire::{Changeset, Entry, ReadError, read, write};
 use sqlite::Alter;
 use std::alloc::Global;
@@ -69,6 +71,34 @@ fn undoes_two_files(rt: HostRuntime) {
         let undo = undo_of(rt.alloc(), first, second).expect(&rt, "memory");
         assert!(rt; undo.as_deref() == undone);
     }
+}
+
+/// Inserts the row of a key into t.
+fn insert<B: Rows>(alloc: Global, rows: &mut B, key: i64) -> Result<(), StoreError> {
+    let mut values = Vec::new(alloc);
+    values.push(OwnedValue::Int(key))?;
+    values.push(OwnedValue::Null)?;
+    let table = String::from_str(alloc, "t")?;
+    let row = Row::new(values);
+    edit_in(alloc, rows, &Edit::Insert { table, row })?;
+    Ok(())
+}
+
+/// Inserts so many rows in one batch.
+fn fill<S: Alter>(alloc: Global, store: &mut Store<S>, count: i64) -> Result<(), StoreError> {
+    let mut batch = store.begin()?;
+    for key in 0..count {
+        insert(alloc, &mut batch, key)?;
+    }
+    batch.commit()
+}
+
+#[test]
+fn fills_a_table(rt: HostRuntime) {
+    let mut store = store_with_table(&rt);
+    fill(rt.alloc(), &mut store, 10).expect(&rt, "no refusal");
+    assert!(rt; rows_of(&rt, &mut store).len() == 10);
+    end(store);
 }
 
 /// Applies a file, with each row in the way replaced, and tells how many keys were written.

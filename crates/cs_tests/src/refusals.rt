@@ -21,7 +21,7 @@ const READ_FAULT: ReadFault = ReadFault {
 };
 
 /// What the faults of fields are printed as.
-const FIELD_TEXTS: [(FieldFaultKind, &str); 5] = [
+const FIELD_TEXTS: &[(FieldFaultKind, &str)] = &[
     (FieldFaultKind::Truncated, "the bytes end inside a field"),
     (
         FieldFaultKind::BadVarint,
@@ -33,7 +33,7 @@ const FIELD_TEXTS: [(FieldFaultKind, &str); 5] = [
 ];
 
 /// What the faults of files are printed as.
-const FILE_TEXTS: [(ReadFaultKind, &str); 18] = [
+const FILE_TEXTS: &[(ReadFaultKind, &str)] = &[
     (ReadFaultKind::Truncated, "the file ends inside a part"),
     (
         ReadFaultKind::NotTable,
@@ -87,10 +87,10 @@ fn expect_text(rt: &(impl Abort + AllocGlobal), fault: &impl Display, text: &str
 #[test]
 fn texts_of_kinds(rt: HostRuntime) {
     for (kind, text) in FIELD_TEXTS {
-        expect_text(&rt, &kind, text);
+        expect_text(&rt, kind, text);
     }
     for (kind, text) in FILE_TEXTS {
-        expect_text(&rt, &kind, text);
+        expect_text(&rt, kind, text);
     }
 }
 
