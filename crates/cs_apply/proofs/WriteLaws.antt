@@ -20,17 +20,17 @@ module _ (state : State) (table : List ℕ) (found : TableData) (rows : RowMap) 
   at_name : (name : List ℕ) → get (with_rows state table rows) name ≡ cond (is_eq (slice_cmp nat_cmp name table)) (Some next) (get state name)
   at_name name = ap (λ (s : State). get s name) with_rows_is ∙ get-insert nat_list_cmp_total state table next name
 
-  same_schemas : (name : List ℕ) → schema_at (with_rows state table rows) name ≡ schema_at state name
+  pub same_schemas : (name : List ℕ) → schema_at (with_rows state table rows) name ≡ schema_at state name
   same_schemas name = ap (option_map (λ (t : TableData). t.schema)) (at_name name) ∙ at (is_eq (slice_cmp nat_cmp name table)) refl
     where
       at : (b : Bool) → is_eq (slice_cmp nat_cmp name table) ≡ b → option_map (λ (t : TableData). t.schema) (cond b (Some next) (get state name)) ≡ schema_at state name
       at true here = sym (rw (tied_bytes name table here, is) refl)
       at false other = refl
 
-  rows_here : rows_at (with_rows state table rows) table ≡ rows
+  pub rows_here : rows_at (with_rows state table rows) table ≡ rows
   rows_here = ap (λ (o : Option TableData). unwrap_or (option_map (λ (t : TableData). t.rows) o) empty) (at_name table ∙ ap (λ (b : Bool). cond b (Some next) (get state table)) (self_tied table))
 
-  rows_other : (name : List ℕ) → is_eq (slice_cmp nat_cmp name table) ≡ false → rows_at (with_rows state table rows) name ≡ rows_at state name
+  pub rows_other : (name : List ℕ) → is_eq (slice_cmp nat_cmp name table) ≡ false → rows_at (with_rows state table rows) name ≡ rows_at state name
   rows_other name other = ap (λ (o : Option TableData). unwrap_or (option_map (λ (t : TableData). t.rows) o) empty) (at_name name ∙ ap (λ (b : Bool). cond b (Some next) (get state name)) other)
 
 -- the rows of the table with the result

@@ -6,6 +6,7 @@ pub mod TextLaws
 pub mod JoinLaws
 pub mod Examples
 pub mod ConflictLaws
+pub mod NetLaws
 pub mod ApplyLaws
 pub mod JudgingLaws
 pub mod ApplyExamples

@@ -23,7 +23,7 @@ use Rattle.cs_group.specs.Joining.{over, laid_over, joint_image, follows, become
 
 -- ---- images of a table
 
-abbrev IsKeyValue : OwnedField → Type 0
+abbrev pub IsKeyValue : OwnedField → Type 0
 IsKeyValue Undefined = ⊥
 IsKeyValue (Defined v) = v ≢ Null
 
@@ -36,7 +36,7 @@ IsKeyed (zero ∷ flags) (f ∷ image) = IsKeyed flags image
 IsKeyed (suc flag ∷ flags) (f ∷ image) = IsKeyValue f × IsKeyed flags image
 
 -- two images of one width, the first with the values of the key, which know the same columns outside of it
-abbrev ArePaired : List ℕ → List OwnedField → List OwnedField → Type 0
+abbrev pub ArePaired : List ℕ → List OwnedField → List OwnedField → Type 0
 ArePaired [] [] [] = Unit {0}
 ArePaired [] [] (a ∷ after) = ⊥
 ArePaired [] (b ∷ before) after = ⊥
@@ -60,7 +60,7 @@ key_pair Undefined h = h
 key_pair (Defined v) h = h
 
 -- it is one
-update_is : (flags : List ℕ) (before after : List OwnedField) → IsRecord before → IsRecord after → ArePaired flags before after
+pub update_is : (flags : List ℕ) (before after : List OwnedField) → IsRecord before → IsRecord after → ArePaired flags before after
     → IsRecord (old_record flags before after) × IsRecord (new_record flags before after) × IsKeyedUpdate flags (old_record flags before after) (new_record flags before after)
 update_is [] [] [] p q h = (tt, tt, tt)
 update_is [] [] (a ∷ after) p q h = absurd h
@@ -75,7 +75,7 @@ update_is (suc flag ∷ flags) (b ∷ before) (a ∷ after) p q h =
     ((p.0, others.0), (tt, others.1), (key_pair b h.0, others.2))
 
 -- of the key of the first
-update_key : (flags : List ℕ) (before after : List OwnedField) → ArePaired flags before after → image_key flags (old_record flags before after) ≡ image_key flags before
+pub update_key : (flags : List ℕ) (before after : List OwnedField) → ArePaired flags before after → image_key flags (old_record flags before after) ≡ image_key flags before
 update_key [] [] [] h = refl
 update_key [] [] (a ∷ after) h = absurd h
 update_key [] (b ∷ before) after h = absurd h
@@ -117,18 +117,18 @@ row_key_is (suc flag ∷ flags) (Defined w ∷ image) (v ∷ row) k e = ap (λ (
 
 -- ---- the images of rows
 
-row_record : (row : List OwnedValue) → IsRow row → IsRecord (map Defined row)
+pub row_record : (row : List OwnedValue) → IsRow row → IsRecord (map Defined row)
 row_record [] h = tt
 row_record (v ∷ row) h = (h.0, row_record row h.1)
 
-row_image_key : (flags : List ℕ) (row : List OwnedValue) → image_key flags (map Defined row) ≡ row_key flags row
+pub row_image_key : (flags : List ℕ) (row : List OwnedValue) → image_key flags (map Defined row) ≡ row_key flags row
 unfolding field_bytes
 row_image_key [] row = refl
 row_image_key (flag ∷ flags) [] = refl
 row_image_key (zero ∷ flags) (v ∷ row) = row_image_key flags row
 row_image_key (suc flag ∷ flags) (v ∷ row) = ap (λ (key : List ℕ). field_bytes (Defined v) ++ key) (row_image_key flags row)
 
-rows_paired : (flags : List ℕ) (row other : List OwnedValue) → IsKeyedRow flags row → IsKeyedRow flags other → ArePaired flags (map Defined row) (map Defined other)
+pub rows_paired : (flags : List ℕ) (row other : List OwnedValue) → IsKeyedRow flags row → IsKeyedRow flags other → ArePaired flags (map Defined row) (map Defined other)
 rows_paired [] [] [] h k = tt
 rows_paired [] [] (w ∷ other) h k = absurd k
 rows_paired [] (v ∷ row) other h k = absurd h

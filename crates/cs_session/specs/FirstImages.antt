@@ -1,0 +1,118 @@
+-- What a session remembers, and what that says of a state: the introduction to SQLite's session extension, under
+-- "changesets and patchsets", and its interface, under "sqlite3session_changeset". For each row that was written since
+-- its table was attached, the row that stood there first is kept, or that none did; the changes are from these rows to
+-- those that stand there now.
+use Rattle.std.specs.Prelude.{◌≡◌, ◌≢◌, ℕ, Bool, false, if◌then◌else◌, List, [], ◌∷◌, ◌++◌, map, filter, filter_map}
+use Rattle.std.specs.Prelude.{All, AllPairs, Option, None, Some, option_map, is_some, unwrap_or, IfSome}
+use Rattle.std.specs.FinMap as map
+use Rattle.cs_value.specs.declared.value.OwnedValue.{OwnedValue}
+use Rattle.cs_value.specs.declared.value.OwnedField.{OwnedField}
+use Rattle.cs_value.specs.declared.value.OwnedField.TheVariants.{Defined}
+use Rattle.cs_value.specs.Table.{IsName}
+use Rattle.cs_value.specs.State.{SchemaData, IsSchema, IsRowAt, RowMap, State, WrittenData, schema_at, rows_at, row_at, with_rows}
+use Rattle.cs_wire.specs.declared.entry.Entry.{Entry}
+use Rattle.cs_wire.specs.Changeset.{HeaderData, GroupData}
+use Rattle.cs_store.specs.Records.{same_bytes}
+use Rattle.cs_group.specs.Net.{net_between}
+
+-- ---- what is remembered
+
+-- a key, and the row that stood under it when it was first written, or none
+pub record FirstImage : Type 0 where
+  pub key : List ℕ
+  pub row : Option (List OwnedValue)
+
+-- a table that is attached: its schema, and the keys that were written since, in the order of the first write
+pub record AttachedTable : Type 0 where
+  pub name : List ℕ
+  pub schema : SchemaData
+  pub firsts : List FirstImage
+
+-- the tables of a session, in the order in which they were attached
+abbrev pub Notes : Type 0
+Notes = List AttachedTable
+
+pub record IsAttachedTable (table : AttachedTable) : Type 0 where
+  pub named : IsName table.name
+  pub schema : IsSchema table.schema
+  pub rows : All (λ f. IfSome f.row (IsRowAt table.schema.flags f.key)) table.firsts
+  pub once : AllPairs (λ f g. f.key ≢ g.key) table.firsts
+
+pub record IsNotes (notes : Notes) : Type 0 where
+  pub each : All IsAttachedTable notes
+  pub once : AllPairs (λ s t. s.name ≢ t.name) notes
+
+-- the state has the table as it was attached
+abbrev pub HasAttached : State → AttachedTable → Type 0
+HasAttached state table = schema_at state table.name ≡ Some table.schema
+
+-- what stood under a key first, where it was written: a row or none
+abbrev pub first_at : List FirstImage → List ℕ → Option (Option (List OwnedValue))
+first_at [] key = None
+first_at (first ∷ firsts) key = if same_bytes first.key key then Some first.row else first_at firsts key
+
+-- ---- the rows from before
+
+-- the row stands under its key again, or none does
+abbrev pub put_back : FirstImage → RowMap → RowMap
+put_back first rows = unwrap_or (option_map (map.insert rows first.key) first.row) (map.remove rows first.key)
+
+abbrev pub put_all_back : List FirstImage → RowMap → RowMap
+put_all_back [] rows = rows
+put_all_back (first ∷ firsts) rows = put_back first (put_all_back firsts rows)
+
+-- the rows of an attached table, with the first images put back
+abbrev pub rewound_rows : State → AttachedTable → RowMap
+rewound_rows state table = put_all_back table.firsts (rows_at state table.name)
+
+-- the same of each
+abbrev pub rewound : Notes → State → List RowMap
+rewound notes state = map (rewound_rows state) notes
+
+-- the state with these rows in the attached tables
+abbrev pub rewound_state : Notes → State → State
+rewound_state [] state = state
+rewound_state (table ∷ notes) state = with_rows (rewound_state notes state) table.name (rewound_rows state table)
+
+-- ---- what is noted
+
+-- the keys of writes that were not there yet, in their order, with the rows that stood there
+abbrev pub noted : List FirstImage → List WrittenData → List FirstImage
+noted firsts [] = firsts
+noted firsts (w ∷ written) =
+    if is_some (first_at firsts w.key) then noted firsts written
+    else noted (firsts ++ record { key = w.key; row = w.former } ∷ []) written
+
+-- the writes of a table
+abbrev pub writes_of : List ℕ → List WrittenData → List WrittenData
+writes_of name = filter (λ w. same_bytes w.table name)
+
+-- each attached table with the writes of it
+abbrev pub recorded : Notes → List WrittenData → Notes
+recorded notes written =
+    map {A = AttachedTable} (λ table. record table { firsts = noted table.firsts (writes_of table.name written) }) notes
+
+-- ---- the changes
+
+abbrev pub image_of : Option (List OwnedValue) → Option (List OwnedField)
+image_of = option_map (map Defined)
+
+-- the net change from the first image of a key to the row that stands there, if these differ
+abbrev pub net_entry : State → AttachedTable → FirstImage → Option Entry
+net_entry state table first = option_map (λ change. let e : Entry = record { indirect = false; change = change } in e)
+    (net_between table.schema.flags (image_of first.row) (image_of (row_at state table.name first.key)))
+
+abbrev pub header_of : AttachedTable → HeaderData
+header_of table = record { name = table.name; flags = table.schema.flags }
+
+-- the entries of a table, unless there is none
+abbrev pub group_of : HeaderData → List Entry → Option GroupData
+group_of header [] = None
+group_of header (entry ∷ entries) = Some (record { header = header; entries = entry ∷ entries })
+
+abbrev pub net_group : State → AttachedTable → Option GroupData
+net_group state table = group_of (header_of table) (filter_map (net_entry state table) table.firsts)
+
+-- the net changeset: the tables in the order in which they were attached, and the keys in that of their first write
+abbrev pub recorded_changes : Notes → State → List GroupData
+recorded_changes notes state = filter_map (net_group state) notes

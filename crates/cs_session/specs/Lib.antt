@@ -1,0 +1,4 @@
+pub mod FirstImages
+pub use Rattle.cs_value.specs.State
+pub use Rattle.cs_wire.specs.Changeset
+pub use Rattle.cs_group.specs.Applying
