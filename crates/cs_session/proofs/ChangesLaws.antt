@@ -1,14 +1,13 @@
 -- The net changeset of a session, applied to the rows from before.
-use Rattle.std.proofs.Common.{◌≡◌, ◌≢◌, ◌⊎◌, inl, inr, ℕ, zero, suc, Bool, true, false, cond, if◌then◌else◌, List, [], ◌∷◌, ◌++◌, length, map, filter, filter_map, Option, Some, None, option_map, refl, sym, ap, ◌∙◌, subst}
-use Rattle.std.specs.Prelude.{All, AllPairs, IfSome, unwrap_or, nat_lt}
+use Rattle.std.proofs.Common.{◌≡◌, ◌≢◌, ◌⊎◌, inl, inr, ℕ, zero, suc, Bool, true, false, cond, List, [], ◌∷◌, ◌++◌, length, map, filter_map, Option, Some, None, option_map, refl, sym, ap, ◌∙◌, subst}
+use Rattle.std.specs.Prelude.{IfSome, unwrap_or, nat_lt}
 use Rattle.std.specs.FinMap.{get, empty}
 use Rattle.std.proofs.Common.{arith}
 use Rattle.std.proofs.lemmas.Bool.{le-ltb}
 use Rattle.std.proofs.lemmas.Option.{none-some}
 use Rattle.std.proofs.lemmas.List.Elements.{recursion_from_All, All-from_recursion}
-use Rattle.std.specs.List.{AllByRecursion, cons_option, flat_map}
+use Rattle.std.specs.List.{AllByRecursion, cons_option}
 use Rattle.std.specs.Cmp.Lexicographic.{same_text, other_text, nat_list_eq_equiv}
-use Rattle.std.specs.Prelude.{nat_eq}
 use Rattle.cs_value.specs.declared.value.OwnedValue.{OwnedValue}
 use Rattle.cs_value.specs.State.{SchemaData, TableData, State, IsState, IsRowAt, schema_at, row_at, rows_at}
 use Rattle.cs_wire.specs.declared.entry.Change.{Change}
@@ -16,18 +15,15 @@ use Rattle.cs_wire.specs.declared.entry.Entry.{Entry}
 use Rattle.cs_wire.specs.Entry.{IsEntry, key_of}
 use Rattle.cs_wire.specs.Changeset.{HeaderData, GroupData, IsGroup, IsChangeset}
 use Rattle.cs_store.specs.Records.{same_bytes}
-use Rattle.cs_group.specs.declared.judging.Judgement.{Judgement}
 use Rattle.cs_group.specs.declared.judging.Judgement.TheVariants.{Wider, Compatible}
 use Rattle.cs_group.specs.Judging.{leads, judgement, judged}
 use Rattle.cs_group.specs.Net.{net_between}
 use Rattle.cs_group.specs.Conflicts.{conflict_kind, row_after}
-use Rattle.cs_group.specs.Judging.{is_compatible}
-use Rattle.cs_group.specs.Conflicts.{entry_result}
 use Rattle.cs_group.specs.Applying.{PlacedEntry, placed_by, placed, current, IsElsewhere, placed_kind, placed_result, compatible_groups, applicable, Choices, IsClean, IsApplied}
 use Rattle.cs_group.specs.Inverse.{IsInverse}
 use Rattle.cs_group.proofs.ApplyLaws.{none_met, applied_reverts}
-use Rattle.cs_group.proofs.NetLaws.{NetLeads, LeadsTo, net_leads}
-use Rattle.cs_session.specs.FirstImages.{FirstImage, AttachedTable, Notes, IsAttachedTable, IsNotes, HasAttached, first_at, image_of, net_entry, header_of, group_of, recorded_changes, rewound_rows, rewound_state}
+use Rattle.cs_group.proofs.NetLaws.{NetLeads, net_leads}
+use Rattle.cs_session.specs.FirstImages.{FirstImage, AttachedTable, Notes, IsAttachedTable, IsNotes, HasAttached, first_at, image_of, net_entry, header_of, group_of, recorded_changes, rewound_state}
 use Rattle.cs_session.proofs.FirstLaws.{put_all_at}
 use Rattle.cs_session.proofs.RewoundLaws.{PairsByRecursion, pairs_by_recursion, pairs_from_recursion, rewound_schemas, rewound_elsewhere, IsRewound, rewound_here}
 

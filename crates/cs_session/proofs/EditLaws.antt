@@ -1,6 +1,6 @@
 -- What an edit tells of the rows that it wrote.
-use Rattle.std.proofs.Common.{◌≡◌, ℕ, Bool, true, false, if◌then◌else◌, cond, not, List, [], ◌∷◌, Option, Some, None, option_map, Result, Ok, Err, refl, sym, ap, ◌∙◌}
-use Rattle.std.specs.Prelude.{All, string_bytes}
+use Rattle.std.proofs.Common.{◌≡◌, ℕ, Bool, true, false, cond, not, List, [], ◌∷◌, Option, Some, None, option_map, Result, Ok, Err, refl, ap, ◌∙◌}
+use Rattle.std.specs.Prelude.{string_bytes}
 use Rattle.std.specs.FinMap.{get}
 use Rattle.std.proofs.lemmas.List.Elements.{recursion_from_All, All-from_recursion}
 use Rattle.std.proofs.lemmas.Option.{none-some}
@@ -12,7 +12,7 @@ use Rattle.cs_store.specs.declared.edit.Edit.TheVariants.{Insert, Update, Delete
 use Rattle.cs_store.specs.declared.fault.StoreError.{StoreError}
 use Rattle.cs_store.specs.declared.fault.StoreError.TheVariants.{KeyTaken, NoRow}
 use Rattle.cs_store.specs.Records.{same_bytes}
-use Rattle.cs_store.specs.Editing.{Edited, row_fault, unless, has_row, when, inserted_in, moved, updated_in, deleted_in, found_table, in_table, edited}
+use Rattle.cs_store.specs.Editing.{Edited, row_fault, unless, has_row, when, inserted_in, moved, updated_in, deleted_in, found_table, edited}
 use Rattle.cs_group.specs.Laws.{TellsFormer}
 use Rattle.cs_apply.specs.Steps.{with_result}
 use Rattle.cs_apply.proofs.WriteLaws.{result_schemas, result_elsewhere}

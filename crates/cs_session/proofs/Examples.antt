@@ -1,13 +1,12 @@
 -- What sessions remember and what they make of it, worked as examples: on the table t of columns a and b, of which a is
 -- the key. Keys are those of integers: 0x01 and eight bytes.
-use Rattle.std.proofs.Common.{◌≡◌, ℕ, pos, false, List, [], ◌∷◌, Option, Some, None, codes, refl}
+use Rattle.std.proofs.Common.{◌≡◌, ℕ, pos, List, [], ◌∷◌, Option, Some, None, codes, refl}
 use Rattle.cs_value.specs.declared.value.OwnedValue.{OwnedValue}
 use Rattle.cs_value.specs.declared.value.OwnedValue.TheVariants.{Int}
 use Rattle.cs_value.specs.State.{SchemaData, State, WrittenData, row_at}
 use Rattle.cs_wire.specs.declared.entry.Change.TheVariants.{Insert, Delete}
-use Rattle.cs_wire.specs.Changeset.{GroupData}
 use Rattle.cs_wire.proofs.Examples.{flags, header, direct, x, y, row, update}
-use Rattle.cs_session.specs.FirstImages.{FirstImage, AttachedTable, Notes, recorded, recorded_changes}
+use Rattle.cs_session.specs.FirstImages.{FirstImage, Notes, recorded, recorded_changes}
 
 -- the keys 1 and 2
 abbrev first_key : List ℕ

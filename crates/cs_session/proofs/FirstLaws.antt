@@ -1,5 +1,5 @@
 -- First images, and the rows that they say stood there.
-use Rattle.std.proofs.Common.{◌≡◌, ◌≢◌, ℕ, Bool, true, false, cond, if◌then◌else◌, List, [], ◌∷◌, ◌++◌, map, filter, Option, Some, None, option_map, ◌⊎◌, inl, inr, refl, sym, ap, ◌∙◌}
+use Rattle.std.proofs.Common.{◌≡◌, ℕ, Bool, true, false, cond, List, [], ◌∷◌, ◌++◌, Option, Some, None, option_map, ◌⊎◌, inl, inr, refl, sym, ap, ◌∙◌}
 use Rattle.std.specs.Prelude.{unwrap_or, is_some}
 use Rattle.std.specs.List.{AllByRecursion}
 use Rattle.std.specs.Ordering.{nat_cmp, is_eq}
@@ -11,7 +11,7 @@ use Rattle.cs_value.specs.State.{RowMap, State, WrittenData, row_at, rows_at}
 use Rattle.cs_value.proofs.ByteMaps.{same_maps, tied_bytes, self_tied}
 use Rattle.cs_store.specs.Records.{same_bytes}
 use Rattle.cs_group.specs.Laws.{TellsFormer}
-use Rattle.cs_session.specs.FirstImages.{FirstImage, AttachedTable, Notes, first_at, put_back, put_all_back, rewound_rows, rewound, noted, writes_of, recorded}
+use Rattle.cs_session.specs.FirstImages.{FirstImage, AttachedTable, Notes, first_at, put_all_back, rewound_rows, rewound, noted, writes_of, recorded}
 
 -- ---- the rows from before
 

@@ -1,11 +1,10 @@
 -- What is noted of writes is well formed.
-use Rattle.std.proofs.Common.{◌≡◌, ◌≢◌, ℕ, Bool, true, false, cond, if◌then◌else◌, List, [], ◌∷◌, ◌++◌, map, Option, Some, None, option_map, refl, sym, ap, ◌∙◌, subst}
+use Rattle.std.proofs.Common.{◌≡◌, ◌≢◌, ℕ, Bool, true, false, cond, List, [], ◌∷◌, ◌++◌, Option, Some, refl, sym, subst}
 use Rattle.std.specs.Prelude.{IfSome, is_some}
 use Rattle.std.specs.List.{AllByRecursion}
 use Rattle.std.specs.FinMap.{get}
-use Rattle.std.specs.Cmp.Lexicographic.{same_text, other_text, nat_list_eq_equiv}
+use Rattle.std.specs.Cmp.Lexicographic.{other_text}
 use Rattle.std.proofs.lemmas.List.Elements.{recursion_from_All, All-from_recursion}
-use Rattle.std.proofs.lemmas.Option.{none-some}
 use Rattle.cs_value.specs.declared.value.OwnedValue.{OwnedValue}
 use Rattle.cs_value.specs.State.{State, WrittenData, IsState, IsRowAt, row_at}
 use Rattle.cs_store.specs.Records.{same_bytes}
@@ -74,7 +73,7 @@ module _ (old : State) (is_state : IsState old) where
   former_fits table has [] told = tt
   former_fits table has (w ∷ written) told = (
     subst (λ (o : Option (List OwnedValue)). IfSome o (IsRowAt table.schema.flags w.key)) told.0
-    (if_some (IsRowAt table.schema.flags w.key) (row_at old table.name w.key) (λ row e. held_row old table.name table.schema is_state (get old table.name) refl has w.key row e)),
+        (if_some (IsRowAt table.schema.flags w.key) (row_at old table.name w.key) (λ row e. held_row old table.name table.schema is_state (get old table.name) refl has w.key row e)),
     former_fits table has written told.1,
   )
 

@@ -1,18 +1,16 @@
 -- A state with the first images put back.
-use Rattle.std.proofs.Common.{◌≡◌, ◌≢◌, ℕ, suc, zero, Bool, true, false, List, [], ◌∷◌, Option, Some, None, option_map, refl, sym, ap, ◌∙◌, arith}
-use Rattle.std.specs.Prelude.{All, AllPairs, unwrap_or}
+use Rattle.std.proofs.Common.{◌≡◌, ◌≢◌, ℕ, suc, zero, Bool, true, false, List, [], ◌∷◌, Some, refl, sym, ◌∙◌, arith}
+use Rattle.std.specs.Prelude.{AllPairs}
 use Rattle.std.specs.List.{AllByRecursion}
 use Rattle.std.specs.FinMap.{get}
 use Rattle.std.specs.Ordering.{nat_cmp, is_eq}
 use Rattle.std.specs.Cmp.Lexicographic.{slice_cmp}
 use Rattle.std.proofs.lemmas.List.Elements.{recursion_from_All, All-from_recursion}
 use Rattle.std.proofs.lemmas.List.Kept.{AllPairs-cons}
-use Rattle.std.proofs.lemmas.Option.{none-some}
-use Rattle.cs_value.specs.State.{SchemaData, TableData, RowMap, State, schema_at, rows_at, row_at, with_rows}
+use Rattle.cs_value.specs.State.{TableData, State, schema_at, rows_at, with_rows}
 use Rattle.cs_value.proofs.ByteMaps.{tied_bytes}
 use Rattle.cs_apply.proofs.WriteLaws.{same_schemas, rows_here, rows_other}
-use Rattle.cs_session.specs.FirstImages.{AttachedTable, Notes, HasAttached, first_at, put_all_back, rewound_rows, rewound_state}
-use Rattle.cs_session.proofs.FirstLaws.{put_all_at}
+use Rattle.cs_session.specs.FirstImages.{AttachedTable, Notes, HasAttached, rewound_rows, rewound_state}
 use Rattle.cs_session.proofs.EditLaws.{table_of}
 
 -- each two of a list, one after another

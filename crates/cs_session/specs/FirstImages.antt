@@ -2,7 +2,7 @@
 -- "changesets and patchsets", and its interface, under "sqlite3session_changeset". For each row that was written since
 -- its table was attached, the row that stood there first is kept, or that none did; the changes are from these rows to
 -- those that stand there now.
-use Rattle.std.specs.Prelude.{◌≡◌, ◌≢◌, ℕ, Bool, false, if◌then◌else◌, List, [], ◌∷◌, ◌++◌, map, filter, filter_map}
+use Rattle.std.specs.Prelude.{◌≡◌, ◌≢◌, ℕ, false, if◌then◌else◌, List, [], ◌∷◌, ◌++◌, map, filter, filter_map}
 use Rattle.std.specs.Prelude.{All, AllPairs, Option, None, Some, option_map, is_some, unwrap_or, IfSome}
 use Rattle.std.specs.FinMap as map
 use Rattle.cs_value.specs.declared.value.OwnedValue.{OwnedValue}
