@@ -4,3 +4,4 @@ pub mod RewoundLaws
 pub mod ChangesLaws
 pub mod NotesLaws
 pub mod Examples
+pub mod AttachLaws

@@ -1,7 +1,18 @@
-//! Sessions: the net changes of tables since they were attached, and what undoing them gives.
+//! Sessions: the net changes of tables since they were attached.
 //!
-//! There is no code here yet. `specs/` has the definitions: what a session remembers of the rows that
-//! are written, the rows from before, and the net changeset. `proofs/` has what holds of them over all
-//! states: what is noted of a write leaves the rows from before as they were, the net changeset meets no
-//! conflict with these and makes of them the rows that stand there, and its inverse gives them back.
+//! ```rust
+//! let mut session = Session::new(alloc);
+//! session.attach(alloc, &mut store, "t")?;
+//! assert!(rt; session.is_empty());
+//! ```
+//!
+//! `session` has what a session remembers of the tables that are attached to it, and `fault` why it
+//! refuses. That it notes writes, makes the net changeset and undoes it is to come: `specs/FirstImages`
+//! defines these, and `proofs/` has what holds of them over all states.
 #![tactic(auto)]
+
+mod fault;
+mod session;
+
+pub use fault::SessionFault;
+pub use session::Session;

@@ -1,0 +1,121 @@
+-- Tables that are attached, as the code and as the definitions have them.
+use Rattle.std.proofs.Common.{◌≡◌, ◌≢◌, ◌↔◌, ◌==◌, ℕ, zero, suc, ◌<◌, Bool, true, false, ◌&&◌, ◌||◌, List, [], ◌∷◌, ◌++◌, length, map, All, Any, IsTrue, vec_len, refl, sym, ap, subst, ◌∙◌, arith}
+use Rattle.std.specs.Prelude.{string_bytes, Some, Result, Ok, Err, OnOk}
+use Rattle.std.specs.List.{AllByRecursion, list_all, list_any}
+use Rattle.std.specs.Cmp.Lexicographic.{same_text, other_text}
+use Rattle.std.proofs.lemmas.Bool.{and_parts, eqb-true}
+use Rattle.std.proofs.lemmas.List.{nil_from_length, map-append}
+use Rattle.std.proofs.lemmas.List.Elements.{recursion_from_All, All-from_recursion}
+use Rattle.cs_value.specs.Table.{IsName}
+use Rattle.cs_value.specs.State.{SchemaData, IsSchema, State, schema_at}
+use Rattle.cs_store.specs.Records.{same_bytes}
+use Rattle.cs_session.specs.declared.session.First.{First}
+use Rattle.cs_session.specs.declared.session.Attached.{Attached}
+use Rattle.cs_session.specs.FirstImages.{FirstImage, AttachedTable, Notes, IsAttachedTable, IsNotes}
+use Rattle.cs_session.specs.Attaching.{IsNewTable, Attaches}
+use Rattle.cs_session.specs.Views.{first_of, attached_of}
+use Rattle.cs_session.proofs.RewoundLaws.{PairsByRecursion, pairs_by_recursion, pairs_from_recursion}
+
+-- ---- a name
+
+abbrev tests : List ℕ → Attached → Bool
+tests name table = same_bytes (string_bytes table.name) name
+
+not_attached : (name : List ℕ) (tables : List Attached) → list_any (tests name) tables ≡ false → AllByRecursion (λ t. t.name ≢ name) (map attached_of tables)
+not_attached name [] e = tt
+not_attached name (table ∷ tables) e = at (tests name table) refl e (not_attached name tables)
+  where
+    at : (b : Bool) → tests name table ≡ b → (b || list_any (tests name) tables) ≡ false → (list_any (tests name) tables ≡ false → AllByRecursion (λ t. t.name ≢ name) (map attached_of tables))
+        → AllByRecursion (λ t. t.name ≢ name) (attached_of table ∷ map attached_of tables)
+    at true same e next = absurd (let apart : true ≡ false = e in cc)
+    at false same e next = (other_text (string_bytes table.name) name (sym same), next e)
+
+-- no table has the name where none is found
+pub is_new : (name : List ℕ) (tables : List Attached) → list_any (tests name) tables ≡ false → IsNewTable (map attached_of tables) name
+is_new name tables e = All-from_recursion (λ (t : AttachedTable). t.name ≢ name) (map attached_of tables) (not_attached name tables e)
+
+-- and one has it where one is found
+pub is_attached : (name : List ℕ) (tables : List Attached) → list_any (tests name) tables ≡ true → Any (λ t. t.name ≡ name) (map attached_of tables)
+is_attached name [] e = absurd (let apart : true ≡ false = sym e in cc)
+is_attached name (table ∷ tables) e = at (tests name table) refl e (is_attached name tables)
+  where
+    at : (b : Bool) → tests name table ≡ b → (b || list_any (tests name) tables) ≡ true → (list_any (tests name) tables ≡ true → Any (λ t. t.name ≡ name) (map attached_of tables))
+        → Any (λ t. t.name ≡ name) (attached_of table ∷ map attached_of tables)
+    at true same e next = (zero, attached_of table, omega arith, refl, same_text (string_bytes table.name) name (sym same))
+    at false same e next = let found = next e in (suc found.0, found.1, omega arith, found.3, found.4)
+
+-- ---- no key is written
+
+abbrev has_none : Attached → Bool
+has_none table = vec_len table.firsts == 0
+
+nothing_left : (firsts : List First) → map first_of firsts ≡ [] → length firsts ≡ 0
+nothing_left [] e = refl
+nothing_left (first ∷ firsts) e = absurd (let apart : first_of first ∷ map first_of firsts ≡ [] = e in cc)
+
+all_none : (tables : List Attached) → IsTrue (list_all has_none tables) → AllByRecursion (λ t. t.firsts ≡ []) (map attached_of tables)
+all_none [] e = tt
+all_none (table ∷ tables) e =
+    let both = and_parts (has_none table) (list_all has_none tables) e in
+    let none = nil_from_length table.firsts.items (sym table.firsts.ok.0 ∙ eqb-true (vec_len table.firsts) 0 both.0) in
+    (ap (map first_of) none, all_none tables both.1)
+
+none_all : (tables : List Attached) → AllByRecursion (λ t. t.firsts ≡ []) (map attached_of tables) → IsTrue (list_all has_none tables)
+none_all [] h = refl
+none_all (table ∷ tables) h =
+    let none : vec_len table.firsts ≡ 0 = table.firsts.ok.0 ∙ nothing_left table.firsts.items h.0 in
+    rw none (none_all tables h.1)
+
+-- no key of them is
+pub unwritten : (tables : List Attached) → IsTrue (list_all has_none tables) ↔ All (λ t. t.firsts ≡ []) (map attached_of tables)
+unwritten tables = (
+  λ e. All-from_recursion (λ (t : AttachedTable). t.firsts ≡ []) (map attached_of tables) (all_none tables e),
+  λ all. none_all tables (recursion_from_All (λ (t : AttachedTable). t.firsts ≡ []) (map attached_of tables) all),
+)
+
+-- ---- a table behind the others
+
+abbrev Apart : AttachedTable → AttachedTable → Type 0
+Apart s t = s.name ≢ t.name
+
+table_behind : (P : AttachedTable → Type 0) (notes : Notes) (new : AttachedTable) → AllByRecursion P notes → P new → AllByRecursion P (notes ++ new ∷ [])
+table_behind P [] new each last = (last, tt)
+table_behind P (table ∷ notes) new each last = (each.0, table_behind P notes new each.1 last)
+
+name_behind : (notes : Notes) (new : AttachedTable) → PairsByRecursion Apart notes → AllByRecursion (λ t. t.name ≢ new.name) notes → PairsByRecursion Apart (notes ++ new ∷ [])
+name_behind [] new apart fresh = (tt, tt)
+name_behind (table ∷ notes) new apart fresh = (table_behind (Apart table) notes new apart.0 fresh.0, name_behind notes new apart.1 fresh.1)
+
+pub one_more : (notes : Notes) (name : List ℕ) (schema : SchemaData) → IsNotes notes → IsName name → IsSchema schema → IsNewTable notes name
+    → IsNotes (notes ++ record { name = name; schema = schema; firsts = [] } ∷ [])
+one_more notes name schema is named is_schema fresh =
+    let new : AttachedTable = record { name = name; schema = schema; firsts = [] } in
+    record {
+      each = All-from_recursion IsAttachedTable (notes ++ new ∷ []) (table_behind IsAttachedTable notes new (recursion_from_All IsAttachedTable notes is.each) (record {
+        named = named;
+        schema = is_schema;
+        rows = λ k d lt. absurd (omega arith);
+        once = λ i j d lt within. absurd (omega arith);
+      }));
+      once = pairs_from_recursion Apart (notes ++ new ∷ []) (name_behind notes new (pairs_by_recursion Apart notes is.once)
+          (recursion_from_All (λ (t : AttachedTable). t.name ≢ name) notes fresh));
+    }
+
+-- as the code appends it
+pub pushed : (old new : List Attached) (value : Attached) (name : List ℕ) (schema : SchemaData) → new ≡ old ++ value ∷ [] → string_bytes value.name ≡ name → value.schema ≡ schema
+    → value.firsts.items ≡ [] → map attached_of new ≡ map attached_of old ++ record { name = name; schema = schema; firsts = [] } ∷ []
+pushed old new value name schema is named of_schema none =
+    ap (map attached_of) is ∙ map-append attached_of old (value ∷ [])
+    ∙ ap (λ (t : AttachedTable). map attached_of old ++ t ∷ []) (λ i. record { name = named i; schema = of_schema i; firsts = map first_of (none i) })
+
+pub push_keeps : (old new : List Attached) (value : Attached) (name : List ℕ) (schema : SchemaData) → new ≡ old ++ value ∷ [] → string_bytes value.name ≡ name → value.schema ≡ schema
+    → value.firsts.items ≡ [] → IsNotes (map attached_of old) → IsName name → IsSchema schema → IsNewTable (map attached_of old) name → IsNotes (map attached_of new)
+push_keeps old new value name schema is named of_schema none are name_is schema_is fresh =
+    subst IsNotes (sym (pushed old new value name schema is named of_schema none)) (one_more (map attached_of old) name schema are name_is schema_is fresh)
+
+-- ---- what attaching answers
+
+pub attaches : {X E : Type 0} (result : Result X E) (state : State) (name : List ℕ) (old new : Notes) (schema : SchemaData) → schema_at state name ≡ Some schema → IsNewTable old name
+    → OnOk result (new ≡ old ++ record { name = name; schema = schema; firsts = [] } ∷ []) → OnOk result (Attaches state name old new)
+attaches (Ok x) state name old new schema found fresh is = record { schema = schema; found = found; fresh = fresh; is = is }
+attaches (Err e) state name old new schema found fresh is = tt

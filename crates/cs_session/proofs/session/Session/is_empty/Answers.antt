@@ -1,0 +1,5 @@
+use Rattle.cs_session.proofs.AttachLaws.{unwritten}
+use Rattle.cs_session.proofs.session.Session.is_empty.Goals as goal
+
+pub returns : goal.returns
+returns c = rw (c.are_unwritten.ensures, c.deref.ensures.value, ← c.self.view_is) (unwritten c.self.inside.tables.items)

@@ -1,0 +1,28 @@
+-- What attaching a table makes of a session, or why it is refused.
+use Rattle.std.specs.Prelude.{◌≡◌, ◌≢◌, ◌⊎◌, ℕ, List, [], ◌∷◌, ◌++◌, All, Any, None, Some}
+use Rattle.cs_value.specs.Table.{IsName}
+use Rattle.cs_value.specs.State.{SchemaData, State, schema_at}
+use Rattle.cs_store.specs.declared.fault.StoreError.{StoreError}
+use Rattle.cs_store.specs.declared.fault.StoreError.TheVariants.{NoTable, StoreFault}
+use Rattle.cs_session.specs.declared.fault.SessionFault.{SessionFault}
+use Rattle.cs_session.specs.declared.fault.SessionFault.TheVariants.{Store, AlreadyAttached, NoMemory}
+use Rattle.cs_session.specs.FirstImages.{AttachedTable, Notes}
+
+-- no table of this name is attached
+abbrev pub IsNewTable : Notes → List ℕ → Type 0
+IsNewTable notes name = All (λ t. t.name ≢ name) notes
+
+-- the table is attached behind the others, without a first image
+pub record Attaches (state : State) (name : List ℕ) (old new : Notes) : Type 0 where
+  pub schema : SchemaData
+  pub found : schema_at state name ≡ Some schema
+  pub fresh : IsNewTable old name
+  pub is : new ≡ old ++ record { name = name; schema = schema; firsts = [] } ∷ []
+
+-- why it is not: it is attached, or there is no table of the name, or no table can have it; or the database refused, or
+-- memory
+abbrev pub RefusesAttach : State → List ℕ → Notes → SessionFault → Type 0
+RefusesAttach state name notes AlreadyAttached = Any (λ t. t.name ≡ name) notes
+RefusesAttach state name notes (Store error) =
+    (IsNewTable notes name × (error ≡ NoTable) × ((schema_at state name ≡ None) ⊎ (IsName name → ⊥))) ⊎ (error ≡ StoreFault)
+RefusesAttach state name notes NoMemory = Unit {0}

@@ -1,0 +1,28 @@
+-- What a session refuses with: this project's own numbers and names, and the result codes of SQLite.
+use Rattle.std.specs.Prelude.{ℕ, List, codes}
+use Rattle.cs_store.specs.declared.fault.StoreError.{StoreError}
+use Rattle.cs_store.specs.declared.fault.StoreError.TheVariants as store_error
+use Rattle.cs_store.specs.Faults as stores
+use Rattle.cs_session.specs.declared.fault.SessionFault.{SessionFault}
+use Rattle.cs_session.specs.declared.fault.SessionFault.TheVariants.{Store, AlreadyAttached, NoMemory}
+
+abbrev pub code_of : SessionFault → ℕ
+code_of (Store error) = stores.code_of error
+code_of AlreadyAttached = 50
+code_of NoMemory = 60
+
+-- SQLite's SQLITE_ERROR and SQLITE_NOMEM
+abbrev pub class_of : SessionFault → ℕ
+class_of (Store error) = stores.class_of error
+class_of AlreadyAttached = 1
+class_of NoMemory = 7
+
+abbrev pub name_of : SessionFault → List ℕ
+name_of (Store error) = stores.name_of error
+name_of AlreadyAttached = codes "AlreadyAttached"
+name_of NoMemory = codes "NoMemory"
+
+-- a refusal of a store
+abbrev pub fault_of : StoreError → SessionFault
+fault_of store_error.NoMemory = NoMemory
+fault_of error = Store error

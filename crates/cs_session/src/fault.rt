@@ -1,0 +1,89 @@
+//! Why a session refuses a call.
+ghost use Rattle.cs_session.specs.Faults.{code_of, class_of, name_of};
+
+use cs_store::StoreError;
+use cs_value::{Fault, NoMemory};
+use std::alloc::{AllocError, AllocFailed};
+use thiserror::Error;
+
+/// Why a session refuses a call.
+#[derive(Clone, Copy, Debug, PartialEq, Eq, Error)]
+pub enum SessionFault {
+    /// The store refused, for another cause than memory.
+    #[error("{0}")]
+    Store(StoreError),
+    /// The table is attached to the session.
+    #[error("the table is attached")]
+    AlreadyAttached,
+    /// Memory was refused.
+    #[error("out of memory")]
+    NoMemory,
+}
+
+impl Fault for SessionFault {
+    ghost code_of = { code_of };
+
+    ghost class_of = { class_of };
+
+    ghost name_of = { name_of };
+
+    fn code(&self) -> u8 {
+        match self {
+            SessionFault::Store(error) => error.code(),
+            SessionFault::AlreadyAttached => 50,
+            SessionFault::NoMemory => NoMemory.code(),
+        }
+    }
+
+    fn class(&self) -> u8 {
+        match self {
+            SessionFault::Store(error) => error.class(),
+            SessionFault::AlreadyAttached => 1,
+            SessionFault::NoMemory => NoMemory.class(),
+        }
+    }
+
+    fn name(&self) -> &'static str {
+        match self {
+            SessionFault::Store(error) => error.name(),
+            SessionFault::AlreadyAttached => "AlreadyAttached",
+            SessionFault::NoMemory => NoMemory.name(),
+        }
+    }
+}
+
+impl From<StoreError> for SessionFault {
+    ghost use Rattle.std.specs.Prelude.{◌≡◌};
+    ghost use Rattle.cs_session.specs.Faults.{fault_of};
+
+    ghost from_gives = { λ error e. e ≡ fault_of error };
+
+    fn from(error: StoreError) -> SessionFault {
+        match error {
+            StoreError::NoMemory => SessionFault::NoMemory,
+            error => SessionFault::Store(error),
+        }
+    }
+}
+
+impl From<AllocError> for SessionFault {
+    ghost use Rattle.std.specs.Prelude.{◌≡◌};
+    ghost use Rattle.cs_session.specs.declared.fault.SessionFault.TheVariants.{NoMemory as OutOfMemory};
+
+    ghost from_gives = { λ _ e. e ≡ OutOfMemory };
+
+    fn from(_refusal: AllocError) -> SessionFault {
+        SessionFault::NoMemory
+    }
+}
+
+impl<T: Drop> From<AllocFailed<T>> for SessionFault {
+    ghost use Rattle.std.specs.Prelude.{◌≡◌};
+    ghost use Rattle.cs_session.specs.declared.fault.SessionFault.TheVariants.{NoMemory as OutOfMemory};
+
+    ghost from_gives = { λ _ e. e ≡ OutOfMemory };
+
+    fn from(_refusal: AllocFailed<T>) -> SessionFault {
+        SessionFault::NoMemory
+    }
+}
