@@ -69,7 +69,7 @@ impl Session {
         are_unwritten(&self.tables)
     }
 
-    /// Attaches a table of a store: what is written to its rows from now on is noted.
+    /// Attaches a table of a store, of which nothing is noted yet.
     ///
     /// Refuses with [`AlreadyAttached`](SessionFault::AlreadyAttached), and then with
     /// [`NoTable`](StoreError::NoTable). A refusal changes nothing.

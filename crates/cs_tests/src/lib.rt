@@ -1,6 +1,6 @@
 //! Tests of the public calls, of what no contract and no line of a script says.
 //!
-//! `value`, `wire`, `group`, `shell`, `store` and `apply` have those of a crate each, and `refusals`
+//! `value`, `wire`, `group`, `shell`, `store`, `apply` and `session` have those of a crate each, and `refusals`
 //! the numbers, names and texts of what they refuse with. `stores` has those of stores over SQL,
 //! `adoption` those of what is taken over as a store, and `calling` the callers of `CALLING.md`.
 #![tactic(auto)]
@@ -15,6 +15,8 @@ mod calling;
 mod group;
 #[cfg(test)]
 mod refusals;
+#[cfg(test)]
+mod session;
 #[cfg(test)]
 mod shell;
 #[cfg(test)]
