@@ -29,7 +29,7 @@ module _ (old begun mid new : State) (May : Trees → Type 0) (begins : KeepsCra
       survives_then old mid new (λ _. ⊥) (λ _. ⊥) May (λ clean db none. absurd none) (λ clean db none. absurd none) inside drops
 
   -- one whose commit is tried commits what it shows then
-  committed_survives : Survives mid new (λ db. db ≡ mid.now.trees) → (HasCleanDisk mid → May mid.now.trees) → Survives old new May
+  pub committed_survives : Survives mid new (λ db. db ≡ mid.now.trees) → (HasCleanDisk mid → May mid.now.trees) → Survives old new May
   committed_survives commits may =
       survives_then old mid new (λ _. ⊥) (λ db. db ≡ mid.now.trees) May (λ clean db none. absurd none)
       (λ clean db is. subst May (sym is) (may (was_clean mid new commits clean))) inside commits

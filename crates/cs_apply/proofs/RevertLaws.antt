@@ -21,7 +21,7 @@ use Rattle.cs_apply.specs.Running.{Handler, IsReadAs, GoesOn, Applies, EndsAt, R
 
 -- ---- lists
 
-none_mapped : {X Y : Type 0} (f : X → Y) (xs : List X) → map f xs ≡ [] → xs ≡ []
+pub none_mapped : {X Y : Type 0} (f : X → Y) (xs : List X) → map f xs ≡ [] → xs ≡ []
 none_mapped f [] e = refl
 none_mapped f (x ∷ xs) e = absurd cc
 

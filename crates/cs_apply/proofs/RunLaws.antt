@@ -94,7 +94,7 @@ pairs_tail : {X : Type 0} (R : X → X → Type 0) (x : X) (xs : List X) → All
 pairs_tail R x xs h i j d lt within = h (suc i) (suc j) d (omega arith) (omega arith)
 
 -- those before one
-pairs_before : {X : Type 0} (R : X → X → Type 0) (xs : List X) (i : ℕ) (x : X) → AllPairs R xs → i < length xs → x ≡ get_or xs i x → AllByRecursion (λ y. R y x) (take i xs)
+pub pairs_before : {X : Type 0} (R : X → X → Type 0) (xs : List X) (i : ℕ) (x : X) → AllPairs R xs → i < length xs → x ≡ get_or xs i x → AllByRecursion (λ y. R y x) (take i xs)
 pairs_before R [] i x h lt is = absurd (omega arith)
 pairs_before R (y ∷ xs) zero x h lt is = tt
 pairs_before R (y ∷ xs) (suc i) x h lt is =

@@ -15,7 +15,7 @@ use Rattle.cs_value.proofs.Spellings.{row_bytes_same}
 use Rattle.cs_wire.specs.declared.entry.Change.{Change}
 use Rattle.cs_wire.specs.declared.entry.Change.TheVariants.{Insert, Delete, Update}
 use Rattle.cs_wire.specs.Entry.{IsChange, with_key, key_of}
-use Rattle.cs_group.specs.Net.{is_same, values_of, old_record, new_record, net_between}
+use Rattle.cs_group.specs.Net.{is_same, values_of, old_record, new_record, image_of_row, net_row_change}
 use Rattle.cs_group.specs.Conflicts.{has_values, filled, conflict_kind, row_after}
 use Rattle.cs_group.proofs.ConflictLaws.{same_values, same_itself, filled_row, has_its_values}
 use Rattle.cs_group.proofs.MergeLaws.{update_is, update_key, row_record, rows_paired, row_image_key}
@@ -82,10 +82,6 @@ values_are (v ∷ row) = ap (λ (l : List OwnedValue). v ∷ l) (values_are row)
 
 -- ---- the net change
 
--- what a row is said to be
-abbrev pub image_of_row : Option (List OwnedValue) → Option (List OwnedField)
-image_of_row = option_map (map Defined)
-
 -- a change of the row with this key meets no conflict at the row, or none, before, and leaves the row, or none, after
 pub record LeadsTo (flags key : List ℕ) (before after : Option (List OwnedValue)) (change : Change) : Type 0 where
   pub fits : IsChange flags change
@@ -139,7 +135,7 @@ update_or_same flags key before after true s b a = ap Some (same_rows before aft
 update_or_same flags key before after false s b a = update_leads flags key before after b a
 
 pub net_leads : (flags key : List ℕ) (before after : Option (List OwnedValue)) → IfSome before (IsRowAt flags key) → IfSome after (IsRowAt flags key)
-    → NetLeads flags key before after (net_between flags (image_of_row before) (image_of_row after))
+    → NetLeads flags key before after (net_row_change flags before after)
 net_leads flags key None None b a = refl
 net_leads flags key None (Some after) b a = rw (values_are after) (record {
   fits = (a.values, a.keyed);

@@ -1,7 +1,7 @@
 -- The net change of a row: the introduction to SQLite's session extension, under "changesets and patchsets": a row that
 -- is there after and was not before is an INSERT, one that was there and is not a DELETE, and for one that was changed
 -- the columns that differ are an UPDATE.
-use Rattle.std.specs.Prelude.{ℕ, zero, suc, Bool, if◌then◌else◌, List, [], ◌∷◌, filter_map, Option, None, Some}
+use Rattle.std.specs.Prelude.{ℕ, zero, suc, Bool, if◌then◌else◌, List, [], ◌∷◌, map, filter_map, Option, None, Some, option_map}
 use Rattle.std.specs.Cmp.Lexicographic.{pointwise}
 use Rattle.cs_value.specs.declared.value.OwnedValue.{OwnedValue}
 use Rattle.cs_value.specs.declared.value.OwnedField.{OwnedField}
@@ -59,3 +59,11 @@ net_between flags (Some before) (Some after) =
 
 abbrev pub net_change : List ℕ → ImageData → Option Change
 net_change flags image = net_between flags image.before image.after
+
+-- what is known of a row that is known whole, or of none
+abbrev pub image_of_row : Option (List OwnedValue) → Option (List OwnedField)
+image_of_row = option_map (map Defined)
+
+-- the change from a row to a row
+abbrev pub net_row_change : List ℕ → Option (List OwnedValue) → Option (List OwnedValue) → Option Change
+net_row_change flags before after = net_between flags (image_of_row before) (image_of_row after)

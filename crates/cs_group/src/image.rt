@@ -70,7 +70,7 @@ pub(crate) fn known<'a>(
 }
 
 /// The fields of a row.
-fn row_fields<'a>(alloc: Global, row: &'a Row) -> Result<Vec<Field<'a>>, NoMemory>
+pub(crate) fn row_fields<'a>(alloc: Global, row: &'a Row) -> Result<Vec<Field<'a>>, NoMemory>
     ensures same { IfOk result (λ fields. map field_of fields.items ≡ map Defined row.now) }
     ensures short { IfOk result (λ fields. AllByRecursion FieldFits fields.items) }
 {

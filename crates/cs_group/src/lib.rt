@@ -39,4 +39,4 @@ pub use joining::concat;
 pub use judging::{Judgement, judge};
 pub use laws::{applied_once_law, applied_reverts_law, written_tells_law};
 pub use merging::{Merged, merge};
-pub use net::net_change;
+pub use net::{net_change, net_row_change};

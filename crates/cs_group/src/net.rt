@@ -5,9 +5,11 @@ ghost use Rattle.std.specs.Cmp.Lexicographic.{pointwise};
 ghost use Rattle.cs_value.specs.declared.value.OwnedField.TheVariants.{Undefined as UndefinedField};
 ghost use Rattle.cs_value.specs.Value.{field_of, FieldFits};
 ghost use Rattle.cs_wire.specs.declared.entry.Change.TheVariants.{Update};
-ghost use Rattle.cs_group.specs.Views.{IsImage, image_of};
+ghost use Rattle.cs_group.specs.Views.{IsImage, image_of, image_in};
 ghost use Rattle.cs_group.specs.Net.{is_same, unless_same, by_flag, old_record, new_record, values_of, net_between};
+ghost use Rattle.cs_group.specs.Net.{image_of_row, net_row_change as change_between};
 
+use crate::image::row_fields;
 use cs_value::{Field, Image, NoMemory, Row};
 use cs_wire::Change;
 use std::alloc::Global;
@@ -102,4 +104,35 @@ pub fn net_change(
         (Some(before), Some(after)) if are_same(before, after) => None,
         (Some(before), Some(after)) => Some(update_between(alloc, flags, before, after)?),
     })
+}
+
+/// The change that leads from a row, or none, to a row, or none; no change where these are the same.
+/// A row has a value for each flag.
+///
+/// As [`net_change`] says it of fields. [`NoMemory`] where memory is refused.
+pub fn net_row_change(
+    alloc: Global,
+    flags: &[u8],
+    before: Option<&Row>,
+    after: Option<&Row>,
+) -> Result<Option<Change>, NoMemory>
+    requires before { IfSome before (λ row. length flags.now ≡ length row.now) }
+    requires after { IfSome after (λ row. length flags.now ≡ length row.now) }
+    ensures { IfOk result (λ change. change ≡ change_between flags.now
+        (option_map (λ r. r.now) before.entry) (option_map (λ r. r.now) after.entry)) }
+{
+    let before = fields_of(alloc, before)?;
+    let after = fields_of(alloc, after)?;
+    net_change(alloc, flags, before.as_deref(), after.as_deref())
+}
+
+/// The fields of a row, if there is one.
+fn fields_of<'a>(alloc: Global, row: Option<&'a Row>) -> Result<Option<Vec<Field<'a>>>, NoMemory>
+    ensures same { IfOk result (λ image. image_in image ≡ image_of_row (option_map (λ r. r.now) row.entry)) }
+    ensures short { IfOk result (λ image. IfSome image (λ fields. AllByRecursion FieldFits fields.items)) }
+{
+    match row {
+        None => Ok(None),
+        Some(row) => Ok(Some(row_fields(alloc, row)?)),
+    }
 }

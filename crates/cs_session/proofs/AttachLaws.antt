@@ -1,5 +1,5 @@
 -- Tables that are attached, as the code and as the definitions have them.
-use Rattle.std.proofs.Common.{◌≡◌, ◌≢◌, ◌↔◌, ◌==◌, ℕ, zero, suc, ◌<◌, Bool, true, false, ◌&&◌, ◌||◌, List, [], ◌∷◌, ◌++◌, length, map, All, Any, IsTrue, vec_len, refl, sym, ap, subst, ◌∙◌, arith}
+use Rattle.std.proofs.Common.{◌≡◌, ◌≢◌, ◌↔◌, ◌==◌, ℕ, zero, suc, Bool, true, false, ◌||◌, List, [], ◌∷◌, ◌++◌, length, map, All, Any, IsTrue, refl, sym, ap, subst, ◌∙◌, arith}
 use Rattle.std.specs.Prelude.{string_bytes, Some, Result, Ok, Err, OnOk}
 use Rattle.std.specs.List.{AllByRecursion, list_all, list_any}
 use Rattle.std.specs.Cmp.Lexicographic.{same_text, other_text}
@@ -9,11 +9,10 @@ use Rattle.std.proofs.lemmas.List.Elements.{recursion_from_All, All-from_recursi
 use Rattle.cs_value.specs.Table.{IsName}
 use Rattle.cs_value.specs.State.{SchemaData, IsSchema, State, schema_at}
 use Rattle.cs_store.specs.Records.{same_bytes}
-use Rattle.cs_session.specs.declared.session.First.{First}
-use Rattle.cs_session.specs.declared.session.Attached.{Attached}
-use Rattle.cs_session.specs.FirstImages.{FirstImage, AttachedTable, Notes, IsAttachedTable, IsNotes}
+use Rattle.cs_session.specs.declared.attached.Attached.{Attached}
+use Rattle.cs_session.specs.FirstImages.{NotedImages, AttachedTable, Notes, IsAttachedTable, IsNotes}
 use Rattle.cs_session.specs.Attaching.{IsNewTable, Attaches}
-use Rattle.cs_session.specs.Views.{first_of, attached_of}
+use Rattle.cs_session.specs.Views.{attached_of, IsSettled}
 use Rattle.cs_session.proofs.RewoundLaws.{PairsByRecursion, pairs_by_recursion, pairs_from_recursion}
 
 -- ---- a name
@@ -47,24 +46,18 @@ is_attached name (table ∷ tables) e = at (tests name table) refl e (is_attache
 -- ---- no key is written
 
 abbrev has_none : Attached → Bool
-has_none table = vec_len table.firsts == 0
-
-nothing_left : (firsts : List First) → map first_of firsts ≡ [] → length firsts ≡ 0
-nothing_left [] e = refl
-nothing_left (first ∷ firsts) e = absurd (let apart : first_of first ∷ map first_of firsts ≡ [] = e in cc)
+has_none table = length (table.firsts.kept ++ table.firsts.pending) == 0
 
 all_none : (tables : List Attached) → IsTrue (list_all has_none tables) → AllByRecursion (λ t. t.firsts ≡ []) (map attached_of tables)
 all_none [] e = tt
 all_none (table ∷ tables) e =
     let both = and_parts (has_none table) (list_all has_none tables) e in
-    let none = nil_from_length table.firsts.items (sym table.firsts.ok.0 ∙ eqb-true (vec_len table.firsts) 0 both.0) in
-    (ap (map first_of) none, all_none tables both.1)
+    let firsts = table.firsts.kept ++ table.firsts.pending in
+    (nil_from_length firsts (eqb-true (length firsts) 0 both.0), all_none tables both.1)
 
 none_all : (tables : List Attached) → AllByRecursion (λ t. t.firsts ≡ []) (map attached_of tables) → IsTrue (list_all has_none tables)
 none_all [] h = refl
-none_all (table ∷ tables) h =
-    let none : vec_len table.firsts ≡ 0 = table.firsts.ok.0 ∙ nothing_left table.firsts.items h.0 in
-    rw none (none_all tables h.1)
+none_all (table ∷ tables) h = rw (h.0) (none_all tables h.1)
 
 -- no key of them is
 pub unwritten : (tables : List Attached) → IsTrue (list_all has_none tables) ↔ All (λ t. t.firsts ≡ []) (map attached_of tables)
@@ -103,15 +96,22 @@ one_more notes name schema is named is_schema fresh =
 
 -- as the code appends it
 pub pushed : (old new : List Attached) (value : Attached) (name : List ℕ) (schema : SchemaData) → new ≡ old ++ value ∷ [] → string_bytes value.name ≡ name → value.schema ≡ schema
-    → value.firsts.items ≡ [] → map attached_of new ≡ map attached_of old ++ record { name = name; schema = schema; firsts = [] } ∷ []
+    → value.firsts ≡ record { kept = []; pending = [] } → map attached_of new ≡ map attached_of old ++ record { name = name; schema = schema; firsts = [] } ∷ []
 pushed old new value name schema is named of_schema none =
     ap (map attached_of) is ∙ map-append attached_of old (value ∷ [])
-    ∙ ap (λ (t : AttachedTable). map attached_of old ++ t ∷ []) (λ i. record { name = named i; schema = of_schema i; firsts = map first_of (none i) })
+    ∙ ap (λ (t : AttachedTable). map attached_of old ++ t ∷ []) (λ i. record { name = named i; schema = of_schema i; firsts = (none i).kept ++ (none i).pending })
+
+settled_behind : (old : List Attached) (value : Attached) → AllByRecursion IsSettled old → IsSettled value → AllByRecursion IsSettled (old ++ value ∷ [])
+settled_behind [] value each last = (last, tt)
+settled_behind (table ∷ old) value each last = (each.0, settled_behind old value each.1 last)
 
 pub push_keeps : (old new : List Attached) (value : Attached) (name : List ℕ) (schema : SchemaData) → new ≡ old ++ value ∷ [] → string_bytes value.name ≡ name → value.schema ≡ schema
-    → value.firsts.items ≡ [] → IsNotes (map attached_of old) → IsName name → IsSchema schema → IsNewTable (map attached_of old) name → IsNotes (map attached_of new)
-push_keeps old new value name schema is named of_schema none are name_is schema_is fresh =
-    subst IsNotes (sym (pushed old new value name schema is named of_schema none)) (one_more (map attached_of old) name schema are name_is schema_is fresh)
+    → value.firsts ≡ record { kept = []; pending = [] } → IsNotes (map attached_of old) × AllByRecursion IsSettled old → IsName name → IsSchema schema → IsNewTable (map attached_of old) name
+    → IsNotes (map attached_of new) × AllByRecursion IsSettled new
+push_keeps old new value name schema is named of_schema none are name_is schema_is fresh = (
+  subst IsNotes (sym (pushed old new value name schema is named of_schema none)) (one_more (map attached_of old) name schema are.0 name_is schema_is fresh),
+  subst (AllByRecursion IsSettled) (sym is) (settled_behind old value are.1 (ap (λ (n : NotedImages). n.pending) none)),
+)
 
 -- ---- what attaching answers
 

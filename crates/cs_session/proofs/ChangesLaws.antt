@@ -17,13 +17,13 @@ use Rattle.cs_wire.specs.Changeset.{HeaderData, GroupData, IsGroup, IsChangeset}
 use Rattle.cs_store.specs.Records.{same_bytes}
 use Rattle.cs_group.specs.declared.judging.Judgement.TheVariants.{Wider, Compatible}
 use Rattle.cs_group.specs.Judging.{leads, judgement, judged}
-use Rattle.cs_group.specs.Net.{net_between}
+use Rattle.cs_group.specs.Net.{net_row_change}
 use Rattle.cs_group.specs.Conflicts.{conflict_kind, row_after}
 use Rattle.cs_group.specs.Applying.{PlacedEntry, placed_by, placed, current, IsElsewhere, placed_kind, placed_result, compatible_groups, applicable, Choices, IsClean, IsApplied}
 use Rattle.cs_group.specs.Inverse.{IsInverse}
 use Rattle.cs_group.proofs.ApplyLaws.{none_met, applied_reverts}
 use Rattle.cs_group.proofs.NetLaws.{NetLeads, net_leads}
-use Rattle.cs_session.specs.FirstImages.{FirstImage, AttachedTable, Notes, IsAttachedTable, IsNotes, HasAttached, first_at, image_of, net_entry, header_of, group_of, recorded_changes, rewound_state}
+use Rattle.cs_session.specs.FirstImages.{FirstImage, AttachedTable, Notes, IsAttachedTable, IsNotes, HasAttached, first_at, net_entry, header_of, group_of, recorded_changes, rewound_state}
 use Rattle.cs_session.proofs.FirstLaws.{put_all_at}
 use Rattle.cs_session.proofs.RewoundLaws.{PairsByRecursion, pairs_by_recursion, pairs_from_recursion, rewound_schemas, rewound_elsewhere, IsRewound, rewound_here}
 
@@ -77,7 +77,7 @@ module _ (state before : State) (table : AttachedTable)
   nets : (first : FirstImage) → IsFirst table first → Nets first (net_entry state table first)
   nets first is =
       let now = row_at state table.name first.key in
-      nets_change first is (net_between flags (image_of first.row) (image_of now))
+      nets_change first is (net_row_change flags first.row now)
       (net_leads flags first.key first.row now is.fits (if_some (IsRowAt flags first.key) now (λ row e. held first.key row e)))
 
   -- ---- the entries of the table
@@ -141,14 +141,19 @@ judged_compatible before table entries has =
     ∙ rw (leads_itself table.schema.flags, not_wider (length table.schema.flags)) refl
 
 module _ (state before : State) where
-  pub all_compatible : (notes : Notes) → AllByRecursion (IsTracked state before) notes → AllByRecursion (λ g. judged before g ≡ Compatible) (recorded_changes notes state)
-  all_compatible [] tracked = tt
-  all_compatible (table ∷ notes) tracked = at (filter_map (net_entry state table) table.firsts) (all_compatible notes tracked.1)
+  tracked_has : (notes : Notes) → AllByRecursion (IsTracked state before) notes → AllByRecursion (HasAttached before) notes
+  tracked_has [] tracked = tt
+  tracked_has (table ∷ notes) tracked = (tracked.0.has, tracked_has notes tracked.1)
+
+  -- the tables of the changes are there
+  pub all_compatible : (notes : Notes) → AllByRecursion (HasAttached before) notes → AllByRecursion (λ g. judged before g ≡ Compatible) (recorded_changes notes state)
+  all_compatible [] has = tt
+  all_compatible (table ∷ notes) has = at (filter_map (net_entry state table) table.firsts) (all_compatible notes has.1)
     where
       at : (es : List Entry) → AllByRecursion (λ g. judged before g ≡ Compatible) (recorded_changes notes state)
           → AllByRecursion (λ g. judged before g ≡ Compatible) (cons_option (group_of (header_of table) es) (recorded_changes notes state))
       at [] others = others
-      at (entry ∷ es) others = (judged_compatible before table (entry ∷ es) tracked.0.has, others)
+      at (entry ∷ es) others = (judged_compatible before table (entry ∷ es) has.0, others)
 
   both_lead : (header : HeaderData) (es : List Entry) (tail : List PlacedEntry) → AllByRecursion (λ e. LeadsBack state before (placed_by header e)) es
       → AllByRecursion (LeadsBack state before) tail → AllByRecursion (LeadsBack state before) (map (placed_by header) es ++ tail)
@@ -266,7 +271,7 @@ module _ (state : State) (notes : Notes) (is_state : IsState state) (are_notes :
       (rewound_here state notes has (pairs_by_recursion (λ (s t : AttachedTable). s.name ≢ t.name) notes are_notes.once))
 
   all_apply : applicable before changes ≡ placed changes
-  all_apply = ap placed (filter_all before changes (all_compatible state before notes all_tracked))
+  all_apply = ap placed (filter_all before changes (all_compatible state before notes (tracked_has state before notes all_tracked)))
 
   none_meets : (ps : List PlacedEntry) → AllByRecursion (LeadsBack state before) ps → AllByRecursion (λ p. placed_kind before p ≡ None) ps
   none_meets [] leads = tt
@@ -290,7 +295,7 @@ module _ (state : State) (notes : Notes) (is_state : IsState state) (are_notes :
   -- the rows from before meet no conflict with it
   pub changes_clean : IsClean before changes
   changes_clean = record {
-    none_wider = All-from_recursion (λ (g : GroupData). judged before g ≢ Wider) changes (none_wide changes (all_compatible state before notes all_tracked));
+    none_wider = All-from_recursion (λ (g : GroupData). judged before g ≢ Wider) changes (none_wide changes (all_compatible state before notes (tracked_has state before notes all_tracked)));
     no_conflict = rw all_apply (none_met before (placed changes) (none_meets (placed changes) (all_lead_back state before notes all_tracked)));
   }
 

@@ -5,3 +5,9 @@ pub mod ChangesLaws
 pub mod NotesLaws
 pub mod Examples
 pub mod AttachLaws
+pub mod ImageLaws
+pub mod NotingLaws
+pub mod EntriesLaws
+pub mod SchemaLaws
+pub mod OutcomeLaws
+pub mod CrashLaws

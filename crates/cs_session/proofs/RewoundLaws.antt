@@ -1,5 +1,5 @@
 -- A state with the first images put back.
-use Rattle.std.proofs.Common.{◌≡◌, ◌≢◌, ℕ, suc, zero, Bool, true, false, List, [], ◌∷◌, Some, refl, sym, ◌∙◌, arith}
+use Rattle.std.proofs.Common.{◌≡◌, ◌≢◌, ℕ, suc, zero, Bool, true, false, List, [], ◌∷◌, Option, Some, None, option_map, refl, sym, ◌∙◌, arith}
 use Rattle.std.specs.Prelude.{AllPairs}
 use Rattle.std.specs.List.{AllByRecursion}
 use Rattle.std.specs.FinMap.{get}
@@ -7,11 +7,11 @@ use Rattle.std.specs.Ordering.{nat_cmp, is_eq}
 use Rattle.std.specs.Cmp.Lexicographic.{slice_cmp}
 use Rattle.std.proofs.lemmas.List.Elements.{recursion_from_All, All-from_recursion}
 use Rattle.std.proofs.lemmas.List.Kept.{AllPairs-cons}
-use Rattle.cs_value.specs.State.{TableData, State, schema_at, rows_at, with_rows}
+use Rattle.std.proofs.lemmas.Option.{none-some}
+use Rattle.cs_value.specs.State.{SchemaData, TableData, State, schema_at, rows_at, with_rows}
 use Rattle.cs_value.proofs.ByteMaps.{tied_bytes}
 use Rattle.cs_apply.proofs.WriteLaws.{same_schemas, rows_here, rows_other}
 use Rattle.cs_session.specs.FirstImages.{AttachedTable, Notes, HasAttached, rewound_rows, rewound_state}
-use Rattle.cs_session.proofs.EditLaws.{table_of}
 
 -- each two of a list, one after another
 abbrev pub PairsByRecursion : {X : Type 0} → (X → X → Type 0) → List X → Type 0
@@ -29,6 +29,11 @@ pub pairs_from_recursion : {X : Type 0} (R : X → X → Type 0) (xs : List X) �
 pairs_from_recursion R [] apart = λ i j d lt within. absurd (omega arith)
 pairs_from_recursion R (x ∷ xs) apart = AllPairs-cons R x xs (All-from_recursion (R x) xs apart.0) (pairs_from_recursion R xs apart.1)
 
+-- a table is there where a schema is
+pub there_is : (o : Option TableData) (schema : SchemaData) → option_map (λ (t : TableData). t.schema) o ≡ Some schema → (found : TableData) × (o ≡ Some found)
+there_is None schema e = absurd (none-some schema e)
+there_is (Some found) schema e = (found, refl)
+
 -- no name twice
 abbrev pub AreApart : Notes → Type 0
 AreApart notes = PairsByRecursion (λ s t. s.name ≢ t.name) notes
@@ -45,7 +50,7 @@ module _ (state : State) where
   pub rewound_schemas : (notes : Notes) → AllByRecursion (HasAttached state) notes → (name : List ℕ) → schema_at (rewound_state notes state) name ≡ schema_at state name
   rewound_schemas [] has name = refl
   rewound_schemas (table ∷ notes) has name =
-      let found = table_of (get (rewound_state notes state) table.name) table.schema (rewound_schemas notes has.1 table.name ∙ has.0) in
+      let found = there_is (get (rewound_state notes state) table.name) table.schema (rewound_schemas notes has.1 table.name ∙ has.0) in
       same_schemas (rewound_state notes state) table.name found.0 (rewound_rows state table) found.1 name ∙ rewound_schemas notes has.1 name
 
   -- the rows of a table that is not attached stay
@@ -53,7 +58,7 @@ module _ (state : State) where
       → rows_at (rewound_state notes state) name ≡ rows_at state name
   rewound_elsewhere [] has name apart = refl
   rewound_elsewhere (table ∷ notes) has name apart =
-      let found = table_of (get (rewound_state notes state) table.name) table.schema (rewound_schemas notes has.1 table.name ∙ has.0) in
+      let found = there_is (get (rewound_state notes state) table.name) table.schema (rewound_schemas notes has.1 table.name ∙ has.0) in
       rows_other (rewound_state notes state) table.name found.0 (rewound_rows state table) found.1 name (other_name name table.name apart.0)
       ∙ rewound_elsewhere notes has.1 name apart.1
 
@@ -73,7 +78,7 @@ module _ (state : State) where
   pub rewound_here : (notes : Notes) → AllByRecursion (HasAttached state) notes → AreApart notes → AllByRecursion (IsRewound (rewound_state notes state)) notes
   rewound_here [] has apart = tt
   rewound_here (table ∷ notes) has apart =
-      let found = table_of (get (rewound_state notes state) table.name) table.schema (rewound_schemas notes has.1 table.name ∙ has.0) in (
+      let found = there_is (get (rewound_state notes state) table.name) table.schema (rewound_schemas notes has.1 table.name ∙ has.0) in (
         rows_here (rewound_state notes state) table.name found.0 (rewound_rows state table) found.1,
         others_rewound table (rewound_state notes state) found.0 found.1 notes apart.0 (rewound_here notes has.1 apart.1),
       )

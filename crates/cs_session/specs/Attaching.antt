@@ -2,11 +2,10 @@
 use Rattle.std.specs.Prelude.{◌≡◌, ◌≢◌, ◌⊎◌, ℕ, List, [], ◌∷◌, ◌++◌, All, Any, None, Some}
 use Rattle.cs_value.specs.Table.{IsName}
 use Rattle.cs_value.specs.State.{SchemaData, State, schema_at}
-use Rattle.cs_store.specs.declared.fault.StoreError.{StoreError}
 use Rattle.cs_store.specs.declared.fault.StoreError.TheVariants.{NoTable, StoreFault}
 use Rattle.cs_session.specs.declared.fault.SessionFault.{SessionFault}
-use Rattle.cs_session.specs.declared.fault.SessionFault.TheVariants.{Store, AlreadyAttached, NoMemory}
-use Rattle.cs_session.specs.FirstImages.{AttachedTable, Notes}
+use Rattle.cs_session.specs.declared.fault.SessionFault.TheVariants.{Store, Apply, AlreadyAttached, WrongStore, NoMemory}
+use Rattle.cs_session.specs.FirstImages.{Notes}
 
 -- no table of this name is attached
 abbrev pub IsNewTable : Notes → List ℕ → Type 0
@@ -26,3 +25,5 @@ RefusesAttach state name notes AlreadyAttached = Any (λ t. t.name ≡ name) not
 RefusesAttach state name notes (Store error) =
     (IsNewTable notes name × (error ≡ NoTable) × ((schema_at state name ≡ None) ⊎ (IsName name → ⊥))) ⊎ (error ≡ StoreFault)
 RefusesAttach state name notes NoMemory = Unit {0}
+RefusesAttach state name notes (Apply fault) = ⊥
+RefusesAttach state name notes WrongStore = ⊥

@@ -6,14 +6,12 @@ use Rattle.std.specs.Prelude.{◌≡◌, ◌≢◌, ℕ, false, if◌then◌else
 use Rattle.std.specs.Prelude.{All, AllPairs, Option, None, Some, option_map, is_some, unwrap_or, IfSome}
 use Rattle.std.specs.FinMap as map
 use Rattle.cs_value.specs.declared.value.OwnedValue.{OwnedValue}
-use Rattle.cs_value.specs.declared.value.OwnedField.{OwnedField}
-use Rattle.cs_value.specs.declared.value.OwnedField.TheVariants.{Defined}
 use Rattle.cs_value.specs.Table.{IsName}
 use Rattle.cs_value.specs.State.{SchemaData, IsSchema, IsRowAt, RowMap, State, WrittenData, schema_at, rows_at, row_at, with_rows}
 use Rattle.cs_wire.specs.declared.entry.Entry.{Entry}
 use Rattle.cs_wire.specs.Changeset.{HeaderData, GroupData}
 use Rattle.cs_store.specs.Records.{same_bytes}
-use Rattle.cs_group.specs.Net.{net_between}
+use Rattle.cs_group.specs.Net.{net_row_change}
 
 -- ---- what is remembered
 
@@ -21,6 +19,11 @@ use Rattle.cs_group.specs.Net.{net_between}
 pub record FirstImage : Type 0 where
   pub key : List ℕ
   pub row : Option (List OwnedValue)
+
+-- those of a table: what was kept at the last commit, and what was noted since
+pub record NotedImages : Type 0 where
+  pub kept : List FirstImage
+  pub pending : List FirstImage
 
 -- a table that is attached: its schema, and the keys that were written since, in the order of the first write
 pub record AttachedTable : Type 0 where
@@ -87,20 +90,19 @@ noted firsts (w ∷ written) =
 abbrev pub writes_of : List ℕ → List WrittenData → List WrittenData
 writes_of name = filter (λ w. same_bytes w.table name)
 
--- each attached table with the writes of it
+-- an attached table with the writes of it
+abbrev pub noted_in : List WrittenData → AttachedTable → AttachedTable
+noted_in written table = record table { firsts = noted table.firsts (writes_of table.name written) }
+
 abbrev pub recorded : Notes → List WrittenData → Notes
-recorded notes written =
-    map {A = AttachedTable} (λ table. record table { firsts = noted table.firsts (writes_of table.name written) }) notes
+recorded notes written = map (noted_in written) notes
 
 -- ---- the changes
-
-abbrev pub image_of : Option (List OwnedValue) → Option (List OwnedField)
-image_of = option_map (map Defined)
 
 -- the net change from the first image of a key to the row that stands there, if these differ
 abbrev pub net_entry : State → AttachedTable → FirstImage → Option Entry
 net_entry state table first = option_map (λ change. let e : Entry = record { indirect = false; change = change } in e)
-    (net_between table.schema.flags (image_of first.row) (image_of (row_at state table.name first.key)))
+    (net_row_change table.schema.flags first.row (row_at state table.name first.key))
 
 abbrev pub header_of : AttachedTable → HeaderData
 header_of table = record { name = table.name; flags = table.schema.flags }

@@ -1,6 +1,11 @@
 pub mod FirstImages
 pub mod Attaching
+pub mod Noting
+pub mod Changes
+pub mod Recording
+pub mod Undoing
 pub mod Faults
+pub mod Images
 pub mod Views
 pub use Rattle.cs_value.specs.State
 pub use Rattle.cs_wire.specs.Changeset

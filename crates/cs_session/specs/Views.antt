@@ -1,15 +1,24 @@
 -- What types of the code stand for.
-use Rattle.std.specs.Prelude.{map, string_bytes}
-use Rattle.cs_session.specs.declared.session.First.{First}
-use Rattle.cs_session.specs.declared.session.Attached.{Attached}
-use Rattle.cs_session.specs.FirstImages.{FirstImage, AttachedTable}
+use Rattle.std.specs.Prelude.{◌≡◌, [], ◌++◌, string_bytes}
+use Rattle.cs_session.specs.declared.attached.Attached.{Attached}
+use Rattle.cs_session.specs.FirstImages.{AttachedTable}
 
-abbrev pub first_of : First → FirstImage
-first_of first = record { key = first.key; row = first.row }
-
+-- a table with all that is noted of it
 abbrev pub attached_of : Attached → AttachedTable
 attached_of table = record {
   name = string_bytes table.name;
   schema = table.schema;
-  firsts = map first_of table.firsts.items;
+  firsts = table.firsts.kept ++ table.firsts.pending;
 }
+
+-- with what was noted at the last commit
+abbrev pub kept_of : Attached → AttachedTable
+kept_of table = record {
+  name = string_bytes table.name;
+  schema = table.schema;
+  firsts = table.firsts.kept;
+}
+
+-- nothing is noted since
+abbrev pub IsSettled : Attached → Type 0
+IsSettled table = table.firsts.pending ≡ []

@@ -1,20 +1,27 @@
 //! Why a session refuses a call.
 ghost use Rattle.cs_session.specs.Faults.{code_of, class_of, name_of};
 
+use cs_apply::ApplyFault;
 use cs_store::StoreError;
 use cs_value::{Fault, NoMemory};
 use std::alloc::{AllocError, AllocFailed};
 use thiserror::Error;
 
 /// Why a session refuses a call.
-#[derive(Clone, Copy, Debug, PartialEq, Eq, Error)]
+#[derive(Debug, Drop, Error)]
 pub enum SessionFault {
     /// The store refused, for another cause than memory.
     #[error("{0}")]
     Store(StoreError),
+    /// A changeset was not applied, for another cause than the store or memory.
+    #[error("{0}")]
+    Apply(ApplyFault),
     /// The table is attached to the session.
     #[error("the table is attached")]
     AlreadyAttached,
+    /// The store has not the table as it was attached.
+    #[error("the store has not the table as it was attached")]
+    WrongStore,
     /// Memory was refused.
     #[error("out of memory")]
     NoMemory,
@@ -30,7 +37,9 @@ impl Fault for SessionFault {
     fn code(&self) -> u8 {
         match self {
             SessionFault::Store(error) => error.code(),
+            SessionFault::Apply(fault) => fault.code(),
             SessionFault::AlreadyAttached => 50,
+            SessionFault::WrongStore => 51,
             SessionFault::NoMemory => NoMemory.code(),
         }
     }
@@ -38,7 +47,9 @@ impl Fault for SessionFault {
     fn class(&self) -> u8 {
         match self {
             SessionFault::Store(error) => error.class(),
+            SessionFault::Apply(fault) => fault.class(),
             SessionFault::AlreadyAttached => 1,
+            SessionFault::WrongStore => 1,
             SessionFault::NoMemory => NoMemory.class(),
         }
     }
@@ -46,7 +57,9 @@ impl Fault for SessionFault {
     fn name(&self) -> &'static str {
         match self {
             SessionFault::Store(error) => error.name(),
+            SessionFault::Apply(fault) => fault.name(),
             SessionFault::AlreadyAttached => "AlreadyAttached",
+            SessionFault::WrongStore => "WrongStore",
             SessionFault::NoMemory => NoMemory.name(),
         }
     }
@@ -63,6 +76,32 @@ impl From<StoreError> for SessionFault {
             StoreError::NoMemory => SessionFault::NoMemory,
             error => SessionFault::Store(error),
         }
+    }
+}
+
+impl From<ApplyFault> for SessionFault {
+    ghost use Rattle.std.specs.Prelude.{◌≡◌};
+    ghost use Rattle.cs_session.specs.Faults.{apply_fault_of};
+
+    ghost from_gives = { λ fault e. e ≡ apply_fault_of fault };
+
+    fn from(fault: ApplyFault) -> SessionFault {
+        match fault {
+            ApplyFault::NoMemory => SessionFault::NoMemory,
+            ApplyFault::Store(error) => SessionFault::Store(error),
+            fault => SessionFault::Apply(fault),
+        }
+    }
+}
+
+impl From<NoMemory> for SessionFault {
+    ghost use Rattle.std.specs.Prelude.{◌≡◌};
+    ghost use Rattle.cs_session.specs.declared.fault.SessionFault.TheVariants.{NoMemory as OutOfMemory};
+
+    ghost from_gives = { λ _ e. e ≡ OutOfMemory };
+
+    fn from(_refusal: NoMemory) -> SessionFault {
+        SessionFault::NoMemory
     }
 }
 

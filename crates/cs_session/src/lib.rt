@@ -11,8 +11,14 @@
 //! defines these, and `proofs/` has what holds of them over all states.
 #![tactic(auto)]
 
+mod attached;
+mod changes;
+mod checking;
+mod editing;
 mod fault;
+mod first_images;
 mod session;
+mod undoing;
 
 pub use fault::SessionFault;
 pub use session::Session;

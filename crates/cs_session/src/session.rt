@@ -1,37 +1,30 @@
 //! Sessions, and the tables that are attached to them.
-ghost use Rattle.std.specs.Prelude.{◌≡◌, ◌↔◌, ◌==◌, [], ◌∷◌, ◌++◌, All, IsTrue, OnOk, OnErr, IfErr, string_bytes};
-ghost use Rattle.std.specs.Vec.{vec_len};
-ghost use Rattle.std.specs.List.{list_all, list_any};
-ghost use Rattle.cs_store.specs.Records.{same_bytes};
-ghost use Rattle.sqlite.specs.State.{HasCleanDisk};
+ghost use Rattle.std.specs.Prelude.{◌≡◌, ◌↔◌, [], ◌∷◌, ◌++◌, All, IsTrue, OnOk, OnErr, IfOk, IfErr};
+ghost use Rattle.sqlite.specs.State.{HasCleanDisk, Survives};
 ghost use Rattle.sqlite.specs.Held.{state};
-ghost use Rattle.cs_store.specs.Store.{KeepsStore, tables_in};
+ghost use Rattle.cs_store.specs.Records.{KeepsContent, KeepsCrash};
+ghost use Rattle.cs_store.specs.Store.{IsAtRest, KeepsStore, tables_in};
 ghost use Rattle.cs_value.specs.Table.{IsName};
 ghost use Rattle.cs_session.specs.declared.fault.SessionFault.TheVariants.{NoMemory as OutOfMemory};
-ghost use Rattle.cs_session.specs.FirstImages.{AttachedTable};
+ghost use Rattle.cs_session.specs.FirstImages.{AttachedTable, rewound, recorded_changes};
 ghost use Rattle.cs_session.specs.Attaching.{Attaches, RefusesAttach, IsNewTable};
+ghost use Rattle.cs_session.specs.Changes.{HasTables, RefusesChanges};
+ghost use Rattle.cs_session.specs.Recording.{Records, RefusesEdit, MayEdit};
+ghost use Rattle.cs_session.specs.Undoing.{LeadsBackTo, Undoes, MayUndo};
 
+use crate::attached::{Attached, are_unwritten, has_name};
+use crate::changes::net_changeset;
+use crate::editing::edit_noted;
 use crate::fault::SessionFault;
-use cs_store::{Schema, Store, StoreError};
-use cs_value::{Key, Row, is_table_name};
+use crate::first_images::FirstImages;
+use crate::undoing::undo_rows;
+use cs_apply::Report;
+use cs_store::{Edit, Schema, Store, StoreError};
+use cs_value::is_table_name;
+use cs_wire::Changeset;
 use sqlite::Alter;
 use std::alloc::Global;
 use std::marker::Model;
-
-/// A key that was written, and the row that stood under it first, or none.
-#[derive(Debug, Drop)]
-struct First {
-    key: Key,
-    row: Option<Row>,
-}
-
-/// A table that is attached, with the keys that were written since, in the order of the first write.
-#[derive(Debug, Drop)]
-struct Attached {
-    name: String,
-    schema: Schema,
-    firsts: Vec<First>,
-}
 
 /// What was written to the rows of the tables that are attached to it, each since it was attached.
 #[derive(Debug, Drop)]
@@ -41,14 +34,16 @@ pub struct Session {
 
 impl Model for Session {
     ghost use Rattle.std.specs.Prelude.{map};
+    ghost use Rattle.std.specs.List.{AllByRecursion};
     ghost use Rattle.cs_session.specs.FirstImages.{Notes, IsNotes};
-    ghost use Rattle.cs_session.specs.Views.{attached_of};
+    ghost use Rattle.cs_session.specs.Views.{attached_of, IsSettled};
 
     ghost Value = { Notes };
 
     ghost view = { λ s. map attached_of s.tables.items };
 
-    ghost invariant = { λ s. IsNotes (map attached_of s.tables.items) };
+    ghost invariant = { λ s. IsNotes (map attached_of s.tables.items)
+        × AllByRecursion IsSettled s.tables.items };
 }
 
 impl Session {
@@ -100,6 +95,89 @@ impl Session {
         }
     }
 
+    /// Carries out an edit, and notes the keys that it wrote where their table is attached, with the rows
+    /// that stood there, each at its first write. The edit is committed.
+    ///
+    /// Refuses with [`WrongStore`](SessionFault::WrongStore) where the table is attached and the store
+    /// has not the table as it was, and then as [`Store::edit`] does. A refusal changes nothing. A crash
+    /// leaves the tables as before or as edited.
+    pub fn edit<S: Alter>(
+        &mut self,
+        alloc: Global,
+        store: &mut Store<S>,
+        edit: &Edit,
+    ) -> Result<(), SessionFault>
+        ensures recorded { HasCleanDisk (state S.Store store.new) → OnOk result (Records
+            (tables_in (state S.Store store.old).now) edit.now self.old (tables_in (state S.Store store.new).now) self.new) }
+        ensures rewound { HasCleanDisk (state S.Store store.new) → OnOk result
+            (rewound self.new (tables_in (state S.Store store.new).now) ≡ rewound self.old (tables_in (state S.Store store.old).now)) }
+        ensures refused { HasCleanDisk (state S.Store store.new)
+            → IfErr result (RefusesEdit (tables_in (state S.Store store.old).now) edit.now self.old) }
+        ensures same { OnErr result (self.new ≡ self.old) }
+        ensures at_rest { HasCleanDisk (state S.Store store.new) → OnOk result (IsAtRest (state S.Store store.new)) }
+        ensures kept { HasCleanDisk (state S.Store store.new)
+            → OnErr result (KeepsContent (state S.Store store.old) (state S.Store store.new)) }
+        ensures survives { Survives (state S.Store store.old) (state S.Store store.new)
+            (MayEdit (tables_in (state S.Store store.old).now) edit.now) }
+    {
+        edit_noted(alloc, &mut self.tables, store, edit)
+    }
+
+    /// The net changeset: for each key that was written the change from the row that stood there first to
+    /// the row that stands there now, if these differ. Tables stand in the order in which they were
+    /// attached, the keys of a table in that of their first write.
+    ///
+    /// Refuses with [`WrongStore`](SessionFault::WrongStore) where the store has not one of the tables as
+    /// it was attached. Nothing changes.
+    pub fn changeset<S: Alter>(
+        &self,
+        alloc: Global,
+        store: &mut Store<S>,
+    ) -> Result<Changeset, SessionFault>
+        ensures made { HasCleanDisk (state S.Store store.new) → IfOk result (λ c. c
+            ≡ recorded_changes self.now (tables_in (state S.Store store.old).now)) }
+        ensures attached { HasCleanDisk (state S.Store store.new)
+            → OnOk result (HasTables (tables_in (state S.Store store.old).now) self.now) }
+        ensures leads { HasCleanDisk (state S.Store store.new)
+            → IfOk result (LeadsBackTo self.now (tables_in (state S.Store store.old).now)) }
+        ensures refused { HasCleanDisk (state S.Store store.new)
+            → IfErr result (RefusesChanges (tables_in (state S.Store store.old).now) self.now) }
+        ensures kept { HasCleanDisk (state S.Store store.new)
+            → KeepsContent (state S.Store store.old) (state S.Store store.new) }
+        ensures survives { KeepsCrash (state S.Store store.old) (state S.Store store.new) }
+    {
+        store.tables_law();
+        let mut batch = store.begin()?;
+        net_changeset(alloc, &mut batch, &self.tables)
+    }
+
+    /// Gives the attached tables the rows from before back, by the inverse of the net changeset, in one
+    /// transaction. What is noted stays.
+    ///
+    /// Refuses with [`WrongStore`](SessionFault::WrongStore) where the store has not one of the tables as
+    /// it was attached. A refusal changes nothing. A crash leaves the tables as before or as undone.
+    pub fn undo<S: Alter>(
+        &self,
+        alloc: Global,
+        store: &mut Store<S>,
+    ) -> Result<Report, SessionFault>
+        ensures undone { HasCleanDisk (state S.Store store.new) → IfOk result (λ report.
+            Undoes self.now (tables_in (state S.Store store.old).now) report (tables_in (state S.Store store.new).now)) }
+        ensures refused { HasCleanDisk (state S.Store store.new)
+            → IfErr result (RefusesChanges (tables_in (state S.Store store.old).now) self.now) }
+        ensures at_rest { HasCleanDisk (state S.Store store.new) → OnOk result (IsAtRest (state S.Store store.new)) }
+        ensures kept { HasCleanDisk (state S.Store store.new)
+            → OnErr result (KeepsContent (state S.Store store.old) (state S.Store store.new)) }
+        ensures survives { Survives (state S.Store store.old) (state S.Store store.new)
+            (MayUndo self.now (tables_in (state S.Store store.old).now)) }
+    {
+        store.tables_law();
+        let mut batch = store.begin()?;
+        let report = undo_rows(alloc, &mut batch, &self.tables)?;
+        batch.commit()?;
+        Ok(report)
+    }
+
     /// Appends a table that is not attached.
     fn push(&mut self, alloc: Global, name: &str, schema: Schema) -> Result<(), SessionFault>
         requires named { IsName name.now }
@@ -113,7 +191,7 @@ impl Session {
         ensures refused { IfErr result (λ e. e ≡ OutOfMemory) }
     {
         let name = String::from_str(alloc, name)?;
-        let firsts = Vec::new(alloc);
+        let firsts = FirstImages::new(alloc);
         self.tables.push(Attached {
             name,
             schema,
@@ -121,18 +199,4 @@ impl Session {
         })?;
         Ok(())
     }
-}
-
-/// Whether no key of the tables was written.
-fn are_unwritten(tables: &[Attached]) -> bool
-    ensures { result ≡ list_all (λ t. vec_len t.firsts == 0) tables.now }
-{
-    tables.iter().all(|table| table.firsts.is_empty())
-}
-
-/// Whether one of the tables has this name.
-fn has_name(tables: &[Attached], name: &str) -> bool
-    ensures { result ≡ list_any (λ t. same_bytes (string_bytes t.name) name.now) tables.now }
-{
-    tables.iter().any(|table| table.name.as_str() == name)
 }

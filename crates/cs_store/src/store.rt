@@ -1,5 +1,5 @@
 //! Stores: tables of rows in a database.
-ghost use Rattle.std.specs.Prelude.{◌≡◌, ◌⊎◌, IfOk, IfErr, OnOk, OnErr, IfSome, None, Ok, Err};
+ghost use Rattle.std.specs.Prelude.{◌≡◌, ◌⊎◌, IsTrue, IfOk, IfErr, OnOk, OnErr, IfSome, None, Ok, Err};
 ghost use Rattle.std.specs.Prelude.{map as map_list, string_bytes};
 ghost use Rattle.std.specs.FinMap as map;
 ghost use Rattle.cs_value.specs.State as tables;
@@ -118,6 +118,15 @@ impl<S: Alter> Store<S> {
             Ok(()) => Ok(Store { conn }),
             Err(error) => Err((error, conn)),
         }
+    }
+
+    /// An open store has the tables of a state: names, schemas and rows are well formed. It has no
+    /// effect.
+    pub fn tables_law(&self)
+        ensures { HasCleanDisk (state S.Store self.now) → IsTrue (state S.Store self.now).is_open
+            → tables.IsState (tables_in (state S.Store self.now).now) }
+    {
+        let _ = &self.conn;
     }
 
     /// The connection to the database of the store.

@@ -1,4 +1,4 @@
-use Rattle.std.proofs.Common.{◌≡◌, Some, None, inl, refl, sym, ◌∙◌}
+use Rattle.std.proofs.Common.{inl, refl, sym, ◌∙◌}
 use Rattle.cs_session.specs.Attaching.{IsNewTable}
 use Rattle.cs_session.proofs.AttachLaws.{is_new, is_attached, attaches}
 use Rattle.cs_session.proofs.session.Session.attach.Goals as goal

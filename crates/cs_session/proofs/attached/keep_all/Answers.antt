@@ -1,0 +1,19 @@
+use Rattle.std.proofs.Common.{get_or, ap, arith}
+use Rattle.std.proofs.lemmas.List.Edits.{map_over_more}
+use Rattle.cs_session.specs.declared.attached.Attached.{Attached}
+use Rattle.cs_session.proofs.NotingLaws.{keeping, all_done, all_kept, keeping_settles}
+use Rattle.cs_session.proofs.attached.keep_all.Goals as goal
+
+pub loop-table-preserved : goal.loop-table-preserved
+loop-table-preserved c =
+    let tables = c.loop-table.tables in
+    let i = c.loop-table.table-index in
+    rw c.keep.ensures
+    (map_over_more keeping c.args.tables.now tables i (get_or tables i c.table-item.result) c.loop-table-test.true c.loop-table.invariant
+    (ap (λ (t : Attached). get_or tables i t) c.table-item.is))
+
+pub returns-clause-kept : goal.returns-clause-kept
+returns-clause-kept c = rw (all_done keeping c.args.tables.now c.loop-table.tables c.loop-table.table-index (omega (arith, c.loop-table-test.false)) c.loop-table.invariant) (all_kept c.args.tables.now)
+
+pub returns-clause-settled : goal.returns-clause-settled
+returns-clause-settled c = rw (all_done keeping c.args.tables.now c.loop-table.tables c.loop-table.table-index (omega (arith, c.loop-table-test.false)) c.loop-table.invariant) (keeping_settles c.args.tables.now)

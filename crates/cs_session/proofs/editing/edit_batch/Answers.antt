@@ -1,0 +1,30 @@
+use Rattle.std.proofs.Common.{◌≡◌, map, rules}
+use Rattle.sqlite.specs.Held.{state}
+use Rattle.cs_session.specs.Views.{attached_of}
+use Rattle.cs_session.proofs.CrashLaws.{edit_survives}
+use Rattle.cs_session.proofs.OutcomeLaws.{begun_state}
+use Rattle.cs_session.proofs.editing.edit_batch.Goals as goal
+
+pub edit_rows-requires-clause-state : goal.edit_rows-requires-clause-state
+edit_rows-requires-clause-state g c =
+    begun_state (state g.S.Store c.args.store.now) (state g.S.Store c.in_ok-batch.batch.store.now) c.in_ok-batch.ensures.survives c.in_ok-batch.ensures.begun c.tables_law.ensures
+
+pub returns-in_err-commit-clause-survives : goal.returns-in_err-commit-clause-survives
+returns-in_err-commit-clause-survives g c =
+    let old = state g.S.Store c.args.store.now in
+    let begun = state g.S.Store c.in_ok-batch.batch.store.now in
+    let mid = state g.S.Store c.edit_rows.new.rows.store.now in
+    let last = state g.S.Store c.commit.new.self.0 in
+    let same : c.commit.new.self.0 ≡ c.store-2-1.given.0 = search rules in
+    rw (← same) (edit_survives c.args.edit.now (map attached_of c.args.tables.now) _ old begun mid last
+    c.in_ok-batch.ensures.begun c.in_ok-batch.ensures.survives c.edit_rows.ensures.kept.1 c.in_ok-edit_rows.ensures.recorded c.commit.ensures.survives)
+
+pub returns-clause-survives : goal.returns-clause-survives
+returns-clause-survives g c =
+    let old = state g.S.Store c.args.store.now in
+    let begun = state g.S.Store c.in_ok-batch.batch.store.now in
+    let mid = state g.S.Store c.edit_rows.new.rows.store.now in
+    let last = state g.S.Store c.commit.new.self.0 in
+    let same : c.commit.new.self.0 ≡ c.store-2-1.given.0 = search rules in
+    rw (← same) (edit_survives c.args.edit.now (map attached_of c.args.tables.now) _ old begun mid last
+    c.in_ok-batch.ensures.begun c.in_ok-batch.ensures.survives c.edit_rows.ensures.kept.1 c.in_ok-edit_rows.ensures.recorded c.commit.ensures.survives)

@@ -1,0 +1,33 @@
+use Rattle.std.proofs.Common.{◌≡◌, map, rules}
+use Rattle.sqlite.specs.Held.{state}
+use Rattle.cs_store.specs.Laws.{was_clean}
+use Rattle.cs_session.specs.Views.{attached_of}
+use Rattle.cs_session.proofs.OutcomeLaws.{begun_state, read_attached, read_leads}
+use Rattle.cs_session.proofs.session.Session.changeset.Goals as goal
+
+pub returns-clause-attached : goal.returns-clause-attached
+returns-clause-attached g c = λ clean.
+    let old = state g.S.Store c.args.store.now in
+    let begun = state g.S.Store c.in_ok-batch.batch.store.now in
+    let mid = state g.S.Store c.net_changeset.new.rows.store.now in
+    let last = state g.S.Store c.drop-batch.new.self.0 in
+    let same : c.drop-batch.new.self.0 ≡ c.store-2-1.given.0 = search rules in
+    let mid_clean = was_clean mid last c.drop-batch.ensures.survives (rw (same) clean) in
+    let shown = (c.in_ok-batch.ensures.begun (c.net_changeset.ensures.was_honest mid_clean)).shown in
+    rw (← c.self.view_is, ← c.deref.ensures.value) (read_attached c.net_changeset.result begun.now old.now shown.now_is (map attached_of c.deref.result.now) (c.net_changeset.ensures.attached mid_clean))
+
+pub returns-clause-leads : goal.returns-clause-leads
+returns-clause-leads g c = λ clean.
+    let old = state g.S.Store c.args.store.now in
+    let begun = state g.S.Store c.in_ok-batch.batch.store.now in
+    let mid = state g.S.Store c.net_changeset.new.rows.store.now in
+    let last = state g.S.Store c.drop-batch.new.self.0 in
+    let same : c.drop-batch.new.self.0 ≡ c.store-2-1.given.0 = search rules in
+    let mid_clean = was_clean mid last c.drop-batch.ensures.survives (rw (same) clean) in
+    let begun_clean = c.net_changeset.ensures.was_honest mid_clean in
+    let shown = (c.in_ok-batch.ensures.begun begun_clean).shown in
+    let is_state = begun_state old begun c.in_ok-batch.ensures.survives c.in_ok-batch.ensures.begun c.tables_law.ensures begun_clean in
+    let notes = rw (← c.deref.ensures.value) at c.self.invariant.0 in
+    rw (← c.self.view_is, ← c.deref.ensures.value)
+    (read_leads c.net_changeset.result begun.now old.now shown.now_is is_state (map attached_of c.deref.result.now) notes (c.net_changeset.ensures.attached mid_clean)
+    (c.net_changeset.ensures.made mid_clean))

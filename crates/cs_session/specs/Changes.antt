@@ -1,0 +1,41 @@
+-- Whether a store has the tables that are attached, and why it does not give their net changeset.
+use Rattle.std.specs.Prelude.{◌≡◌, ◌⊎◌, ℕ, List, All, Any}
+use Rattle.cs_value.specs.State.{State}
+use Rattle.cs_store.specs.declared.fault.StoreError.TheVariants.{DamagedStore, StoreFault}
+use Rattle.cs_session.specs.declared.fault.SessionFault.{SessionFault}
+use Rattle.cs_session.specs.declared.fault.SessionFault.TheVariants.{Store, WrongStore, NoMemory}
+use Rattle.cs_session.specs.FirstImages.{AttachedTable, Notes, HasAttached}
+
+-- each table is there as it was attached
+abbrev pub HasTables : State → Notes → Type 0
+HasTables state notes = All (HasAttached state) notes
+
+-- one is not
+abbrev pub LacksTable : State → Notes → Type 0
+LacksTable state notes = Any (λ t. ¬ HasAttached state t) notes
+
+-- the table of this name is there as it was attached, if it is attached
+abbrev pub HasNamed : State → List ℕ → Notes → Type 0
+HasNamed state name notes = All (λ t. t.name ≡ name → HasAttached state t) notes
+
+-- it is attached, and not there as it was
+abbrev pub LacksNamed : State → List ℕ → Notes → Type 0
+LacksNamed state name notes = Any (λ t. (t.name ≡ name) × (¬ HasAttached state t)) notes
+
+-- memory was refused, or the database refused
+abbrev pub IsResource : SessionFault → Type 0
+IsResource fault = (fault ≡ NoMemory) ⊎ (fault ≡ Store StoreFault)
+
+-- a table is not there as it was attached, or memory was refused, or the database refused
+abbrev pub RefusesTable : State → AttachedTable → SessionFault → Type 0
+RefusesTable state table fault = ((fault ≡ WrongStore) × (¬ HasAttached state table)) ⊎ IsResource fault
+
+abbrev pub RefusesChanges : State → Notes → SessionFault → Type 0
+RefusesChanges state notes fault = ((fault ≡ WrongStore) × LacksTable state notes) ⊎ IsResource fault
+
+abbrev pub RefusesNamed : State → List ℕ → Notes → SessionFault → Type 0
+RefusesNamed state name notes fault = ((fault ≡ WrongStore) × LacksNamed state name notes) ⊎ IsResource fault
+
+-- what a reading of tables may be refused with, whatever the disk returns
+abbrev pub IsNamed : SessionFault → Type 0
+IsNamed fault = (fault ≡ WrongStore) ⊎ (fault ≡ Store DamagedStore) ⊎ IsResource fault

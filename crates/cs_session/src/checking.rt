@@ -1,0 +1,103 @@
+//! Whether a store has the tables that are attached, and rows that can stand in them.
+ghost use Rattle.std.specs.Prelude.{◌≡◌, ◌⊎◌, map, IsTrue, ◌↔◌, OnOk, IfErr, IfSome};
+ghost use Rattle.cs_value.specs.State.{IsRowAt};
+ghost use Rattle.cs_session.specs.declared.fault.SessionFault.TheVariants.{NoMemory as OutOfMemory};
+ghost use Rattle.cs_session.specs.FirstImages.{HasAttached};
+ghost use Rattle.cs_session.specs.Noting.{IsDamage};
+ghost use Rattle.cs_session.specs.Changes.{HasTables, HasNamed, RefusesTable, RefusesNamed, RefusesChanges, IsNamed};
+ghost use Rattle.cs_session.specs.Views.{attached_of};
+
+use crate::attached::Attached;
+use crate::fault::SessionFault;
+use cs_store::{Rows, Schema, StoreError};
+use cs_value::{Key, Row};
+use std::alloc::Global;
+
+/// Refuses where one of the tables is not there as it was attached.
+pub(crate) fn check_tables<B: Rows>(
+    alloc: Global,
+    rows: &mut B,
+    tables: &[Attached],
+) -> Result<(), SessionFault>
+    ensures attached { B.is_honest rows.new → OnOk result (HasTables (B.state rows.old) (map attached_of tables.now)) }
+    ensures same { B.is_honest rows.new → OnOk result (B.state rows.new ≡ B.state rows.old) }
+    ensures refused { B.is_honest rows.new → IfErr result (RefusesChanges (B.state rows.old) (map attached_of tables.now)) }
+    ensures named { IfErr result IsNamed }
+    ensures was_honest { B.is_honest rows.new → B.is_honest rows.old }
+    ensures kept { B.keeps rows.old rows.new }
+{
+    for table in tables {
+        check_table(alloc, rows, table)?;
+    }
+    Ok(())
+}
+
+/// Refuses where the table of this name is attached, and not there as it was.
+pub(crate) fn check_named<B: Rows>(
+    alloc: Global,
+    rows: &mut B,
+    tables: &[Attached],
+    name: &str,
+) -> Result<(), SessionFault>
+    ensures attached { B.is_honest rows.new → OnOk result (HasNamed (B.state rows.old) name.now (map attached_of tables.now)) }
+    ensures same { B.is_honest rows.new → OnOk result (B.state rows.new ≡ B.state rows.old) }
+    ensures refused { B.is_honest rows.new → IfErr result (RefusesNamed (B.state rows.old) name.now (map attached_of tables.now)) }
+    ensures named { IfErr result IsNamed }
+    ensures was_honest { B.is_honest rows.new → B.is_honest rows.old }
+    ensures kept { B.keeps rows.old rows.new }
+{
+    for table in tables {
+        if table.name.as_str() == name {
+            check_table(alloc, rows, table)?;
+        }
+    }
+    Ok(())
+}
+
+/// Refuses where the table is not there as it was attached.
+pub(crate) fn check_table<B: Rows>(
+    alloc: Global,
+    rows: &mut B,
+    table: &Attached,
+) -> Result<(), SessionFault>
+    ensures attached { B.is_honest rows.new → OnOk result (HasAttached (B.state rows.old) (attached_of table.now)) }
+    ensures same { B.is_honest rows.new → OnOk result (B.state rows.new ≡ B.state rows.old) }
+    ensures refused { B.is_honest rows.new → IfErr result (RefusesTable (B.state rows.old) (attached_of table.now)) }
+    ensures named { IfErr result IsNamed }
+    ensures was_honest { B.is_honest rows.new → B.is_honest rows.old }
+    ensures kept { B.keeps rows.old rows.new }
+{
+    match rows.schema(alloc, table.name.as_str())? {
+        Some(schema) if is_same(&schema, &table.schema) => Ok(()),
+        _ => Err(SessionFault::WrongStore),
+    }
+}
+
+/// Whether two schemas are the same.
+fn is_same(schema: &Schema, other: &Schema) -> bool
+    ensures { IsTrue result ↔ (schema.now ≡ other.now) }
+{
+    schema.columns() == other.columns() && schema.flags() == other.flags()
+}
+
+/// Refuses a row that cannot stand under the key in a table with these flags.
+pub(crate) fn check_row(
+    alloc: Global,
+    flags: &[u8],
+    key: &Key,
+    row: Option<&Row>,
+) -> Result<(), SessionFault>
+    ensures fits { OnOk result (IfSome row.entry (λ r. IsRowAt flags.now key.now r.now)) }
+    ensures refused { IfErr result (λ e. (e ≡ OutOfMemory)
+        ⊎ (IsDamage e × ¬ IfSome row.entry (λ r. IsRowAt flags.now key.now r.now))) }
+{
+    let row = match row {
+        None => return Ok(()),
+        Some(row) => row,
+    };
+    if row.is_keyed(flags) && Key::of_row(alloc, flags, row)? == *key {
+        Ok(())
+    } else {
+        Err(SessionFault::Store(StoreError::DamagedStore))
+    }
+}

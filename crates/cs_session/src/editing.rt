@@ -1,0 +1,114 @@
+//! Edits whose keys are noted.
+ghost use Rattle.std.specs.Prelude.{◌≡◌, map, OnOk, OnErr, IfErr};
+ghost use Rattle.std.specs.List.{AllByRecursion};
+ghost use Rattle.sqlite.specs.State.{HasCleanDisk, Survives};
+ghost use Rattle.sqlite.specs.Held.{state};
+ghost use Rattle.cs_value.specs.State.{IsState};
+ghost use Rattle.cs_store.specs.Records.{KeepsContent};
+ghost use Rattle.cs_store.specs.Store.{IsAtRest, tables_in};
+ghost use Rattle.cs_session.specs.FirstImages.{IsNotes};
+ghost use Rattle.cs_session.specs.Recording.{Records, RefusesEdit, MayEdit, table_of};
+ghost use Rattle.cs_session.specs.Views.{attached_of, kept_of, IsSettled};
+
+use crate::attached::{Attached, cut_back_all, keep_all, note_all};
+use crate::checking::check_named;
+use crate::fault::SessionFault;
+use cs_store::{Edit, Rows, Store, edit_in};
+use sqlite::Alter;
+use std::alloc::Global;
+
+/// Carries out an edit, notes the keys that it wrote, and commits. A refusal changes nothing.
+pub(crate) fn edit_noted<S: Alter>(
+    alloc: Global,
+    tables: &mut [Attached],
+    store: &mut Store<S>,
+    edit: &Edit,
+) -> Result<(), SessionFault>
+    requires notes { IsNotes (map attached_of tables.old) }
+    requires settled { AllByRecursion IsSettled tables.old }
+    ensures recorded { HasCleanDisk (state S.Store store.new) → OnOk result (Records (tables_in (state S.Store store.old).now)
+        edit.now (map attached_of tables.old) (tables_in (state S.Store store.new).now) (map attached_of tables.new)) }
+    ensures same { OnErr result (map attached_of tables.new ≡ map attached_of tables.old) }
+    ensures well_formed { IsNotes (map attached_of tables.new) }
+    ensures settled { AllByRecursion IsSettled tables.new }
+    ensures refused { HasCleanDisk (state S.Store store.new) → IfErr result (RefusesEdit (tables_in (state S.Store store.old).now)
+        edit.now (map attached_of tables.old)) }
+    ensures at_rest { HasCleanDisk (state S.Store store.new) → OnOk result (IsAtRest (state S.Store store.new)) }
+    ensures kept { HasCleanDisk (state S.Store store.new)
+        → OnErr result (KeepsContent (state S.Store store.old) (state S.Store store.new)) }
+    ensures survives { Survives (state S.Store store.old) (state S.Store store.new)
+        (MayEdit (tables_in (state S.Store store.old).now) edit.now) }
+{
+    match edit_batch(alloc, tables, store, edit) {
+        Ok(()) => {
+            keep_all(tables);
+            Ok(())
+        }
+        Err(fault) => {
+            cut_back_all(tables);
+            Err(fault)
+        }
+    }
+}
+
+/// Carries out an edit in a batch of a store, notes the keys that it wrote, and commits the batch. Where
+/// it is refused, what was noted at the last commit stands.
+fn edit_batch<S: Alter>(
+    alloc: Global,
+    tables: &mut [Attached],
+    store: &mut Store<S>,
+    edit: &Edit,
+) -> Result<(), SessionFault>
+    requires { IsNotes (map attached_of tables.old) }
+    ensures recorded { HasCleanDisk (state S.Store store.new) → OnOk result (Records (tables_in (state S.Store store.old).now)
+        edit.now (map attached_of tables.old) (tables_in (state S.Store store.new).now) (map attached_of tables.new)) }
+    ensures well_formed { OnOk result (IsNotes (map attached_of tables.new)) }
+    ensures notes { map kept_of tables.new ≡ map kept_of tables.old }
+    ensures refused { HasCleanDisk (state S.Store store.new) → IfErr result (RefusesEdit (tables_in (state S.Store store.old).now)
+        edit.now (map attached_of tables.old)) }
+    ensures at_rest { HasCleanDisk (state S.Store store.new) → OnOk result (IsAtRest (state S.Store store.new)) }
+    ensures kept { HasCleanDisk (state S.Store store.new)
+        → OnErr result (KeepsContent (state S.Store store.old) (state S.Store store.new)) }
+    ensures survives { Survives (state S.Store store.old) (state S.Store store.new)
+        (MayEdit (tables_in (state S.Store store.old).now) edit.now) }
+{
+    store.tables_law();
+    let mut batch = store.begin()?;
+    edit_rows(alloc, tables, &mut batch, edit)?;
+    batch.commit()?;
+    Ok(())
+}
+
+/// Carries out an edit on rows, and notes the keys that it wrote.
+fn edit_rows<B: Rows>(
+    alloc: Global,
+    tables: &mut [Attached],
+    rows: &mut B,
+    edit: &Edit,
+) -> Result<(), SessionFault>
+    requires notes { IsNotes (map attached_of tables.old) }
+    requires state { B.is_honest rows.old → IsState (B.state rows.old) }
+    ensures recorded { B.is_honest rows.new → OnOk result (Records (B.state rows.old) edit.now
+        (map attached_of tables.old) (B.state rows.new) (map attached_of tables.new)) }
+    ensures well_formed { OnOk result (IsNotes (map attached_of tables.new)) }
+    ensures notes { map kept_of tables.new ≡ map kept_of tables.old }
+    ensures refused { B.is_honest rows.new
+        → IfErr result (RefusesEdit (B.state rows.old) edit.now (map attached_of tables.old)) }
+    ensures was_honest { B.is_honest rows.new → B.is_honest rows.old }
+    ensures kept { B.keeps rows.old rows.new }
+{
+    check_named(alloc, rows, tables, edited_table(edit))?;
+    let written = edit_in(alloc, rows, edit)?;
+    note_all(alloc, tables, &written)
+}
+
+/// The name of the table that an edit is of.
+fn edited_table(edit: &Edit) -> &str
+    ensures { result.now ≡ table_of edit.now }
+{
+    match edit {
+        Edit::Insert { table, .. } => table.as_str(),
+        Edit::Update { table, .. } => table.as_str(),
+        Edit::Delete { table, .. } => table.as_str(),
+    }
+}

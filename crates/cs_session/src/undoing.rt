@@ -1,0 +1,35 @@
+//! The rows from before, given back.
+ghost use Rattle.std.specs.Prelude.{◌≡◌, map, IfOk, IfErr};
+ghost use Rattle.cs_value.specs.State.{IsState};
+ghost use Rattle.cs_session.specs.FirstImages.{IsNotes};
+ghost use Rattle.cs_session.specs.Changes.{RefusesChanges};
+ghost use Rattle.cs_session.specs.Undoing.{Undoes};
+ghost use Rattle.cs_session.specs.Views.{attached_of};
+
+use crate::attached::Attached;
+use crate::changes::net_changeset;
+use crate::fault::SessionFault;
+use cs_apply::{Choice, Direction, Report, run_in};
+use cs_store::Rows;
+use cs_wire::{changeset_files_law, write};
+use std::alloc::Global;
+
+/// Applies the inverse of the net changeset of tables that are attached.
+pub(crate) fn undo_rows<B: Rows>(
+    alloc: Global,
+    rows: &mut B,
+    tables: &[Attached],
+) -> Result<Report, SessionFault>
+    requires notes { IsNotes (map attached_of tables.now) }
+    requires state { B.is_honest rows.old → IsState (B.state rows.old) }
+    ensures undone { B.is_honest rows.new → IfOk result (λ report.
+        Undoes (map attached_of tables.now) (B.state rows.old) report (B.state rows.new)) }
+    ensures refused { B.is_honest rows.new → IfErr result (RefusesChanges (B.state rows.old) (map attached_of tables.now)) }
+    ensures was_honest { B.is_honest rows.new → B.is_honest rows.old }
+    ensures kept { B.keeps rows.old rows.new }
+{
+    changeset_files_law();
+    let changeset = net_changeset(alloc, rows, tables)?;
+    let file = write(alloc, &changeset)?;
+    Ok(run_in(alloc, rows, &file, Direction::Inverse, &|_| Choice::Abort)?)
+}
