@@ -7,10 +7,10 @@ use Rattle.std.proofs.lemmas.Bool.{and_parts, eqb-true}
 use Rattle.std.proofs.lemmas.List.{nil_from_length, map-append}
 use Rattle.std.proofs.lemmas.List.Elements.{recursion_from_All, All-from_recursion}
 use Rattle.cs_value.specs.Table.{IsName}
-use Rattle.cs_value.specs.State.{SchemaData, IsSchema, State, schema_at}
+use Rattle.cs_value.specs.State.{SchemaData, IsSchema, State, schema_at, rows_at}
 use Rattle.cs_store.specs.Records.{same_bytes}
 use Rattle.cs_session.specs.declared.attached.Attached.{Attached}
-use Rattle.cs_session.specs.FirstImages.{NotedImages, AttachedTable, Notes, IsAttachedTable, IsNotes}
+use Rattle.cs_session.specs.FirstImages.{NotedImages, AttachedTable, Notes, IsAttachedTable, IsNotes, rewound_rows, rewound}
 use Rattle.cs_session.specs.Attaching.{IsNewTable, Attaches}
 use Rattle.cs_session.specs.Views.{attached_of, IsSettled}
 use Rattle.cs_session.proofs.RewoundLaws.{PairsByRecursion, pairs_by_recursion, pairs_from_recursion}
@@ -119,3 +119,10 @@ pub attaches : {X E : Type 0} (result : Result X E) (state : State) (name : List
     → OnOk result (new ≡ old ++ record { name = name; schema = schema; firsts = [] } ∷ []) → OnOk result (Attaches state name old new)
 attaches (Ok x) state name old new schema found fresh is = record { schema = schema; found = found; fresh = fresh; is = is }
 attaches (Err e) state name old new schema found fresh is = tt
+
+-- its rows from before are those that stand there, behind those of the others
+pub attached_rewound : {X E : Type 0} (result : Result X E) (state : State) (name : List ℕ) (old new : Notes) → OnOk result (Attaches state name old new)
+    → OnOk result (rewound new state ≡ rewound old state ++ rows_at state name ∷ [])
+attached_rewound (Ok x) state name old new done =
+    ap (λ (notes : Notes). rewound notes state) done.is ∙ map-append (rewound_rows state) old (record { name = name; schema = done.schema; firsts = [] } ∷ [])
+attached_rewound (Err e) state name old new done = tt

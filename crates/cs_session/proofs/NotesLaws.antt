@@ -1,5 +1,5 @@
 -- What is noted of writes is well formed.
-use Rattle.std.proofs.Common.{◌≡◌, ◌≢◌, ◌⊎◌, inl, inr, ℕ, zero, suc, ◌<◌, Bool, true, false, cond, List, [], ◌∷◌, ◌++◌, length, get_or, Option, None, Some, option_map, refl, sym, ap, ◌∙◌, subst, arith}
+use Rattle.std.proofs.Common.{◌≡◌, ◌≢◌, ◌⊎◌, inl, inr, ℕ, zero, suc, ◌<◌, Bool, true, false, cond, List, [], ◌∷◌, ◌++◌, length, get_or, Option, Some, refl, sym, ap, ◌∙◌, subst, arith}
 use Rattle.std.specs.Prelude.{IfSome, is_some}
 use Rattle.std.specs.List.{AllByRecursion}
 use Rattle.std.specs.FinMap.{get}
@@ -201,12 +201,3 @@ pub former_here : (table : AttachedTable) (xs written : List WrittenData) (i : �
 former_here table xs written i w lt at t is same formers =
     subst (λ (a : AttachedTable). IfSome w.former (IsRowAt a.schema.flags w.key)) (sym is)
     (former_at table written i w lt at formers (ap (λ (a : AttachedTable). same_bytes w.table a.name) (sym is) ∙ same))
-
--- a row, or none, that is borrowed
-pub if_mapped : {X Y : Type 0} (f : X → Y) (P : Y → Type 0) (o : Option X) (p : Option Y) → option_map f o ≡ p → IfSome o (λ x. P (f x)) → IfSome p P
-if_mapped f P None p e h = subst (λ (q : Option _). IfSome q P) e tt
-if_mapped f P (Some x) p e h = subst (λ (q : Option _). IfSome q P) e h
-
-pub if_unmapped : {X Y : Type 0} (f : X → Y) (P : Y → Type 0) (o : Option X) (p : Option Y) → option_map f o ≡ p → IfSome p P → IfSome o (λ x. P (f x))
-if_unmapped f P None p e h = tt
-if_unmapped f P (Some x) p e h = subst (λ (q : Option _). IfSome q P) (sym e) h

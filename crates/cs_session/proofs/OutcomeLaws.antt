@@ -1,12 +1,12 @@
 -- What a session answers of its net changeset, and of an undo.
-use Rattle.std.proofs.Common.{◌≡◌, inl, inr, ℕ, List, [], ◌∷◌, Result, Ok, Err, refl, sym, ap, subst, ◌∙◌}
+use Rattle.std.proofs.Common.{◌≡◌, ◌≢◌, map, inl, inr, ℕ, List, [], ◌∷◌, Result, Ok, Err, refl, sym, ap, subst, ◌∙◌}
 use Rattle.std.specs.Prelude.{string_bytes, option_map, IsTrue, OnOk, IfOk}
 use Rattle.std.specs.List.{AllByRecursion, AllZip}
 use Rattle.std.proofs.lemmas.List.Elements.{recursion_from_All}
 use Rattle.sqlite.specs.Effect.{Database}
 use Rattle.sqlite.specs.State as store
 use Rattle.sqlite.specs.State.{HasCleanDisk}
-use Rattle.cs_value.specs.State.{State, IsState, schema_at}
+use Rattle.cs_value.specs.State.{State, IsState, schema_at, rows_at}
 use Rattle.cs_wire.specs.Changeset.{HeaderData, GroupData, file_bytes}
 use Rattle.cs_wire.specs.Inverse.{IsInverseGroup}
 use Rattle.cs_wire.specs.Laws.{ChangesetFiles}
@@ -25,9 +25,10 @@ use Rattle.cs_apply.specs.Running as applying
 use Rattle.cs_apply.specs.Running.{Handler, AlwaysAborts, Applies, Refuses, Leads}
 use Rattle.cs_apply.proofs.RevertLaws.{none_mapped, reverts_ok, reverts_err, applies_weaker, refuses_weaker}
 use Rattle.cs_session.specs.Faults.{apply_fault_of}
-use Rattle.cs_session.specs.FirstImages.{Notes, IsNotes, HasAttached, rewound_state, recorded_changes}
+use Rattle.cs_session.specs.FirstImages.{AttachedTable, Notes, IsNotes, HasAttached, rewound, rewound_state, recorded_changes}
 use Rattle.cs_session.specs.Changes.{HasTables, RefusesChanges}
 use Rattle.cs_session.specs.Undoing.{LeadsBackTo, Undoes}
+use Rattle.cs_session.proofs.RewoundLaws.{pairs_by_recursion, rewound_here, all_rewound}
 use Rattle.cs_session.proofs.ChangesLaws.{changes_are, changes_clean, changes_applied, all_compatible}
 
 -- a batch that began on a store has the tables of a state
@@ -83,6 +84,9 @@ module _ (law : ChangesetFiles) (state : State) (notes : Notes) (is_state : IsSt
     applied = changes_applied state notes is_state are each omit_all;
   }
 
+  given_back : map (λ t. rows_at (rewound_state notes state) t.name) notes ≡ rewound notes state
+  given_back = all_rewound state (rewound_state notes state) notes (rewound_here state notes each (pairs_by_recursion (λ (s t : AttachedTable). s.name ≢ t.name) notes are.once))
+
   skips_none : (report : Report) (new : State) → Applies AlwaysAborts (file_bytes changes) Inverse state report new → report.skipped.items ≡ []
   skips_none report new applies =
       let read = applies.read in
@@ -97,7 +101,7 @@ module _ (law : ChangesetFiles) (state : State) (notes : Notes) (is_state : IsSt
       let weaker = applies_weaker chooses AlwaysAborts aborts file Inverse mid report new applies in
       let told = rw (is_file, same) at weaker in
       let back = reverts_ok AlwaysAborts law (file_bytes changes) (rewound_state notes state) state new report leads told in
-      record { attached = has; applied = told; no_conflict = back.0; none_skipped = skips_none report new told; rewound = back.1 }
+      record { attached = has; applied = told; no_conflict = back.0; none_skipped = skips_none report new told; back = rw back.1 given_back; rewound = back.1 }
 
   -- or memory or the database refuses
   pub refuses_undo : (chooses : Handler) → ((k : Conflict) (c : Choice) → chooses k c → AlwaysAborts k c) → (file : List ℕ) → file ≡ file_bytes changes → (mid : State) → mid ≡ state

@@ -1,5 +1,5 @@
 -- A state with the first images put back.
-use Rattle.std.proofs.Common.{◌≡◌, ◌≢◌, ℕ, suc, zero, Bool, true, false, List, [], ◌∷◌, Option, Some, None, option_map, refl, sym, ◌∙◌, arith}
+use Rattle.std.proofs.Common.{◌≡◌, ◌≢◌, ℕ, suc, zero, Bool, true, false, List, [], ◌∷◌, map, Option, Some, None, option_map, refl, sym, ◌∙◌, arith}
 use Rattle.std.specs.Prelude.{AllPairs}
 use Rattle.std.specs.List.{AllByRecursion}
 use Rattle.std.specs.FinMap.{get}
@@ -11,7 +11,7 @@ use Rattle.std.proofs.lemmas.Option.{none-some}
 use Rattle.cs_value.specs.State.{SchemaData, TableData, State, schema_at, rows_at, with_rows}
 use Rattle.cs_value.proofs.ByteMaps.{tied_bytes}
 use Rattle.cs_apply.proofs.WriteLaws.{same_schemas, rows_here, rows_other}
-use Rattle.cs_session.specs.FirstImages.{AttachedTable, Notes, HasAttached, rewound_rows, rewound_state}
+use Rattle.cs_session.specs.FirstImages.{AttachedTable, Notes, HasAttached, rewound_rows, rewound, rewound_state}
 
 -- each two of a list, one after another
 abbrev pub PairsByRecursion : {X : Type 0} → (X → X → Type 0) → List X → Type 0
@@ -82,3 +82,8 @@ module _ (state : State) where
         rows_here (rewound_state notes state) table.name found.0 (rewound_rows state table) found.1,
         others_rewound table (rewound_state notes state) found.0 found.1 notes apart.0 (rewound_here notes has.1 apart.1),
       )
+
+  -- one after another
+  pub all_rewound : (before : State) (notes : Notes) → AllByRecursion (IsRewound before) notes → map (λ t. rows_at before t.name) notes ≡ rewound notes state
+  all_rewound before [] rows = refl
+  all_rewound before (table ∷ notes) rows = let first = rows.0 in let others = all_rewound before notes rows.1 in cc (first, others)

@@ -5,6 +5,7 @@ ghost use Rattle.sqlite.specs.Held.{state};
 ghost use Rattle.cs_store.specs.Records.{KeepsContent, KeepsCrash};
 ghost use Rattle.cs_store.specs.Store.{IsAtRest, KeepsStore, tables_in};
 ghost use Rattle.cs_value.specs.Table.{IsName};
+ghost use Rattle.cs_value.specs.State.{rows_at};
 ghost use Rattle.cs_session.specs.declared.fault.SessionFault.TheVariants.{NoMemory as OutOfMemory};
 ghost use Rattle.cs_session.specs.FirstImages.{AttachedTable, rewound, recorded_changes};
 ghost use Rattle.cs_session.specs.Attaching.{Attaches, RefusesAttach, IsNewTable};
@@ -76,6 +77,10 @@ impl Session {
     ) -> Result<(), SessionFault>
         ensures attached { HasCleanDisk (state S.Store store.new)
             → OnOk result (Attaches (tables_in (state S.Store store.old).now) name.now self.old self.new) }
+        ensures rewound { HasCleanDisk (state S.Store store.new)
+            → OnOk result (rewound self.new (tables_in (state S.Store store.old).now)
+            ≡ rewound self.old (tables_in (state S.Store store.old).now)
+            ++ rows_at (tables_in (state S.Store store.old).now) name.now ∷ []) }
         ensures refused { HasCleanDisk (state S.Store store.new)
             → IfErr result (RefusesAttach (tables_in (state S.Store store.old).now) name.now self.old) }
         ensures same { OnErr result (self.new ≡ self.old) }

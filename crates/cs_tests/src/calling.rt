@@ -1,12 +1,14 @@
-//! Callers of `cs_wire`, `cs_group`, `cs_store` and `cs_apply`, as `CALLING.md` of these crates shows
-//! them.
+//! Callers of `cs_wire`, `cs_group`, `cs_store`, `cs_apply` and `cs_session`, as `CALLING.md` of these
+//! crates shows them.
 
+use crate::store::insertion;
 use crate::stores::{end, rows_of, store_with_table};
 use crate::{DELETE, INSERT, UPDATE, WIDER_INSERT};
 use cs_apply::{ApplyFault, Choice, Policy, apply};
 use cs_group::{ConcatFault, concat, invert};
+use cs_session::{Session, SessionFault};
 use cs_store::{Edit, Rows, Store, StoreError, edit_in};
-use cs_value::{OwnedValue, Row};
+use cs_value::{OwnedValue, Row, Value};
 use cs_wire::{Changeset, Entry, ReadError, read, write};
 use sqlite::Alter;
 use std::alloc::Global;
@@ -119,5 +121,36 @@ fn replays_files(rt: HostRuntime) {
         let written = replay(rt.alloc(), &mut store, file).expect(&rt, "no refusal");
         assert!(rt; written == count);
     }
+    end(store);
+}
+
+/// Carries out edits, or undoes all that the session noted where one of them is refused.
+fn edit_all<S: Alter>(
+    alloc: Global,
+    session: &mut Session,
+    store: &mut Store<S>,
+    edits: &[Edit],
+) -> Result<(), SessionFault> {
+    for edit in edits {
+        if let Err(fault) = session.edit(alloc, store, edit) {
+            session.undo(alloc, store)?;
+            return Err(fault);
+        }
+    }
+    Ok(())
+}
+
+#[test]
+fn undoes_what_a_refused_edit_follows(rt: HostRuntime) {
+    let mut store = store_with_table(&rt);
+    let mut session = Session::new(rt.alloc());
+    session.attach(rt.alloc(), &mut store, "t").expect(&rt, "a table");
+    let edits = [
+        insertion(&rt, "t", &[Value::Int(1), Value::Null]),
+        insertion(&rt, "t", &[Value::Int(1), Value::Null]),
+    ];
+    let answer = edit_all(rt.alloc(), &mut session, &mut store, &edits);
+    assert!(rt; matches!(answer, Err(SessionFault::Store(StoreError::KeyTaken))));
+    assert!(rt; rows_of(&rt, &mut store).is_empty());
     end(store);
 }

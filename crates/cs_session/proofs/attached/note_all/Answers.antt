@@ -9,7 +9,8 @@ use Rattle.cs_session.specs.declared.fault.SessionFault.TheVariants.{NoMemory as
 use Rattle.cs_session.specs.FirstImages.{noted_in}
 use Rattle.cs_session.specs.Noting.{HasFormers, IsDamage}
 use Rattle.cs_session.specs.Views.{attached_of, kept_of}
-use Rattle.cs_session.proofs.NotingLaws.{one_of, still_there, of_each, one_more_of, still_fails}
+use Rattle.cs_session.proofs.ListLaws.{of_each, one_more_of, one_of, still_there}
+use Rattle.cs_session.proofs.NotingLaws.{still_fails}
 use Rattle.cs_session.proofs.attached.note_all.Goals as goal
 
 pub returns-in_err-note_writes-clause-kept : goal.returns-in_err-note_writes-clause-kept

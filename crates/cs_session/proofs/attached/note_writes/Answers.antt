@@ -5,8 +5,9 @@ use Rattle.cs_value.specs.State.{IsRowAt}
 use Rattle.cs_store.specs.Editing.{written_of}
 use Rattle.cs_session.specs.FirstImages.{FirstImage, AttachedTable}
 use Rattle.cs_session.specs.Views.{attached_of}
-use Rattle.cs_session.proofs.NotesLaws.{noted_more, noted_else, formers_more, formers_else, former_here, if_mapped, if_unmapped}
-use Rattle.cs_session.proofs.NotingLaws.{one_taken, one_of, still_fails}
+use Rattle.cs_session.proofs.ListLaws.{if_mapped, if_unmapped, one_of, one_taken}
+use Rattle.cs_session.proofs.NotesLaws.{noted_more, noted_else, formers_more, formers_else, former_here}
+use Rattle.cs_session.proofs.NotingLaws.{still_fails}
 use Rattle.cs_session.proofs.attached.note_writes.Goals.{then-eq+in_ok-check_row+in_ok-note, else-eq}
 use Rattle.cs_session.proofs.attached.note_writes.Goals as goal
 

@@ -3,7 +3,7 @@ use Rattle.std.proofs.lemmas.List.{append-nil}
 use Rattle.cs_wire.specs.Changeset.{GroupData}
 use Rattle.cs_session.specs.FirstImages.{AttachedTable, IsAttachedTable, HasAttached, net_group}
 use Rattle.cs_session.specs.Views.{attached_of}
-use Rattle.cs_session.proofs.EntriesLaws.{taken_more, all_at, apart_before, made_more, no_other_more}
+use Rattle.cs_session.proofs.ListLaws.{all_at, apart_before, made_more, no_other_more, taken_more}
 use Rattle.cs_session.proofs.changes.net_changeset.Goals.{in-Some+in_ok-push, in_default}
 use Rattle.cs_session.proofs.changes.net_changeset.Goals as goal
 

@@ -5,7 +5,8 @@ use Rattle.cs_value.specs.State.{IsRowAt}
 use Rattle.cs_session.specs.FirstImages.{FirstImage, net_entry}
 use Rattle.cs_session.specs.Images.{first_of}
 use Rattle.cs_session.specs.Views.{attached_of}
-use Rattle.cs_session.proofs.EntriesLaws.{entry_of, taken_more, all_at, apart_before, made_more, key_more}
+use Rattle.cs_session.proofs.ListLaws.{all_at, apart_before, made_more, taken_more}
+use Rattle.cs_session.proofs.EntriesLaws.{entry_of, key_more}
 use Rattle.cs_session.proofs.changes.table_entries.Goals.{in-Some+in_ok-push, in_default}
 use Rattle.cs_session.proofs.changes.table_entries.Goals as goal
 

@@ -3,7 +3,8 @@ use Rattle.std.proofs.lemmas.List.{take_all}
 use Rattle.std.proofs.lemmas.Result.{err_from_is_err_and}
 use Rattle.cs_session.specs.FirstImages.{AttachedTable, HasAttached}
 use Rattle.cs_session.specs.Views.{attached_of}
-use Rattle.cs_session.proofs.EntriesLaws.{all_more, any_at, refuses_one}
+use Rattle.cs_session.proofs.ListLaws.{all_more, any_at}
+use Rattle.cs_session.proofs.EntriesLaws.{refuses_one}
 use Rattle.cs_session.proofs.checking.check_tables.Goals as goal
 
 pub returns-in_err-check_table-clause-refused : goal.returns-in_err-check_table-clause-refused

@@ -1,6 +1,6 @@
 use Rattle.std.proofs.Common.{inl, refl, sym, ◌∙◌}
 use Rattle.cs_session.specs.Attaching.{IsNewTable}
-use Rattle.cs_session.proofs.AttachLaws.{is_new, is_attached, attaches}
+use Rattle.cs_session.proofs.AttachLaws.{is_new, is_attached, attaches, attached_rewound}
 use Rattle.cs_session.proofs.session.Session.attach.Goals as goal
 
 pub returns-then-has_name-clause-refused : goal.returns-then-has_name-clause-refused
@@ -24,3 +24,10 @@ returns-in-None-clause-refused g c = λ clean.
     let tested = rw c.deref.ensures.value at c.has_name.ensures in
     let fresh : IsNewTable c.args.self.now c.args.name.now = rw (← c.self.view_is) (is_new c.args.name.now c.self.inside.tables.items (sym tested ∙ c.if-has_name.false)) in
     inl (fresh, refl, inl (sym (c.in_ok-schema.ensures.found clean) ∙ c.in-None.is))
+
+pub returns-in-Some-clause-rewound : goal.returns-in-Some-clause-rewound
+returns-in-Some-clause-rewound g c = λ clean.
+    let tested = rw c.deref.ensures.value at c.has_name.ensures in
+    let fresh : IsNewTable c.args.self.now c.args.name.now = rw (← c.self.view_is) (is_new c.args.name.now c.self.inside.tables.items (sym tested ∙ c.if-has_name.false)) in
+    attached_rewound c.push.result _ c.args.name.now c.args.self.now c.push.new.self
+    (attaches c.push.result _ c.args.name.now c.args.self.now c.push.new.self c.in-Some.schema (sym (c.in_ok-schema.ensures.found clean) ∙ c.in-Some.is) fresh c.push.ensures.pushed)
