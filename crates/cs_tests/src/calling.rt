@@ -144,7 +144,9 @@ fn edit_all<S: Alter>(
 fn undoes_what_a_refused_edit_follows(rt: HostRuntime) {
     let mut store = store_with_table(&rt);
     let mut session = Session::new(rt.alloc());
-    session.attach(rt.alloc(), &mut store, "t").expect(&rt, "a table");
+    session
+        .attach(rt.alloc(), &mut store, "t")
+        .expect(&rt, "a table");
     let edits = [
         insertion(&rt, "t", &[Value::Int(1), Value::Null]),
         insertion(&rt, "t", &[Value::Int(1), Value::Null]),

@@ -2,7 +2,8 @@
 //!
 //! `value`, `wire`, `group`, `shell`, `store`, `apply` and `session` have those of a crate each, and `refusals`
 //! the numbers, names and texts of what they refuse with. `stores` has those of stores over SQL,
-//! `adoption` those of what is taken over as a store, and `calling` the callers of `CALLING.md`.
+//! `adoption` those of what is taken over as a store, `recorded` the files of SQLite's own session
+//! library that sessions make again, and `calling` the callers of `CALLING.md`.
 #![tactic(auto)]
 
 #[cfg(test)]
@@ -13,6 +14,8 @@ mod apply;
 mod calling;
 #[cfg(test)]
 mod group;
+#[cfg(test)]
+mod recorded;
 #[cfg(test)]
 mod refusals;
 #[cfg(test)]

@@ -1,22 +1,34 @@
 //! Sessions, and the tables that are attached to them.
+//!
+//! The table t of these tests has the columns a and b, of which a is the key.
 
-use crate::stores::{end, store_with_table};
+use crate::store::{deletion, insertion, key_of, names, update};
+use crate::stores::{Call, are, declaration, edit_of, end, rows_of, store_with_table};
+use crate::{DELETE, INSERT, UPDATE};
+use cs_apply::{Choice, Report, apply};
 use cs_session::{Session, SessionFault};
-use cs_store::StoreError;
-use cs_value::Fault;
+use cs_store::{Edit, Store};
+use cs_value::{Fault, Value};
+use cs_wire::write;
+use sqlite::{Alter, MemStore, Unknown};
+use std::fs;
+use std::process::Abort;
+
+/// The number of a refusal, or 0.
+fn number(answer: Result<(), SessionFault>) -> u8 {
+    match answer {
+        Ok(()) => 0,
+        Err(fault) => fault.code(),
+    }
+}
 
 #[test]
 fn attaches_a_table_once(rt: HostRuntime) {
     let mut store = store_with_table(&rt);
     let mut session = Session::new(rt.alloc());
-    for (name, answer) in [
-        ("t", Ok(())),
-        ("t", Err(SessionFault::AlreadyAttached)),
-        ("u", Err(SessionFault::Store(StoreError::NoTable))),
-        ("", Err(SessionFault::Store(StoreError::NoTable))),
-    ] {
+    for (name, answer) in [("t", 0), ("t", 50), ("u", 31), ("", 31)] {
         assert!(rt;
-            session.attach(rt.alloc(), &mut store, name) == answer,
+            number(session.attach(rt.alloc(), &mut store, name)) == answer,
             "at {name}"
         );
     }
@@ -28,4 +40,503 @@ fn attaches_a_table_once(rt: HostRuntime) {
 fn names_of_session_faults(rt: HostRuntime) {
     let fault = SessionFault::AlreadyAttached;
     assert!(rt; fault.code() == 50 && fault.class() == 1 && fault.name() == "AlreadyAttached");
+    let fault = SessionFault::WrongStore;
+    assert!(rt; fault.code() == 51 && fault.class() == 1 && fault.name() == "WrongStore");
+}
+
+/// A session to which these tables of a store are attached, in this order.
+fn session_of<S: Alter>(
+    rt: &(impl Abort + AllocGlobal),
+    store: &mut Store<S>,
+    tables: &[&str],
+) -> Session {
+    let mut session = Session::new(rt.alloc());
+    for table in tables {
+        session
+            .attach(rt.alloc(), store, table)
+            .expect(rt, "a table");
+    }
+    session
+}
+
+/// What a session answers to an edit: the number of a refusal, or 0.
+fn edited<S: Alter>(
+    rt: &(impl Abort + AllocGlobal),
+    session: &mut Session,
+    store: &mut Store<S>,
+    call: Call,
+) -> u8 {
+    number(session.edit(rt.alloc(), store, &edit_of(rt, call)))
+}
+
+/// The file of what a session has noted.
+pub(crate) fn file_of<S: Alter>(
+    rt: &(impl Abort + AllocGlobal),
+    session: &Session,
+    store: &mut Store<S>,
+) -> Vec<u8> {
+    let changeset = session
+        .changeset(rt.alloc(), store)
+        .expect(rt, "a changeset");
+    write(rt.alloc(), &changeset).expect(rt, "memory")
+}
+
+/// A file of INSERTs, applied to a store.
+pub(crate) fn fill<S: Alter>(rt: &(impl Abort + AllocGlobal), store: &mut Store<S>, file: &[u8]) {
+    let report = apply(rt.alloc(), store, file, &|_| Choice::Abort).expect(rt, "no refusal");
+    assert!(rt; report.is_clean() && report.skipped.is_empty());
+}
+
+/// An INSERT of (1, 'y').
+const INSERT_OTHER: &[u8] =
+    b"T\x02\x01\x00t\x00\x12\x00\x01\x00\x00\x00\x00\x00\x00\x00\x01\x03\x01y";
+
+/// The DELETE of (1, 'x'), and an INSERT of (2, 'x').
+const MOVED: &[u8] = b"T\x02\x01\x00t\x00\
+\x09\x00\x01\x00\x00\x00\x00\x00\x00\x00\x01\x03\x01x\
+\x12\x00\x01\x00\x00\x00\x00\x00\x00\x00\x02\x03\x01x";
+
+/// The same, and an INSERT of (3, 'z').
+const MOVED_AND_THIRD: &[u8] = b"T\x02\x01\x00t\x00\
+\x09\x00\x01\x00\x00\x00\x00\x00\x00\x00\x01\x03\x01x\
+\x12\x00\x01\x00\x00\x00\x00\x00\x00\x00\x02\x03\x01x\
+\x12\x00\x01\x00\x00\x00\x00\x00\x00\x00\x03\x03\x01z";
+
+/// An edit, the number of a refusal or 0, and the file of the changeset behind it.
+type Step = (Call, u8, &'static [u8]);
+
+/// A file that gives t its rows, the edits that follow in turn, and whether none of them is noted.
+type Case = (&'static [u8], &'static [Step], bool);
+
+const CASES: &[Case] = &[
+    // A key that had no row, and has none in the end.
+    (
+        b"",
+        &[
+            (
+                Call::Insert("t", &[Value::Int(1), Value::Text("x")]),
+                0,
+                INSERT,
+            ),
+            (
+                Call::Update("t", 1, &[Value::Int(1), Value::Text("y")]),
+                0,
+                INSERT_OTHER,
+            ),
+            (Call::Delete("t", 1), 0, b""),
+        ],
+        false,
+    ),
+    // A row that is moved, and one that is not, since there is a row at its key.
+    (
+        INSERT,
+        &[
+            (
+                Call::Update("t", 1, &[Value::Int(2), Value::Text("x")]),
+                0,
+                MOVED,
+            ),
+            (
+                Call::Insert("t", &[Value::Int(3), Value::Text("z")]),
+                0,
+                MOVED_AND_THIRD,
+            ),
+            (
+                Call::Update("t", 2, &[Value::Int(3), Value::Text("x")]),
+                33,
+                MOVED_AND_THIRD,
+            ),
+        ],
+        false,
+    ),
+    // A row that is moved there and back.
+    (
+        INSERT,
+        &[
+            (
+                Call::Update("t", 1, &[Value::Int(2), Value::Text("x")]),
+                0,
+                MOVED,
+            ),
+            (
+                Call::Update("t", 2, &[Value::Int(1), Value::Text("x")]),
+                0,
+                b"",
+            ),
+            (
+                Call::Update("t", 1, &[Value::Int(1), Value::Text("y")]),
+                0,
+                UPDATE,
+            ),
+        ],
+        false,
+    ),
+    // A row that is deleted and inserted again, as it was and as another.
+    (
+        INSERT,
+        &[
+            (Call::Delete("t", 1), 0, DELETE),
+            (
+                Call::Insert("t", &[Value::Int(1), Value::Text("x")]),
+                0,
+                b"",
+            ),
+            (Call::Delete("t", 1), 0, DELETE),
+            (
+                Call::Insert("t", &[Value::Int(1), Value::Text("y")]),
+                0,
+                UPDATE,
+            ),
+        ],
+        false,
+    ),
+    // A row that is updated to itself.
+    (
+        INSERT,
+        &[(
+            Call::Update("t", 1, &[Value::Int(1), Value::Text("x")]),
+            0,
+            b"",
+        )],
+        false,
+    ),
+    // Edits that are refused, behind one that is not.
+    (
+        INSERT,
+        &[
+            (
+                Call::Update("t", 1, &[Value::Int(1), Value::Text("y")]),
+                0,
+                UPDATE,
+            ),
+            (
+                Call::Insert("t", &[Value::Int(1), Value::Int(7)]),
+                33,
+                UPDATE,
+            ),
+            (Call::Insert("t", &[Value::Null, Value::Null]), 36, UPDATE),
+            (Call::Insert("t", &[Value::Int(3)]), 35, UPDATE),
+            (Call::Insert("u", &[Value::Int(3), Value::Null]), 31, UPDATE),
+            (
+                Call::Update("t", 3, &[Value::Int(4), Value::Null]),
+                34,
+                UPDATE,
+            ),
+            (
+                Call::Update("t", 1, &[Value::Null, Value::Null]),
+                36,
+                UPDATE,
+            ),
+            (Call::Update("t", 1, &[Value::Int(3)]), 35, UPDATE),
+            (
+                Call::Update("u", 1, &[Value::Int(1), Value::Null]),
+                31,
+                UPDATE,
+            ),
+            (Call::Delete("t", 3), 34, UPDATE),
+            (Call::Delete("u", 1), 31, UPDATE),
+        ],
+        false,
+    ),
+    // Edits that are refused, and no other.
+    (
+        INSERT,
+        &[
+            (Call::Insert("t", &[Value::Int(1), Value::Int(7)]), 33, b""),
+            (Call::Update("t", 3, &[Value::Int(4), Value::Null]), 34, b""),
+            (Call::Delete("t", 3), 34, b""),
+        ],
+        true,
+    ),
+];
+
+/// Whether a session answers to edits as it should, and has noted what it should behind each.
+fn are_answered<S: Alter>(
+    rt: &(impl Abort + AllocGlobal),
+    session: &mut Session,
+    store: &mut Store<S>,
+    steps: &[Step],
+) -> bool {
+    for (call, answer, file) in steps {
+        if edited(rt, session, store, *call) != *answer
+            || file_of(rt, session, store).as_slice() != *file
+        {
+            return false;
+        }
+    }
+    true
+}
+
+/// Whether a session with t answers so to the edits of a case.
+fn holds(rt: &(impl Abort + AllocGlobal), case: &Case) -> bool {
+    let (before, steps, is_unwritten) = *case;
+    let mut store = store_with_table(rt);
+    fill(rt, &mut store, before);
+    let mut session = session_of(rt, &mut store, &["t"]);
+    let holds = session.is_empty()
+        && are_answered(rt, &mut session, &mut store, steps)
+        && session.is_empty() == is_unwritten;
+    end(store);
+    holds
+}
+
+#[test]
+fn notes_edits(rt: HostRuntime) {
+    for (place, case) in CASES.iter().enumerate() {
+        assert!(rt; holds(&rt, case), "at {place}");
+    }
+}
+
+/// A store without t, with another table, and with tables t of other columns or another key, and one
+/// with t: the name of the table, its second column, its key, and what a session with t answers.
+const OTHERS: &[(&str, &str, &[bool], u8)] = &[
+    ("u", "b", &[true, false], 51),
+    ("t", "c", &[true, false], 51),
+    ("t", "b", &[false, true], 51),
+    ("t", "b", &[true, true], 51),
+    ("t", "b", &[true, false], 0),
+];
+
+/// A session with t of a store, which is no more.
+fn session_alone(rt: &(impl Abort + AllocGlobal)) -> Session {
+    let mut store = store_with_table(rt);
+    let session = session_of(rt, &mut store, &["t"]);
+    end(store);
+    session
+}
+
+/// A store with one table, whose first column is a.
+fn store_with(
+    rt: &(impl Abort + AllocGlobal),
+    name: &str,
+    second: &str,
+    keys: &[bool],
+) -> Store<MemStore> {
+    let mut store = Store::new_memory(rt.alloc()).expect(rt, "a store");
+    let columns = names(rt, "a", second);
+    store
+        .declare(rt.alloc(), name, &columns, keys)
+        .expect(rt, "a table");
+    store
+}
+
+/// The number that a session refuses its changeset with, or 0.
+fn changeset_number<S: Alter>(
+    rt: &(impl Abort + AllocGlobal),
+    session: &Session,
+    store: &mut Store<S>,
+) -> u8 {
+    match session.changeset(rt.alloc(), store) {
+        Ok(_) => 0,
+        Err(fault) => fault.code(),
+    }
+}
+
+/// The number that a session refuses to undo with, or 0.
+fn undo_number<S: Alter>(
+    rt: &(impl Abort + AllocGlobal),
+    session: &Session,
+    store: &mut Store<S>,
+) -> u8 {
+    match session.undo(rt.alloc(), store) {
+        Ok(_) => 0,
+        Err(fault) => fault.code(),
+    }
+}
+
+/// Whether a session answers this number for a store whatever it is asked: to an edit of t, to the
+/// changeset, and to undo it.
+fn answers<S: Alter>(
+    rt: &(impl Abort + AllocGlobal),
+    session: &mut Session,
+    store: &mut Store<S>,
+    answer: u8,
+) -> bool {
+    let call = Call::Insert("t", &[Value::Int(1), Value::Text("x")]);
+    changeset_number(rt, session, store) == answer
+        && edited(rt, session, store, call) == answer
+        && undo_number(rt, session, store) == answer
+}
+
+#[test]
+fn refuses_other_stores(rt: HostRuntime) {
+    let mut session = session_alone(&rt);
+    for (place, (name, second, keys, answer)) in OTHERS.iter().enumerate() {
+        let mut store = store_with(&rt, name, second, keys);
+        assert!(rt;
+            answers(&rt, &mut session, &mut store, *answer),
+            "at {place}"
+        );
+        end(store);
+    }
+}
+
+/// Whether the keys that were written are these of t, in this order, and nothing else is told.
+fn tells(rt: &(impl Abort + AllocGlobal), report: &Report, keys: &[i64]) -> bool {
+    if !report.is_clean() || !report.skipped.is_empty() || report.written.len() != keys.len() {
+        return false;
+    }
+    for (written, key) in report.written.iter().zip(keys) {
+        if written.table.as_str() != "t" || written.key != key_of(rt, *key) {
+            return false;
+        }
+    }
+    true
+}
+
+/// Whether a session undoes what it has noted, and writes these keys of t.
+fn undoes<S: Alter>(
+    rt: &(impl Abort + AllocGlobal),
+    session: &Session,
+    store: &mut Store<S>,
+    keys: &[i64],
+) -> bool {
+    let report = session.undo(rt.alloc(), store).expect(rt, "no refusal");
+    tells(rt, &report, keys)
+}
+
+#[test]
+fn undoes_a_move(rt: HostRuntime) {
+    let mut store = store_with_table(&rt);
+    fill(&rt, &mut store, INSERT);
+    let mut session = session_of(&rt, &mut store, &["t"]);
+    let call = Call::Update("t", 1, &[Value::Int(2), Value::Text("x")]);
+    assert!(rt; edited(&rt, &mut session, &mut store, call) == 0);
+    assert!(rt; undoes(&rt, &session, &mut store, &[1, 2]));
+    assert!(rt;
+        are(
+            &rt,
+            &rows_of(&rt, &mut store),
+            &[[Value::Int(1), Value::Text("x")]]
+        )
+    );
+    assert!(rt; undoes(&rt, &session, &mut store, &[]) && !session.is_empty());
+    end(store);
+}
+
+/// The edits of three tables, in turn, and the file of the changeset of u and t behind each.
+const OF_TABLES: &[Step] = &[
+    (
+        Call::Insert("v", &[Value::Int(1), Value::Text("x")]),
+        0,
+        b"",
+    ),
+    (
+        Call::Insert("t", &[Value::Int(1), Value::Text("x")]),
+        0,
+        INSERT,
+    ),
+    (
+        Call::Insert("u", &[Value::Int(1), Value::Text("x")]),
+        0,
+        b"T\x02\x01\x00u\x00\x12\x00\x01\x00\x00\x00\x00\x00\x00\x00\x01\x03\x01x\
+T\x02\x01\x00t\x00\x12\x00\x01\x00\x00\x00\x00\x00\x00\x00\x01\x03\x01x",
+    ),
+    (
+        Call::Delete("v", 1),
+        0,
+        b"T\x02\x01\x00u\x00\x12\x00\x01\x00\x00\x00\x00\x00\x00\x00\x01\x03\x01x\
+T\x02\x01\x00t\x00\x12\x00\x01\x00\x00\x00\x00\x00\x00\x00\x01\x03\x01x",
+    ),
+    (Call::Delete("u", 1), 0, INSERT),
+];
+
+#[test]
+fn notes_attached_tables(rt: HostRuntime) {
+    let mut store = store_with_table(&rt);
+    for name in ["u", "v"] {
+        declaration(&rt, &mut store, name, &[true, false]).expect(&rt, "a table");
+    }
+    let mut session = session_of(&rt, &mut store, &["u", "t"]);
+    let (first, rest) = OF_TABLES.split_first().expect(&rt, "an edit");
+    assert!(rt; are_answered(&rt, &mut session, &mut store, &[*first]) && session.is_empty());
+    assert!(rt; are_answered(&rt, &mut session, &mut store, rest));
+    end(store);
+}
+
+/// The file of a store.
+const FILE: &str = "session.db";
+
+/// The rows of t in it.
+const TEN: &[[Value<'static>; 2]] = &[
+    [Value::Int(1), Value::Text("a")],
+    [Value::Int(2), Value::Text("b")],
+    [Value::Int(3), Value::Text("c")],
+    [Value::Int(4), Value::Text("d")],
+    [Value::Int(5), Value::Text("e")],
+    [Value::Int(6), Value::Text("f")],
+    [Value::Int(7), Value::Text("g")],
+    [Value::Int(8), Value::Text("h")],
+    [Value::Int(9), Value::Text("i")],
+    [Value::Int(10), Value::Text("j")],
+];
+
+/// Has a session carry an edit out.
+fn carry_out<S: Alter>(
+    rt: &(impl Abort + AllocGlobal),
+    session: &mut Session,
+    store: &mut Store<S>,
+    edit: &Edit,
+) {
+    session
+        .edit(rt.alloc(), store, edit)
+        .expect(rt, "no refusal");
+}
+
+/// Inserts a row, updates it, moves it to another key, and deletes the row with this key.
+fn edit_four_times<S: Alter>(
+    rt: &(impl Abort + AllocGlobal),
+    session: &mut Session,
+    store: &mut Store<S>,
+    key: u8,
+) {
+    let key = i64::from(key);
+    let (first, last) = (100 + key, 200 + key);
+    let edit = insertion(rt, "t", &[Value::Int(first), Value::Null]);
+    carry_out(rt, session, store, &edit);
+    let edit = update(rt, "t", first, &[Value::Int(first), Value::Int(key)]);
+    carry_out(rt, session, store, &edit);
+    let edit = update(rt, "t", first, &[Value::Int(last), Value::Int(key)]);
+    carry_out(rt, session, store, &edit);
+    carry_out(rt, session, store, &deletion(rt, "t", key));
+}
+
+/// A session carries forty edits out on the ten rows of t, and undoes them. Ten of the thirty keys that
+/// were written have no row before and none behind.
+fn edit_and_undo<S: Alter>(rt: &(impl Abort + AllocGlobal), store: &mut Store<S>) {
+    let mut session = session_of(rt, store, &["t"]);
+    for key in 1..=10 {
+        edit_four_times(rt, &mut session, store, key);
+    }
+    assert!(rt; rows_of(rt, store).len() == 10 && !are(rt, &rows_of(rt, store), TEN));
+    let report = session.undo(rt.alloc(), store).expect(rt, "no refusal");
+    assert!(rt; report.is_clean() && report.written.len() == 20);
+}
+
+/// Declares t in a store, with its ten rows.
+fn fill_with_ten<S: Alter>(rt: &(impl Abort + AllocGlobal), store: &mut Store<S>) {
+    declaration(rt, store, "t", &[true, false]).expect(rt, "a table");
+    for row in TEN {
+        let edit = insertion(rt, "t", row);
+        store.edit(rt.alloc(), &edit).expect(rt, "no refusal");
+    }
+}
+
+/// Fills a store, and has a session edit it and undo that, where it is new. It has the ten rows then.
+fn expect_ten<S: Alter>(rt: &(impl Abort + AllocGlobal), store: &mut Store<S>, is_new: bool) {
+    if is_new {
+        fill_with_ten(rt, store);
+        edit_and_undo(rt, store);
+    }
+    assert!(rt; are(rt, &rows_of(rt, store), TEN));
+}
+
+#[test]
+fn undone_in_a_file(rt: HostRuntime) {
+    for is_new in [true, false] {
+        let mut store = Store::open_from(&rt, FILE, true, Unknown).expect(&rt, "a store");
+        expect_ten(&rt, &mut store, is_new);
+        store.into_connection().close().expect(&rt, "no refusal");
+    }
+    fs::remove_file(&rt, FILE).expect(&rt, "a file");
 }

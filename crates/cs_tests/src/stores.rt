@@ -9,7 +9,7 @@ use sqlite::{Alter, MemStore};
 use std::process::Abort;
 
 /// What a store answers to the declaration of a table with the columns a and b.
-fn declaration<S: Alter>(
+pub(crate) fn declaration<S: Alter>(
     rt: &(impl Abort + AllocGlobal),
     store: &mut Store<S>,
     name: &str,
@@ -109,7 +109,7 @@ fn tables_of_a_store(rt: HostRuntime) {
 
 /// An edit of borrowed values.
 #[derive(Clone, Copy)]
-enum Call {
+pub(crate) enum Call {
     Insert(&'static str, &'static [Value<'static>]),
     Update(&'static str, i64, &'static [Value<'static>]),
     Delete(&'static str, i64),
@@ -222,7 +222,7 @@ const CASES: &[Case] = &[
 ];
 
 /// The edit that owns these values.
-fn edit_of(rt: &(impl Abort + AllocGlobal), call: Call) -> Edit {
+pub(crate) fn edit_of(rt: &(impl Abort + AllocGlobal), call: Call) -> Edit {
     match call {
         Call::Insert(table, row) => insertion(rt, table, row),
         Call::Update(table, key, row) => update(rt, table, key, row),
