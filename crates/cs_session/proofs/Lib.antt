@@ -11,4 +11,5 @@ pub mod NotingLaws
 pub mod EntriesLaws
 pub mod SchemaLaws
 pub mod OutcomeLaws
+pub mod RecordLaws
 pub mod CrashLaws

@@ -1,16 +1,19 @@
--- What an edit through a session does, or why it is refused.
-use Rattle.std.specs.Prelude.{◌≡◌, ◌⊎◌, ℕ, List, Ok, Err, string_bytes}
+-- What an edit and an apply through a session do, or why they are refused.
+use Rattle.std.specs.Prelude.{◌≡◌, ◌⊎◌, ℕ, List, map, Ok, Err, string_bytes}
 use Rattle.sqlite.specs.Tree.{Trees}
 use Rattle.cs_value.specs.State.{State, WrittenData}
 use Rattle.cs_store.specs.declared.edit.Edit.{Edit}
 use Rattle.cs_store.specs.declared.edit.Edit.TheVariants.{Insert, Update, Delete}
 use Rattle.cs_store.specs.declared.fault.StoreError.TheVariants.{StoreFault}
-use Rattle.cs_store.specs.Editing.{edited}
+use Rattle.cs_store.specs.Editing.{written_of, edited}
 use Rattle.cs_store.specs.Stored.{state_of}
+use Rattle.cs_apply.specs.declared.report.Report.{Report}
+use Rattle.cs_apply.specs.declared.running.Direction.TheVariants.{Forward}
+use Rattle.cs_apply.specs.Running.{Handler, Applies, Refuses}
 use Rattle.cs_session.specs.declared.fault.SessionFault.{SessionFault}
 use Rattle.cs_session.specs.declared.fault.SessionFault.TheVariants.{Store, Apply, AlreadyAttached, WrongStore, NoMemory}
 use Rattle.cs_session.specs.FirstImages.{Notes, recorded}
-use Rattle.cs_session.specs.Changes.{HasNamed, LacksNamed}
+use Rattle.cs_session.specs.Changes.{HasTables, LacksTable, HasNamed, LacksNamed}
 
 -- the table that an edit is of
 abbrev pub table_of : Edit → List ℕ
@@ -37,3 +40,18 @@ RefusesEdit old edit notes (Apply fault) = ⊥
 -- a database that a crash may leave committed: with the tables that the edit leaves
 abbrev pub MayEdit : State → Edit → Trees → Type 0
 MayEdit old edit trees = (written : List WrittenData) × (edited old edit ≡ Ok (record { state = state_of (trees 0); written = written }))
+
+-- the file is applied, with what the report tells, and the keys that were written are noted
+pub record RecordsApply (chooses : Handler) (file : List ℕ) (old : State) (notes : Notes) (report : Report) (new : State)
+    (after : Notes) : Type 0 where
+  pub attached : HasTables old notes
+  pub applied : Applies chooses file Forward old report new
+  pub noted : after ≡ recorded notes (map written_of report.written.items)
+
+-- why it is not
+abbrev pub RefusesApply : Handler → List ℕ → State → Notes → SessionFault → Type 0
+RefusesApply chooses file old notes WrongStore = LacksTable old notes
+RefusesApply chooses file old notes (Apply fault) = HasTables old notes × Refuses chooses file Forward old fault
+RefusesApply chooses file old notes (Store error) = error ≡ StoreFault
+RefusesApply chooses file old notes NoMemory = Unit {0}
+RefusesApply chooses file old notes AlreadyAttached = ⊥

@@ -11,6 +11,7 @@
 //! defines these, and `proofs/` has what holds of them over all states.
 #![tactic(auto)]
 
+mod applying;
 mod attached;
 mod changes;
 mod checking;

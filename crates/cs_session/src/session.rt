@@ -1,5 +1,6 @@
 //! Sessions, and the tables that are attached to them.
 ghost use Rattle.std.specs.Prelude.{◌≡◌, ◌↔◌, [], ◌∷◌, ◌++◌, All, IsTrue, OnOk, OnErr, IfOk, IfErr};
+ghost use Rattle.std.specs.Fn.{FnReturnsAt};
 ghost use Rattle.sqlite.specs.State.{HasCleanDisk, Survives};
 ghost use Rattle.sqlite.specs.Held.{state};
 ghost use Rattle.cs_store.specs.Records.{KeepsContent, KeepsCrash};
@@ -10,16 +11,19 @@ ghost use Rattle.cs_session.specs.declared.fault.SessionFault.TheVariants.{NoMem
 ghost use Rattle.cs_session.specs.FirstImages.{AttachedTable, rewound, recorded_changes};
 ghost use Rattle.cs_session.specs.Attaching.{Attaches, RefusesAttach, IsNewTable};
 ghost use Rattle.cs_session.specs.Changes.{HasTables, RefusesChanges};
-ghost use Rattle.cs_session.specs.Recording.{Records, RefusesEdit, MayEdit};
+ghost use Rattle.cs_session.specs.Recording.{Records, RefusesEdit, MayEdit, RecordsApply, RefusesApply};
+ghost use Rattle.cs_apply.specs.declared.running.Direction.TheVariants.{Forward as ForwardRun};
+ghost use Rattle.cs_apply.specs.Crash.{MayCommit};
 ghost use Rattle.cs_session.specs.Undoing.{LeadsBackTo, Undoes, MayUndo};
 
+use crate::applying::apply_noted;
 use crate::attached::{Attached, are_unwritten, has_name};
 use crate::changes::net_changeset;
 use crate::editing::edit_noted;
 use crate::fault::SessionFault;
 use crate::first_images::FirstImages;
 use crate::undoing::undo_rows;
-use cs_apply::Report;
+use cs_apply::{Choice, Conflict, Report};
 use cs_store::{Edit, Schema, Store, StoreError};
 use cs_value::is_table_name;
 use cs_wire::Changeset;
@@ -126,6 +130,38 @@ impl Session {
             (MayEdit (tables_in (state S.Store store.old).now) edit.now) }
     {
         edit_noted(alloc, &mut self.tables, store, edit)
+    }
+
+    /// Applies the changeset of a file in one transaction, as [`apply`](cs_apply::apply) does, and notes
+    /// the keys that were written where their table is attached.
+    ///
+    /// Refuses with [`WrongStore`](SessionFault::WrongStore) where the store has not one of the tables as
+    /// it was attached, and then as `apply` does. A refusal changes nothing. A crash leaves the tables as
+    /// before or as applied.
+    pub fn apply_recorded<S: Alter, H: Fn(&Conflict) -> Choice>(
+        &mut self,
+        alloc: Global,
+        store: &mut Store<S>,
+        file: &[u8],
+        handler: &H,
+    ) -> Result<Report, SessionFault>
+        requires { H.IsAlwaysCallable handler.now }
+        ensures recorded { HasCleanDisk (state S.Store store.new) → IfOk result (λ report.
+            RecordsApply (FnReturnsAt H.Fn handler.now) file.now (tables_in (state S.Store store.old).now) self.old report
+            (tables_in (state S.Store store.new).now) self.new) }
+        ensures rewound { HasCleanDisk (state S.Store store.new) → OnOk result
+            (rewound self.new (tables_in (state S.Store store.new).now)
+            ≡ rewound self.old (tables_in (state S.Store store.old).now)) }
+        ensures refused { HasCleanDisk (state S.Store store.new) → IfErr result (RefusesApply
+            (FnReturnsAt H.Fn handler.now) file.now (tables_in (state S.Store store.old).now) self.old) }
+        ensures same { OnErr result (self.new ≡ self.old) }
+        ensures at_rest { HasCleanDisk (state S.Store store.new) → OnOk result (IsAtRest (state S.Store store.new)) }
+        ensures kept { HasCleanDisk (state S.Store store.new)
+            → OnErr result (KeepsContent (state S.Store store.old) (state S.Store store.new)) }
+        ensures survives { Survives (state S.Store store.old) (state S.Store store.new)
+            (MayCommit (FnReturnsAt H.Fn handler.now) file.now ForwardRun (tables_in (state S.Store store.old).now)) }
+    {
+        apply_noted(alloc, &mut self.tables, store, file, handler)
     }
 
     /// The net changeset: for each key that was written the change from the row that stood there first to

@@ -1,0 +1,31 @@
+use Rattle.std.proofs.Common.{◌≡◌, rules}
+use Rattle.std.specs.Fn.{FnReturnsAt}
+use Rattle.sqlite.specs.Held.{state}
+use Rattle.cs_apply.specs.declared.running.Direction.TheVariants.{Forward}
+use Rattle.cs_apply.proofs.CrashLaws.{run_survives}
+use Rattle.cs_session.proofs.OutcomeLaws.{begun_state}
+use Rattle.cs_session.proofs.applying.apply_batch.Goals as goal
+
+pub apply_rows-requires-clause-state : goal.apply_rows-requires-clause-state
+apply_rows-requires-clause-state g c =
+    begun_state (state g.S.Store c.args.store.now) (state g.S.Store c.in_ok-batch.batch.store.now) c.in_ok-batch.ensures.survives c.in_ok-batch.ensures.begun c.tables_law.ensures
+
+pub returns-in_err-commit-clause-survives : goal.returns-in_err-commit-clause-survives
+returns-in_err-commit-clause-survives g c =
+    let old = state g.S.Store c.args.store.now in
+    let begun = state g.S.Store c.in_ok-batch.batch.store.now in
+    let mid = state g.S.Store c.apply_rows.new.rows.store.now in
+    let last = state g.S.Store c.commit.new.self.0 in
+    let same : c.commit.new.self.0 ≡ c.store-2-1.given.0 = search rules in
+    rw (← same) (run_survives (FnReturnsAt g.H.Fn c.args.handler.now) c.args.file.now Forward c.in_ok-report.report old begun mid last
+    c.in_ok-batch.ensures.begun c.in_ok-batch.ensures.survives c.apply_rows.ensures.kept.1 (λ clean. (c.in_ok-report.ensures.recorded clean).applied) c.commit.ensures.survives)
+
+pub returns-clause-survives : goal.returns-clause-survives
+returns-clause-survives g c =
+    let old = state g.S.Store c.args.store.now in
+    let begun = state g.S.Store c.in_ok-batch.batch.store.now in
+    let mid = state g.S.Store c.apply_rows.new.rows.store.now in
+    let last = state g.S.Store c.commit.new.self.0 in
+    let same : c.commit.new.self.0 ≡ c.store-2-1.given.0 = search rules in
+    rw (← same) (run_survives (FnReturnsAt g.H.Fn c.args.handler.now) c.args.file.now Forward c.in_ok-report.report old begun mid last
+    c.in_ok-batch.ensures.begun c.in_ok-batch.ensures.survives c.apply_rows.ensures.kept.1 (λ clean. (c.in_ok-report.ensures.recorded clean).applied) c.commit.ensures.survives)

@@ -1,0 +1,117 @@
+//! Applies whose keys are noted.
+ghost use Rattle.std.specs.Prelude.{◌≡◌, map, IfOk, IfErr, OnOk, OnErr};
+ghost use Rattle.std.specs.Fn.{FnReturnsAt};
+ghost use Rattle.std.specs.List.{AllByRecursion};
+ghost use Rattle.sqlite.specs.State.{HasCleanDisk, Survives};
+ghost use Rattle.sqlite.specs.Held.{state};
+ghost use Rattle.cs_value.specs.State.{IsState};
+ghost use Rattle.cs_store.specs.Records.{KeepsContent};
+ghost use Rattle.cs_store.specs.Store.{IsAtRest, tables_in};
+ghost use Rattle.cs_apply.specs.declared.running.Direction.TheVariants.{Forward as ForwardRun};
+ghost use Rattle.cs_apply.specs.Crash.{MayCommit};
+ghost use Rattle.cs_session.specs.FirstImages.{IsNotes};
+ghost use Rattle.cs_session.specs.Recording.{RecordsApply, RefusesApply};
+ghost use Rattle.cs_session.specs.Views.{attached_of, kept_of, IsSettled};
+
+use crate::attached::{Attached, cut_back_all, keep_all, note_all};
+use crate::checking::check_tables;
+use crate::fault::SessionFault;
+use cs_apply::{Choice, Conflict, Direction, Report, run_in};
+use cs_store::{Rows, Store};
+use sqlite::Alter;
+use std::alloc::Global;
+
+/// Applies a file, notes the keys that were written, and commits. A refusal changes nothing.
+pub(crate) fn apply_noted<S: Alter, H: Fn(&Conflict) -> Choice>(
+    alloc: Global,
+    tables: &mut [Attached],
+    store: &mut Store<S>,
+    file: &[u8],
+    handler: &H,
+) -> Result<Report, SessionFault>
+    requires callable { H.IsAlwaysCallable handler.now }
+    requires notes { IsNotes (map attached_of tables.old) }
+    requires settled { AllByRecursion IsSettled tables.old }
+    ensures recorded { HasCleanDisk (state S.Store store.new) → IfOk result (λ report.
+        RecordsApply (FnReturnsAt H.Fn handler.now) file.now (tables_in (state S.Store store.old).now)
+        (map attached_of tables.old) report (tables_in (state S.Store store.new).now) (map attached_of tables.new)) }
+    ensures same { OnErr result (map attached_of tables.new ≡ map attached_of tables.old) }
+    ensures well_formed { IsNotes (map attached_of tables.new) }
+    ensures settled { AllByRecursion IsSettled tables.new }
+    ensures refused { HasCleanDisk (state S.Store store.new) → IfErr result (RefusesApply (FnReturnsAt H.Fn handler.now)
+        file.now (tables_in (state S.Store store.old).now) (map attached_of tables.old)) }
+    ensures at_rest { HasCleanDisk (state S.Store store.new) → OnOk result (IsAtRest (state S.Store store.new)) }
+    ensures kept { HasCleanDisk (state S.Store store.new)
+        → OnErr result (KeepsContent (state S.Store store.old) (state S.Store store.new)) }
+    ensures survives { Survives (state S.Store store.old) (state S.Store store.new)
+        (MayCommit (FnReturnsAt H.Fn handler.now) file.now ForwardRun (tables_in (state S.Store store.old).now)) }
+{
+    match apply_batch(alloc, tables, store, file, handler) {
+        Ok(report) => {
+            keep_all(tables);
+            Ok(report)
+        }
+        Err(fault) => {
+            cut_back_all(tables);
+            Err(fault)
+        }
+    }
+}
+
+/// Applies a file in a batch of a store, notes the keys that were written, and commits the batch. Where
+/// it is refused, what was noted at the last commit stands.
+fn apply_batch<S: Alter, H: Fn(&Conflict) -> Choice>(
+    alloc: Global,
+    tables: &mut [Attached],
+    store: &mut Store<S>,
+    file: &[u8],
+    handler: &H,
+) -> Result<Report, SessionFault>
+    requires callable { H.IsAlwaysCallable handler.now }
+    requires notes { IsNotes (map attached_of tables.old) }
+    ensures recorded { HasCleanDisk (state S.Store store.new) → IfOk result (λ report.
+        RecordsApply (FnReturnsAt H.Fn handler.now) file.now (tables_in (state S.Store store.old).now)
+        (map attached_of tables.old) report (tables_in (state S.Store store.new).now) (map attached_of tables.new)) }
+    ensures well_formed { OnOk result (IsNotes (map attached_of tables.new)) }
+    ensures notes { map kept_of tables.new ≡ map kept_of tables.old }
+    ensures refused { HasCleanDisk (state S.Store store.new) → IfErr result (RefusesApply (FnReturnsAt H.Fn handler.now)
+        file.now (tables_in (state S.Store store.old).now) (map attached_of tables.old)) }
+    ensures at_rest { HasCleanDisk (state S.Store store.new) → OnOk result (IsAtRest (state S.Store store.new)) }
+    ensures kept { HasCleanDisk (state S.Store store.new)
+        → OnErr result (KeepsContent (state S.Store store.old) (state S.Store store.new)) }
+    ensures survives { Survives (state S.Store store.old) (state S.Store store.new)
+        (MayCommit (FnReturnsAt H.Fn handler.now) file.now ForwardRun (tables_in (state S.Store store.old).now)) }
+{
+    store.tables_law();
+    let mut batch = store.begin()?;
+    let report = apply_rows(alloc, tables, &mut batch, file, handler)?;
+    batch.commit()?;
+    Ok(report)
+}
+
+/// Applies a file to rows, and notes the keys that were written.
+fn apply_rows<B: Rows, H: Fn(&Conflict) -> Choice>(
+    alloc: Global,
+    tables: &mut [Attached],
+    rows: &mut B,
+    file: &[u8],
+    handler: &H,
+) -> Result<Report, SessionFault>
+    requires callable { H.IsAlwaysCallable handler.now }
+    requires notes { IsNotes (map attached_of tables.old) }
+    requires state { B.is_honest rows.old → IsState (B.state rows.old) }
+    ensures recorded { B.is_honest rows.new → IfOk result (λ report.
+        RecordsApply (FnReturnsAt H.Fn handler.now) file.now (B.state rows.old)
+        (map attached_of tables.old) report (B.state rows.new) (map attached_of tables.new)) }
+    ensures well_formed { OnOk result (IsNotes (map attached_of tables.new)) }
+    ensures notes { map kept_of tables.new ≡ map kept_of tables.old }
+    ensures refused { B.is_honest rows.new → IfErr result (RefusesApply (FnReturnsAt H.Fn handler.now)
+        file.now (B.state rows.old) (map attached_of tables.old)) }
+    ensures was_honest { B.is_honest rows.new → B.is_honest rows.old }
+    ensures kept { B.keeps rows.old rows.new }
+{
+    check_tables(alloc, rows, tables)?;
+    let report = run_in(alloc, rows, file, Direction::Forward, handler)?;
+    note_all(alloc, tables, &report.written)?;
+    Ok(report)
+}
