@@ -71,11 +71,11 @@ unwritten tables = (
 abbrev Apart : AttachedTable → AttachedTable → Type 0
 Apart s t = s.name ≢ t.name
 
-table_behind : (P : AttachedTable → Type 0) (notes : Notes) (new : AttachedTable) → AllByRecursion P notes → P new → AllByRecursion P (notes ++ new ∷ [])
+pub table_behind : (P : AttachedTable → Type 0) (notes : Notes) (new : AttachedTable) → AllByRecursion P notes → P new → AllByRecursion P (notes ++ new ∷ [])
 table_behind P [] new each last = (last, tt)
 table_behind P (table ∷ notes) new each last = (each.0, table_behind P notes new each.1 last)
 
-name_behind : (notes : Notes) (new : AttachedTable) → PairsByRecursion Apart notes → AllByRecursion (λ t. t.name ≢ new.name) notes → PairsByRecursion Apart (notes ++ new ∷ [])
+pub name_behind : (notes : Notes) (new : AttachedTable) → PairsByRecursion Apart notes → AllByRecursion (λ t. t.name ≢ new.name) notes → PairsByRecursion Apart (notes ++ new ∷ [])
 name_behind [] new apart fresh = (tt, tt)
 name_behind (table ∷ notes) new apart fresh = (table_behind (Apart table) notes new apart.0 fresh.0, name_behind notes new apart.1 fresh.1)
 

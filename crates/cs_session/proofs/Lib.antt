@@ -12,4 +12,5 @@ pub mod EntriesLaws
 pub mod SchemaLaws
 pub mod OutcomeLaws
 pub mod RecordLaws
+pub mod RunsLaws
 pub mod CrashLaws

@@ -92,7 +92,7 @@ module _ (written : List WrittenData) where
   names_of name [] apart = tt
   names_of name (table ∷ notes) apart = (apart.0, names_of name notes apart.1)
 
-  names_stay : (notes : Notes) → PairsByRecursion (λ s t. s.name ≢ t.name) notes → PairsByRecursion (λ s t. s.name ≢ t.name) (recorded notes written)
+  pub names_stay : (notes : Notes) → PairsByRecursion (λ s t. s.name ≢ t.name) notes → PairsByRecursion (λ s t. s.name ≢ t.name) (recorded notes written)
   names_stay [] apart = tt
   names_stay (table ∷ notes) apart = (names_of table.name notes apart.0, names_stay notes apart.1)
 

@@ -38,7 +38,7 @@ there_is (Some found) schema e = (found, refl)
 abbrev pub AreApart : Notes → Type 0
 AreApart notes = PairsByRecursion (λ s t. s.name ≢ t.name) notes
 
-other_name : (name table : List ℕ) → ¬ (table ≡ name) → is_eq (slice_cmp nat_cmp name table) ≡ false
+pub other_name : (name table : List ℕ) → ¬ (table ≡ name) → is_eq (slice_cmp nat_cmp name table) ≡ false
 other_name name table apart = at (is_eq (slice_cmp nat_cmp name table)) refl
   where
     at : (b : Bool) → is_eq (slice_cmp nat_cmp name table) ≡ b → b ≡ false

@@ -4,6 +4,7 @@ pub mod Noting
 pub mod Changes
 pub mod Recording
 pub mod Undoing
+pub mod Runs
 pub mod Faults
 pub mod Images
 pub mod Views

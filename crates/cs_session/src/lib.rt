@@ -18,8 +18,10 @@ mod checking;
 mod editing;
 mod fault;
 mod first_images;
+mod laws;
 mod session;
 mod undoing;
 
 pub use fault::SessionFault;
+pub use laws::runs_law;
 pub use session::Session;

@@ -1,0 +1,5 @@
+use Rattle.cs_session.proofs.RunsLaws.{rows_from_before}
+use Rattle.cs_session.proofs.laws.runs_law.Goals as goal
+
+pub returns : goal.returns
+returns c = rows_from_before
