@@ -4,7 +4,7 @@
 
 use crate::store::{deletion, insertion, key_of, names, update};
 use crate::stores::{Call, are, declaration, edit_of, end, rows_of, store_with_table};
-use crate::{DELETE, INSERT, UPDATE};
+use crate::{DELETE, INSERT, INSERT_OTHER, UPDATE};
 use cs_apply::{Choice, Report, apply};
 use cs_session::{Session, SessionFault};
 use cs_store::{Edit, Store};
@@ -45,7 +45,7 @@ fn names_of_session_faults(rt: HostRuntime) {
 }
 
 /// A session to which these tables of a store are attached, in this order.
-fn session_of<S: Alter>(
+pub(crate) fn session_of<S: Alter>(
     rt: &(impl Abort + AllocGlobal),
     store: &mut Store<S>,
     tables: &[&str],
@@ -60,7 +60,7 @@ fn session_of<S: Alter>(
 }
 
 /// What a session answers to an edit: the number of a refusal, or 0.
-fn edited<S: Alter>(
+pub(crate) fn edited<S: Alter>(
     rt: &(impl Abort + AllocGlobal),
     session: &mut Session,
     store: &mut Store<S>,
@@ -86,10 +86,6 @@ pub(crate) fn fill<S: Alter>(rt: &(impl Abort + AllocGlobal), store: &mut Store<
     let report = apply(rt.alloc(), store, file, &|_| Choice::Abort).expect(rt, "no refusal");
     assert!(rt; report.is_clean() && report.skipped.is_empty());
 }
-
-/// An INSERT of (1, 'y').
-const INSERT_OTHER: &[u8] =
-    b"T\x02\x01\x00t\x00\x12\x00\x01\x00\x00\x00\x00\x00\x00\x00\x01\x03\x01y";
 
 /// The DELETE of (1, 'x'), and an INSERT of (2, 'x').
 const MOVED: &[u8] = b"T\x02\x01\x00t\x00\
@@ -385,7 +381,7 @@ fn tells(rt: &(impl Abort + AllocGlobal), report: &Report, keys: &[i64]) -> bool
 }
 
 /// Whether a session undoes what it has noted, and writes these keys of t.
-fn undoes<S: Alter>(
+pub(crate) fn undoes<S: Alter>(
     rt: &(impl Abort + AllocGlobal),
     session: &Session,
     store: &mut Store<S>,
