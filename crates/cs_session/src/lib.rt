@@ -3,12 +3,18 @@
 //! ```rust
 //! let mut session = Session::new(alloc);
 //! session.attach(alloc, &mut store, "t")?;
-//! assert!(rt; session.is_empty());
+//! session.edit(alloc, &mut store, &edit)?;
+//! let changeset = session.changeset(alloc, &mut store)?;
+//! // The rows of t are as they were attached.
+//! session.undo(alloc, &mut store)?;
 //! ```
 //!
-//! `session` has what a session remembers of the tables that are attached to it, and `fault` why it
-//! refuses. That it notes writes, makes the net changeset and undoes it is to come: `specs/FirstImages`
-//! defines these, and `proofs/` has what holds of them over all states.
+//! `session` has the calls. `attached` has the tables that are attached, and `first_images` the keys of
+//! each that were written, with the rows that stood there first. `editing` and `applying` carry out what
+//! is noted, in a batch that is committed; `changes` makes the net changeset, and `undoing` applies its
+//! inverse. `checking` tells whether a store has the tables as they were attached, `laws` what holds over
+//! all that is done with a session, and `fault` why it refuses. `CALLING.md`, beside this folder, shows a
+//! caller.
 #![tactic(auto)]
 
 mod applying;
