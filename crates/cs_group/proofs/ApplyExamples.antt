@@ -1,11 +1,12 @@
 -- What changesets do to tables, worked as examples: on the table t of columns a and b, of which a is the key.
-use Rattle.std.proofs.Common.{◌≡◌, ◌≢◌, ℕ, suc, arith, pos, Bool, true, false, cond, List, [], ◌∷◌, map, filter_map, Option, Some, None, option_map, unwrap_or, codes, refl, sym, ap, ◌∙◌, subst}
+use Rattle.std.proofs.Common.{◌≡◌, ◌≢◌, ℕ, suc, arith, pos, Bool, true, false, true≢false, cond, List, [], ◌∷◌, map, filter_map, Option, Some, None, option_map, unwrap_or, codes, refl, sym, ap, ◌∙◌, subst}
 use Rattle.std.specs.List.{cons_option}
 use Rattle.std.specs.Ordering.{nat_cmp, is_eq}
 use Rattle.std.specs.Cmp.Lexicographic.{slice_cmp, nat_list_cmp_total}
 use Rattle.std.specs.FinMap.{get, insert, empty, get-insert, get-empty}
 use Rattle.std.proofs.lemmas.List.Elements.{All-nil}
 use Rattle.cs_value.specs.declared.value.OwnedValue.{OwnedValue}
+use Rattle.cs_value.specs.declared.value.OwnedField.TheVariants.{Defined}
 use Rattle.cs_value.specs.declared.value.OwnedValue.TheVariants.{Int, Text}
 use Rattle.cs_value.specs.Spelling.{value_bytes, field_bytes}
 use Rattle.cs_value.specs.State.{SchemaData, TableData, State, schema_at, row_at}
@@ -20,8 +21,10 @@ use Rattle.cs_group.specs.declared.judging.Judgement.TheVariants.{Skipped, Wider
 use Rattle.cs_group.specs.declared.conflict.Kind.TheVariants.{Data, NotFound, Conflict}
 use Rattle.cs_group.specs.declared.conflict.Choice.{Choice}
 use Rattle.cs_group.specs.declared.conflict.Choice.TheVariants.{Omit, Replace, Abort}
+use Rattle.cs_group.specs.declared.merging.Merged.TheVariants.{Keep, Becomes}
+use Rattle.cs_group.specs.Joining.{merged}
 use Rattle.cs_group.specs.Judging.{judgement, judged, is_skipped, is_compatible}
-use Rattle.cs_group.specs.Conflicts.{conflict_kind, row_after, is_carried_out, entry_result}
+use Rattle.cs_group.specs.Conflicts.{has_values, conflict_kind, row_after, is_carried_out, entry_result}
 use Rattle.cs_group.specs.Applying.{PlacedEntry, placed_by, placed, placed_result, current, IsElsewhere, skipped, FirstWider, applicable, conflict_with, conflict_at, conflicts, NoneWider, IsClean, Choices, written_for, written, AreApplied, IsApplied, omit_all}
 use Rattle.cs_group.proofs.ApplyLaws.{applied_reverts}
 use Rattle.cs_group.proofs.Examples.{update_and_back}
@@ -299,3 +302,27 @@ z_is_told = ap (λ (j : Judgement). map (λ g. g.header.name) (cond (is_skipped 
 -- and its changes meet no conflict
 z_meets_none : conflicts (state_of row) (one_change_of header_z (Insert row)) ≡ []
 z_meets_none = ap (λ (j : Judgement). filter_map (conflict_at (state_of row)) (placed (cond (is_compatible j) (group_z ∷ []) []))) z_is_skipped
+
+-- ---- the join of two entries of one key
+
+-- the insert of (1, 'x') and the update of 'x' to 'y' become the insert of (1, 'y')
+inserted_later : merged flags (direct (Insert row)) (direct (update x y)) ≡ Becomes (direct (Insert later))
+inserted_later = refl
+
+-- which meets no conflict where the first meets none, and leaves what the second leaves
+joined_meets_none : conflict_kind (Insert later) None ≡ None
+joined_meets_none = refl
+
+joined_leaves_same : row_after flags (Insert later) None ≡ row_after flags (update x y) (row_after flags (Insert row) None)
+joined_leaves_same = refl
+
+-- where the second meets a conflict the first stays
+inserted_twice : merged flags (direct (Insert row)) (direct (Insert later)) ≡ Keep
+inserted_twice = refl
+
+second_meets_conflict : conflict_kind (Insert later) (row_after flags (Insert row) None) ≡ Some Conflict
+second_meets_conflict = refl
+
+-- and then leaves another row than both, the second in place of what stood there
+joined_leaves_other : entry_result flags (Insert later) (row_after flags (Insert row) None) Replace ≢ Some (row_after flags (Insert row) None)
+joined_leaves_other = λ e. true≢false (sym (ap (λ (o : Option (Option (List OwnedValue))). has_values (unwrap_or (unwrap_or o None) []) (map Defined row)) e))

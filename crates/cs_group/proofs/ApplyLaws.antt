@@ -196,7 +196,7 @@ module _ (old new : State) (schemas : (table : List ℕ) → schema_at new table
       at false others = others
 
 -- where none of the entries meets a conflict
-no_conflict : (state : State) (ps : List PlacedEntry) → filter_map (conflict_at state) ps ≡ [] → AllByRecursion (λ p. placed_kind state p ≡ None) ps
+pub no_conflict : (state : State) (ps : List PlacedEntry) → filter_map (conflict_at state) ps ≡ [] → AllByRecursion (λ p. placed_kind state p ≡ None) ps
 no_conflict state [] e = tt
 no_conflict state (p ∷ ps) e = at (placed_kind state p) refl (no_conflict state ps)
   where
@@ -210,7 +210,7 @@ none_met state [] h = refl
 none_met state (p ∷ ps) h = rw (h.0) (none_met state ps h.1)
 
 -- an entry that meets no conflict leaves what it says
-left_row : (old new : State) (choose : Choices) (p : PlacedEntry) → placed_kind old p ≡ None → placed_result old choose p ≡ Some (current new p)
+pub left_row : (old new : State) (choose : Choices) (p : PlacedEntry) → placed_kind old p ≡ None → placed_result old choose p ≡ Some (current new p)
     → current new p ≡ row_after p.flags p.entry.change (current old p)
 left_row old new choose p none e = some_same _ _ (sym (rw none at e))
 

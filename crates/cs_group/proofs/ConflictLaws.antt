@@ -153,7 +153,7 @@ all_values (value ∷ row) (o ∷ other) e =
     cc (first, others)
 
 -- what an update leaves has the values that it says, and fills what the update found to the row that stood there
-update_undone : (flags : List ℕ) (old new : List OwnedField) (row : List OwnedValue) → IsKeyedUpdate flags old new → has_values row old ≡ true
+pub update_undone : (flags : List ℕ) (old new : List OwnedField) (row : List OwnedValue) → IsKeyedUpdate flags old new → has_values row old ≡ true
     → (has_values (filled (with_key flags old new) row) (with_key flags old new) ≡ true) × (filled old (filled (with_key flags old new) row) ≡ row)
 update_undone [] [] [] [] fits e = (refl, refl)
 update_undone [] [] [] (value ∷ row) fits e = absurd (true≢false (sym e))
@@ -184,7 +184,7 @@ update_undone (suc flag ∷ flags) (Defined v ∷ old) (Undefined ∷ new) (valu
 
 -- ---- what a change leaves is undone by its inverse
 
-no_data : (b : Bool) → (if b then None else Some Data) ≡ None → b ≡ true
+pub no_data : (b : Bool) → (if b then None else Some Data) ≡ None → b ≡ true
 no_data true e = refl
 no_data false e = absurd (none-some Data (sym e))
 

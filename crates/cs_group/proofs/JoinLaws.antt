@@ -43,7 +43,7 @@ fits_of : (flags key : List ℕ) (found : Option Entry) → IfSome found (FitsKe
 fits_of flags key None h = tt
 fits_of flags key (Some e) h = h.fits
 
-key_of_fit : (flags key : List ℕ) (found : Option Entry) → IfSome found (FitsKey flags key) → IfSome found (λ e. key_of flags e.change ≡ key)
+pub key_of_fit : (flags key : List ℕ) (found : Option Entry) → IfSome found (FitsKey flags key) → IfSome found (λ e. key_of flags e.change ≡ key)
 key_of_fit flags key None h = tt
 key_of_fit flags key (Some e) h = h.same
 
@@ -56,10 +56,10 @@ module _ (first second : GroupData) (p : IsGroup first) (q : IsGroup second) (ag
   abbrev key : Entry → List ℕ
   key e = key_of flags e.change
 
-  others_fit : All (IsEntry flags) second.entries
+  pub others_fit : All (IsEntry flags) second.entries
   others_fit = All-weaker (IsEntry second.header.flags) (IsEntry flags) (λ (e : Entry). fits_same second.header.flags flags e.change agree) second.entries q.each
 
-  outcomes : All (λ e. IfSome (outcome key (joined_entry flags) second.entries e) (FitsKey flags (key e))) first.entries
+  pub outcomes : All (λ e. IfSome (outcome key (joined_entry flags) second.entries e) (FitsKey flags (key e))) first.entries
   outcomes k d lt =
       let entry = get_or first.entries k d in
       joined_fits flags entry (p.each k d lt) (with_text key second.entries (key entry)) (with_text-found key (IsEntry flags) second.entries (key entry) others_fit)
@@ -114,12 +114,12 @@ both_first : (found : Option GroupData) (text : List ℕ) → IfSome found (λ g
 both_first None text h = tt
 both_first (Some g) text h = h.0
 
-both_second : (found : Option GroupData) (text : List ℕ) → IfSome found (λ g. IsGroup g × (g.header.name ≡ text)) → IfSome found (λ g. g.header.name ≡ text)
+pub both_second : (found : Option GroupData) (text : List ℕ) → IfSome found (λ g. IsGroup g × (g.header.name ≡ text)) → IfSome found (λ g. g.header.name ≡ text)
 both_second None text h = tt
 both_second (Some g) text h = h.1
 
 module _ (first second : List GroupData) (p : IsChangeset first) (q : IsChangeset second) (joinable : AreJoinable first second) where
-  group_outcomes : All (λ g. IfSome (outcome table_name joined_group second g) (λ z. IsGroup z × (z.header.name ≡ g.header.name))) first
+  pub group_outcomes : All (λ g. IfSome (outcome table_name joined_group second g) (λ z. IsGroup z × (z.header.name ≡ g.header.name))) first
   group_outcomes k d lt = of (with_text table_name second group.header.name) (with_text-found table_name (λ (h : GroupData). IsGroup h × AgreesWith first h) second group.header.name (λ j e j_lt. (q.each j e j_lt, joinable j e j_lt)))
     where
       group : GroupData

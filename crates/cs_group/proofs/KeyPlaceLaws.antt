@@ -1,5 +1,5 @@
 -- Flags that mark the same columns: what fits the one fits the other, with the same key.
-use Rattle.std.proofs.Common.{◌≡◌, ℕ, zero, suc, ◌<◌, true, false, true≢false, Bool, not, List, [], ◌∷◌, length, get_or, refl, sym, ap, arith}
+use Rattle.std.proofs.Common.{◌≡◌, ℕ, zero, suc, ◌<◌, true, false, true≢false, Bool, not, List, [], ◌∷◌, length, get_or, Some, refl, sym, ap, ◌∙◌, arith}
 use Rattle.std.specs.List.{flat_map}
 use Rattle.std.proofs.Math.Bool.{beq}
 use Rattle.cs_value.specs.declared.value.OwnedValue.{OwnedValue}
@@ -7,9 +7,10 @@ use Rattle.cs_value.specs.declared.value.OwnedField.{OwnedField}
 use Rattle.cs_value.specs.Spelling.{value_bytes, field_bytes}
 use Rattle.cs_value.specs.Table.{IsKeyedRow}
 use Rattle.cs_value.specs.Key.{key_columns}
+use Rattle.cs_value.specs.State.{IsRowAt}
 use Rattle.cs_wire.specs.declared.entry.Change.{Change}
 use Rattle.cs_wire.specs.declared.entry.Change.TheVariants.{Insert, Delete, Update}
-use Rattle.cs_wire.specs.Entry.{IsKeyedUpdate, IsChange, key_of}
+use Rattle.cs_wire.specs.Entry.{IsKeyedUpdate, IsChange, with_key, after_image, key_of}
 use Rattle.cs_group.specs.Net.{by_flag}
 use Rattle.cs_group.specs.Joining.{key_places}
 
@@ -53,6 +54,31 @@ pub fits_same : (f g : List ℕ) (change : Change) → key_places f ≡ key_plac
 fits_same f g (Insert row) e h = (h.0, row_fits f g row e h.1)
 fits_same f g (Delete row) e h = (h.0, row_fits f g row e h.1)
 fits_same f g (Update old new) e h = (h.0, h.1, update_fits f g old new e h.2)
+
+with_key_same : (f g : List ℕ) (old new : List OwnedField) → key_places f ≡ key_places g → with_key f old new ≡ with_key g old new
+with_key_same [] [] old new e = refl
+with_key_same [] (b ∷ g) old new e = absurd cc
+with_key_same (a ∷ f) [] old new e = absurd cc
+with_key_same (a ∷ f) (b ∷ g) [] new e = refl
+with_key_same (a ∷ f) (b ∷ g) (o ∷ old) [] e = refl
+with_key_same (zero ∷ f) (zero ∷ g) (o ∷ old) (n ∷ new) e = let rest : key_places f ≡ key_places g = cc in ap (λ (l : List OwnedField). n ∷ l) (with_key_same f g old new rest)
+with_key_same (suc a ∷ f) (suc b ∷ g) (o ∷ old) (n ∷ new) e = let rest : key_places f ≡ key_places g = cc in ap (λ (l : List OwnedField). o ∷ l) (with_key_same f g old new rest)
+with_key_same (zero ∷ f) (suc b ∷ g) (o ∷ old) (n ∷ new) e = absurd cc
+with_key_same (suc a ∷ f) (zero ∷ g) (o ∷ old) (n ∷ new) e = absurd cc
+
+-- what is said of the row after a change
+pub after_image_same : (f g : List ℕ) (change : Change) → key_places f ≡ key_places g → after_image f change ≡ after_image g change
+after_image_same f g (Insert row) e = refl
+after_image_same f g (Delete row) e = refl
+after_image_same f g (Update old new) e = ap (λ (l : List OwnedField). Some l) (with_key_same f g old new e)
+
+-- a row that stands under a key
+pub row_at_same : (f g key : List ℕ) (row : List OwnedValue) → key_places f ≡ key_places g → IsRowAt f key row → IsRowAt g key row
+row_at_same f g key row e is = record {
+  values = is.values;
+  keyed = row_fits f g row e is.keyed;
+  own = is.own ∙ key_of_same f g (Insert row) e;
+}
 
 -- in each column
 pub key_place_at : (f g : List ℕ) (i : ℕ) → key_places f ≡ key_places g → i < length f → i < length g → by_flag (get_or f i 0) false true ≡ by_flag (get_or g i 0) false true

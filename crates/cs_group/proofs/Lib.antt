@@ -4,6 +4,11 @@ pub mod KeyPlaceLaws
 pub mod MergeLaws
 pub mod TextLaws
 pub mod JoinLaws
+pub mod EntryJoinLaws
+pub mod InverseJoinLaws
+pub mod FoundLaws
+pub mod TableLaws
+pub mod JoinApplyLaws
 pub mod Examples
 pub mod ConflictLaws
 pub mod NetLaws

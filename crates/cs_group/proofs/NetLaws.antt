@@ -1,21 +1,20 @@
 -- What the net change of a row does to it.
-use Rattle.std.proofs.Common.{◌≡◌, ℕ, zero, suc, Bool, true, false, true≢false, if◌then◌else◌, List, [], ◌∷◌, length, map, Option, Some, None, option_map, refl, sym, ap, ◌∙◌, arith}
-use Rattle.std.specs.Prelude.{IfSome, ◌&&◌, cond}
+use Rattle.std.proofs.Common.{◌≡◌, ℕ, zero, suc, Bool, true, false, true≢false, if◌then◌else◌, List, [], ◌∷◌, length, map, Option, Some, None, refl, sym, ap, ◌∙◌, arith}
+use Rattle.std.specs.Prelude.{IfSome}
 use Rattle.std.proofs.lemmas.Bool.{and_parts}
 use Rattle.std.specs.Cmp.Lexicographic.{pointwise}
 use Rattle.cs_value.specs.declared.value.OwnedValue.{OwnedValue}
 use Rattle.cs_value.specs.declared.value.OwnedField.{OwnedField}
 use Rattle.cs_value.specs.declared.value.OwnedField.TheVariants.{Undefined, Defined}
 use Rattle.cs_value.specs.Value.{IsRow}
-use Rattle.cs_value.specs.Table.{IsKeyedRow}
-use Rattle.cs_value.specs.Key.{row_key, key_columns}
+use Rattle.cs_value.specs.Key.{key_columns}
 use Rattle.cs_value.specs.State.{IsRowAt}
 use Rattle.cs_value.proofs.KeyedRows.{length-IsKeyedRow}
 use Rattle.cs_value.proofs.Spellings.{row_bytes_same}
 use Rattle.cs_wire.specs.declared.entry.Change.{Change}
-use Rattle.cs_wire.specs.declared.entry.Change.TheVariants.{Insert, Delete, Update}
+use Rattle.cs_wire.specs.declared.entry.Change.TheVariants.{Update}
 use Rattle.cs_wire.specs.Entry.{IsChange, with_key, key_of}
-use Rattle.cs_group.specs.Net.{is_same, values_of, old_record, new_record, image_of_row, net_row_change}
+use Rattle.cs_group.specs.Net.{is_same, values_of, old_record, new_record, net_row_change}
 use Rattle.cs_group.specs.Conflicts.{has_values, filled, conflict_kind, row_after}
 use Rattle.cs_group.proofs.ConflictLaws.{same_values, same_itself, filled_row, has_its_values}
 use Rattle.cs_group.proofs.MergeLaws.{update_is, update_key, row_record, rows_paired, row_image_key}

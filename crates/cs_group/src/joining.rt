@@ -1,8 +1,10 @@
 //! Two changesets as one.
-ghost use Rattle.std.specs.Prelude.{◌≡◌, ◌++◌, IfOk, IfErr, IfSome, OnOk, Some, filter, filter_map};
+ghost use Rattle.std.specs.Prelude.{◌≡◌, [], ◌++◌, IfOk, IfErr, IfSome, OnOk, Some, filter, filter_map};
 ghost use Rattle.cs_value.specs.declared.refusal.OrNoMemory.TheVariants.{NoMemory as OutOfMemory};
 ghost use Rattle.cs_value.specs.Refusals.{Refuses};
 ghost use Rattle.cs_wire.specs.Changeset.{IsChangeset};
+ghost use Rattle.cs_group.specs.Inverse.{IsInverse};
+ghost use Rattle.cs_group.specs.JoinLaw.{DoesBoth};
 ghost use Rattle.cs_group.specs.Joining.{table_name, key_places, AreJoinable, FirstClash, IsJoined};
 ghost use Rattle.cs_group.specs.Joining.{with_text, is_new, if_new, outcome, joined_group};
 
@@ -14,7 +16,8 @@ use cs_wire::{Changeset, Group};
 use std::alloc::Global;
 
 /// The changeset that does what `first` does and then `second`, as SQLite's `sqlite3changeset_concat`
-/// makes it, but for the order of keys.
+/// makes it, but for the order of keys. Where `first` applies without a conflict, and then `second`, the
+/// join does, and makes the same; a changeset and its inverse join to none.
 ///
 /// The tables of `first` stand first, in their order, with their headers, and behind them those
 /// that `second` has alone; so do the entries of a table, by their keys. Two entries of one key are
@@ -30,6 +33,8 @@ pub fn concat(
     second: &Changeset,
 ) -> Result<Changeset, ConcatFault>
     ensures joined { IfOk result (IsJoined first.now second.now) }
+    ensures applies { IfOk result (DoesBoth first.now second.now) }
+    ensures undone { IfOk result (λ join. IsInverse first.now second.now → join ≡ []) }
     ensures clash { IfErr result (Refuses (λ f. FirstClash first.now second.now f.place)) }
     ensures joinable { IfErr result (λ f. f ≡ OutOfMemory → AreJoinable first.now second.now) }
 {

@@ -1,12 +1,12 @@
 -- What sessions remember and what they make of it, worked as examples: on the table t of columns a and b, of which a is
 -- the key. Keys are those of integers: 0x01 and eight bytes.
-use Rattle.std.proofs.Common.{◌≡◌, ℕ, pos, List, [], ◌∷◌, Option, Some, None, codes, refl}
+use Rattle.std.proofs.Common.{◌≡◌, ◌≢◌, ℕ, pos, List, [], ◌∷◌, Option, Some, None, codes, refl}
 use Rattle.cs_value.specs.declared.value.OwnedValue.{OwnedValue}
 use Rattle.cs_value.specs.declared.value.OwnedValue.TheVariants.{Int}
-use Rattle.cs_value.specs.State.{SchemaData, State, WrittenData, row_at}
+use Rattle.cs_value.specs.State.{SchemaData, State, WrittenData, row_at, rows_at}
 use Rattle.cs_wire.specs.declared.entry.Change.TheVariants.{Insert, Delete}
 use Rattle.cs_wire.proofs.Examples.{flags, header, direct, x, y, row, update}
-use Rattle.cs_session.specs.FirstImages.{FirstImage, Notes, recorded, recorded_changes}
+use Rattle.cs_session.specs.FirstImages.{FirstImage, Notes, rewound, recorded, recorded_changes}
 
 -- the keys 1 and 2
 abbrev first_key : List ℕ
@@ -75,3 +75,13 @@ row_again state is = rw is refl
 -- writes of a table that is not attached are not noted
 other_table : recorded (with_firsts []) (record { table = codes "u"; key = first_key; former = None } ∷ []) ≡ with_firsts []
 other_table = refl
+
+-- ---- the rows from before
+
+-- those of a table that was attached are those that stand there
+attached_alone : (state : State) → rewound (with_firsts []) state ≡ rows_at state (codes "t") ∷ []
+attached_alone state = refl
+
+-- so what is written to them without the session changes the rows from before
+past_session : (old new : State) → rows_at old (codes "t") ≢ rows_at new (codes "t") → rewound (with_firsts []) old ≢ rewound (with_firsts []) new
+past_session old new other = λ same. other (cc same)
