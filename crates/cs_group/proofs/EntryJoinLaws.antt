@@ -7,6 +7,7 @@ use Rattle.std.proofs.lemmas.Option.{none-some}
 use Rattle.cs_value.specs.declared.value.OwnedValue.{OwnedValue}
 use Rattle.cs_value.specs.declared.value.OwnedField.{OwnedField}
 use Rattle.cs_value.specs.declared.value.OwnedField.TheVariants.{Undefined, Defined}
+use Rattle.cs_value.specs.Table.{IsKeyedRow}
 use Rattle.cs_value.proofs.KeyedRows.{length-IsKeyedRow}
 use Rattle.cs_wire.specs.declared.entry.Change.{Change}
 use Rattle.cs_wire.specs.declared.entry.Change.TheVariants.{Insert, Delete, Update}
@@ -30,7 +31,7 @@ LeftLeads flags before after (Some entry) = LeadsFrom flags entry.change before 
 -- ---- a column
 
 -- what two images say of a column leads from its value before to its value after
-abbrev ColumnLeads : ℕ → OwnedField → OwnedField → OwnedValue → OwnedValue → Type 0
+abbrev pub ColumnLeads : ℕ → OwnedField → OwnedField → OwnedValue → OwnedValue → Type 0
 ColumnLeads zero Undefined Undefined v w = v ≡ w
 ColumnLeads zero Undefined (Defined y) v w = ⊥
 ColumnLeads zero (Defined x) Undefined v w = ⊥
@@ -127,7 +128,7 @@ fills_more (Defined y) v w image row rest h e = cc (h, e)
 -- ---- a row
 
 -- the same in each column
-abbrev RowLeads : List ℕ → List OwnedField → List OwnedField → List OwnedValue → List OwnedValue → Type 0
+abbrev pub RowLeads : List ℕ → List OwnedField → List OwnedField → List OwnedValue → List OwnedValue → Type 0
 RowLeads [] [] [] [] [] = Unit {0}
 RowLeads [] [] [] [] (w ∷ other) = ⊥
 RowLeads [] [] [] (v ∷ row) other = ⊥
@@ -140,7 +141,7 @@ RowLeads (flag ∷ flags) (b ∷ before) (a ∷ after) (v ∷ row) [] = ⊥
 RowLeads (flag ∷ flags) (b ∷ before) (a ∷ after) (v ∷ row) (w ∷ other) = ColumnLeads flag b a v w × RowLeads flags before after row other
 
 -- an update leads from a row with its old values to this row with its new ones
-update_row : (flags : List ℕ) (old new : List OwnedField) (row : List OwnedValue) → IsKeyedUpdate flags old new → has_values row old ≡ true
+pub update_row : (flags : List ℕ) (old new : List OwnedField) (row : List OwnedValue) → IsKeyedUpdate flags old new → has_values row old ≡ true
     → RowLeads flags old (with_key flags old new) row (filled (with_key flags old new) row)
 update_row [] [] [] [] fits e = tt
 update_row [] [] [] (v ∷ row) fits e = absurd (true≢false (sym e))
@@ -163,7 +164,7 @@ update_row (suc flag ∷ flags) (Defined x ∷ old) (Undefined ∷ new) (v ∷ r
     ((same, same, sym same), update_row flags old new row fits.1 both.1)
 
 -- two in turn lead from the first row to the last
-rows_lead : (flags : List ℕ) (b a c d : List OwnedField) (row mid last : List OwnedValue) → RowLeads flags b a row mid → RowLeads flags c d mid last
+pub rows_lead : (flags : List ℕ) (b a c d : List OwnedField) (row mid last : List OwnedValue) → RowLeads flags b a row mid → RowLeads flags c d mid last
     → RowLeads flags (laid_over b c) (laid_over d a) row last
 rows_lead [] [] [] [] [] [] [] [] h k = tt
 rows_lead [] [] [] [] [] [] [] (w ∷ last) h k = absurd k
@@ -241,6 +242,21 @@ laid_values (f ∷ image) [] e = absurd (omega arith)
 laid_values (Undefined ∷ image) (v ∷ row) e = ap (λ (l : List OwnedValue). v ∷ l) (laid_values image row (omega arith))
 laid_values (Defined w ∷ image) (v ∷ row) e = ap (λ (l : List OwnedValue). w ∷ l) (laid_values image row (omega arith))
 
+-- those of an update laid over the row that it finds are what it leaves
+pub inserted_values : (flags : List ℕ) (row : List OwnedValue) (old new : List OwnedField) → IsKeyedRow flags row → IsKeyedUpdate flags old new
+    → values_of (laid_over (with_key flags old new) (map Defined row)) ≡ filled (with_key flags old new) (filled (map Defined row) [])
+inserted_values flags row old new keyed fits =
+    let image = with_key flags old new in
+    let widths = length-IsKeyedUpdate flags old new fits in
+    laid_values image row (length-with_key flags old new widths.0 widths.1 ∙ length-IsKeyedRow flags row keyed) ∙ sym (ap (filled image) (filled_row row []))
+
+-- and its old ones laid over the row that it leaves are the row that it found
+pub deleted_values : (flags : List ℕ) (old new : List OwnedField) (row stood : List OwnedValue) → IsKeyedUpdate flags old new → IsKeyedRow flags row → has_values stood old ≡ true
+    → row ≡ filled (with_key flags old new) stood → values_of (laid_over old (map Defined row)) ≡ stood
+deleted_values flags old new row stood fits keyed e left =
+    let widths = length-IsKeyedUpdate flags old new fits in
+    laid_values old row (sym widths.0 ∙ length-IsKeyedRow flags row keyed) ∙ ap (filled old) left ∙ (update_undone flags old new stood fits e).1
+
 -- ---- two changes
 
 -- the net change leads from a row, or none, to another, or there is none and they are one
@@ -267,17 +283,14 @@ abbrev BothLead : List ℕ → Change → Change → Option (List OwnedValue) �
 BothLead flags first second before =
     (follows flags first second ≡ true) × ChangeLeads flags before (row_after flags second (row_after flags first before)) (net_change flags (joint_image flags first second))
 
-both_lead : (flags : List ℕ) (first second : Change) → IsChange flags first → IsChange flags second → key_of flags first ≡ key_of flags second → (before : Option (List OwnedValue))
+pub both_lead : (flags : List ℕ) (first second : Change) → IsChange flags first → IsChange flags second → key_of flags first ≡ key_of flags second → (before : Option (List OwnedValue))
     → conflict_kind first before ≡ None → conflict_kind second (row_after flags first before) ≡ None → BothLead flags first second before
 both_lead flags (Insert row) (Insert other) p q k before e f = absurd (none-some Conflict (sym f))
 both_lead flags (Insert row) (Delete other) p q k None e f = (refl, refl)
 both_lead flags (Insert row) (Delete other) p q k (Some stood) e f = absurd (none-some Conflict (sym e))
 both_lead flags (Insert row) (Update old new) p q k None e f =
-    let image = with_key flags old new in
-    let values = values_of (laid_over image (map Defined row)) in
-    let widths = length-IsKeyedUpdate flags old new q.2 in
-    let width = length-with_key flags old new widths.0 widths.1 ∙ length-IsKeyedRow flags row p.1 in
-    (refl, record { no_conflict = refl; leaves = ap Some (filled_row values [] ∙ laid_values image row width ∙ sym (ap (filled image) (filled_row row []))) })
+    let values = values_of (laid_over (with_key flags old new) (map Defined row)) in
+    (refl, record { no_conflict = refl; leaves = ap Some (filled_row values [] ∙ inserted_values flags row old new p.1 q.2) })
 both_lead flags (Insert row) (Update old new) p q k (Some stood) e f = absurd (none-some Conflict (sym e))
 both_lead flags (Delete row) (Insert other) p q k None e f = absurd (none-some NotFound (sym e))
 both_lead flags (Delete row) (Insert other) p q k (Some stood) e f =
@@ -292,10 +305,7 @@ both_lead flags (Update old new) (Delete row) p q k None e f = absurd (none-some
 both_lead flags (Update old new) (Delete row) p q k (Some stood) e f =
     let mid = filled (with_key flags old new) stood in
     let found : row ≡ mid = all_values mid row (no_data (has_values mid (map Defined row)) f) in
-    let undone = update_undone flags old new stood p.2 (no_data (has_values stood old) e) in
-    let widths = length-IsKeyedUpdate flags old new p.2 in
-    let width = sym widths.0 ∙ length-IsKeyedRow flags row q.1 in
-    let whole : values_of (laid_over old (map Defined row)) ≡ stood = laid_values old row width ∙ ap (filled old) found ∙ undone.1 in
+    let whole = deleted_values flags old new row stood p.2 q.1 (no_data (has_values stood old) e) found in
     (refl, rw whole (record { no_conflict = rw (has_its_values stood) refl; leaves = refl }))
 both_lead flags (Update old new) (Update next last) p q k None e f = absurd (none-some NotFound (sym e))
 both_lead flags (Update old new) (Update next last) p q k (Some stood) e f =

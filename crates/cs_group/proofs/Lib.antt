@@ -9,6 +9,7 @@ pub mod InverseJoinLaws
 pub mod FoundLaws
 pub mod TableLaws
 pub mod JoinApplyLaws
+pub mod JoinNetLaws
 pub mod Examples
 pub mod ConflictLaws
 pub mod NetLaws

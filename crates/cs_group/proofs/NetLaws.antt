@@ -75,7 +75,7 @@ same_rows (v ∷ before) (w ∷ after) e =
     cc (first, rest)
 
 -- a row is the values of its image
-values_are : (row : List OwnedValue) → values_of (map Defined row) ≡ row
+pub values_are : (row : List OwnedValue) → values_of (map Defined row) ≡ row
 values_are [] = refl
 values_are (v ∷ row) = ap (λ (l : List OwnedValue). v ∷ l) (values_are row)
 

@@ -4,7 +4,7 @@ ghost use Rattle.cs_value.specs.declared.refusal.OrNoMemory.TheVariants.{NoMemor
 ghost use Rattle.cs_value.specs.Refusals.{Refuses};
 ghost use Rattle.cs_wire.specs.Changeset.{IsChangeset};
 ghost use Rattle.cs_group.specs.Inverse.{IsInverse};
-ghost use Rattle.cs_group.specs.JoinLaw.{DoesBoth};
+ghost use Rattle.cs_group.specs.JoinLaw.{DoesBoth, NetsBoth};
 ghost use Rattle.cs_group.specs.Joining.{table_name, key_places, AreJoinable, FirstClash, IsJoined};
 ghost use Rattle.cs_group.specs.Joining.{with_text, is_new, if_new, outcome, joined_group};
 
@@ -34,6 +34,7 @@ pub fn concat(
 ) -> Result<Changeset, ConcatFault>
     ensures joined { IfOk result (IsJoined first.now second.now) }
     ensures applies { IfOk result (DoesBoth first.now second.now) }
+    ensures nets { IfOk result (NetsBoth first.now second.now) }
     ensures undone { IfOk result (λ join. IsInverse first.now second.now → join ≡ []) }
     ensures clash { IfErr result (Refuses (λ f. FirstClash first.now second.now f.place)) }
     ensures joinable { IfErr result (λ f. f ≡ OutOfMemory → AreJoinable first.now second.now) }
