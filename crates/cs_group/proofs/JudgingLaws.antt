@@ -1,12 +1,9 @@
 -- The columns of tables, judged one by one.
-use Rattle.std.proofs.Common.{◌≡◌, ℕ, zero, suc, ◌<◌, ◌≤◌, Bool, true, false, true≢false, cond, not, ◌&&◌, List, [], ◌∷◌, length, drop, get_or, Option, Some, None, refl, sym, ap, ◌∙◌, arith}
-use Rattle.std.proofs.lemmas.Bool.{ltb-false}
+use Rattle.std.proofs.Common.{◌≡◌, ℕ, zero, suc, ◌<◌, ◌≤◌, Bool, true, false, not, ◌&&◌, List, [], ◌∷◌, length, drop, get_or, Option, Some, None, refl, ap, ◌∙◌, arith}
 use Rattle.std.proofs.lemmas.List.{drop_all}
 use Rattle.std.proofs.Math.Bool.{beq}
 use Rattle.cs_group.specs.Net.{by_flag}
-use Rattle.std.specs.Prelude.{nat_lt}
-use Rattle.cs_group.specs.declared.judging.Judgement.TheVariants.{Skipped, Wider, Compatible}
-use Rattle.cs_group.specs.Judging.{leads, judgement, is_compatible}
+use Rattle.cs_group.specs.Judging.{leads, judgement}
 use Rattle.cs_group.specs.Joining.{key_places}
 
 -- fewer columns than those that lead
@@ -45,6 +42,7 @@ leads_by flags table i a b differ lt m p q e =
 
 -- ---- by the places of the key
 
+-- they lead the same
 leads_same : (f g table : List ℕ) → key_places f ≡ key_places g → leads f table ≡ leads g table
 leads_same [] [] table e = refl
 leads_same [] (b ∷ g) table e = absurd cc
@@ -57,6 +55,7 @@ leads_same (suc a ∷ f) (suc b ∷ g) (suc t ∷ table) e = let rest : key_plac
 leads_same (zero ∷ f) (suc b ∷ g) (t ∷ table) e = absurd cc
 leads_same (suc a ∷ f) (zero ∷ g) (t ∷ table) e = absurd cc
 
+-- and have as many
 width_same : (f g : List ℕ) → key_places f ≡ key_places g → length f ≡ length g
 width_same [] [] e = refl
 width_same [] (b ∷ g) e = absurd cc
@@ -67,21 +66,3 @@ width_same (a ∷ f) (b ∷ g) e = let rest : key_places f ≡ key_places g = cc
 pub judgement_same : (f g : List ℕ) (table : Option (List ℕ)) → key_places f ≡ key_places g → judgement f table ≡ judgement g table
 judgement_same f g None e = refl
 judgement_same f g (Some table) e = rw (leads_same f g table e, width_same f g e) refl
-
-leads_all_places : (flags table : List ℕ) → leads flags table ≡ true → length table ≤ length flags → key_places flags ≡ key_places table
-leads_all_places [] [] e le = refl
-leads_all_places [] (t ∷ table) e le = absurd (omega arith)
-leads_all_places (f ∷ flags) [] e le = absurd (true≢false (sym e))
-leads_all_places (zero ∷ flags) (zero ∷ table) e le = ap (λ (l : List Bool). false ∷ l) (leads_all_places flags table e (omega arith))
-leads_all_places (zero ∷ flags) (suc t ∷ table) e le = absurd (true≢false (sym e))
-leads_all_places (suc f ∷ flags) (zero ∷ table) e le = absurd (true≢false (sym e))
-leads_all_places (suc f ∷ flags) (suc t ∷ table) e le = ap (λ (l : List Bool). true ∷ l) (leads_all_places flags table e (omega arith))
-
--- and have those of a table that they are compatible with
-pub compatible_places : (flags table : List ℕ) → is_compatible (judgement flags (Some table)) ≡ true → key_places flags ≡ key_places table
-compatible_places flags table e = at (leads flags table) (nat_lt (length flags) (length table)) refl refl e
-  where
-    at : (a b : Bool) → leads flags table ≡ a → nat_lt (length flags) (length table) ≡ b → is_compatible (cond a (cond b Wider Compatible) Skipped) ≡ true → key_places flags ≡ key_places table
-    at false b is lt e = absurd (true≢false (sym e))
-    at true true is lt e = absurd (true≢false (sym e))
-    at true false is lt e = leads_all_places flags table is (ltb-false (length flags) (length table) lt)

@@ -314,10 +314,6 @@ module _ (state : State) (notes : Notes) (is_state : IsState state) (are_notes :
   Keys table d e = key_of table.schema.flags d.change ≢ key_of table.schema.flags e.change
 
   module _ (table : AttachedTable) (is : IsTracked state before table) where
-    -- an entry is of the key of its first image
-    abbrev OfKey : FirstImage → Entry → Type 0
-    OfKey first entry = key_of table.schema.flags entry.change ≡ first.key
-
     all_fit : (firsts : List FirstImage) → AllByRecursion (IsFirst table) firsts → AllByRecursion (IsEntry table.schema.flags) (filter_map (net_entry state table) firsts)
     all_fit [] first = tt
     all_fit (f ∷ firsts) first = at (net_entry state table f) (nets state before table is.held is.rows f first.0) (all_fit firsts first.1)

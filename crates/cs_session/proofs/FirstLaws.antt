@@ -73,9 +73,6 @@ append_new (f ∷ firsts) first q e = at (same_bytes f.key q) e (append_new firs
 
 -- ---- what is noted
 
-none_at : (firsts : List FirstImage) (q : List ℕ) (b : Bool) → is_some (first_at firsts q) ≡ b → first_at firsts q ≡ None → b ≡ false
-none_at firsts q b e none = sym e ∙ ap (λ (o : Option (Option (List OwnedValue))). is_some o) none
-
 -- a key that was there keeps its first image
 noted_kept : (firsts : List FirstImage) (written : List WrittenData) (q : List ℕ) (row : Option (List OwnedValue)) → first_at firsts q ≡ Some row
     → first_at (noted firsts written) q ≡ Some row

@@ -200,3 +200,11 @@ fn joins_what_sessions_noted(rt: HostRuntime) {
         end(store);
     }
 }
+
+#[test]
+fn applies_a_join_as_both(rt: HostRuntime) {
+    let mut store = store_with_table(&rt);
+    let both = join_of(&rt, INSERT, UPDATE);
+    assert!(rt; noted(&rt, &mut store, &both).as_slice() == INSERT_OTHER);
+    end(store);
+}
