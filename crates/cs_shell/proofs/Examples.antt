@@ -32,7 +32,7 @@ use Rattle.cs_wire.specs.Inverse.{IsInverseGroup}
 use Rattle.cs_group.specs.Inverse.{IsInverse}
 use Rattle.cs_group.specs.Joining.{IsJoined, AreJoinable, AgreesWith, FirstClash, key_places}
 use Rattle.cs_shell.specs.Files.{Inverts, Joins, JoinFails}
-use Rattle.cs_shell.specs.declared.fault.FileFault.TheVariants.{Read, Schema as Tables}
+use Rattle.cs_shell.specs.declared.fault.FileFault.TheVariants.{First, Second, Schema as Tables}
 use Rattle.cs_shell.specs.Lines.{HasNoFeed, words_of, IsSlot, CommandData, Load, Hex, Invert, Concat, Dump, Asks, AsksNothing}
 use Rattle.cs_shell.specs.Script.{SlotMap, error_line, refusal_text, reply_text, Silent, Text as Printed, Refused, CommandGives, loaded, no_hex}
 use Rattle.cs_shell.specs.Script.{shown, nothing_to_show, inverted, not_inverted, nothing_to_invert, LineGives, answered, not_text, malformed}
@@ -263,12 +263,12 @@ insert_file_joins_update = record {
 }
 
 -- the byte 41 is joined with no file: that is no table
-letter_is_not_joined : (second : List ℕ) → JoinFails (0x41 ∷ []) second (Read (record { kind = NotTable; place = 0 }))
-letter_is_not_joined second = inl letter_is_refused
+letter_is_not_joined : (second : List ℕ) → JoinFails (0x41 ∷ []) second (First (record { kind = NotTable; place = 0 }))
+letter_is_not_joined second = letter_is_refused
 
 -- nor is the file of the insertion joined with it
-letter_is_not_joined_after : JoinFails insert_file (0x41 ∷ []) (Read (record { kind = NotTable; place = 0 }))
-letter_is_not_joined_after = inr (insert_file_is_accepted, letter_is_refused)
+letter_is_not_joined_after : JoinFails insert_file (0x41 ∷ []) (Second (record { kind = NotTable; place = 0 }))
+letter_is_not_joined_after = (insert_file_is_accepted, letter_is_refused)
 
 -- a table `t` of three columns
 abbrev wider : HeaderData

@@ -55,8 +55,10 @@ of_refused Holds file tool.NoMemory reply why same holds = absurd same
 -- slots whose files are not joined
 pub gives_join_refused : (old : SlotMap) (first second into file other : List ℕ) (fault : OrNoMemory FileFault) (reply : script.Reply) → Some file ≡ get old first → Some other ≡ get old second
     → Refuses (JoinFails file other) fault → IsJoinRefusal fault reply → CommandGives old (Concat first second into) reply old
-gives_join_refused old first second into file other (tool.Fault (file_fault.Read f)) reply is other_is why same =
-    subst (λ r. CommandGives old (Concat first second into) r old) (sym same) (not_read old first second into file other f (sym is) (sym other_is) why)
+gives_join_refused old first second into file other (tool.Fault (file_fault.First f)) reply is other_is why same =
+    subst (λ r. CommandGives old (Concat first second into) r old) (sym same) (not_read old first second into file other f (sym is) (sym other_is) (inl why))
+gives_join_refused old first second into file other (tool.Fault (file_fault.Second f)) reply is other_is why same =
+    subst (λ r. CommandGives old (Concat first second into) r old) (sym same) (not_read old first second into file other f (sym is) (sym other_is) (inr why))
 gives_join_refused old first second into file other (tool.Fault (file_fault.Schema s)) reply is other_is why same =
     subst (λ r. CommandGives old (Concat first second into) r old) (sym same) (not_joined old first second into file other s (sym is) (sym other_is) why)
 gives_join_refused old first second into file other tool.NoMemory reply is other_is why same = absurd same

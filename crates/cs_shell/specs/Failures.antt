@@ -22,7 +22,8 @@ unread (tool.Fault f) = Refused (Fault f)
 unread tool.NoMemory = Refused NoMemory
 
 abbrev pub unjoined : OrNoMemory FileFault → Failure
-unjoined (tool.Fault (file.Read f)) = Refused (Fault f)
+unjoined (tool.Fault (file.First f)) = Refused (Fault f)
+unjoined (tool.Fault (file.Second f)) = Refused (Fault f)
 unjoined (tool.Fault (file.Schema s)) = Refused (Schema s)
 unjoined tool.NoMemory = Refused NoMemory
 

@@ -1,11 +1,11 @@
 -- What it is for files to be the inverse of one, and the join of two.
-use Rattle.std.specs.Prelude.{◌≡◌, ℕ, ◌⊎◌, List}
+use Rattle.std.specs.Prelude.{◌≡◌, ℕ, List}
 use Rattle.cs_wire.specs.Changeset.{GroupData, IsChangeset, IsAccepted, file_bytes}
 use Rattle.cs_wire.specs.ReadFaults.{ReadFails}
 use Rattle.cs_group.specs.Inverse.{IsInverse}
 use Rattle.cs_group.specs.Joining.{IsJoined, FirstClash}
 use Rattle.cs_shell.specs.declared.fault.FileFault.{FileFault}
-use Rattle.cs_shell.specs.declared.fault.FileFault.TheVariants.{Read, Schema}
+use Rattle.cs_shell.specs.declared.fault.FileFault.TheVariants.{First, Second, Schema}
 
 -- the bytes are the file of a changeset, and out is that of its inverse
 pub record Inverts (file out : List ℕ) : Type 0 where
@@ -40,18 +40,26 @@ pub record Clashes (first second : List ℕ) (place : ℕ) : Type 0 where
   pub are_files : AreFiles first second changeset other
   pub clash : FirstClash changeset other place
 
+-- why the first file, or the only one, is not read
+abbrev pub FirstFails : List ℕ → FileFault → Type 0
+FirstFails file (First f) = ReadFails file f.kind f.place
+FirstFails file (Second f) = ⊥
+FirstFails file (Schema s) = ⊥
+
+-- why the second file is not read
+abbrev pub SecondFails : List ℕ → FileFault → Type 0
+SecondFails file (First f) = ⊥
+SecondFails file (Second f) = ReadFails file f.kind f.place
+SecondFails file (Schema s) = ⊥
+
+-- why two changesets are not joined
+abbrev pub AreUnjoined : List GroupData → List GroupData → FileFault → Type 0
+AreUnjoined changeset other (First f) = ⊥
+AreUnjoined changeset other (Second f) = ⊥
+AreUnjoined changeset other (Schema s) = FirstClash changeset other s.place
+
 -- why two files are not joined: the first is none, or else the second, or a table differs
 abbrev pub JoinFails : List ℕ → List ℕ → FileFault → Type 0
-JoinFails first second (Read f) =
-    ReadFails first f.kind f.place ⊎ (IsAccepted first × ReadFails second f.kind f.place)
+JoinFails first second (First f) = ReadFails first f.kind f.place
+JoinFails first second (Second f) = IsAccepted first × ReadFails second f.kind f.place
 JoinFails first second (Schema s) = Clashes first second s.place
-
--- why one file is not read
-abbrev pub IsUnread : List ℕ → FileFault → Type 0
-IsUnread file (Read f) = ReadFails file f.kind f.place
-IsUnread file (Schema s) = ⊥
-
--- and why two changesets are not joined
-abbrev pub AreUnjoined : List GroupData → List GroupData → FileFault → Type 0
-AreUnjoined changeset other (Read f) = ⊥
-AreUnjoined changeset other (Schema s) = FirstClash changeset other s.place

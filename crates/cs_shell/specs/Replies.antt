@@ -60,6 +60,7 @@ IsRefusalOf tool.NoMemory answer = ⊥
 
 -- and to one whose files are not joined
 abbrev pub IsJoinRefusal : OrNoMemory FileFault → script.Reply → Type 0
-IsJoinRefusal (tool.Fault (file.Read f)) answer = answer ≡ script.Refused (refusal.Fault f)
+IsJoinRefusal (tool.Fault (file.First f)) answer = answer ≡ script.Refused (refusal.Fault f)
+IsJoinRefusal (tool.Fault (file.Second f)) answer = answer ≡ script.Refused (refusal.Fault f)
 IsJoinRefusal (tool.Fault (file.Schema s)) answer = answer ≡ script.Refused (refusal.Schema s)
 IsJoinRefusal tool.NoMemory answer = ⊥

@@ -19,7 +19,7 @@ use Rattle.cs_shell.specs.declared.script.Status.TheVariants.{Done, LinesRefused
 use Rattle.cs_shell.specs.declared.told.Told.{Told}
 use Rattle.cs_shell.specs.Told.{has_failed, known}
 use Rattle.cs_shell.specs.Calls.{WritesSome}
-use Rattle.cs_shell.specs.declared.fault.FileFault.TheVariants.{Read, Schema as Tables}
+use Rattle.cs_shell.specs.declared.fault.FileFault.TheVariants.{First, Second, Schema as Tables}
 use Rattle.cs_shell.specs.Files.{Inverts, Joins, JoinFails}
 use Rattle.cs_wire.specs.ReadFaults.{code_of, name_of, ReadFails}
 use Rattle.cs_shell.specs.Lines.{Splits, unended, CommandData, Load, Hex, Invert, Concat, Dump}
@@ -80,7 +80,7 @@ pub data CommandGives : SlotMap → CommandData → Reply → SlotMap → Type 0
       → get old second ≡ Some other → Joins file other out
       → CommandGives old (Concat first second into) Silent (insert old into out)
   not_read : (old : SlotMap) (first second into file other : List ℕ) (f : ReadFault) → get old first ≡ Some file
-      → get old second ≡ Some other → JoinFails file other (Read f)
+      → get old second ≡ Some other → JoinFails file other (First f) ⊎ JoinFails file other (Second f)
       → CommandGives old (Concat first second into) (Refused (Fault f)) old
   not_joined : (old : SlotMap) (first second into file other : List ℕ) (s : SchemaFault) → get old first ≡ Some file
       → get old second ≡ Some other → JoinFails file other (Tables s)

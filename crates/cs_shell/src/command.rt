@@ -64,7 +64,9 @@ impl From<ToolFault> for Failure {
 
     fn from(error: ToolFault) -> Failure {
         match error {
-            ToolFault::Fault(FileFault::Read(fault)) => Failure::Refused(Refusal::Fault(fault)),
+            ToolFault::Fault(FileFault::First(fault) | FileFault::Second(fault)) => {
+                Failure::Refused(Refusal::Fault(fault))
+            }
             ToolFault::Fault(FileFault::Schema(fault)) => Failure::Refused(Refusal::Schema(fault)),
             ToolFault::NoMemory => Failure::Refused(Refusal::NoMemory),
         }

@@ -4,10 +4,10 @@ ghost use Rattle.cs_value.specs.Refusals.{Refuses};
 ghost use Rattle.cs_wire.specs.ReadFaults.{ReadFails};
 ghost use Rattle.cs_wire.specs.Changeset.{IsChangeset, file_bytes};
 ghost use Rattle.cs_group.specs.Joining.{IsJoined};
-ghost use Rattle.cs_shell.specs.Files.{Inverts, Joins, JoinFails, IsUnread, AreUnjoined};
+ghost use Rattle.cs_shell.specs.Files.{Inverts, Joins, JoinFails, FirstFails, SecondFails, AreUnjoined};
 
-use crate::fault::{FileFault, ToolFault};
-use cs_group::{ConcatFault, concat, invert};
+use crate::fault::{ToolFault, first_fault, join_fault, second_fault};
+use cs_group::{concat, invert};
 use cs_wire::{Changeset, ReadError, read, write};
 use std::alloc::Global;
 
@@ -32,29 +32,33 @@ pub fn invert_bytes(alloc: Global, file: &[u8]) -> Result<Vec<u8>, ReadError>
 ///
 /// # Errors
 ///
-/// `Read` where the first file is no changeset's, and else where the second is none, with the
-/// fault's kind and place; `Schema` where a table has other columns or another key in the second
+/// `First` where the first file is no changeset's, and else `Second` where the second is none, with
+/// the fault's kind and place; `Schema` where a table has other columns or another key in the second
 /// file, with the place of its group there; and `NoMemory` where memory is refused.
 pub fn concat_bytes(alloc: Global, first: &[u8], second: &[u8]) -> Result<Vec<u8>, ToolFault>
     ensures joined { IfOk result (λ out. Joins first.now second.now out.items) }
     ensures refused { IfErr result (Refuses (JoinFails first.now second.now)) }
 {
-    let first = read_file(alloc, first)?;
-    let second = read_file(alloc, second)?;
+    let first = read_first(alloc, first)?;
+    let second = read_second(alloc, second)?;
     let joined = join(alloc, &first, &second)?;
     Ok(write(alloc, &joined)?)
 }
 
-/// The changeset of a file.
-fn read_file(alloc: Global, file: &[u8]) -> Result<Changeset, ToolFault>
+/// The changeset of the first file.
+fn read_first(alloc: Global, file: &[u8]) -> Result<Changeset, ToolFault>
     ensures found { IfOk result (λ c. IsChangeset c × (file.now ≡ file_bytes c)) }
-    ensures refused { IfErr result (Refuses (IsUnread file.now)) }
+    ensures refused { IfErr result (Refuses (FirstFails file.now)) }
 {
-    match read(alloc, file) {
-        Ok(changeset) => Ok(changeset),
-        Err(ReadError::Fault(fault)) => Err(ToolFault::Fault(FileFault::Read(fault))),
-        Err(ReadError::NoMemory) => Err(ToolFault::NoMemory),
-    }
+    read(alloc, file).map_err(first_fault)
+}
+
+/// The changeset of the second file.
+fn read_second(alloc: Global, file: &[u8]) -> Result<Changeset, ToolFault>
+    ensures found { IfOk result (λ c. IsChangeset c × (file.now ≡ file_bytes c)) }
+    ensures refused { IfErr result (Refuses (SecondFails file.now)) }
+{
+    read(alloc, file).map_err(second_fault)
 }
 
 /// The join of two changesets.
@@ -62,9 +66,5 @@ fn join(alloc: Global, first: &Changeset, second: &Changeset) -> Result<Changese
     ensures joined { IfOk result (IsJoined first.now second.now) }
     ensures refused { IfErr result (Refuses (AreUnjoined first.now second.now)) }
 {
-    match concat(alloc, first, second) {
-        Ok(joined) => Ok(joined),
-        Err(ConcatFault::Fault(fault)) => Err(ToolFault::Fault(FileFault::Schema(fault))),
-        Err(ConcatFault::NoMemory) => Err(ToolFault::NoMemory),
-    }
+    concat(alloc, first, second).map_err(join_fault)
 }

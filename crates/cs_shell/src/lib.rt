@@ -31,7 +31,7 @@ mod words;
 
 pub use cs_group::SchemaFault;
 pub use cs_wire::{ReadError, ReadFault, ReadFaultKind};
-pub use fault::{FileFault, OutputFault, ToolFault};
+pub use fault::{FileFault, OutputFault, ToolFault, first_fault};
 pub use files::{concat_bytes, invert_bytes};
 pub use script::{Status, run_slots};
 pub use texts::{dump_text, report_text, sql_text};

@@ -99,7 +99,9 @@ fn refuse_join(fault: ToolFault) -> Result<Reply, NoMemory>
     ensures { IfOk result (λ reply. IsJoinRefusal fault (reply_of reply)) }
 {
     match fault {
-        ToolFault::Fault(FileFault::Read(fault)) => Ok(Reply::Refused(Refusal::Fault(fault))),
+        ToolFault::Fault(FileFault::First(fault) | FileFault::Second(fault)) => {
+            Ok(Reply::Refused(Refusal::Fault(fault)))
+        }
         ToolFault::Fault(FileFault::Schema(fault)) => Ok(Reply::Refused(Refusal::Schema(fault))),
         ToolFault::NoMemory => Err(NoMemory),
     }

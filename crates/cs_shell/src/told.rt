@@ -28,6 +28,13 @@ impl<T> Told<T> {
         }
     }
 
+    /// The reader or the writer, without the flag.
+    pub fn into_inner(self) -> T
+        ensures { result ≡ inner_of self }
+    {
+        self.inner
+    }
+
     /// Whether a call failed.
     pub fn failed(&self) -> bool
         ensures { result ≡ has_failed self.now }

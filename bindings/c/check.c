@@ -1,0 +1,216 @@
+/*
+** Makes the calls of vollikash.h on what its standard input asks for, a line a call, and prints what they answer:
+**
+**     check HEX | invert HEX | concat HEX HEX | dump HEX | sql HEX      where "-" stands for no bytes
+**     ok HEX                    the bytes, or the text, that were made
+**     error CODE FILE PLACE     the report of a refusal
+**
+** Each call is made with no room, with one byte too few, with what it needs and with more, and by several threads at
+** once; a call that does not answer each time as vollikash.h says ends the program with status 1.
+*/
+#include <pthread.h>
+#include <stdio.h>
+#include <stdlib.h>
+#include <string.h>
+
+#include "vollikash.h"
+
+_Static_assert(VOLLIKASH_CLASS(VOLLIKASH_OK) == 0, "SQLITE_OK");
+_Static_assert(VOLLIKASH_CLASS(VOLLIKASH_DUPLICATE_KEY) == 11, "SQLITE_CORRUPT");
+_Static_assert(VOLLIKASH_CLASS(VOLLIKASH_TABLE_EXISTS) == 1, "SQLITE_ERROR");
+_Static_assert(VOLLIKASH_CLASS(VOLLIKASH_SCHEMA) == 17, "SQLITE_SCHEMA");
+_Static_assert(VOLLIKASH_CLASS(VOLLIKASH_NO_MEMORY) == 7, "SQLITE_NOMEM");
+_Static_assert(VOLLIKASH_CLASS(VOLLIKASH_NO_ROOM) == 18, "SQLITE_TOOBIG");
+
+enum { THREADS = 4, STACK = 128 * 1024, MORE = 7, UNTOUCHED = 0xA5 };
+
+/* Bytes in a block that is just as long. */
+struct bytes {
+    uint8_t *at;
+    size_t count;
+};
+
+/* A call, by its name, and its files. */
+struct request {
+    char name[8];
+    struct bytes first;
+    struct bytes second;
+};
+
+/* What a call answered: a report, and the bytes that it made. */
+struct answer {
+    struct vollikash_fault fault;
+    struct bytes made;
+};
+
+static void require(int holds, const char *what)
+{
+    if (!holds) {
+        fprintf(stderr, "check: %s\n", what);
+        exit(1);
+    }
+}
+
+static struct bytes make(size_t count)
+{
+    struct bytes bytes = {malloc(count + (count == 0)), count};
+    require(bytes.at != NULL, "out of memory");
+    memset(bytes.at, UNTOUCHED, count);
+    return bytes;
+}
+
+static int is_untouched(struct bytes bytes, size_t from)
+{
+    while (from < bytes.count && bytes.at[from] == UNTOUCHED) {
+        from++;
+    }
+    return from == bytes.count;
+}
+
+static int call(const struct request *request, struct bytes out, size_t *written, struct vollikash_fault *fault)
+{
+    struct bytes first = request->first, second = request->second;
+    if (strcmp(request->name, "check") == 0) {
+        *written = 0;
+        return vollikash_check(first.at, first.count, fault);
+    }
+    if (strcmp(request->name, "concat") == 0) {
+        return vollikash_concat(first.at, first.count, second.at, second.count, out.at, out.count, written, fault);
+    }
+    if (strcmp(request->name, "invert") == 0) {
+        return vollikash_invert(first.at, first.count, out.at, out.count, written, fault);
+    }
+    if (strcmp(request->name, "dump") == 0) {
+        return vollikash_dump(first.at, first.count, out.at, out.count, written, fault);
+    }
+    require(strcmp(request->name, "sql") == 0, "no such call");
+    return vollikash_sql(first.at, first.count, out.at, out.count, written, fault);
+}
+
+/* One call with so much room, which has to need so much: the bytes that it made, or none. */
+static struct answer answer_in(const struct request *request, size_t room, size_t *needed)
+{
+    struct answer answer;
+    struct bytes out = make(room);
+    memset(&answer.fault, UNTOUCHED, sizeof answer.fault);
+    *needed = UNTOUCHED;
+    int code = call(request, out, needed, &answer.fault);
+    require(answer.fault.code == code, "the report has another number than the answer");
+    require((code == VOLLIKASH_NO_ROOM) == (*needed > room), "NO_ROOM is not answered where it is due");
+    require(is_untouched(out, code == VOLLIKASH_OK ? *needed : 0), "a byte of out was touched");
+    if (code == VOLLIKASH_OK || code == VOLLIKASH_NO_ROOM) {
+        require(answer.fault.file == 0 && answer.fault.place == 0, "a report of no file names one");
+    } else {
+        require(*needed == 0, "a refusal has written something");
+    }
+    answer.made = out;
+    if (code == VOLLIKASH_OK) {
+        answer.made.count = *needed;
+    }
+    return answer;
+}
+
+/* The call with as much room as it needs, after others that have to agree. */
+static struct answer answer_to(const struct request *request)
+{
+    size_t needed, again;
+    struct answer none = answer_in(request, 0, &needed);
+    if (needed > 0) {
+        require(none.fault.code == VOLLIKASH_NO_ROOM, "no room is enough");
+        free(answer_in(request, needed - 1, &again).made.at);
+        require(again == needed, "one byte too few changes what is needed");
+    }
+    struct answer more = answer_in(request, needed + MORE, &again);
+    struct answer exact = answer_in(request, needed, &again);
+    require(again == needed && exact.fault.code != VOLLIKASH_NO_ROOM, "what is needed is not enough");
+    require(memcmp(&more.fault, &exact.fault, sizeof more.fault) == 0, "more room changes the report");
+    require(memcmp(more.made.at, exact.made.at, needed) == 0, "more room changes the bytes");
+    free(none.made.at);
+    free(more.made.at);
+    return exact;
+}
+
+static void print(struct answer answer)
+{
+    if (answer.fault.code != VOLLIKASH_OK) {
+        printf("error %d %d %zu\n", answer.fault.code, answer.fault.file, answer.fault.place);
+        return;
+    }
+    printf("ok ");
+    for (size_t i = 0; i < answer.made.count; i++) {
+        printf("%02x", answer.made.at[i]);
+    }
+    printf(answer.made.count == 0 ? "-\n" : "\n");
+}
+
+static struct bytes parse(const char *digits)
+{
+    struct bytes bytes = make(strcmp(digits, "-") == 0 ? 0 : strlen(digits) / 2);
+    for (size_t i = 0; i < bytes.count; i++) {
+        unsigned byte;
+        require(sscanf(digits + 2 * i, "%2x", &byte) == 1, "no digits");
+        bytes.at[i] = (uint8_t)byte;
+    }
+    return bytes;
+}
+
+static struct request parse_line(char *line)
+{
+    struct request request;
+    char *name = strtok(line, " \n"), *first = strtok(NULL, " \n"), *second = strtok(NULL, " \n");
+    require(name != NULL && first != NULL && strlen(name) < sizeof request.name, "a line asks for no call");
+    strcpy(request.name, name);
+    request.first = parse(first);
+    request.second = parse(second == NULL ? "-" : second);
+    return request;
+}
+
+/* A request, and how it was answered. */
+struct asked {
+    const struct request *request;
+    struct answer answer;
+};
+
+static void *ask_again(void *given)
+{
+    const struct asked *asked = given;
+    struct answer again = answer_to(asked->request);
+    require(memcmp(&again.fault, &asked->answer.fault, sizeof again.fault) == 0, "a thread is answered otherwise");
+    require(again.made.count == asked->answer.made.count, "a thread is given another count");
+    require(memcmp(again.made.at, asked->answer.made.at, again.made.count) == 0, "a thread is given other bytes");
+    free(again.made.at);
+    return NULL;
+}
+
+/* Asks the same in several threads at once, each with a small stack. */
+static void ask_in_threads(struct asked *asked)
+{
+    pthread_t threads[THREADS];
+    pthread_attr_t attributes;
+    require(pthread_attr_init(&attributes) == 0, "no attributes of threads");
+    require(pthread_attr_setstacksize(&attributes, STACK) == 0, "no such stack");
+    for (int i = 0; i < THREADS; i++) {
+        require(pthread_create(&threads[i], &attributes, ask_again, asked) == 0, "no thread");
+    }
+    for (int i = 0; i < THREADS; i++) {
+        require(pthread_join(threads[i], NULL) == 0, "a thread is lost");
+    }
+    pthread_attr_destroy(&attributes);
+}
+
+int main(void)
+{
+    char *line = NULL;
+    size_t room = 0;
+    while (getline(&line, &room, stdin) > 0) {
+        struct request request = parse_line(line);
+        struct asked asked = {&request, answer_to(&request)};
+        ask_in_threads(&asked);
+        print(asked.answer);
+        free(asked.answer.made.at);
+        free(request.first.at);
+        free(request.second.at);
+    }
+    free(line);
+    return 0;
+}

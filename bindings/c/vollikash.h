@@ -1,0 +1,176 @@
+/*
+** Vollikash works on changesets, the files of SQLite's session extension: it
+** checks, inverts, joins and prints them. No call needs SQLite or a database.
+**
+** Every call here is proved, for every input, to answer as is said beside it.
+** What the proof takes for granted of the caller is this:
+**
+**   * No pointer is NULL, also where its length is 0: "" serves there.
+**   * A pointer to bytes has as many of them as the length beside it says, which
+**     is at most PTRDIFF_MAX. `written` and `fault` point to one of their type.
+**   * What a call writes to, that is `out`, `written` and `fault`, overlaps
+**     nothing else that it is given. Two files may be the same bytes.
+**   * While a call runs, no other thread writes to the files, or touches `out`,
+**     `written` or `fault`.
+**   * No call is made from a signal handler, or from the child of a fork of a
+**     process with threads. The stack has 128 KiB left.
+**
+** The caller owns every buffer. A call takes memory by malloc and realloc, some
+** twenty to forty times the bytes of its files, and frees all of it before it
+** returns. It keeps no state, so any number of threads may call at once.
+*/
+#ifndef VOLLIKASH_H
+#define VOLLIKASH_H
+
+#include <stddef.h>
+#include <stdint.h>
+
+#ifdef __cplusplus
+extern "C" {
+#endif
+
+#if defined(__GNUC__)
+#define VOLLIKASH_NONNULL __attribute__((nonnull))
+#else
+#define VOLLIKASH_NONNULL
+#endif
+
+/*
+** What a call answers: 0 where it did what it was asked for, and else why it did
+** not. The numbers are those that the changeset program prints, where a name is
+** written as in NoMemory. The calls below answer OK, 1 to 18, SCHEMA, NO_MEMORY
+** and NO_ROOM; the others are those of stores, applies, sessions and scripts.
+*/
+enum vollikash_code {
+    VOLLIKASH_OK = 0,
+
+    /* The bytes are no changeset's file. */
+    VOLLIKASH_TRUNCATED = 1,        /* the file ends inside a part */
+    VOLLIKASH_NOT_TABLE = 2,        /* the file does not begin with a table */
+    VOLLIKASH_PATCHSET = 3,         /* the file is a patchset */
+    VOLLIKASH_BAD_VARINT = 4,       /* a count is not spelled as a varint */
+    VOLLIKASH_COLUMN_COUNT = 5,     /* a table has no column, or more than 32767 */
+    VOLLIKASH_NO_KEY = 6,           /* a table has no key column */
+    VOLLIKASH_BAD_NAME = 7,         /* a table's name is empty or not UTF-8 */
+    VOLLIKASH_DUPLICATE_TABLE = 8,  /* a table stands twice */
+    VOLLIKASH_EMPTY_GROUP = 9,      /* a table has no change */
+    VOLLIKASH_BAD_OP = 10,          /* a change has no operation of the format */
+    VOLLIKASH_BAD_FLAG = 11,        /* an indirect flag is neither 0 nor 1 */
+    VOLLIKASH_BAD_TYPE = 12,        /* a field has no type of the format */
+    VOLLIKASH_REAL_VALUE = 13,      /* a field is a real number */
+    VOLLIKASH_BAD_TEXT = 14,        /* a text is not UTF-8 */
+    VOLLIKASH_UNDEFINED_FIELD = 15, /* a field that has to be defined is not */
+    VOLLIKASH_UNPAIRED = 16,        /* a field of an update is defined on one side alone */
+    VOLLIKASH_NULL_KEY = 17,        /* a key is NULL */
+    VOLLIKASH_DUPLICATE_KEY = 18,   /* a key stands twice in a table */
+
+    /* A store refuses. */
+    VOLLIKASH_TABLE_EXISTS = 30,
+    VOLLIKASH_NO_TABLE = 31,
+    VOLLIKASH_BAD_SCHEMA = 32,
+    VOLLIKASH_KEY_TAKEN = 33,
+    VOLLIKASH_NO_ROW = 34,
+    VOLLIKASH_ROW_WIDTH = 35,
+    VOLLIKASH_NULL_IN_KEY = 36,
+    VOLLIKASH_DAMAGED_STORE = 37,
+    VOLLIKASH_STORE_FAULT = 38,
+
+    /* A changeset is not applied, or two are not joined. */
+    VOLLIKASH_WIDER = 40,  /* a table of the file has fewer columns than the store's */
+    VOLLIKASH_ABORT = 41,  /* a conflict ended the apply */
+    VOLLIKASH_MISUSE = 42, /* a conflict of this kind cannot be replaced */
+    VOLLIKASH_SCHEMA = 43, /* a table has other columns or another key in the second file */
+
+    /* A session refuses. */
+    VOLLIKASH_ALREADY_ATTACHED = 50,
+    VOLLIKASH_WRONG_STORE = 51,
+
+    VOLLIKASH_NO_MEMORY = 60, /* memory was refused */
+
+    /* A line of a script is refused, or the program's input or output fails. */
+    VOLLIKASH_SYNTAX = 61,
+    VOLLIKASH_EMPTY_SLOT = 62,
+    VOLLIKASH_SCRIPT_TOO_LONG = 63,
+    VOLLIKASH_BAD_HEX = 66,
+    VOLLIKASH_LINE_TEXT = 68,
+    VOLLIKASH_INPUT_FAULT = 71,
+    VOLLIKASH_OUTPUT_FAULT = 72,
+
+    VOLLIKASH_NO_ROOM = 80 /* `out` is too small, and `written` has the length that is needed */
+};
+
+/*
+** SQLite's result code for a number above, without sqlite3.h: SQLITE_OK,
+** SQLITE_CORRUPT, SQLITE_SCHEMA, SQLITE_ABORT, SQLITE_MISUSE, SQLITE_NOMEM,
+** SQLITE_IOERR, SQLITE_TOOBIG, and SQLITE_ERROR for the others.
+*/
+#define VOLLIKASH_CLASS(code)                                                      \
+    ((code) == VOLLIKASH_OK                                                 ? 0    \
+     : (code) <= VOLLIKASH_DUPLICATE_KEY || (code) == VOLLIKASH_DAMAGED_STORE ? 11 \
+     : (code) == VOLLIKASH_WIDER || (code) == VOLLIKASH_SCHEMA              ? 17   \
+     : (code) == VOLLIKASH_ABORT                                            ? 4    \
+     : (code) == VOLLIKASH_MISUSE                                           ? 21   \
+     : (code) == VOLLIKASH_NO_MEMORY                                        ? 7    \
+     : (code) == VOLLIKASH_INPUT_FAULT || (code) == VOLLIKASH_OUTPUT_FAULT  ? 10   \
+     : (code) == VOLLIKASH_NO_ROOM                                          ? 18   \
+                                                                            : 1)
+
+/*
+** What a call reports of itself. Every call fills it in, whatever it answers.
+*/
+struct vollikash_fault {
+    int code;     /* what the call answers */
+    int file;     /* the file at fault: 1 the first or only one, 2 the second, 0 none */
+    size_t place; /* for 1 to 18 bytes from the start of that file; for SCHEMA the
+                  ** count of the tables before the one that differs; else 0 */
+};
+
+/*
+** Whether `length` bytes are a changeset's file. No bytes at all are the file of
+** the changeset that changes nothing. The answer is OK, 1 to 18 or NO_MEMORY.
+*/
+int vollikash_check(const uint8_t *file, size_t length, struct vollikash_fault *fault) VOLLIKASH_NONNULL;
+
+/*
+** The calls below make bytes of the files that they are given. Where these are at
+** most `room`, they are put at the front of `out`, `written` has their count, and
+** the answer is OK; behind them `out` is as it was. Where they are more, the answer
+** is NO_ROOM, `written` has their count, and `out` is as it was. Where a file is
+** refused, `written` has 0 and `out` is as it was.
+*/
+
+/*
+** The inverse, which undoes what the file does. It is as long as the file. Refused
+** with 1 to 18 or NO_MEMORY.
+*/
+int vollikash_invert(const uint8_t *file, size_t length, uint8_t *out, size_t room, size_t *written,
+                     struct vollikash_fault *fault) VOLLIKASH_NONNULL;
+
+/*
+** The join, which does what the first file does and then what the second does. It
+** is at most as long as both. Refused with 1 to 18 for the first file, else for the
+** second, else with SCHEMA for the second, or with NO_MEMORY.
+*/
+int vollikash_concat(const uint8_t *first, size_t first_length, const uint8_t *second, size_t second_length,
+                     uint8_t *out, size_t room, size_t *written, struct vollikash_fault *fault) VOLLIKASH_NONNULL;
+
+/*
+** What the file holds, as a text in UTF-8 with no zero byte behind it: a line for
+** each table and for each entry. Refused with 1 to 18 or NO_MEMORY.
+*/
+int vollikash_dump(const uint8_t *file, size_t length, uint8_t *out, size_t room, size_t *written,
+                   struct vollikash_fault *fault) VOLLIKASH_NONNULL;
+
+/*
+** What the file does, as SQL for a reader, in UTF-8 with no zero byte behind it: a
+** statement for each entry. The format names no columns, so they are c1, c2 and so
+** on. Refused with 1 to 18 or NO_MEMORY.
+*/
+int vollikash_sql(const uint8_t *file, size_t length, uint8_t *out, size_t room, size_t *written,
+                  struct vollikash_fault *fault) VOLLIKASH_NONNULL;
+
+#ifdef __cplusplus
+}
+#endif
+
+#endif /* VOLLIKASH_H */

@@ -1,0 +1,245 @@
+#!/usr/bin/env python3
+"""Tests of the library as it is linked: the calls of vollikash.py, and those of vollikash.h by `bindings/c/check.c`.
+
+What is wanted is what the changeset program does with the same files: the recorded ones of `examples/` and
+`tests/recorded`, their prefixes, and those of the stored run of `crates/cases`, most of which are damaged.
+`bindings/check` builds what this needs, and runs it.
+
+usage: bindings/python/test_vollikash.py
+"""
+import concurrent.futures
+import os
+import pathlib
+import pickle
+import re
+import subprocess
+import sys
+import tempfile
+import unittest
+
+import vollikash
+from vollikash import ChangesetError, Code
+
+HERE = pathlib.Path(__file__).resolve().parent
+TOP = HERE.parent.parent
+BUILT = HERE.parent / "c/out"
+HEADER = HERE.parent / "c/vollikash.h"
+PROGRAM = TOP / "crates/changeset/out/changeset"
+RECORDED = sorted([*TOP.glob("examples/*.cs"), *TOP.glob("tests/recorded/*.cs")])
+# Recorded files of one entry, so that each of their proper prefixes but the empty one is damaged.
+CUT = [TOP / "tests/recorded" / name for name in ("insert-one.cs", "update-one.cs", "delete-one.cs")]
+INSERT, UPDATE, DELETE = (path.read_bytes() for path in CUT)
+
+
+def run(*words, given=""):
+    """What a program prints, where it was asked for no more than it can do."""
+    ran = subprocess.run([str(word) for word in words], input=given, capture_output=True, text=True, check=False)
+    if ran.returncode not in (0, 1) or ran.stderr:
+        raise AssertionError(f"{words[0]}: {ran.returncode}: {ran.stderr}")
+    return ran.stdout
+
+
+def program(*cases):
+    """What the program prints for each of some groups of lines."""
+    lines = [line for case in cases for line in (*case, ".load mark 00", ".hex mark")]
+    return run(PROGRAM, given="".join(f"{line}\n" for line in lines)).split("00\n")[:-1]
+
+
+def harness(*requests, name="check"):
+    """What the C program prints for each request."""
+    return run(BUILT / name, given="".join(f"{request}\n" for request in requests)).splitlines()
+
+
+def digits(file):
+    return file.hex() or "-"
+
+
+def told(call, *files):
+    """What a call answers, as the program prints it: hexadecimal digits, a text, or an error line."""
+    try:
+        made = call(*files)
+    except ChangesetError as error:
+        return f"error {error.code} {error.name} {error.place}\n"
+    return f"{made.hex()}\n" if isinstance(made, bytes) else made
+
+
+def printed(answer):
+    """A line of the C program, as the program prints it, and the file at fault."""
+    word, *rest = answer.split(" ")
+    if word == "ok":
+        return bytes.fromhex(rest[0].replace("-", "")), 0
+    code, which, place = map(int, rest)
+    return f"error {code} {Code(code).title} {place}\n", which
+
+
+def prefixes():
+    return [file[:end] for file in (INSERT, UPDATE, DELETE) for end in range(1, len(file))]
+
+
+def loaded():
+    """The files that the stored run of the shell loads."""
+    lines = (TOP / "crates/cases/stdin").read_bytes().splitlines()
+    loads = [re.fullmatch(rb"\.load \w+ ((?:[0-9a-f]{2})+)", line) for line in lines]
+    return sorted({bytes.fromhex(load[1].decode()) for load in loads if load})
+
+
+class Files(unittest.TestCase):
+    """Every file is answered as the program answers it, from Python and from C."""
+
+    def check_files(self, files):
+        shown = program(*((f".load a {file.hex()}", ".dump a") for file in files))
+        undone = program(*((f".load a {file.hex()}", ".invert a b", ".hex b", ".load b") for file in files))
+        for name in ("check", "check-sanitized"):
+            dumps = harness(*(f"dump {digits(file)}" for file in files), name=name)
+            inverses = harness(*(f"invert {digits(file)}" for file in files), name=name)
+            for file, dump, inverse, text, undo in zip(files, dumps, inverses, shown, undone):
+                with self.subTest(file=file.hex(), by=name):
+                    refused = text.startswith("error")
+                    self.assertEqual(printed(dump), (text, 1) if refused else (text.encode(), 0))
+                    self.assertEqual(printed(inverse), (text, 1) if refused else (bytes.fromhex(undo), 0))
+        for file, text, undo in zip(files, shown, undone):
+            with self.subTest(file=file.hex()):
+                refused = text.startswith("error")
+                self.assertEqual(told(vollikash.dump, file), text)
+                self.assertEqual(told(vollikash.invert, file), text if refused else undo)
+                self.assertEqual(told(vollikash.sql, file).startswith("error"), refused)
+                if refused:
+                    self.assert_refused(file, text)
+
+    def assert_refused(self, file, text):
+        """Every call refuses a file for the same reason, and says which file it is."""
+        for call, files, which in (
+            (vollikash.check, [file], 1),
+            (vollikash.sql, [file], 1),
+            (vollikash.concat, [file, file], 1),
+            (vollikash.concat, [INSERT, file], 2),
+        ):
+            with self.assertRaises(ChangesetError) as caught:
+                call(*files)
+            error = caught.exception
+            self.assertEqual(f"error {error.code} {error.name} {error.place}\n", text)
+            self.assertEqual(error.which, which)
+
+    def test_recorded_files(self):
+        self.check_files([path.read_bytes() for path in RECORDED])
+
+    def test_prefixes(self):
+        files = prefixes()
+        self.check_files(files)
+        for file in files:
+            with self.assertRaises(ChangesetError):
+                vollikash.check(file)
+
+    def test_files_of_the_stored_run(self):
+        files = loaded()
+        self.assertGreater(len(files), 100)
+        self.check_files(files)
+
+    def test_inverses(self):
+        """A recorded file, its inverse by SQLite, and the join of both, which has no bytes."""
+        pairs = [(path, path.with_suffix(".inverse.cs")) for path in RECORDED]
+        pairs = [(path.read_bytes(), other.read_bytes()) for path, other in pairs if other.exists()]
+        self.assertGreater(len(pairs), 15)
+        joined = harness(*(f"concat {file.hex()} {inverse.hex()}" for file, inverse in pairs))
+        for (file, inverse), join in zip(pairs, joined):
+            with self.subTest(file=file.hex()):
+                self.assertEqual(vollikash.invert(file), inverse)
+                self.assertEqual(vollikash.concat(file, inverse), b"")
+                self.assertEqual(join, "ok -")
+
+    def test_joins(self):
+        """Each two recorded files joined, which is refused, and never longer than both."""
+        files = [file for path in RECORDED if told(vollikash.dump, file := path.read_bytes())[:5] == "table"]
+        pairs = [(first, second) for first in files for second in files]
+        lines = ((f".load a {first.hex()}", f".load b {second.hex()}", ".load c", ".concat a b c", ".hex c")
+                 for first, second in pairs)
+        wanted = [text.splitlines()[0] for text in program(*lines)]
+        answers = harness(*(f"concat {first.hex()} {second.hex()}" for first, second in pairs))
+        for (first, second), text, answer in zip(pairs, wanted, answers):
+            with self.subTest(first=first.hex(), second=second.hex()):
+                self.assertEqual(told(vollikash.concat, first, second), f"{text}\n")
+                made, which = printed(answer)
+                self.assertEqual((made, which), (f"{text}\n", 2) if which else (bytes.fromhex(text), 0))
+                self.assertLessEqual(0 if which else len(made), len(first) + len(second))
+
+    def test_sql(self):
+        for path in RECORDED:
+            wanted = subprocess.run([PROGRAM, path, "sql"], capture_output=True, text=True, check=False)
+            with self.subTest(file=path.name):
+                self.assertEqual(told(vollikash.sql, path.read_bytes()), wanted.stdout + wanted.stderr)
+
+    def test_no_bytes(self):
+        self.assertIsNone(vollikash.check(b""))
+        self.assertEqual([vollikash.invert(b""), vollikash.concat(b"", b"")], [b"", b""])
+        self.assertEqual([vollikash.dump(b""), vollikash.sql(b"")], ["", ""])
+        self.assertEqual(vollikash.concat(b"", INSERT), INSERT)
+        self.assertEqual(harness("check -", "invert -", "concat - -", "dump -", "sql -"), ["ok -"] * 5)
+
+
+class Calls(unittest.TestCase):
+    """What Python adds to the calls."""
+
+    def test_a_table_that_differs(self):
+        wider = b"\x54\x03\x01\x00\x00t\x00\x12\x00\x01" + bytes(7) + b"\x01\x05\x05"
+        narrow = b"\x54\x02\x01\x00t\x00\x12\x00\x01" + bytes(7) + b"\x01\x05"
+        with self.assertRaises(ChangesetError) as caught:
+            vollikash.concat(wider, narrow)
+        error = caught.exception
+        self.assertEqual((error.code, error.name, error.which, error.place), (Code.SCHEMA, "Schema", 2, 0))
+        self.assertEqual(str(error), "Schema at 0 of file 2")
+        self.assertIsInstance(error, ValueError)
+        self.assertEqual(vars(pickle.loads(pickle.dumps(error))), vars(error))
+
+    def test_bytes_of_other_types(self):
+        for file in (bytearray(INSERT), memoryview(INSERT), memoryview(bytearray(INSERT))):
+            self.assertEqual(vollikash.concat(file, vollikash.invert(file)), b"")
+        for nothing in (7, "x", None, [1]):
+            with self.assertRaises(TypeError):
+                vollikash.invert(nothing)
+
+    def test_a_text_far_longer_than_its_file(self):
+        name = b"n" * 5000
+        rows = b"".join(b"\x12\x00\x01" + bytes(7) + bytes([key]) for key in range(200))
+        text = vollikash.sql(b"\x54\x01\x01" + name + b"\x00" + rows)
+        self.assertEqual(text.count("INSERT INTO"), 200)
+        self.assertGreater(len(text), 1_000_000)
+
+    def test_threads(self):
+        rows = b"".join(b"\x12\x00\x01" + key.to_bytes(8, "big") for key in range(3000))
+        file = b"\x54\x01\x01t\x00" + rows
+        with concurrent.futures.ThreadPoolExecutor(8) as pool:
+            inverses = list(pool.map(vollikash.invert, [file] * 40))
+        self.assertEqual(set(inverses), {vollikash.invert(file)})
+        self.assertEqual(vollikash.invert(inverses[0]), file)
+
+    def test_numbers_are_those_of_the_header(self):
+        numbers = dict(re.findall(r"VOLLIKASH_(\w+) = (\d+)", HEADER.read_text()))
+        self.assertEqual({code.name: str(code.value) for code in Code}, {name: numbers[name] for name in Code.__members__})
+        self.assertEqual(len(set(numbers.values())), len(numbers))
+
+
+class Readme(unittest.TestCase):
+    """The examples of the README work as they are printed."""
+
+    def block(self, language):
+        """The one example in this language."""
+        text = (TOP / "README.md").read_text()
+        (block,) = re.findall(rf"^```{language}\n(.*?)^```$", text, re.M | re.S)
+        self.assertLess(len(block.splitlines()), 10)
+        return block
+
+    def test_python(self):
+        words, environment = [sys.executable, "-c", self.block("python")], {**os.environ, "PYTHONPATH": str(HERE)}
+        ran = subprocess.run(words, cwd=TOP, env=environment, capture_output=True, text=True, check=True)
+        self.assertEqual(ran.stdout, vollikash.dump((TOP / "examples/key-change.inverse.cs").read_bytes()))
+
+    def test_c(self):
+        with tempfile.TemporaryDirectory() as folder:
+            (pathlib.Path(folder) / "main.c").write_text(self.block("c"))
+            built = f"{folder}/main"
+            run("cc", "-I", HEADER.parent, f"{folder}/main.c", BUILT / "libvollikash.a", "-o", built)
+            self.assertEqual(subprocess.run([built], check=True, capture_output=True).stdout, b"")
+
+
+if __name__ == "__main__":
+    unittest.main()

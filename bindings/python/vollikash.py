@@ -1,0 +1,154 @@
+"""Vollikash: works on changesets, the files of SQLite's session extension.
+
+    >>> import vollikash
+    >>> vollikash.dump(b"\\x54\\x01\\x01t\\x00\\x12\\x00\\x03\\x01x")
+    "table 't' columns 1 flags 1\\ninsert 0 new 'x'\\n"
+
+It calls libvollikash.so, which is looked for beside this file, then where the repository builds it, and then where
+the system keeps its libraries; the environment variable VOLLIKASH_LIBRARY names another one. No call keeps
+anything, and any number of threads may call at once: a call lets other threads of Python run.
+"""
+import ctypes
+import enum
+import os
+import pathlib
+from typing import Callable, Union
+
+__all__ = ["ChangesetError", "Code", "check", "concat", "dump", "invert", "sql"]
+
+Bytes = Union[bytes, bytearray, memoryview]
+
+
+class Code(enum.IntEnum):
+    """What a call of the library answers: why a file is refused, by the numbers that `vollikash.h` explains."""
+
+    OK = 0
+    TRUNCATED = 1
+    NOT_TABLE = 2
+    PATCHSET = 3
+    BAD_VARINT = 4
+    COLUMN_COUNT = 5
+    NO_KEY = 6
+    BAD_NAME = 7
+    DUPLICATE_TABLE = 8
+    EMPTY_GROUP = 9
+    BAD_OP = 10
+    BAD_FLAG = 11
+    BAD_TYPE = 12
+    REAL_VALUE = 13
+    BAD_TEXT = 14
+    UNDEFINED_FIELD = 15
+    UNPAIRED = 16
+    NULL_KEY = 17
+    DUPLICATE_KEY = 18
+    SCHEMA = 43
+    NO_MEMORY = 60
+    NO_ROOM = 80
+
+    @property
+    def title(self) -> str:
+        """The name as error lines print it, as in NoMemory."""
+        return "".join(word.capitalize() for word in self.name.split("_"))
+
+
+class ChangesetError(ValueError):
+    """A file is no changeset's, or two are not joined.
+
+    `code` and `name` say why; `which` is the file at fault, 1 for the first or only one and 2 for the second; and
+    `place` is where: a count of bytes from its start, or for SCHEMA the count of its tables before the one that
+    differs.
+    """
+
+    def __init__(self, code: Code, which: int, place: int) -> None:
+        super().__init__(f"{code.title} at {place} of file {which}")
+        self.code = code
+        self.name = code.title
+        self.which = which
+        self.place = place
+
+    def __reduce__(self):
+        return ChangesetError, (self.code, self.which, self.place)
+
+
+class _Fault(ctypes.Structure):
+    """What a call reports of itself: `struct vollikash_fault`."""
+
+    _fields_ = [("code", ctypes.c_int), ("file", ctypes.c_int), ("place", ctypes.c_size_t)]
+
+
+_FILE = (ctypes.c_char_p, ctypes.c_size_t)
+_OUT = (ctypes.c_char_p, ctypes.c_size_t, ctypes.POINTER(ctypes.c_size_t))
+_FAULT = (ctypes.POINTER(_Fault),)
+
+
+def _load() -> ctypes.CDLL:
+    """The library, with the types of its calls."""
+    here = pathlib.Path(__file__).resolve().parent
+    near = (here / "libvollikash.so", here.parent / "c/out/libvollikash.so")
+    named = os.environ.get("VOLLIKASH_LIBRARY") or next((str(file) for file in near if file.exists()), "libvollikash.so")
+    library = ctypes.CDLL(named)
+    library.vollikash_check.argtypes = _FILE + _FAULT
+    library.vollikash_concat.argtypes = _FILE + _FILE + _OUT + _FAULT
+    for call in (library.vollikash_invert, library.vollikash_dump, library.vollikash_sql):
+        call.argtypes = _FILE + _OUT + _FAULT
+    return library
+
+
+_LIBRARY = _load()
+
+
+def _bytes(file: Bytes) -> bytes:
+    """The bytes of a file, which nobody changes while a call reads them."""
+    return file if isinstance(file, bytes) else bytes(memoryview(file))
+
+
+def _raise(fault: _Fault) -> None:
+    """Raises what a call was refused for."""
+    if fault.code == Code.NO_MEMORY:
+        raise MemoryError("a call of vollikash was refused memory")
+    raise ChangesetError(Code(fault.code), fault.file, fault.place)
+
+
+def _made(call: Callable[..., int], room: int, *files: bytes) -> bytes:
+    """What a call makes of files, in a buffer of this length, or of the one that it asks for."""
+    given = [argument for file in files for argument in (file, len(file))]
+    while True:
+        out = ctypes.create_string_buffer(max(room, 1))
+        written, fault = ctypes.c_size_t(), _Fault()
+        code = call(*given, out, room, ctypes.byref(written), ctypes.byref(fault))
+        if code == Code.OK:
+            return ctypes.string_at(out, written.value)
+        if code != Code.NO_ROOM:
+            _raise(fault)
+        room = written.value
+
+
+def check(file: Bytes) -> None:
+    """Raises `ChangesetError` where the bytes are no changeset's file."""
+    bytes_of, fault = _bytes(file), _Fault()
+    if _LIBRARY.vollikash_check(bytes_of, len(bytes_of), ctypes.byref(fault)) != Code.OK:
+        _raise(fault)
+
+
+def invert(file: Bytes) -> bytes:
+    """The file of the changeset that undoes this one. Raises `ChangesetError`."""
+    file = _bytes(file)
+    return _made(_LIBRARY.vollikash_invert, len(file), file)
+
+
+def concat(first: Bytes, second: Bytes) -> bytes:
+    """The file of the changeset that does what the first does and then what the second does. Raises `ChangesetError`."""
+    first, second = _bytes(first), _bytes(second)
+    return _made(_LIBRARY.vollikash_concat, len(first) + len(second), first, second)
+
+
+def dump(file: Bytes) -> str:
+    """What the file holds, a line for each table and for each entry. Raises `ChangesetError`."""
+    file = _bytes(file)
+    return _made(_LIBRARY.vollikash_dump, 8 * len(file) + 256, file).decode()
+
+
+def sql(file: Bytes) -> str:
+    """What the file does as SQL for a reader, a statement for each entry. Raises `ChangesetError`."""
+    file = _bytes(file)
+    return _made(_LIBRARY.vollikash_sql, 8 * len(file) + 256, file).decode()

@@ -1,0 +1,72 @@
+-- What a caller in C sees of a call: the number that it answers, the report, and the buffer that it fills.
+use Rattle.std.specs.Prelude.{◌≡◌, ◌≢◌, ◌⊎◌, ℕ, ℤ, pos, ◌<◌, ◌≤◌, List, ◌++◌, length, drop, Vec, Result, Ok, Err}
+use Rattle.std.specs.declared.alloc.Global.{Global}
+use Rattle.cs_value.specs.declared.refusal.OrNoMemory.{OrNoMemory}
+use Rattle.cs_value.specs.declared.refusal.OrNoMemory.TheVariants.{Fault, NoMemory}
+use Rattle.cs_value.specs.Refusals.{Refuses, of_refusal}
+use Rattle.cs_shell.specs.declared.fault.FileFault.{FileFault}
+use Rattle.cs_shell.specs.declared.fault.FileFault.TheVariants.{First, Second, Schema}
+use Rattle.cs_shell.specs.Faults.{code_of}
+use Rattle.vollikash.specs.declared.answer.FaultReport.{FaultReport}
+use Rattle.vollikash.specs.declared.answer.TheConstants.{OK, NO_ROOM}
+
+-- the number is that of a fault
+abbrev pub IsRefusal : ℤ → Type 0
+IsRefusal code = (code ≢ OK) × (code ≢ NO_ROOM)
+
+-- the call did what it was asked for, or there is no room for what it made
+abbrev pub IsMadeCode : ℤ → Type 0
+IsMadeCode code = (code ≡ OK) ⊎ (code ≡ NO_ROOM)
+
+-- what is reported where no file is refused
+abbrev pub no_fault : ℤ → FaultReport
+no_fault code = record { code = code; file = pos 0; place = 0 }
+
+-- which file has the fault, from 1, or 0 where none has it
+abbrev pub file_of : OrNoMemory FileFault → ℤ
+file_of (Fault (First f)) = pos 1
+file_of (Fault (Second f)) = pos 2
+file_of (Fault (Schema s)) = pos 2
+file_of NoMemory = pos 0
+
+abbrev pub place_of : OrNoMemory FileFault → ℕ
+place_of (Fault (First f)) = f.place
+place_of (Fault (Second f)) = f.place
+place_of (Fault (Schema s)) = s.place
+place_of NoMemory = 0
+
+-- what is reported of a refusal
+abbrev pub report_of : OrNoMemory FileFault → FaultReport
+report_of refusal =
+    record { code = pos (of_refusal code_of 60 refusal); file = file_of refusal; place = place_of refusal }
+
+-- bytes of which Made holds stand at the front of the buffer, and behind them what stood there
+pub record Gives (Made : List ℕ → Type 0) (before after : List ℕ) (written : ℕ) : Type 0 where
+  pub bytes : List ℕ
+  pub made : Made bytes
+  pub fit : length bytes ≤ length before
+  pub stand : after ≡ bytes ++ drop (length bytes) before
+  pub counted : written ≡ length bytes
+
+-- bytes of which Made holds are more than the buffer has room for
+pub record Lacks (Made : List ℕ → Type 0) (before : List ℕ) (needed : ℕ) : Type 0 where
+  pub bytes : List ℕ
+  pub made : Made bytes
+  pub more : length before < length bytes
+  pub counted : needed ≡ length bytes
+
+-- a refusal for which Why holds is reported, and nothing was written
+pub record Tells (Why : FileFault → Type 0) (report : FaultReport) (written : ℕ) : Type 0 where
+  pub refusal : OrNoMemory FileFault
+  pub why : Refuses Why refusal
+  pub told : report ≡ report_of refusal
+  pub none : written ≡ 0
+
+-- the bytes that were made, and why none were
+abbrev pub IsMade : Result (Vec ℕ Global) (OrNoMemory FileFault) → List ℕ → Type 0
+IsMade (Ok made) bytes = bytes ≡ made.items
+IsMade (Err refusal) bytes = ⊥
+
+abbrev pub IsWhy : Result (Vec ℕ Global) (OrNoMemory FileFault) → FileFault → Type 0
+IsWhy (Ok made) fault = ⊥
+IsWhy (Err refusal) fault = refusal ≡ Fault fault

@@ -1,0 +1,79 @@
+//! What a call answers to C.
+ghost use Rattle.std.specs.Prelude.{◌≡◌, ◌≢◌};
+ghost use Rattle.vollikash.specs.Answers.{IsMade, IsWhy, Gives, Lacks, Tells, IsMadeCode, IsRefusal, no_fault, report_of};
+
+use cs_shell::{FileFault, ToolFault};
+use cs_value::Fault;
+
+/// The call did what it was asked for.
+pub const OK: i32 = 0;
+
+/// The caller's buffer is too small.
+pub const NO_ROOM: i32 = 80;
+
+/// What a call reports of itself.
+#[repr(C)]
+#[derive(Clone, Copy, Debug, PartialEq, Eq)]
+pub struct FaultReport {
+    /// The answer: `OK`, `NO_ROOM`, or the number of a fault.
+    pub code: i32,
+    /// The file that has the fault: 1 for the first or the only one, 2 for the second, and 0 where
+    /// none has it.
+    pub file: i32,
+    /// Where the fault is: a count of bytes from the start of the file, or of groups where a table
+    /// differs.
+    pub place: usize,
+}
+
+/// The report of a call that no file refuses.
+pub(crate) fn report_plain(code: i32) -> FaultReport
+    ensures { result ≡ no_fault code }
+{
+    FaultReport {
+        code,
+        file: 0,
+        place: 0,
+    }
+}
+
+/// The report of a refusal.
+pub(crate) fn report(refusal: &ToolFault) -> FaultReport
+    ensures { result ≡ report_of refusal.now }
+{
+    let (file, place) = match refusal {
+        ToolFault::Fault(FileFault::First(fault)) => (1, fault.place),
+        ToolFault::Fault(FileFault::Second(fault)) => (2, fault.place),
+        ToolFault::Fault(FileFault::Schema(fault)) => (2, fault.place),
+        ToolFault::NoMemory => (0, 0),
+    };
+    FaultReport {
+        code: i32::from(refusal.code()),
+        file,
+        place,
+    }
+}
+
+/// Puts bytes into the caller's buffer where there is room for them, and says why there are none.
+pub(crate) fn hand_out(
+    made: Result<Vec<u8>, ToolFault>,
+    out: &mut [u8],
+    written: &mut usize,
+    fault: &mut FaultReport,
+) -> i32
+    ensures given { result ≡ OK → Gives (IsMade made) out.old out.new written.new }
+    ensures room { result ≡ NO_ROOM → Lacks (IsMade made) out.old written.new }
+    ensures refused { IsRefusal result → Tells (IsWhy made) fault.new written.new }
+    ensures same { result ≢ OK → out.new ≡ out.old }
+    ensures code { fault.new.code ≡ result }
+    ensures plain { IsMadeCode result → fault.new ≡ no_fault result }
+{
+    (*written, *fault) = match made {
+        Ok(bytes) if bytes.len() <= out.len() => {
+            out[..bytes.len()].copy_from_slice(&bytes);
+            (bytes.len(), report_plain(OK))
+        }
+        Ok(bytes) => (bytes.len(), report_plain(NO_ROOM)),
+        Err(refusal) => (0, report(&refusal)),
+    };
+    fault.code
+}
