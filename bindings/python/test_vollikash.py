@@ -40,9 +40,9 @@ def run(*words, given=""):
 
 
 def program(*cases):
-    """What the program prints for each of some groups of lines."""
-    lines = [line for case in cases for line in (*case, ".load mark 00", ".hex mark")]
-    return run(PROGRAM, given="".join(f"{line}\n" for line in lines)).split("00\n")[:-1]
+    """What the program prints for each of some groups of lines. Behind each a slot that has no bytes is asked for."""
+    lines = [line for case in cases for line in (*case, ".hex nothing")]
+    return run(PROGRAM, given="".join(f"{line}\n" for line in lines)).split("error 62 EmptySlot\n")[:-1]
 
 
 def harness(*requests, name="check"):
@@ -88,7 +88,7 @@ class Files(unittest.TestCase):
 
     def check_files(self, files):
         shown = program(*((f".load a {file.hex()}", ".dump a") for file in files))
-        undone = program(*((f".load a {file.hex()}", ".invert a b", ".hex b", ".load b") for file in files))
+        undone = program(*((f".load a {file.hex()}", ".load b", ".invert a b", ".hex b") for file in files))
         for name in ("check", "check-sanitized"):
             dumps = harness(*(f"dump {digits(file)}" for file in files), name=name)
             inverses = harness(*(f"invert {digits(file)}" for file in files), name=name)
