@@ -15,13 +15,6 @@
 
 #include "vollikash.h"
 
-_Static_assert(VOLLIKASH_CLASS(VOLLIKASH_OK) == 0, "SQLITE_OK");
-_Static_assert(VOLLIKASH_CLASS(VOLLIKASH_DUPLICATE_KEY) == 11, "SQLITE_CORRUPT");
-_Static_assert(VOLLIKASH_CLASS(VOLLIKASH_TABLE_EXISTS) == 1, "SQLITE_ERROR");
-_Static_assert(VOLLIKASH_CLASS(VOLLIKASH_SCHEMA) == 17, "SQLITE_SCHEMA");
-_Static_assert(VOLLIKASH_CLASS(VOLLIKASH_NO_MEMORY) == 7, "SQLITE_NOMEM");
-_Static_assert(VOLLIKASH_CLASS(VOLLIKASH_NO_ROOM) == 18, "SQLITE_TOOBIG");
-
 enum { THREADS = 4, STACK = 128 * 1024, MORE = 7, UNTOUCHED = 0xA5 };
 
 /* Bytes in a block that is just as long. */

@@ -38,8 +38,8 @@ extern "C" {
 /*
 ** What a call answers: 0 where it did what it was asked for, and else why it did
 ** not. The numbers are those that the changeset program prints, where a name is
-** written as in NoMemory. The calls below answer OK, 1 to 18, SCHEMA, NO_MEMORY
-** and NO_ROOM; the others are those of stores, applies, sessions and scripts.
+** written as NoMemory. The calls below answer OK, 1 to 18, SCHEMA, NO_MEMORY and
+** NO_ROOM; the others are those of stores, applies, sessions and scripts.
 */
 enum vollikash_code {
     VOLLIKASH_OK = 0,
@@ -65,15 +65,15 @@ enum vollikash_code {
     VOLLIKASH_DUPLICATE_KEY = 18,   /* a key stands twice in a table */
 
     /* A store refuses. */
-    VOLLIKASH_TABLE_EXISTS = 30,
-    VOLLIKASH_NO_TABLE = 31,
-    VOLLIKASH_BAD_SCHEMA = 32,
-    VOLLIKASH_KEY_TAKEN = 33,
-    VOLLIKASH_NO_ROW = 34,
-    VOLLIKASH_ROW_WIDTH = 35,
-    VOLLIKASH_NULL_IN_KEY = 36,
-    VOLLIKASH_DAMAGED_STORE = 37,
-    VOLLIKASH_STORE_FAULT = 38,
+    VOLLIKASH_TABLE_EXISTS = 30,  /* there is a table of this name */
+    VOLLIKASH_NO_TABLE = 31,      /* there is no table of this name */
+    VOLLIKASH_BAD_SCHEMA = 32,    /* the name, the columns or the key make no table */
+    VOLLIKASH_KEY_TAKEN = 33,     /* there is a row with this key */
+    VOLLIKASH_NO_ROW = 34,        /* there is no row with this key */
+    VOLLIKASH_ROW_WIDTH = 35,     /* the row has not a value for each column */
+    VOLLIKASH_NULL_IN_KEY = 36,   /* a key column of the row is NULL */
+    VOLLIKASH_DAMAGED_STORE = 37, /* what is stored is not valid */
+    VOLLIKASH_STORE_FAULT = 38,   /* the database refused */
 
     /* A changeset is not applied, or two are not joined. */
     VOLLIKASH_WIDER = 40,  /* a table of the file has fewer columns than the store's */
@@ -82,19 +82,19 @@ enum vollikash_code {
     VOLLIKASH_SCHEMA = 43, /* a table has other columns or another key in the second file */
 
     /* A session refuses. */
-    VOLLIKASH_ALREADY_ATTACHED = 50,
-    VOLLIKASH_WRONG_STORE = 51,
+    VOLLIKASH_ALREADY_ATTACHED = 50, /* the table is attached */
+    VOLLIKASH_WRONG_STORE = 51,      /* the store has not the table as it was attached */
 
     VOLLIKASH_NO_MEMORY = 60, /* memory was refused */
 
     /* A line of a script is refused, or the program's input or output fails. */
-    VOLLIKASH_SYNTAX = 61,
-    VOLLIKASH_EMPTY_SLOT = 62,
-    VOLLIKASH_SCRIPT_TOO_LONG = 63,
-    VOLLIKASH_BAD_HEX = 66,
-    VOLLIKASH_LINE_TEXT = 68,
-    VOLLIKASH_INPUT_FAULT = 71,
-    VOLLIKASH_OUTPUT_FAULT = 72,
+    VOLLIKASH_SYNTAX = 61,          /* the line fits no command */
+    VOLLIKASH_EMPTY_SLOT = 62,      /* nothing was put into the slot */
+    VOLLIKASH_SCRIPT_TOO_LONG = 63, /* the script has more than 16777216 bytes */
+    VOLLIKASH_BAD_HEX = 66,         /* the digits are not hexadecimal, two for each byte */
+    VOLLIKASH_LINE_TEXT = 68,       /* the line is not UTF-8 */
+    VOLLIKASH_INPUT_FAULT = 71,     /* a read failed */
+    VOLLIKASH_OUTPUT_FAULT = 72,    /* a write failed */
 
     VOLLIKASH_NO_ROOM = 80 /* `out` is too small, and `written` has the length that is needed */
 };

@@ -42,12 +42,16 @@ def run(*words, given=""):
 def program(*cases):
     """What the program prints for each of some groups of lines. Behind each a slot that has no bytes is asked for."""
     lines = [line for case in cases for line in (*case, ".hex nothing")]
-    return run(PROGRAM, given="".join(f"{line}\n" for line in lines)).split("error 62 EmptySlot\n")[:-1]
+    answers = run(PROGRAM, given="".join(f"{line}\n" for line in lines)).split("error 62 EmptySlot\n")
+    assert len(answers) == len(cases) + 1 and not answers[-1]
+    return answers[:-1]
 
 
 def harness(*requests, name="check"):
     """What the C program prints for each request."""
-    return run(BUILT / name, given="".join(f"{request}\n" for request in requests)).splitlines()
+    answers = run(BUILT / name, given="".join(f"{request}\n" for request in requests)).splitlines()
+    assert len(answers) == len(requests)
+    return answers
 
 
 def digits(file):
@@ -212,10 +216,40 @@ class Calls(unittest.TestCase):
         self.assertEqual(set(inverses), {vollikash.invert(file)})
         self.assertEqual(vollikash.invert(inverses[0]), file)
 
-    def test_numbers_are_those_of_the_header(self):
-        numbers = dict(re.findall(r"VOLLIKASH_(\w+) = (\d+)", HEADER.read_text()))
-        self.assertEqual({code.name: str(code.value) for code in Code}, {name: numbers[name] for name in Code.__members__})
-        self.assertEqual(len(set(numbers.values())), len(numbers))
+
+
+class Numbers(unittest.TestCase):
+    """Numbers, names and classes are those of the documents."""
+
+    # SQLite's result codes, of those that no document has a class for; 11 is that of every read fault.
+    CLASSES = {"Ok": 0, "Abort": 4, "Misuse": 21, "Wider": 17, "Schema": 17, "AlreadyAttached": 1, "WrongStore": 1,
+               "Syntax": 1, "EmptySlot": 1, "ScriptTooLong": 1, "BadHex": 1, "LineText": 1, "InputFault": 10,
+               "OutputFault": 10, "NoRoom": 18}
+
+    def numbers(self):
+        """The numbers of the header, by the names of the documents."""
+        found = re.findall(r"VOLLIKASH_(\w+) = (\d+)", HEADER.read_text())
+        return {"".join(word.capitalize() for word in name.split("_")): (int(number), name) for name, number in found}
+
+    def test_documents(self):
+        numbers = self.numbers()
+        rows = re.findall(r"`error (\d+) (\w+)", (TOP / "README.md").read_text())
+        for document in ("FORMAT.md", "STORE.md"):
+            rows += re.findall(r"^\| (\d+) \| (\w+) \|", (TOP / "docs" / document).read_text(), re.M)
+        self.assertGreater(len(rows), 40)
+        for number, name in rows:
+            self.assertEqual(int(number), numbers[name][0])
+        self.assertEqual({code.name: code.value for code in Code},
+                         {name: number for number, name in numbers.values() if name in Code.__members__})
+        self.assertEqual(len({number for number, _ in numbers.values()}), len(numbers))
+
+    def test_classes(self):
+        stores = re.findall(r"^\| \d+ \| (\w+) \| (\d+) \|", (TOP / "docs/STORE.md").read_text(), re.M)
+        classes = {**self.CLASSES, **{name: int(number) for name, number in stores}}
+        lines = [f'_Static_assert(VOLLIKASH_CLASS(VOLLIKASH_{name}) == {classes.get(title, 11)}, "{name}");'
+                 for title, (_, name) in self.numbers().items()]
+        checked = "\n".join(['#include "vollikash.h"', *lines, ""])
+        run("cc", "-x", "c", "-fsyntax-only", "-I", HEADER.parent, "-", given=checked)
 
 
 class Readme(unittest.TestCase):

@@ -12,7 +12,7 @@ import ctypes
 import enum
 import os
 import pathlib
-from typing import Callable, Union
+from typing import Callable, NoReturn, Union
 
 __all__ = ["ChangesetError", "Code", "check", "concat", "dump", "invert", "sql"]
 
@@ -102,7 +102,7 @@ def _bytes(file: Bytes) -> bytes:
     return file if isinstance(file, bytes) else bytes(memoryview(file))
 
 
-def _raise(fault: _Fault) -> None:
+def _raise(fault: _Fault) -> NoReturn:
     """Raises what a call was refused for."""
     if fault.code == Code.NO_MEMORY:
         raise MemoryError("a call of vollikash was refused memory")
@@ -125,8 +125,8 @@ def _made(call: Callable[..., int], room: int, *files: bytes) -> bytes:
 
 def check(file: Bytes) -> None:
     """Raises `ChangesetError` where the bytes are no changeset's file."""
-    bytes_of, fault = _bytes(file), _Fault()
-    if _LIBRARY.vollikash_check(bytes_of, len(bytes_of), ctypes.byref(fault)) != Code.OK:
+    file, fault = _bytes(file), _Fault()
+    if _LIBRARY.vollikash_check(file, len(file), ctypes.byref(fault)) != Code.OK:
         _raise(fault)
 
 

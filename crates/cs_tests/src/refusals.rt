@@ -155,6 +155,7 @@ fn faults_of_calls_on_files(rt: HostRuntime) {
         "Schema",
     );
     expect_named(&rt, &FileFault::First(READ_FAULT), 16, 11, "Unpaired");
+    expect_named(&rt, &FileFault::Second(READ_FAULT), 16, 11, "Unpaired");
     expect_named(&rt, &OutputFault, 72, 10, "OutputFault");
     expect_named(&rt, &ApplyFault::Wider(3), 40, 17, "Wider");
     let text = "a table has other columns or another key at group 3";

@@ -2,8 +2,8 @@
 
 use crate::{DELETE, INSERT, UPDATE};
 use cs_shell::{
-    Status, Told, concat_bytes, dump_text, invert_bytes, print_usage, run_slots, run_words,
-    sql_text,
+    FileFault, Status, Told, ToolFault, concat_bytes, dump_text, invert_bytes, print_usage,
+    run_slots, run_words, sql_text,
 };
 use cs_wire::read;
 use std::io::{ErrorKind, Read, Write};
@@ -18,14 +18,20 @@ fn joins_an_update_and_its_inverse(rt: HostRuntime) {
 }
 
 #[test]
+fn says_which_file_is_refused(rt: HostRuntime) {
+    let first = concat_bytes(rt.alloc(), b"\x54", b"\x41");
+    assert!(rt; matches!(&first, Err(ToolFault::Fault(FileFault::First(_)))));
+    let second = concat_bytes(rt.alloc(), UPDATE, b"\x41");
+    assert!(rt; matches!(&second, Err(ToolFault::Fault(FileFault::Second(_)))));
+}
+
+#[test]
 fn texts(rt: HostRuntime) {
     let changeset = read(rt.alloc(), DELETE).expect(&rt, "a changeset");
-    let mut written = Vec::new(rt.alloc());
-    let mut out = Told::new(&mut written);
+    let mut out = Told::new(Vec::new(rt.alloc()));
     assert!(rt; dump_text(&changeset, &mut out).is_ok() && sql_text(&changeset, &mut out).is_ok());
-    drop(out);
     assert!(rt;
-        written.as_slice()
+        out.into_inner().as_slice()
             == b"table 't' columns 2 flags 1,0\ndelete 0 old 1,'x'\nDELETE FROM \"t\" WHERE c1=1 AND c2='x';\n".as_slice()
     );
 }
