@@ -5,11 +5,14 @@ pub mod MergeLaws
 pub mod TextLaws
 pub mod JoinLaws
 pub mod EntryJoinLaws
+pub mod EntryLengths
 pub mod InverseJoinLaws
 pub mod FoundLaws
 pub mod TableLaws
 pub mod JoinApplyLaws
 pub mod JoinNetLaws
+pub mod JoinLengths
+pub mod InverseLengths
 pub mod Examples
 pub mod ConflictLaws
 pub mod NetLaws

@@ -60,7 +60,7 @@ filter_grown {X} p xs start now new i x o lt is so o_is grown =
 abbrev same : List ℕ → List ℕ → Bool
 same s t = pointwise nat_eq s t
 
-not_same : (s t : List ℕ) (b : Bool) → b ≡ same s t → s ≢ t → b ≡ false
+pub not_same : (s t : List ℕ) (b : Bool) → b ≡ same s t → s ≢ t → b ≡ false
 not_same s t true e h = absurd (h (same_text s t e))
 not_same s t false e h = refl
 

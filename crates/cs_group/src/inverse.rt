@@ -1,6 +1,6 @@
 //! The inverse of a changeset.
-ghost use Rattle.std.specs.Prelude.{IfOk};
-ghost use Rattle.cs_wire.specs.Changeset.{IsChangeset};
+ghost use Rattle.std.specs.Prelude.{◌≡◌, length, IfOk};
+ghost use Rattle.cs_wire.specs.Changeset.{IsChangeset, file_bytes};
 ghost use Rattle.cs_group.specs.Inverse.{IsInverse, ChangesetInverses, InverseTwice};
 
 use cs_value::NoMemory;
@@ -8,11 +8,12 @@ use cs_wire::{Changeset, entry_inverses_law};
 use std::alloc::Global;
 
 /// The changeset that undoes this one, as SQLite's `sqlite3changeset_invert` has it: inserts and deletes
-/// exchanged, in updates the two values of each modified column, and everything else kept.
-/// [`NoMemory`] where memory is refused.
+/// exchanged, in updates the two values of each modified column, and everything else kept. Its file is as
+/// long as that of this one. [`NoMemory`] where memory is refused.
 pub fn invert(alloc: Global, changeset: Changeset) -> Result<Changeset, NoMemory>
     ensures inverse { IfOk result (IsInverse changeset) }
     ensures well_formed { IfOk result IsChangeset }
+    ensures length { IfOk result (λ inverse. length (file_bytes inverse) ≡ length (file_bytes changeset)) }
 {
     let mut inverse = Changeset::new(alloc);
     for mut group in changeset.into_groups() {

@@ -1,8 +1,8 @@
 //! Two changesets as one.
-ghost use Rattle.std.specs.Prelude.{◌≡◌, [], ◌++◌, IfOk, IfErr, IfSome, OnOk, Some, filter, filter_map};
+ghost use Rattle.std.specs.Prelude.{◌≡◌, ◌+◌, ◌≤◌, [], ◌++◌, length, IfOk, IfErr, IfSome, OnOk, Some, filter, filter_map};
 ghost use Rattle.cs_value.specs.declared.refusal.OrNoMemory.TheVariants.{NoMemory as OutOfMemory};
 ghost use Rattle.cs_value.specs.Refusals.{Refuses};
-ghost use Rattle.cs_wire.specs.Changeset.{IsChangeset};
+ghost use Rattle.cs_wire.specs.Changeset.{IsChangeset, file_bytes};
 ghost use Rattle.cs_group.specs.Inverse.{IsInverse};
 ghost use Rattle.cs_group.specs.JoinLaw.{DoesBoth, NetsBoth};
 ghost use Rattle.cs_group.specs.Joining.{table_name, key_places, AreJoinable, FirstClash, IsJoined};
@@ -21,7 +21,8 @@ use std::alloc::Global;
 ///
 /// The tables of `first` stand first, in their order, with their headers, and behind them those
 /// that `second` has alone; so do the entries of a table, by their keys. Two entries of one key are
-/// one, as [`merge`] says. An entry of which nothing is left is left out, and a table with none.
+/// one, as [`merge`] says. An entry of which nothing is left is left out, and a table with none. The file of
+/// the join is at most as long as both files.
 ///
 /// # Errors
 ///
@@ -36,6 +37,8 @@ pub fn concat(
     ensures applies { IfOk result (DoesBoth first.now second.now) }
     ensures nets { IfOk result (NetsBoth first.now second.now) }
     ensures undone { IfOk result (λ join. IsInverse first.now second.now → join ≡ []) }
+    ensures length { IfOk result (λ join. length (file_bytes join)
+        ≤ length (file_bytes first.now) + length (file_bytes second.now)) }
     ensures clash { IfErr result (Refuses (λ f. FirstClash first.now second.now f.place)) }
     ensures joinable { IfErr result (λ f. f ≡ OutOfMemory → AreJoinable first.now second.now) }
 {

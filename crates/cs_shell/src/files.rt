@@ -1,5 +1,5 @@
 //! From files to files: inverting one, and joining two.
-ghost use Rattle.std.specs.Prelude.{◌≡◌, IfOk, IfErr};
+ghost use Rattle.std.specs.Prelude.{◌≡◌, ◌+◌, ◌≤◌, length, IfOk, IfErr};
 ghost use Rattle.cs_value.specs.Refusals.{Refuses};
 ghost use Rattle.cs_wire.specs.ReadFaults.{ReadFails};
 ghost use Rattle.cs_wire.specs.Changeset.{IsChangeset, file_bytes};
@@ -13,7 +13,7 @@ use std::alloc::Global;
 
 /// The file of the changeset that undoes the one whose file this is. It has the same tables and
 /// entries in the same order, with inserts and deletes exchanged, and in updates the two values of
-/// each modified column.
+/// each modified column, and is as long.
 ///
 /// # Errors
 ///
@@ -21,6 +21,7 @@ use std::alloc::Global;
 /// where memory is refused.
 pub fn invert_bytes(alloc: Global, file: &[u8]) -> Result<Vec<u8>, ReadError>
     ensures inverted { IfOk result (λ out. Inverts file.now out.items) }
+    ensures length { IfOk result (λ out. length out.items ≡ length file.now) }
     ensures refused { IfErr result (Refuses (λ f. ReadFails file.now f.kind f.place)) }
 {
     let inverse = invert(alloc, read(alloc, file)?)?;
@@ -28,7 +29,7 @@ pub fn invert_bytes(alloc: Global, file: &[u8]) -> Result<Vec<u8>, ReadError>
 }
 
 /// The file of the changeset that does what the one of the first file does and then what that of
-/// the second does, as [`cs_group::concat`] makes it.
+/// the second does, as [`cs_group::concat`] makes it. It is at most as long as both.
 ///
 /// # Errors
 ///
@@ -37,6 +38,7 @@ pub fn invert_bytes(alloc: Global, file: &[u8]) -> Result<Vec<u8>, ReadError>
 /// file, with the place of its group there; and `NoMemory` where memory is refused.
 pub fn concat_bytes(alloc: Global, first: &[u8], second: &[u8]) -> Result<Vec<u8>, ToolFault>
     ensures joined { IfOk result (λ out. Joins first.now second.now out.items) }
+    ensures length { IfOk result (λ out. length out.items ≤ length first.now + length second.now) }
     ensures refused { IfErr result (Refuses (JoinFails first.now second.now)) }
 {
     let first = read_first(alloc, first)?;
@@ -64,6 +66,8 @@ fn read_second(alloc: Global, file: &[u8]) -> Result<Changeset, ToolFault>
 /// The join of two changesets.
 fn join(alloc: Global, first: &Changeset, second: &Changeset) -> Result<Changeset, ToolFault>
     ensures joined { IfOk result (IsJoined first.now second.now) }
+    ensures length { IfOk result (λ join. length (file_bytes join)
+        ≤ length (file_bytes first.now) + length (file_bytes second.now)) }
     ensures refused { IfErr result (Refuses (AreUnjoined first.now second.now)) }
 {
     concat(alloc, first, second).map_err(join_fault)

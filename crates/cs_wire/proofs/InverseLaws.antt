@@ -167,7 +167,7 @@ image_of-inverse flags indirect (Delete row) h = refl
 image_of-inverse flags indirect (Update old new) h = cc (with_key_twice flags old new h.2)
 
 -- the inverse of an entry is one
-inverse_entry_is : (flags : List ℕ) (entry : Entry) → IsEntry flags entry → IsInverseEntry flags entry (inverse_entry flags entry)
+pub inverse_entry_is : (flags : List ℕ) (entry : Entry) → IsEntry flags entry → IsInverseEntry flags entry (inverse_entry flags entry)
 inverse_entry_is flags entry h = record { indirect = refl; key = key_of-inverse flags entry.change h; image = image_of-inverse flags entry.indirect entry.change h }
 
 -- ---- groups

@@ -1,5 +1,5 @@
 -- What a caller in C sees of a few calls.
-use Rattle.std.proofs.Common.{◌≡◌, ℕ, List, [], ◌∷◌, refl, arith}
+use Rattle.std.proofs.Common.{◌≡◌, [], ◌∷◌, refl, arith}
 use Rattle.std.specs.Prelude.{pos}
 use Rattle.cs_value.specs.declared.refusal.OrNoMemory.TheVariants.{Fault, NoMemory}
 use Rattle.cs_wire.specs.declared.fault.ReadFaultKind.TheVariants.{Truncated}

@@ -8,7 +8,7 @@
 //! needed. `answer` has what is answered and reported, and `texts` the readable texts of a file.
 #![tactic(auto)]
 
-ghost use Rattle.std.specs.Prelude.{◌≡◌, ◌≢◌};
+ghost use Rattle.std.specs.Prelude.{◌≡◌, ◌≢◌, ◌+◌, ◌≤◌, length};
 ghost use Rattle.cs_wire.specs.Changeset.{IsAccepted};
 ghost use Rattle.cs_shell.specs.Files.{Inverts, Joins, JoinFails, FirstFails};
 ghost use Rattle.cs_shell.specs.Texts.{dump_of, sql_of};
@@ -57,6 +57,7 @@ pub extern "C" fn vollikash_invert(
 ) -> i32
     ensures inverted { result ≡ OK → Gives (Inverts file.now) out.old out.new written.new }
     ensures room { result ≡ NO_ROOM → Lacks (Inverts file.now) out.old written.new }
+    ensures enough { length file.now ≤ length out.old → result ≢ NO_ROOM }
     ensures refused { IsRefusal result → Tells (FirstFails file.now) fault.new written.new }
     ensures same { result ≢ OK → out.new ≡ out.old }
     ensures code { fault.new.code ≡ result }
@@ -82,6 +83,7 @@ pub extern "C" fn vollikash_concat(
 ) -> i32
     ensures joined { result ≡ OK → Gives (Joins first.now second.now) out.old out.new written.new }
     ensures room { result ≡ NO_ROOM → Lacks (Joins first.now second.now) out.old written.new }
+    ensures enough { length first.now + length second.now ≤ length out.old → result ≢ NO_ROOM }
     ensures refused { IsRefusal result → Tells (JoinFails first.now second.now) fault.new written.new }
     ensures same { result ≢ OK → out.new ≡ out.old }
     ensures code { fault.new.code ≡ result }

@@ -1,5 +1,6 @@
 use Rattle.std.proofs.Common.{◌∙◌, arith}
 use Rattle.cs_group.proofs.InverseLaws.{InversesSoFar-none, InversesSoFar-push, InversesSoFar-all, next_table}
+use Rattle.cs_group.proofs.InverseLengths.{inverse_length}
 use Rattle.cs_group.proofs.inverse.invert.Goals as goal
 
 pub loop-group-init : goal.loop-group-init
@@ -13,3 +14,9 @@ loop-group-preserved c = InversesSoFar-push c.args.changeset c.loop-group.invers
 
 pub returns-clause-inverse : goal.returns-clause-inverse
 returns-clause-inverse c = InversesSoFar-all c.args.changeset c.loop-group.inverse c.loop-group.yielded c.loop-group.group-iterator.rest.items c.loop-group.invariant (omega (arith, c.in-None.ensures.steps.0))
+
+pub returns-clause-length : goal.returns-clause-length
+returns-clause-length c =
+    let so = c.loop-group.invariant in
+    let is = InversesSoFar-all c.args.changeset c.loop-group.inverse c.loop-group.yielded c.loop-group.group-iterator.rest.items so (omega (arith, c.in-None.ensures.steps.0)) in
+    inverse_length c.args.changeset c.loop-group.inverse so.is_changeset so.inverse_is_changeset is

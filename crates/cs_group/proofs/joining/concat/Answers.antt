@@ -3,6 +3,7 @@ use Rattle.cs_group.specs.Joining.{joined, AreJoinable}
 use Rattle.cs_group.proofs.InverseJoinLaws.{inverse_joins}
 use Rattle.cs_group.proofs.JoinApplyLaws.{join_applies}
 use Rattle.cs_group.proofs.JoinNetLaws.{join_nets}
+use Rattle.cs_group.proofs.JoinLengths.{join_length}
 use Rattle.cs_group.proofs.JoinLaws.{joined_is_changeset}
 use Rattle.cs_group.proofs.joining.concat.Goals as goal
 
@@ -30,6 +31,15 @@ returns-clause-nets c =
     let joinable : AreJoinable first second = search rules in
     let is = c.in_ok-from_groups.ensures.made ∙ cc (c.in_ok-add_new_groups.ensures.grown, c.in_ok-groups.ensures.kept) in
     join_nets first second c.in_ok-from_groups.field-0 c.in_ok-groups.ensures.well_formed c.in_ok-add_new_groups.ensures.well_formed
+    (record { joinable = joinable; is_joined = is; is_changeset = c.in_ok-from_groups.ensures.well_formed })
+
+pub returns-clause-length : goal.returns-clause-length
+returns-clause-length c =
+    let first = c.args.first.now in
+    let second = c.args.second.now in
+    let joinable : AreJoinable first second = search rules in
+    let is = c.in_ok-from_groups.ensures.made ∙ cc (c.in_ok-add_new_groups.ensures.grown, c.in_ok-groups.ensures.kept) in
+    join_length first second c.in_ok-from_groups.field-0 c.in_ok-groups.ensures.well_formed
     (record { joinable = joinable; is_joined = is; is_changeset = c.in_ok-from_groups.ensures.well_formed })
 
 pub returns-clause-undone : goal.returns-clause-undone
