@@ -2,8 +2,9 @@
 ** Vollikash works on changesets, the files of SQLite's session extension: it
 ** checks, inverts, joins and prints them. No call needs SQLite or a database.
 **
-** Every call here is proved, for every input, to answer as is said beside it.
-** What the proof takes for granted of the caller is this:
+** Of every call here it is proved, for every input, that it returns and what it
+** answers (docs/PROMISES.md, "Calls for C"). What that takes for granted of the
+** caller is this:
 **
 **   * No pointer is NULL, also where its length is 0: "" serves there.
 **   * A pointer to bytes has as many of them as the length beside it says, which
