@@ -32,7 +32,7 @@ impl Fault for OutputFault {
     }
 }
 
-/// What is wrong with a file, or with two: each case has another file.
+/// What is wrong with the first file, with the second, or with both together.
 #[derive(Clone, Copy, Debug, PartialEq, Eq, Drop, Error)]
 pub enum FileFault {
     /// The first file, or the only one, is no changeset's.
