@@ -13,4 +13,3 @@ pub mod SchemaLaws
 pub mod OutcomeLaws
 pub mod RecordLaws
 pub mod RunsLaws
-pub mod CrashLaws

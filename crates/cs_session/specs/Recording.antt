@@ -5,8 +5,8 @@ use Rattle.cs_value.specs.State.{State, WrittenData}
 use Rattle.cs_store.specs.declared.edit.Edit.{Edit}
 use Rattle.cs_store.specs.declared.edit.Edit.TheVariants.{Insert, Update, Delete}
 use Rattle.cs_store.specs.declared.fault.StoreError.TheVariants.{StoreFault}
-use Rattle.cs_store.specs.Editing.{written_of, edited}
-use Rattle.cs_store.specs.Stored.{state_of}
+use Rattle.cs_store.specs.Crash.{MayLeave}
+use Rattle.cs_store.specs.Editing.{EditsInto, written_of, edited}
 use Rattle.cs_apply.specs.declared.report.Report.{Report}
 use Rattle.cs_apply.specs.declared.running.Direction.TheVariants.{Forward}
 use Rattle.cs_apply.specs.Running.{Handler, Applies, Refuses}
@@ -37,9 +37,9 @@ RefusesEdit old edit notes NoMemory = Unit {0}
 RefusesEdit old edit notes AlreadyAttached = ⊥
 RefusesEdit old edit notes (Apply fault) = ⊥
 
--- a database that a crash may leave committed: with the tables that the edit leaves
+-- a database that a crash may leave committed: a store with the tables that the edit leaves
 abbrev pub MayEdit : State → Edit → Trees → Type 0
-MayEdit old edit trees = (written : List WrittenData) × (edited old edit ≡ Ok (record { state = state_of (trees 0); written = written }))
+MayEdit old edit = MayLeave (EditsInto old edit)
 
 -- the file is applied, with what the report tells, and the keys that were written are noted
 pub record RecordsApply (chooses : Handler) (file : List ℕ) (old : State) (notes : Notes) (report : Report) (new : State)

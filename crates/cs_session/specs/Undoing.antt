@@ -3,7 +3,7 @@ use Rattle.std.specs.Prelude.{◌≡◌, List, [], map}
 use Rattle.sqlite.specs.Tree.{Trees}
 use Rattle.cs_value.specs.State.{State, rows_at}
 use Rattle.cs_wire.specs.Changeset.{GroupData, file_bytes}
-use Rattle.cs_store.specs.Stored.{state_of}
+use Rattle.cs_store.specs.Crash.{MayLeave}
 use Rattle.cs_group.specs.Applying.{Choices, IsClean, IsApplied}
 use Rattle.cs_apply.specs.declared.report.Report.{Report}
 use Rattle.cs_apply.specs.declared.running.Direction.TheVariants.{Inverse}
@@ -26,6 +26,6 @@ pub record Undoes (notes : Notes) (old : State) (report : Report) (new : State) 
   pub back : map (λ t. rows_at new t.name) notes ≡ rewound notes old
   pub rewound : new ≡ rewound_state notes old
 
--- a database that a crash may leave committed: with the rows from before
+-- a database that a crash may leave committed: a store with the rows from before
 abbrev pub MayUndo : Notes → State → Trees → Type 0
-MayUndo notes old trees = state_of (trees 0) ≡ rewound_state notes old
+MayUndo notes old = MayLeave (λ left. left ≡ rewound_state notes old)

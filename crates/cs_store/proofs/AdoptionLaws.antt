@@ -5,18 +5,23 @@ use Rattle.sqlite_value.specs.Order.{Row, column}
 use Rattle.sqlite_schema.specs.declared.schema.Schema.{Schema}
 use Rattle.cs_value.specs.State as tables
 use Rattle.sqlite.specs.Effect.{Database}
-use Rattle.sqlite.specs.State.{State, Opens, IsUnchanged}
+use Rattle.sqlite.specs.State.{State, HasCleanDisk, Opens, IsLive, IsUnchanged, Survives}
+use Rattle.sqlite.proofs.StateLemmas.{survives_then}
 use Rattle.sqlite.specs.Start.{FindsIn}
 use Rattle.sqlite.specs.Files.{AreFoundIn}
 use Rattle.sqlite_wal.specs.Recovery.{Image}
 use Rattle.cs_store.specs.declared.fault.StoreError.{StoreError}
 use Rattle.cs_store.specs.declared.fault.StoreError.TheVariants.{DamagedStore, NoMemory}
 use Rattle.cs_store.specs.Faults.{IsResource}
-use Rattle.cs_store.specs.Records.{RecordData, HoldsRecords, ListsAll, Sets, GoesOn, content, same_bytes, is_under, records_of, records_in, record_schema, empty_schema}
+use Rattle.cs_store.specs.Records.{RecordData, HoldsRecords, ListsAll, Sets, GoesOn, KeepsCrash, content, same_bytes, is_under, records_of, records_in, record_schema, empty_schema}
 use Rattle.cs_store.specs.Stored.{version, Stores, state_of}
 use Rattle.cs_store.specs.Valid.{AreValid}
-use Rattle.cs_store.specs.Store.{HoldsState, HoldsTables, Adopts, OpensFiles, SetsUp, tables_in}
+use Rattle.sqlite_trees.specs.View.{doubt}
+use Rattle.cs_store.specs.Store.{HoldsState, HoldsTables, Adopts, OpensFiles, SetsUp, MemoryIsHonest, tables_in}
+use Rattle.cs_store.specs.Crash.{MayLeave}
+use Rattle.cs_store.specs.Laws.{was_clean}
 use Rattle.cs_store.proofs.CheckLaws.{listed_there}
+use Rattle.cs_store.proofs.CrashLemmas.{crash_then, may_leave}
 use Rattle.cs_store.proofs.RowLaws.{same_itself}
 use Rattle.cs_store.proofs.StateOf.{records_first}
 use Rattle.cs_store.proofs.StoredLaws.{stores_nothing}
@@ -119,12 +124,43 @@ pub same_damage : {X : Type 0} (result : Result X StoreError) (old new : Databas
     → IfErr result (λ e. ((e ≡ DamagedStore) × ((held : tables.State) → HoldsTables old held → ⊥)) ⊎ IsResource e)
 same_damage result old new same h = subst (λ db. IfErr result (λ e. ((e ≡ DamagedStore) × ((held : tables.State) → HoldsTables db held → ⊥)) ⊎ IsResource e)) same h
 
+-- ---- a crash
+
+-- an adoption commits the tables that the database held
+pub adopted_survives : (old begun mid new : State) → KeepsCrash old begun → (HasCleanDisk begun → begun.now ≡ old.now) → KeepsCrash begun mid → (HasCleanDisk mid → SetsUp begun mid)
+    → Survives mid new (λ db. (db ≡ mid.now.trees) × IsTrue mid.in_transaction) → Survives old new (MayLeave (HoldsTables old.now))
+adopted_survives old begun mid new begins same keeps sets commits =
+    survives_then old mid new (λ _. ⊥) (λ db. (db ≡ mid.now.trees) × IsTrue mid.in_transaction) (MayLeave (HoldsTables old.now)) (λ clean db none. absurd none)
+    (λ clean db made.
+    let mid_clean = was_clean mid new commits clean in
+    let set = sets mid_clean in
+    let held = subst (λ d. HoldsTables d (tables_in mid.now)) (same (was_clean begun mid keeps mid_clean)) set.held in
+    may_leave mid (HoldsTables old.now) db set.holds held made.0)
+    (crash_then old begun mid begins keeps) commits
+
+-- ---- memory
+
+pub memory_honest : MemoryIsHonest
+unfolding doubt
+memory_honest conn = refl
+
+-- a database that declares nothing holds no tables
+pub nothing_held : (db : Database) (held : tables.State) → db.schema ≡ empty_schema → HoldsTables db held → held ≡ map.empty
+nothing_held db held nothing (inl vacant) = vacant.1
+nothing_held db held nothing (inr stored) = absurd (let e : 1 ≡ 0 = ap (λ (s : Schema). length s.tables) (sym stored.0.schema ∙ nothing) in omega arith)
+
+-- so it is not refused for damage
+pub nothing_damaged : (db : Database) (e : StoreError) → db.schema ≡ empty_schema → ((e ≡ DamagedStore) × ((held : tables.State) → HoldsTables db held → ⊥)) ⊎ IsResource e → IsResource e
+nothing_damaged db e nothing (inl damaged) = absurd (damaged.1 map.empty (inl (inl nothing, refl)))
+nothing_damaged db e nothing (inr resource) = resource
+
 -- ---- files
 
 -- a store over files that were opened has the tables that they held
-pub opens_files : (image : Image) (found new : State) → FindsIn image found → Opens found → Adopts found new → OpensFiles image new
-opens_files image found new finds opens adopts = record {
+pub opens_files : (image : Image) (found new : State) → FindsIn image found → Opens found → IsLive found → Adopts found new → OpensFiles image new
+opens_files image found new finds opens live adopts = record {
   db = found.now;
+  sound = (live adopts.was_open).0;
   found = λ trees holds. ap (λ (db : Database). db.trees) opens.clean ∙ finds.holds trees holds;
   reads = subst (λ (db : Database). AreFoundIn image db.trees) (sym opens.clean) finds.reads;
   held = adopts.held;

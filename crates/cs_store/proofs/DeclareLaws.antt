@@ -1,5 +1,5 @@
 -- What a declaration in a batch makes of the tables that a store held.
-use Rattle.std.proofs.Common.{◌≡◌, ◌⊎◌, ℕ, List, Result, Ok, Err, OnOk, inl, inr, sym, ap, subst, ◌∙◌}
+use Rattle.std.proofs.Common.{◌≡◌, ◌⊎◌, ℕ, List, Result, Ok, Err, OnOk, inl, inr, sym, subst}
 use Rattle.std.specs.FinMap as map
 use Rattle.cs_value.specs.Table.{IsName}
 use Rattle.cs_value.specs.State as tables
@@ -11,16 +11,15 @@ use Rattle.cs_store.specs.Faults.{IsResource}
 use Rattle.cs_store.specs.Rows.{IsDeclared}
 use Rattle.cs_store.specs.Editing.{IsDeclarable, Declares}
 use Rattle.cs_store.specs.Store.{AddsTable, Begins, Ends, KeepsStore, tables_in}
-use Rattle.cs_store.specs.Laws.{was_clean}
+use Rattle.cs_store.proofs.CrashLemmas.{begun_tables}
 
 -- a table that is added was declared
-added_declares : (old new : tables.State) (name : List ℕ) (schema : tables.SchemaData) → IsDeclarable name schema → AddsTable old name schema new → Declares old name schema (Ok new)
+pub added_declares : (old new : tables.State) (name : List ℕ) (schema : tables.SchemaData) → IsDeclarable name schema → AddsTable old name schema new → Declares old name schema (Ok new)
 added_declares old new name schema may added = (may, added.free, added.added)
 
 module _ (old begun mid : State) (begins : HasCleanDisk begun → Begins old begun) (keeps : KeepsStore begun mid) (clean : HasCleanDisk mid) where
-  -- the batch begins with the tables that the store held
   same_tables : tables_in begun.now ≡ tables_in old.now
-  same_tables = ap (λ (db : Database). tables_in db) (begins (was_clean begun mid keeps.crash clean)).shown.now_is
+  same_tables = begun_tables old begun mid begins keeps clean
 
   -- a table that a batch added is declared once the batch is committed
   pub committed_declares : (last : State) (name : List ℕ) (schema : tables.SchemaData) {X E : Type 0} (r : Result X E) → IsDeclarable name schema

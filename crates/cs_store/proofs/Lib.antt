@@ -1,6 +1,7 @@
 pub mod AdoptionLaws
 pub mod AnswerLaws
 pub mod CheckLaws
+pub mod CrashLemmas
 pub mod DeclarationLaws
 pub mod DeclareLaws
 pub mod EditExamples

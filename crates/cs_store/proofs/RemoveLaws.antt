@@ -62,7 +62,7 @@ pub remove_goes_on : (old new : State) (params : Row) (count : ℕ) → old.now.
 remove_goes_on old new params count has inside h = write_goes_on old new _ _ _ _ count inside (remove_writes old new params count has h)
 
 -- inside a transaction it commits nothing
-pub remove_keeps_crash : (params : Row) (old new : State) → (HasCleanDisk old → old.now.schema ≡ record_schema) → IsTrue old.in_transaction → Survives old new (CommitsBy remove_text params old)
+pub remove_keeps_crash : (params : Row) (old new : State) → (HasCleanDisk old → old.now.schema ≡ record_schema) → (HasCleanDisk old → IsTrue old.in_transaction) → Survives old new (CommitsBy remove_text params old)
     → KeepsCrash old new
 remove_keeps_crash params = inside_keeps_crash remove_text params record_schema remove_command remove_is remove_plain (λ same. absurd (cc)) (λ name same. absurd (cc))
 

@@ -92,7 +92,7 @@ pub set_goes_on : (old new : State) (params : Row) (count : ℕ) → old.now.sch
 set_goes_on old new params count has inside h = write_goes_on old new _ _ _ _ count inside (set_writes old new params count has h)
 
 -- inside a transaction it commits nothing
-pub set_keeps_crash : (params : Row) (old new : State) → (HasCleanDisk old → old.now.schema ≡ record_schema) → IsTrue old.in_transaction → Survives old new (CommitsBy set_text params old)
+pub set_keeps_crash : (params : Row) (old new : State) → (HasCleanDisk old → old.now.schema ≡ record_schema) → (HasCleanDisk old → IsTrue old.in_transaction) → Survives old new (CommitsBy set_text params old)
     → KeepsCrash old new
 set_keeps_crash params = inside_keeps_crash set_text params record_schema set_command set_is set_plain (λ same. absurd (cc)) (λ name same. absurd (cc))
 

@@ -81,12 +81,12 @@ module _ (sql : List ℕ) (params : Row) (schema : Schema) (command : Command) (
       subst₂ (λ k t. MayCommit s None k t params db) (ap command_of known ∙ is) (ap (statement_of sql) known) may
 
   -- inside a transaction it commits nothing, unless it ends the transaction
-  pub inside_keeps_crash : command ≢ Commit → ((name : List ℕ) → command ≢ Release name) → (old new : State) → (HasCleanDisk old → old.now.schema ≡ schema) → IsTrue old.in_transaction
+  pub inside_keeps_crash : command ≢ Commit → ((name : List ℕ) → command ≢ Release name) → (old new : State) → (HasCleanDisk old → old.now.schema ≡ schema) → (HasCleanDisk old → IsTrue old.in_transaction)
       → Survives old new (CommitsBy sql params old) → KeepsCrash old new
   inside_keeps_crash commits releases old new has inside survives = survives_weaker old new _ (λ _. ⊥) (λ clean db by. elim (commits_as old db (has (omega (arith, survives.clean))) by) [
     | inl (inl ends, at) ↦ commits ends
     | inl (inr ends, at) ↦ releases ends.0 ends.2
-    | inr writes ↦ both_ways _ writes.0 inside
+    | inr writes ↦ both_ways _ writes.0 (inside (omega (arith, survives.clean)))
   ]) survives
 
   -- where it is no write, its failure rolls back, or it was not in its place

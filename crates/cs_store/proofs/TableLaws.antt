@@ -65,5 +65,5 @@ pub make_goes_on : (old new : State) (count : ℕ) → old.now.schema ≡ empty_
 make_goes_on old new count has inside h = write_goes_on old new _ _ _ _ count inside (writes old new count has h)
 
 -- inside a transaction it commits nothing
-pub make_keeps_crash : (old new : State) → (HasCleanDisk old → old.now.schema ≡ empty_schema) → IsTrue old.in_transaction → Survives old new (CommitsBy create_text [] old) → KeepsCrash old new
+pub make_keeps_crash : (old new : State) → (HasCleanDisk old → old.now.schema ≡ empty_schema) → (HasCleanDisk old → IsTrue old.in_transaction) → Survives old new (CommitsBy create_text [] old) → KeepsCrash old new
 make_keeps_crash = inside_keeps_crash create_text [] empty_schema CreateTable create_is create_plain (λ same. absurd (cc)) (λ name same. absurd (cc))

@@ -89,21 +89,18 @@ module _ (old new : State) where
       (ran.0, ran.1)
 
   -- where it fails, the last commit stands
-  pub commit_undone : (e : Error) → (old.in_transaction ≡ false → IsTrue old.is_open → old.now ≡ old.committed) → Executes commit_text [] old new (Err e) → IsUndone old new
-  commit_undone e settled h =
+  pub commit_undone : IsTrue old.in_transaction → (e : Error) → Executes commit_text [] old new (Err e) → IsUndone old new
+  commit_undone inside e h =
       elim (fails_as commit_text [] old.now.schema Commit (commit_is old.now.schema) (commit_plain old.now.schema) (λ none. none) refl old new e refl (commit_whole old.now.schema) h) [
         | inl back ↦ undone_by old new back
-        | inr (misplaced, same) ↦
-            let closed = outside old Commit e (inl refl) misplaced in
-            let shown = same.0 in
-            record { autocommit = shown.mode ∙ closed; was_open = λ _. shown.was_open; now = λ _. shown.now_is ∙ settled closed shown.was_open; committed = λ _. shown.committed_is }
+        | inr misplaced ↦ absurd (both_ways _ (outside old Commit e (inl refl) misplaced.0) inside)
       ]
 
   -- it commits what stands, and nothing else
-  pub commit_survives : Survives old new (CommitsBy commit_text [] old) → Survives old new (λ db. db ≡ old.now.trees)
-  commit_survives = survives_weaker old new _ (λ db. db ≡ old.now.trees) (λ clean db by.
+  pub commit_survives : IsTrue old.in_transaction → Survives old new (CommitsBy commit_text [] old) → Survives old new (λ db. (db ≡ old.now.trees) × IsTrue old.in_transaction)
+  commit_survives inside = survives_weaker old new _ (λ db. (db ≡ old.now.trees) × IsTrue old.in_transaction) (λ clean db by.
       elim (commits_as commit_text [] old.now.schema Commit (commit_is old.now.schema) (commit_plain old.now.schema) old db refl by) [
-        | inl ends ↦ ends.1
+        | inl ends ↦ (ends.1, inside)
         | inr writes ↦ absurd (let refused = writes.3 in cc)
       ])
 

@@ -80,10 +80,10 @@ write_kept (Err e) old new inside crash wrote rests = rests_keeps old new crash 
 -- a record is written in a transaction of a sound store, and this is what the state that is stored becomes
 module _ (old new : State) {X E : Type 0} (result : Result X E) (name key : List ℕ) (here : Option (List ℕ)) (next : tables.State) (sound : IsSound old) (inside : IsTrue old.in_transaction)
     (means : HasCleanDisk old → HoldsState old.now → Sets old.now new.now name key here → HoldsState new.now × (tables_in new.now ≡ next))
-    (survives : (HasCleanDisk old → HoldsRecords old.now) → IsTrue old.in_transaction → KeepsCrash old new)
+    (survives : (HasCleanDisk old → HoldsRecords old.now) → (HasCleanDisk old → IsTrue old.in_transaction) → KeepsCrash old new)
     (sets : HasCleanDisk new → HoldsRecords old.now → OnOk result (Sets old.now new.now name key here)) where
   crash : KeepsCrash old new
-  crash = survives (λ clean. (shows_state old sound inside clean).records) inside
+  crash = survives (λ clean. (shows_state old sound inside clean).records) (λ clean. inside)
 
   shown : HasCleanDisk new → HoldsState old.now
   shown clean = shows_state old sound inside (was_clean old new crash clean)

@@ -120,3 +120,7 @@ abbrev pub edited : State → Edit → Result Edited StoreError
 edited state (Insert name row) = inserted state (string_bytes name) row
 edited state (Update name key row) = updated state (string_bytes name) key row
 edited state (Delete name key) = deleted state (string_bytes name) key
+
+-- the edit makes this state
+abbrev pub EditsInto : State → Edit → State → Type 0
+EditsInto state edit next = (written : List WrittenData) × (edited state edit ≡ Ok (record { state = next; written = written }))

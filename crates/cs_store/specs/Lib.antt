@@ -5,6 +5,7 @@ pub mod Declaration
 pub mod Stored
 pub mod Valid
 pub mod Store
+pub mod Crash
 pub mod Laws
 pub mod Editing
 pub use Rattle.cs_value.specs.Value

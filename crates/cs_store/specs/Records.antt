@@ -57,6 +57,15 @@ record_table = record {
   is_counted = false;
 }
 
+-- the table is declared as that one, wherever its rows are kept
+pub record IsDeclaredAsRecords (table : Table) : Type 0 where
+  pub name : table.name ≡ record_table.name
+  pub columns : table.columns ≡ record_table.columns
+  pub keys : (table.key ≡ None) × (table.primary ≡ record_table.primary) × (table.uniques ≡ record_table.uniques)
+      × (table.orders ≡ record_table.orders)
+  pub rules : (table.checks ≡ []) × (table.references ≡ []) × (table.computed ≡ []) × (table.stamps ≡ record_table.stamps)
+      × (table.is_counted ≡ false)
+
 -- what a database with that table, and no other, declares
 abbrev pub record_schema : Schema
 record_schema = record {

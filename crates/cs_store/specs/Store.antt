@@ -12,7 +12,10 @@ use Rattle.cs_value.specs.Spelling.{row_bytes}
 use Rattle.cs_value.specs.State as tables
 use Rattle.sqlite_trees.specs.Tree.{Trees}
 use Rattle.sqlite_wal.specs.Recovery.{Image}
-use Rattle.sqlite.specs.Effect.{Database}
+use Rattle.sqlite_trees.specs.declared.memory.MemStore.{MemStore}
+use Rattle.sqlite.specs.Effect.{Database, IsDatabase}
+use Rattle.sqlite.specs.Held.{Held, state}
+use Rattle.sqlite.specs.Steps.{over_memory}
 use Rattle.sqlite.specs.Files.{HoldsDatabase, AreFoundIn}
 use Rattle.sqlite.specs.State.{State, HasCleanDisk, Shows, KeepsCommit}
 use Rattle.cs_store.specs.declared.fault.StoreError.{StoreError}
@@ -96,6 +99,7 @@ pub record IsInside (s : State) : Type 0 where
 -- files that are opened as a store: the database that they held, whose tables the store holds
 pub record OpensFiles (image : Image) (new : State) : Type 0 where
   pub db : Database
+  pub sound : IsDatabase db
   pub found : (trees : Trees) → HoldsDatabase image trees → db.trees ≡ trees
   pub reads : AreFoundIn image db.trees
   pub held : HoldsTables db (tables_in new.now)
@@ -127,3 +131,7 @@ pub record AddsTable (old : tables.State) (name : List ℕ) (schema : tables.Sch
 abbrev pub AreNamed : Result (Vec (String Global) Global) StoreError → List (List ℕ) → Type 0
 AreNamed (Ok names) stored = map_list string_bytes names.items ≡ stored
 AreNamed (Err e) stored = IsResource e
+
+-- a connection in memory returns what was written
+abbrev pub MemoryIsHonest : Type 0
+MemoryIsHonest = (conn : Held MemStore) → HasCleanDisk (state over_memory conn)

@@ -1,19 +1,20 @@
 //! How a database is taken over as a store.
 ghost use Rattle.std.specs.Prelude.{◌≡◌, ◌⊎◌, [], IfErr, OnOk, OnErr};
 ghost use Rattle.cs_value.specs.State as tables;
-ghost use Rattle.sqlite.specs.State.{HasCleanDisk, KeepsCommit, IsUnchanged};
+ghost use Rattle.sqlite.specs.State.{HasCleanDisk, KeepsCommit, IsUnchanged, Survives};
 ghost use Rattle.sqlite.specs.Effect.{IsDatabase};
 ghost use Rattle.sqlite.specs.Held.{state};
 ghost use Rattle.cs_store.specs.declared.fault.StoreError.TheVariants.{DamagedStore as Damaged};
 ghost use Rattle.cs_store.specs.Faults.{IsResource, IsReadRefusal};
 ghost use Rattle.cs_store.specs.Records.{HoldsRecords, ListsAll, KeepsContent, record_schema, empty_schema};
-ghost use Rattle.cs_store.specs.Records.{records_in};
+ghost use Rattle.cs_store.specs.Records.{records_in, KeepsCrash};
 ghost use Rattle.cs_store.specs.Valid.{AreValid};
+ghost use Rattle.cs_store.specs.Crash.{MayLeave};
 ghost use Rattle.cs_store.specs.Store.{Adopts, HoldsTables, SetsUp, IsInside};
 
 use crate::check::check_records;
 use crate::fault::StoreError;
-use crate::layout::{declares_nothing, declares_records, names_records};
+use crate::layout::{declares_nothing, declares_records, misdeclares_records};
 use crate::records::{Record, all_records, find_record, has_row_numbers, make_table, set_record};
 use crate::transactions;
 use sqlite::{Alter, Connection};
@@ -32,6 +33,8 @@ pub(crate) fn adopt<S: Alter>(conn: &mut Connection<S>, alloc: Global) -> Result
     ensures named { IfErr result IsReadRefusal }
     ensures kept { HasCleanDisk (state S.Store conn.new)
         → OnErr result (KeepsContent (state S.Store conn.old) (state S.Store conn.new)) }
+    ensures survives { Survives (state S.Store conn.old) (state S.Store conn.new)
+        (MayLeave (HoldsTables (state S.Store conn.old).now)) }
 {
     transactions::begin(conn)?;
     match set_up(conn, alloc) {
@@ -54,14 +57,14 @@ fn set_up<S: Alter>(conn: &mut Connection<S>, alloc: Global) -> Result<(), Store
     ensures named { IfErr result IsReadRefusal }
     ensures commit { HasCleanDisk (state S.Store conn.new)
         → OnErr result (KeepsCommit (state S.Store conn.old) (state S.Store conn.new)) }
-    ensures was_clean { HasCleanDisk (state S.Store conn.new) → HasCleanDisk (state S.Store conn.old) }
+    ensures survives { KeepsCrash (state S.Store conn.old) (state S.Store conn.new) }
 {
     let schema = conn.schema();
     if declares_nothing(schema) {
         make_store(conn)
     } else if declares_records(schema) {
         check_store(conn, alloc)
-    } else if names_records(schema) {
+    } else if misdeclares_records(schema) {
         Err(StoreError::DamagedStore)
     } else {
         Err(StoreError::StoreFault)
@@ -77,7 +80,7 @@ fn make_store<S: Alter>(conn: &mut Connection<S>) -> Result<(), StoreError>
     ensures refused { IfErr result IsResource }
     ensures commit { HasCleanDisk (state S.Store conn.new)
         → OnErr result (KeepsCommit (state S.Store conn.old) (state S.Store conn.new)) }
-    ensures was_clean { HasCleanDisk (state S.Store conn.new) → HasCleanDisk (state S.Store conn.old) }
+    ensures survives { KeepsCrash (state S.Store conn.old) (state S.Store conn.new) }
 {
     make_table(conn)?;
     write_version(conn)
@@ -93,7 +96,7 @@ fn write_version<S: Alter>(conn: &mut Connection<S>) -> Result<(), StoreError>
     ensures refused { IfErr result IsResource }
     ensures commit { HasCleanDisk (state S.Store conn.new)
         → OnErr result (KeepsCommit (state S.Store conn.old) (state S.Store conn.new)) }
-    ensures was_clean { HasCleanDisk (state S.Store conn.new) → HasCleanDisk (state S.Store conn.old) }
+    ensures survives { KeepsCrash (state S.Store conn.old) (state S.Store conn.new) }
 {
     set_record(conn, "", b"", VERSION)
 }
@@ -111,7 +114,7 @@ fn check_store<S: Alter>(conn: &mut Connection<S>, alloc: Global) -> Result<(), 
     ensures named { IfErr result IsReadRefusal }
     ensures commit { HasCleanDisk (state S.Store conn.new)
         → OnErr result (KeepsCommit (state S.Store conn.old) (state S.Store conn.new)) }
-    ensures was_clean { HasCleanDisk (state S.Store conn.new) → HasCleanDisk (state S.Store conn.old) }
+    ensures survives { KeepsCrash (state S.Store conn.old) (state S.Store conn.new) }
 {
     match has_row_numbers(conn) {
         Ok(true) => check_numbered(conn, alloc),
@@ -131,7 +134,7 @@ fn check_numbered<S: Alter>(conn: &mut Connection<S>, alloc: Global) -> Result<(
     ensures named { IfErr result IsReadRefusal }
     ensures commit { HasCleanDisk (state S.Store conn.new)
         → OnErr result (KeepsCommit (state S.Store conn.old) (state S.Store conn.new)) }
-    ensures was_clean { HasCleanDisk (state S.Store conn.new) → HasCleanDisk (state S.Store conn.old) }
+    ensures survives { KeepsCrash (state S.Store conn.old) (state S.Store conn.new) }
 {
     match all_records(conn, alloc) {
         Ok(listed) if listed.is_empty() => write_version(conn),
@@ -157,7 +160,7 @@ fn check_listed<S: Alter>(
         → OnOk result (IsUnchanged (state S.Store conn.old) (state S.Store conn.new)) }
     ensures commit { HasCleanDisk (state S.Store conn.new)
         → OnErr result (KeepsCommit (state S.Store conn.old) (state S.Store conn.new)) }
-    ensures was_clean { HasCleanDisk (state S.Store conn.new) → HasCleanDisk (state S.Store conn.old) }
+    ensures survives { KeepsCrash (state S.Store conn.old) (state S.Store conn.new) }
 {
     match find_record(conn, "", b"") {
         Ok(Some(version)) if version.as_slice() == VERSION => check_records(alloc, listed),

@@ -7,6 +7,7 @@ ghost use Rattle.cs_store.specs.declared.fault.StoreError.TheVariants.{TableExis
 ghost use Rattle.cs_store.specs.Faults.{IsResource, IsReadRefusal};
 ghost use Rattle.cs_store.specs.Rows.{IsDeclared};
 ghost use Rattle.cs_store.specs.Records.{IsUndone, KeepsCrash};
+ghost use Rattle.cs_store.specs.Crash.{MayLeave};
 ghost use Rattle.cs_store.specs.Store.{AddsTable, Ends, KeepsStore, tables_in};
 
 use crate::fault::StoreError;
@@ -52,7 +53,7 @@ impl<S: Alter> SqlBatch<'_, S> {
             → OnErr result (IsUndone (state S.Store self.entry.store.now) (state S.Store self.exit.0.now)) }
         ensures refused { IfErr result IsResource }
         ensures survives { Survives (state S.Store self.entry.store.now) (state S.Store self.exit.0.now)
-            (λ db. db ≡ (state S.Store self.entry.store.now).now.trees) }
+            (MayLeave (λ tables. tables ≡ tables_in (state S.Store self.entry.store.now).now)) }
     {
         let SqlBatch { store } = self;
         transactions::commit(&mut store.conn)

@@ -1,9 +1,9 @@
 //! What a database declares, compared with the table of records.
-ghost use Rattle.std.specs.Prelude.{◌≡◌, ◌↔◌, [], ◌∷◌, false, None, IsTrue, IsSome};
+ghost use Rattle.std.specs.Prelude.{◌≡◌, ◌↔◌, [], ◌∷◌, true, false, None, IsTrue, All};
 ghost use Rattle.sqlite_value.specs.Keys.{plain};
-ghost use Rattle.sqlite_schema.specs.Names.{table_named};
+ghost use Rattle.sqlite_schema.specs.Names.{same_name};
 ghost use Rattle.sqlite_catalog.specs.Listing.{automatic};
-ghost use Rattle.cs_store.specs.Records.{required, record_table, record_schema, empty_schema};
+ghost use Rattle.cs_store.specs.Records.{required, record_table, record_schema, empty_schema, IsDeclaredAsRecords};
 
 use sqlite_schema::schema::{Column, Index, Kind, Schema as DatabaseSchema, Stamps, Table};
 use sqlite_value::keys::{Collation, Order};
@@ -29,18 +29,31 @@ pub(crate) fn declares_records(schema: &DatabaseSchema) -> bool
     is_record_table(table) && is_record_index(index) && schema.views.is_empty()
 }
 
-/// Whether a table has the name of the table of records.
-pub(crate) fn names_records(schema: &DatabaseSchema) -> bool
-    ensures { IsTrue result ↔ IsSome (table_named schema.now record_table.name) }
+/// Whether a table has the name of the table of records, and is declared otherwise.
+pub(crate) fn misdeclares_records(schema: &DatabaseSchema) -> bool
+    ensures { IsTrue result → ¬ All (λ table. same_name table.name record_table.name ≡ true
+        → IsDeclaredAsRecords table) schema.now.tables }
 {
-    schema.table_named(b"rec").is_some()
+    for table in schema.tables.as_slice() {
+        if table.is_named(b"rec") && !is_declared_as_records(table) {
+            return true;
+        }
+    }
+    false
 }
 
+/// Whether the table is that of records, and the first of the database.
 fn is_record_table(table: &Table) -> bool
     ensures { IsTrue result ↔ (table.now ≡ record_table) }
 {
+    table.tree == 0 && is_declared_as_records(table)
+}
+
+/// Whether the table is declared as that of records, wherever its rows are kept.
+fn is_declared_as_records(table: &Table) -> bool
+    ensures { IsTrue result ↔ IsDeclaredAsRecords table.now }
+{
     table.name.as_slice() == b"rec".as_slice()
-        && table.tree == 0
         && are_record_columns(table.columns.as_slice())
         && has_record_keys(table)
         && has_no_rules(table)

@@ -114,7 +114,7 @@ pub(crate) fn set_record<S: Alter>(
         → OnErr result (Rests (state S.Store conn.old) (state S.Store conn.new)) }
     ensures was_clean { HasCleanDisk (state S.Store conn.new) → HasCleanDisk (state S.Store conn.old) }
     ensures survives { (HasCleanDisk (state S.Store conn.old) → HoldsRecords (state S.Store conn.old).now)
-        → IsTrue (state S.Store conn.old).in_transaction
+        → (HasCleanDisk (state S.Store conn.old) → IsTrue (state S.Store conn.old).in_transaction)
         → KeepsCrash (state S.Store conn.old) (state S.Store conn.new) }
 {
     conn.execute(
@@ -139,7 +139,7 @@ pub(crate) fn remove_record<S: Alter>(
     ensures rests { HasCleanDisk (state S.Store conn.new)
         → OnErr result (Rests (state S.Store conn.old) (state S.Store conn.new)) }
     ensures survives { (HasCleanDisk (state S.Store conn.old) → HoldsRecords (state S.Store conn.old).now)
-        → IsTrue (state S.Store conn.old).in_transaction
+        → (HasCleanDisk (state S.Store conn.old) → IsTrue (state S.Store conn.old).in_transaction)
         → KeepsCrash (state S.Store conn.old) (state S.Store conn.new) }
 {
     conn.execute(
@@ -299,7 +299,7 @@ pub(crate) fn make_table<S: Alter>(conn: &mut Connection<S>) -> Result<(), Store
         → OnErr result (Rests (state S.Store conn.old) (state S.Store conn.new)) }
     ensures was_clean { HasCleanDisk (state S.Store conn.new) → HasCleanDisk (state S.Store conn.old) }
     ensures survives { (HasCleanDisk (state S.Store conn.old) → (state S.Store conn.old).now.schema ≡ empty_schema)
-        → IsTrue (state S.Store conn.old).in_transaction
+        → (HasCleanDisk (state S.Store conn.old) → IsTrue (state S.Store conn.old).in_transaction)
         → KeepsCrash (state S.Store conn.old) (state S.Store conn.new) }
 {
     conn.execute(

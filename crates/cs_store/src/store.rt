@@ -1,5 +1,5 @@
 //! Stores: tables of rows in a database.
-ghost use Rattle.std.specs.Prelude.{◌≡◌, ◌⊎◌, IsTrue, IfOk, IfErr, OnOk, OnErr, IfSome, None, Ok, Err};
+ghost use Rattle.std.specs.Prelude.{◌≡◌, ◌⊎◌, IsTrue, IfOk, IfErr, OnOk, OnErr, IfSome, None, Ok, Err, MatchResult};
 ghost use Rattle.std.specs.Prelude.{map as map_list, string_bytes};
 ghost use Rattle.std.specs.FinMap as map;
 ghost use Rattle.cs_value.specs.State as tables;
@@ -8,10 +8,11 @@ ghost use Rattle.cs_store.specs.declared.fault.StoreError.TheVariants.{DamagedSt
 ghost use Rattle.cs_store.specs.declared.fault.StoreError.TheVariants.{TableExists as TakenName};
 ghost use Rattle.cs_value.specs.Table.{IsName};
 ghost use Rattle.cs_store.specs.Faults.{IsResource, IsReadRefusal, IsEditRefusal};
-ghost use Rattle.cs_store.specs.Editing.{Declares, schema_of, edited, written_of};
+ghost use Rattle.cs_store.specs.Editing.{Declares, EditsInto, schema_of, edited, written_of};
+ghost use Rattle.cs_store.specs.Crash.{MayLeave};
 ghost use Rattle.cs_store.specs.Records.{KeepsContent, KeepsCrash};
 ghost use Rattle.cs_store.specs.Rows.{IsDeclared, Fits};
-ghost use Rattle.sqlite.specs.State.{HasCleanDisk};
+ghost use Rattle.sqlite.specs.State.{HasCleanDisk, Survives};
 ghost use Rattle.sqlite.specs.Held.{state};
 ghost use Rattle.sqlite.specs.Files.{file_state};
 ghost use Rattle.sqlite.specs.Steps.{over_memory};
@@ -55,10 +56,9 @@ impl Store<MemStore> {
     ///
     /// Refused where memory or the database refuses.
     pub fn new_memory(alloc: Global) -> Result<Store<MemStore>, StoreError>
-        ensures empty { IfOk result (λ s. HasCleanDisk (state over_memory s)
-            → tables_in (state over_memory s).now ≡ map.empty) }
-        ensures at_rest { IfOk result (λ s. HasCleanDisk (state over_memory s) → IsAtRest (state over_memory s)) }
-        ensures named { IfErr result IsReadRefusal }
+        ensures empty { IfOk result (λ s. tables_in (state over_memory s).now ≡ map.empty) }
+        ensures at_rest { IfOk result (λ s. IsAtRest (state over_memory s)) }
+        ensures named { IfErr result IsResource }
     {
         let conn = Connection::open_in_memory(alloc)?;
         match Store::adopt(alloc, conn) {
@@ -101,7 +101,8 @@ impl<S: Alter> Store<S> {
     /// Refuses with [`DamagedStore`](StoreError::DamagedStore) where the records are not those of
     /// tables, or a table of the name `rec` was declared otherwise, and with
     /// [`StoreFault`](StoreError::StoreFault) where the database has other tables, where a transaction
-    /// is open, and where the database refuses. The connection is handed back as it was.
+    /// is open, and where the database refuses. The connection is handed back as it was. A crash leaves what
+    /// it could leave before, or the store.
     pub fn adopt(
         alloc: Global,
         mut conn: Connection<S>,
@@ -113,6 +114,9 @@ impl<S: Alter> Store<S> {
         ensures named { IfErr result (λ e. IsReadRefusal e.0) }
         ensures kept { IfErr result (λ e. HasCleanDisk (state S.Store e.1)
             → KeepsContent (state S.Store conn) (state S.Store e.1)) }
+        ensures survives { MatchResult result
+            (λ s. Survives (state S.Store conn) (state S.Store s) (MayLeave (HoldsTables (state S.Store conn).now)))
+            (λ e. Survives (state S.Store conn) (state S.Store e.1) (MayLeave (HoldsTables (state S.Store conn).now))) }
     {
         match adoption::adopt(&mut conn, alloc) {
             Ok(()) => Ok(Store { conn }),
@@ -165,7 +169,8 @@ impl<S: Alter> Store<S> {
         }
     }
 
-    /// Declares a table without rows: the names of its columns, of which the marked ones are the key.
+    /// Declares a table without rows: the names of its columns, of which the marked ones are the key. A crash
+    /// leaves the tables as before, or with this one.
     ///
     /// Refuses with [`BadSchema`](StoreError::BadSchema) where the name or the columns make no table,
     /// and then with [`TableExists`](StoreError::TableExists). A refusal changes nothing.
@@ -185,6 +190,9 @@ impl<S: Alter> Store<S> {
         ensures at_rest { HasCleanDisk (state S.Store self.new) → OnOk result (IsAtRest (state S.Store self.new)) }
         ensures kept { HasCleanDisk (state S.Store self.new)
             → OnErr result (KeepsContent (state S.Store self.old) (state S.Store self.new)) }
+        ensures survives { Survives (state S.Store self.old) (state S.Store self.new)
+            (MayLeave (λ left. Declares (tables_in (state S.Store self.old).now) name.now
+            (schema_of columns.now keys.now) (Ok left))) }
     {
         if !is_table_name(name) {
             return Err(StoreError::BadSchema);
@@ -228,6 +236,8 @@ impl<S: Alter> Store<S> {
         ensures listed { HasCleanDisk (state S.Store self.new)
             → IfOk result (λ rows. rows.items
             ≡ map.values (rows_at (tables_in (state S.Store self.old).now) name.now)) }
+        ensures declared { HasCleanDisk (state S.Store self.new)
+            → OnOk result (IsDeclared (tables_in (state S.Store self.old).now) name.now) }
         ensures same { HasCleanDisk (state S.Store self.new) → OnOk result ((state S.Store self.new).now
             ≡ (state S.Store self.old).now) }
         ensures refused { HasCleanDisk (state S.Store self.new) → IfErr result (λ e. ((e ≡ NoSuchTable)
@@ -248,6 +258,8 @@ impl<S: Alter> Store<S> {
     pub fn get(&mut self, alloc: Global, name: &str, key: &Key) -> Result<Option<Row>, StoreError>
         ensures found { HasCleanDisk (state S.Store self.new)
             → IfOk result (λ o. o ≡ row_at (tables_in (state S.Store self.old).now) name.now key.now) }
+        ensures declared { HasCleanDisk (state S.Store self.new)
+            → OnOk result (IsDeclared (tables_in (state S.Store self.old).now) name.now) }
         ensures same { HasCleanDisk (state S.Store self.new) → OnOk result ((state S.Store self.new).now
             ≡ (state S.Store self.old).now) }
         ensures refused { HasCleanDisk (state S.Store self.new) → IfErr result (λ e. ((e ≡ NoSuchTable)
@@ -262,7 +274,8 @@ impl<S: Alter> Store<S> {
         }
     }
 
-    /// Carries out an edit as [`edit_in`] does, and commits it. A refusal changes nothing.
+    /// Carries out an edit as [`edit_in`] does, and commits it. A refusal changes nothing. A crash leaves the
+    /// tables as before or as edited.
     pub fn edit(&mut self, alloc: Global, edit: &Edit) -> Result<Vec<Written>, StoreError>
         ensures edited { HasCleanDisk (state S.Store self.new)
             → IfOk result (λ w. edited (tables_in (state S.Store self.old).now) edit.now
@@ -273,6 +286,8 @@ impl<S: Alter> Store<S> {
         ensures at_rest { HasCleanDisk (state S.Store self.new) → OnOk result (IsAtRest (state S.Store self.new)) }
         ensures kept { HasCleanDisk (state S.Store self.new)
             → OnErr result (KeepsContent (state S.Store self.old) (state S.Store self.new)) }
+        ensures survives { Survives (state S.Store self.old) (state S.Store self.new)
+            (MayLeave (EditsInto (tables_in (state S.Store self.old).now) edit.now)) }
     {
         let mut batch = self.begin()?;
         let written = edit_in(alloc, &mut batch, edit)?;

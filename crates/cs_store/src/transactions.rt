@@ -3,7 +3,7 @@ ghost use Rattle.std.specs.Prelude.{◌≡◌, true, false, IsTrue, IfErr, OnOk,
 ghost use Rattle.sqlite.specs.State.{HasCleanDisk, Shows, Survives};
 ghost use Rattle.sqlite.specs.Held.{state};
 ghost use Rattle.cs_store.specs.Faults.{IsResource};
-ghost use Rattle.cs_store.specs.Records.{IsUndone, KeepsContent, Rests, KeepsCrash};
+ghost use Rattle.cs_store.specs.Records.{IsUndone, KeepsContent, KeepsCrash};
 
 use crate::fault::StoreError;
 use sqlite::{Alter, Connection};
@@ -36,15 +36,14 @@ pub(crate) fn commit<S: Alter>(conn: &mut Connection<S>) -> Result<(), StoreErro
         × Shows (state S.Store conn.old) (state S.Store conn.new)
         (state S.Store conn.old).now (state S.Store conn.old).now false) }
     ensures refused { IfErr result IsResource }
-    ensures rests { HasCleanDisk (state S.Store conn.new)
-        → OnErr result (Rests (state S.Store conn.old) (state S.Store conn.new)) }
     ensures undone { HasCleanDisk (state S.Store conn.new)
         → OnErr result (IsUndone (state S.Store conn.old) (state S.Store conn.new)) }
     ensures survives { Survives (state S.Store conn.old) (state S.Store conn.new)
-        (λ db. db ≡ (state S.Store conn.old).now.trees) }
+        (λ db. (db ≡ (state S.Store conn.old).now.trees) × IsTrue (state S.Store conn.old).in_transaction) }
 {
-    // outside a transaction the database is as the last commit left it
-    let _ = conn.is_autocommit();
+    if conn.is_autocommit() {
+        return Err(StoreError::StoreFault);
+    }
     conn.execute("COMMIT", &[])?;
     Ok(())
 }

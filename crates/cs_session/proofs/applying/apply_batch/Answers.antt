@@ -2,7 +2,8 @@ use Rattle.std.proofs.Common.{◌≡◌, rules}
 use Rattle.std.specs.Fn.{FnReturnsAt}
 use Rattle.sqlite.specs.Held.{state}
 use Rattle.cs_apply.specs.declared.running.Direction.TheVariants.{Forward}
-use Rattle.cs_apply.proofs.CrashLaws.{run_survives}
+use Rattle.cs_store.proofs.CrashLemmas.{made_survives}
+use Rattle.cs_apply.specs.Crash.{AppliesInto}
 use Rattle.cs_session.proofs.OutcomeLaws.{begun_state}
 use Rattle.cs_session.proofs.applying.apply_batch.Goals as goal
 
@@ -17,8 +18,8 @@ returns-in_err-commit-clause-survives g c =
     let mid = state g.S.Store c.apply_rows.new.rows.store.now in
     let last = state g.S.Store c.commit.new.self.0 in
     let same : c.commit.new.self.0 ≡ c.store-2-1.given.0 = search rules in
-    rw (← same) (run_survives (FnReturnsAt g.H.Fn c.args.handler.now) c.args.file.now Forward c.in_ok-report.report old begun mid last
-    c.in_ok-batch.ensures.begun c.in_ok-batch.ensures.survives c.apply_rows.ensures.kept.1 (λ clean. (c.in_ok-report.ensures.recorded clean).applied) c.commit.ensures.survives)
+    rw (← same) (made_survives old begun mid last c.in_ok-batch.ensures.survives c.apply_rows.ensures.kept.1 (AppliesInto (FnReturnsAt g.H.Fn c.args.handler.now) c.args.file.now Forward)
+    c.in_ok-batch.ensures.begun (λ clean. (c.in_ok-report.report, (c.in_ok-report.ensures.recorded clean).applied)) c.commit.ensures.survives)
 
 pub returns-clause-survives : goal.returns-clause-survives
 returns-clause-survives g c =
@@ -27,5 +28,5 @@ returns-clause-survives g c =
     let mid = state g.S.Store c.apply_rows.new.rows.store.now in
     let last = state g.S.Store c.commit.new.self.0 in
     let same : c.commit.new.self.0 ≡ c.store-2-1.given.0 = search rules in
-    rw (← same) (run_survives (FnReturnsAt g.H.Fn c.args.handler.now) c.args.file.now Forward c.in_ok-report.report old begun mid last
-    c.in_ok-batch.ensures.begun c.in_ok-batch.ensures.survives c.apply_rows.ensures.kept.1 (λ clean. (c.in_ok-report.ensures.recorded clean).applied) c.commit.ensures.survives)
+    rw (← same) (made_survives old begun mid last c.in_ok-batch.ensures.survives c.apply_rows.ensures.kept.1 (AppliesInto (FnReturnsAt g.H.Fn c.args.handler.now) c.args.file.now Forward)
+    c.in_ok-batch.ensures.begun (λ clean. (c.in_ok-report.report, (c.in_ok-report.ensures.recorded clean).applied)) c.commit.ensures.survives)

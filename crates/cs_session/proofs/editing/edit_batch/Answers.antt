@@ -1,7 +1,8 @@
 use Rattle.std.proofs.Common.{◌≡◌, map, rules}
 use Rattle.sqlite.specs.Held.{state}
 use Rattle.cs_session.specs.Views.{attached_of}
-use Rattle.cs_session.proofs.CrashLaws.{edit_survives}
+use Rattle.cs_store.specs.Editing.{EditsInto}
+use Rattle.cs_store.proofs.CrashLemmas.{made_survives}
 use Rattle.cs_session.proofs.OutcomeLaws.{begun_state}
 use Rattle.cs_session.proofs.editing.edit_batch.Goals as goal
 
@@ -16,8 +17,8 @@ returns-in_err-commit-clause-survives g c =
     let mid = state g.S.Store c.edit_rows.new.rows.store.now in
     let last = state g.S.Store c.commit.new.self.0 in
     let same : c.commit.new.self.0 ≡ c.store-2-1.given.0 = search rules in
-    rw (← same) (edit_survives c.args.edit.now (map attached_of c.args.tables.now) _ old begun mid last
-    c.in_ok-batch.ensures.begun c.in_ok-batch.ensures.survives c.edit_rows.ensures.kept.1 c.in_ok-edit_rows.ensures.recorded c.commit.ensures.survives)
+    rw (← same) (made_survives old begun mid last c.in_ok-batch.ensures.survives c.edit_rows.ensures.kept.1 (λ before. EditsInto before c.args.edit.now)
+    c.in_ok-batch.ensures.begun (λ clean. let done = c.in_ok-edit_rows.ensures.recorded clean in (done.written, done.edited)) c.commit.ensures.survives)
 
 pub returns-clause-survives : goal.returns-clause-survives
 returns-clause-survives g c =
@@ -26,5 +27,5 @@ returns-clause-survives g c =
     let mid = state g.S.Store c.edit_rows.new.rows.store.now in
     let last = state g.S.Store c.commit.new.self.0 in
     let same : c.commit.new.self.0 ≡ c.store-2-1.given.0 = search rules in
-    rw (← same) (edit_survives c.args.edit.now (map attached_of c.args.tables.now) _ old begun mid last
-    c.in_ok-batch.ensures.begun c.in_ok-batch.ensures.survives c.edit_rows.ensures.kept.1 c.in_ok-edit_rows.ensures.recorded c.commit.ensures.survives)
+    rw (← same) (made_survives old begun mid last c.in_ok-batch.ensures.survives c.edit_rows.ensures.kept.1 (λ before. EditsInto before c.args.edit.now)
+    c.in_ok-batch.ensures.begun (λ clean. let done = c.in_ok-edit_rows.ensures.recorded clean in (done.written, done.edited)) c.commit.ensures.survives)

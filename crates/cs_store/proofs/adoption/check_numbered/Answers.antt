@@ -24,7 +24,7 @@ returns-in-Ok-2-clause-set_up g c clean =
     let old = state g.S.Store c.args.conn.now in
     let mid = state g.S.Store c.all_records.new.conn in
     let new = state g.S.Store c.check_listed.new.conn in
-    let read_clean = c.check_listed.ensures.was_clean clean in
+    let read_clean = was_clean (state g.S.Store c.all_records.new.conn) (state g.S.Store c.check_listed.new.conn) c.check_listed.ensures.survives clean in
     let before = was_clean old mid c.all_records.ensures.keeps_crash read_clean in
     let same = c.in-Ok-2.ensures.reads read_clean in
     let holds = subst HoldsRecords (sym same.0.now_is) (c.requires.records before) in
@@ -35,7 +35,7 @@ pub returns-in-Ok-2-clause-refused : goal.returns-in-Ok-2-clause-refused
 returns-in-Ok-2-clause-refused g c clean =
     let old = state g.S.Store c.args.conn.now in
     let mid = state g.S.Store c.all_records.new.conn in
-    let read_clean = c.check_listed.ensures.was_clean clean in
+    let read_clean = was_clean (state g.S.Store c.all_records.new.conn) (state g.S.Store c.check_listed.new.conn) c.check_listed.ensures.survives clean in
     let holds = c.requires.records (was_clean old mid c.all_records.ensures.keeps_crash read_clean) in
     let same = (c.in-Ok-2.ensures.reads read_clean).0.now_is in
     let lists = c.in-Ok-2.ensures.listed read_clean holds in

@@ -4,4 +4,5 @@ use Rattle.cs_store.proofs.store.Store+FileStore+FileFrom+S.open_from.Goals as g
 pub returns-in-Ok-adopt-clause-opened : goal.returns-in-Ok-adopt-clause-opened
 returns-in-Ok-adopt-clause-opened g c clean =
     let adopts = c.in-Ok-adopt.ensures.adopted clean in
-    opens_files _ _ _ (c.in-Ok.ensures.found adopts.was_clean) (c.in-Ok.ensures.opened adopts.was_clean).0 adopts
+    let opened = c.in-Ok.ensures.opened adopts.was_clean in
+    opens_files _ _ _ (c.in-Ok.ensures.found adopts.was_clean) opened.0 opened.1 adopts

@@ -1,10 +1,11 @@
-use Rattle.std.proofs.Common.{◌≡◌, OnErr, sym, subst, ◌∙◌, rules}
+use Rattle.std.proofs.Common.{◌≡◌, Ok, OnErr, sym, subst, ◌∙◌, rules}
 use Rattle.std.proofs.lemmas.Result.{err_from_is_err_and}
 use Rattle.cs_value.specs.Table.{IsName}
 use Rattle.cs_value.specs.State.{SchemaData, IsSchema}
-use Rattle.cs_store.specs.Editing.{schema_of}
+use Rattle.cs_store.specs.Editing.{Declares, schema_of}
 use Rattle.cs_store.specs.Store.{AddsTable, tables_in}
-use Rattle.cs_store.proofs.DeclareLaws.{committed_declares, taken_declares}
+use Rattle.cs_store.proofs.CrashLemmas.{made_survives}
+use Rattle.cs_store.proofs.DeclareLaws.{added_declares, committed_declares, taken_declares}
 use Rattle.cs_store.proofs.WriteLaws.{on_err_then}
 use Rattle.sqlite.specs.Held.{state, Held}
 use Rattle.sqlite.specs.State.{HasCleanDisk}
@@ -64,3 +65,18 @@ returns-clause-kept g c clean =
     let last_clean : HasCleanDisk last = rw same clean in
     let mid_clean = was_clean mid last c.commit.ensures.survives last_clean in
     rw (← same) (on_err_then c.commit.result _ (KeepsContent old last) (λ undone. undone_batch old begun mid last c.in_ok-batch.ensures.begun c.declare.ensures.kept mid_clean undone) (c.commit.ensures.undone last_clean))
+
+pub returns-clause-survives : goal.returns-clause-survives
+returns-clause-survives g c =
+    let old = state g.S.Store c.args.self.now in
+    let begun = state g.S.Store c.in_ok-batch.batch.store.now in
+    let mid = state g.S.Store c.declare.new.self.store.now in
+    let last = state g.S.Store c.commit.new.self.0 in
+    let same : c.commit.new.self.0 ≡ c.self-2-1.given.0 = search rules in
+    let named : IsName c.args.name.now = search rules in
+    let made = c.in_ok-schema.ensures.made in
+    let schema = schema_of c.args.columns.now c.args.keys.now in
+    let is : IsSchema schema = subst IsSchema (c.schema.view_is ∙ made) c.schema.invariant in
+    rw (← same) (made_survives old begun mid last c.in_ok-batch.ensures.survives c.declare.ensures.kept (λ before left. Declares before c.args.name.now schema (Ok left)) c.in_ok-batch.ensures.begun
+    (λ clean. added_declares (tables_in begun.now) (tables_in mid.now) c.args.name.now schema (named, is)
+    (subst (λ (s : SchemaData). AddsTable (tables_in begun.now) c.args.name.now s (tables_in mid.now)) made (c.in_ok-declare.ensures.declared clean))) c.commit.ensures.survives)

@@ -1,8 +1,11 @@
 use Rattle.std.proofs.Common.{◌≡◌, OnErr, sym, subst, rules}
+use Rattle.std.specs.Prelude.{map}
 use Rattle.sqlite.specs.Held.{state, Held}
+use Rattle.cs_store.specs.Editing.{EditsInto, written_of}
 use Rattle.sqlite.specs.State.{HasCleanDisk}
 use Rattle.cs_store.specs.Laws.{was_clean}
 use Rattle.cs_store.specs.Records.{KeepsContent}
+use Rattle.cs_store.proofs.CrashLemmas.{made_survives}
 use Rattle.cs_store.proofs.StoreLaws.{undone_batch}
 use Rattle.cs_store.proofs.QueryLaws.{on_err}
 use Rattle.cs_store.proofs.store.Store.edit.Goals as goal
@@ -28,3 +31,23 @@ returns-in_err-commit-clause-kept g c clean =
     let last_clean : HasCleanDisk last = rw same clean in
     let kept = undone_batch old begun mid last c.in_ok-batch.ensures.begun c.edit_in.ensures.kept.1 (was_clean mid last c.commit.ensures.survives last_clean) (c.in_err-commit.ensures.undone last_clean) in
     rw (← same) (on_err c.from_residual-in_err-commit.result (KeepsContent old last) kept)
+
+pub returns-in_err-commit-clause-survives : goal.returns-in_err-commit-clause-survives
+returns-in_err-commit-clause-survives g c =
+    let old = state g.S.Store c.args.self.now in
+    let begun = state g.S.Store c.in_ok-batch.batch.store.now in
+    let mid = state g.S.Store c.edit_in.new.rows.store.now in
+    let last = state g.S.Store c.commit.new.self.0 in
+    let same : c.commit.new.self.0 ≡ c.self-2-1.given.0 = search rules in
+    rw (← same) (made_survives old begun mid last c.in_ok-batch.ensures.survives c.edit_in.ensures.kept.1 (λ before. EditsInto before c.args.edit.now) c.in_ok-batch.ensures.begun
+    (λ clean. (map written_of c.in_ok-written.written.items, c.in_ok-written.ensures.edited clean)) c.commit.ensures.survives)
+
+pub returns-clause-survives : goal.returns-clause-survives
+returns-clause-survives g c =
+    let old = state g.S.Store c.args.self.now in
+    let begun = state g.S.Store c.in_ok-batch.batch.store.now in
+    let mid = state g.S.Store c.edit_in.new.rows.store.now in
+    let last = state g.S.Store c.commit.new.self.0 in
+    let same : c.commit.new.self.0 ≡ c.self-2-1.given.0 = search rules in
+    rw (← same) (made_survives old begun mid last c.in_ok-batch.ensures.survives c.edit_in.ensures.kept.1 (λ before. EditsInto before c.args.edit.now) c.in_ok-batch.ensures.begun
+    (λ clean. (map written_of c.in_ok-written.written.items, c.in_ok-written.ensures.edited clean)) c.commit.ensures.survives)

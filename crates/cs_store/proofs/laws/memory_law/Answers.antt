@@ -1,0 +1,5 @@
+use Rattle.cs_store.proofs.AdoptionLaws.{memory_honest}
+use Rattle.cs_store.proofs.laws.memory_law.Goals as goal
+
+pub returns : goal.returns
+returns c = memory_honest
