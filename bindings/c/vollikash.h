@@ -15,10 +15,14 @@
 **     `written` or `fault`.
 **   * No call is made from a signal handler, or from the child of a fork of a
 **     process with threads. The stack has 128 KiB left.
+**   * One allocator stands behind malloc, realloc and free, and its blocks are
+**     aligned to 16 bytes.
 **
 ** The caller owns every buffer. A call takes memory by malloc and realloc, some
 ** twenty to forty times the bytes of its files, and frees all of it before it
-** returns. It keeps no state, so any number of threads may call at once.
+** returns. A text is made in memory first, and grows with the length of a table's
+** name times the count of its entries. A call keeps no state, so any number of
+** threads may call at once.
 */
 #ifndef VOLLIKASH_H
 #define VOLLIKASH_H
@@ -35,6 +39,13 @@ extern "C" {
 #else
 #define VOLLIKASH_NONNULL
 #endif
+
+/*
+** The version of this header, which is that of a library that answers the same: a
+** million times the major number, a thousand times the minor one, and the patch.
+*/
+#define VOLLIKASH_VERSION 1000000
+int vollikash_version(void);
 
 /*
 ** What a call answers: 0 where it did what it was asked for, and else why it did

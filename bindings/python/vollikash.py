@@ -15,6 +15,7 @@ import pathlib
 from typing import Callable, NoReturn, Union
 
 __all__ = ["ChangesetError", "Code", "check", "concat", "dump", "invert", "sql"]
+__version__ = "1.0.0"
 
 Bytes = Union[bytes, bytearray, memoryview]
 
@@ -87,10 +88,13 @@ def _load() -> ctypes.CDLL:
     near = (here / "libvollikash.so", here.parent / "c/out/libvollikash.so")
     named = os.environ.get("VOLLIKASH_LIBRARY") or next((str(file) for file in near if file.exists()), "libvollikash.so")
     library = ctypes.CDLL(named)
+    library.vollikash_version.argtypes = ()
     library.vollikash_check.argtypes = _FILE + _FAULT
     library.vollikash_concat.argtypes = _FILE + _FILE + _OUT + _FAULT
     for call in (library.vollikash_invert, library.vollikash_dump, library.vollikash_sql):
         call.argtypes = _FILE + _OUT + _FAULT
+    for name in ("version", "check", "concat", "invert", "dump", "sql"):
+        getattr(library, f"vollikash_{name}").restype = ctypes.c_int
     return library
 
 
@@ -117,7 +121,8 @@ def _made(call: Callable[..., int], room: int, *files: bytes) -> bytes:
         written, fault = ctypes.c_size_t(), _Fault()
         code = call(*given, out, room, ctypes.byref(written), ctypes.byref(fault))
         if code == Code.OK:
-            return ctypes.string_at(out, written.value)
+            # By a view, whose length is of any size; that of `string_at` is a C int.
+            return bytes(memoryview(out)[: written.value])
         if code != Code.NO_ROOM:
             _raise(fault)
         room = written.value

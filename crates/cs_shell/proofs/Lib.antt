@@ -1,11 +1,6 @@
 pub mod Examples
-pub mod GatherLemmas
-pub mod ListLemmas
 pub mod ProgressLemmas
 pub mod ReplyLemmas
+pub mod ReportExamples
 pub mod RunLemmas
-pub mod TermLemmas
-pub mod TextExamples
-pub mod TextLemmas
 pub mod WordLemmas
-pub mod WriteLemmas

@@ -9,8 +9,8 @@ use Rattle.std.specs.Io.KnownBytes.{Appends}
 use Rattle.std.proofs.KnownBytes.{Appends-nil, Appends-trans}
 use Rattle.cs_value.proofs.Lists.{AllByRecursion-push}
 use Rattle.cs_shell.specs.declared.script.Script.{Script}
-use Rattle.cs_shell.specs.declared.told.Told.{Told}
-use Rattle.cs_shell.specs.Told.{known}
+use Rattle.cs_files.specs.declared.told.Told.{Told}
+use Rattle.cs_files.specs.Told.{known}
 use Rattle.cs_shell.specs.Lines.{Splits, HasNoFeed, ended, unended}
 use Rattle.cs_shell.specs.Script.{SlotMap, Reply, LineGives, LinesGive, reply_text, replies_text, is_refused}
 use Rattle.cs_shell.specs.Progress.{HoldsLine, AddsByte, EndsLine, Progress, Advances, Finishes}

@@ -14,9 +14,9 @@ use Rattle.cs_wire.specs.ReadFaults.{ReadFails}
 use Rattle.cs_shell.specs.declared.reply.Reply.{Reply}
 use Rattle.cs_shell.specs.declared.reply.Refusal.TheVariants as refusal
 use Rattle.cs_wire.specs.Changeset.{GroupData, IsChangeset, file_bytes}
-use Rattle.cs_shell.specs.declared.fault.FileFault.{FileFault}
-use Rattle.cs_shell.specs.declared.fault.FileFault.TheVariants as file_fault
-use Rattle.cs_shell.specs.Files.{Inverts, Joins, JoinFails}
+use Rattle.cs_files.specs.declared.fault.FileFault.{FileFault}
+use Rattle.cs_files.specs.declared.fault.FileFault.TheVariants as file_fault
+use Rattle.cs_files.specs.Files.{Inverts, Joins, JoinFails}
 use Rattle.cs_shell.specs.Lines.{CommandData, Load, Hex, Invert, Concat, Dump, Asks}
 use Rattle.cs_shell.specs.Script.{SlotMap, Silent, Text, Dumped, Refused, CommandGives, loaded, shown, inverted, joined, not_read, not_joined, dumped, LineGives, answered, no_memory}
 use Rattle.cs_shell.specs.Replies.{reply_of, IsRefusalOf, IsJoinRefusal}

@@ -8,8 +8,8 @@ use Rattle.cs_shell.specs.declared.script.Script.{Script}
 use Rattle.cs_shell.specs.declared.script.Status.TheVariants.{TooLong, InputFault}
 use Rattle.cs_shell.specs.declared.script.Stop.{Stop}
 use Rattle.cs_shell.specs.declared.script.Stop.TheVariants as stop
-use Rattle.cs_shell.specs.declared.told.Told.{Told}
-use Rattle.cs_shell.specs.Told.{known}
+use Rattle.cs_files.specs.declared.told.Told.{Told}
+use Rattle.cs_files.specs.Told.{known}
 use Rattle.cs_shell.specs.Script.{SCRIPT_LIMIT, FrontGives, Ends, error_line, replies_text}
 use Rattle.cs_shell.specs.Progress.{Advances, WritesScript, Finishes, HasRead, RunsText, OverrunsText, RunsFront, RunsScript, StopsAt, status_of}
 use Rattle.cs_shell.proofs.ProgressLemmas.{Progress-start, Advances-trans}

@@ -8,14 +8,15 @@ use Rattle.cs_apply.specs.declared.conflict.Conflict.{Conflict}
 use Rattle.cs_apply.specs.declared.fault.ApplyFault.{ApplyFault}
 use Rattle.cs_apply.specs.declared.fault.ApplyFault.TheVariants as apply
 use Rattle.cs_apply.specs.Faults.{code_of, name_of}
-use Rattle.cs_shell.specs.declared.fault.OutputFault.{OutputFault}
-use Rattle.cs_shell.specs.declared.fault.FileFault.{FileFault}
-use Rattle.cs_shell.specs.declared.fault.FileFault.TheVariants as file
+use Rattle.cs_files.specs.declared.fault.OutputFault.{OutputFault}
+use Rattle.cs_files.specs.declared.fault.FileFault.{FileFault}
+use Rattle.cs_files.specs.declared.fault.FileFault.TheVariants as file
 use Rattle.cs_shell.specs.declared.reply.Refusal.TheVariants.{Fault, Schema, NoMemory}
 use Rattle.cs_shell.specs.declared.command.Failure.{Failure}
 use Rattle.cs_shell.specs.declared.command.Failure.TheVariants.{Refused, Output}
 use Rattle.cs_shell.specs.Script.{error_line, number_detail}
-use Rattle.cs_shell.specs.Texts.{quoted, kind_text}
+use Rattle.cs_files.specs.Texts.{quoted}
+use Rattle.cs_shell.specs.Report.{kind_text}
 
 abbrev pub unread : OrNoMemory ReadFault → Failure
 unread (tool.Fault f) = Refused (Fault f)

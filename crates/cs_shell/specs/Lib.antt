@@ -1,15 +1,9 @@
-pub mod Files
-pub mod Faults
 pub mod Failures
-pub mod Calls
 pub mod Lines
-pub mod Told
 pub mod Script
 pub mod Replies
 pub mod Progress
-pub mod Gathering
-pub mod Texts
-pub mod Pieces
+pub mod Report
 pub use Rattle.cs_value.specs.Value
 pub use Rattle.cs_value.specs.Varint
 pub use Rattle.cs_value.specs.Spelling
@@ -24,3 +18,8 @@ pub use Rattle.cs_wire.specs.ReadFaults
 pub use Rattle.cs_group.specs.Inverse
 pub use Rattle.cs_group.specs.Net
 pub use Rattle.cs_group.specs.Joining
+pub use Rattle.cs_files.specs.Files
+pub use Rattle.cs_files.specs.Faults
+pub use Rattle.cs_files.specs.Calls
+pub use Rattle.cs_files.specs.Told
+pub use Rattle.cs_files.specs.Texts

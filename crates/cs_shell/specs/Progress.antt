@@ -8,9 +8,9 @@ use Rattle.cs_shell.specs.declared.script.Status.{Status}
 use Rattle.cs_shell.specs.declared.script.Status.TheVariants.{TooLong, InputFault, OutputFault}
 use Rattle.cs_shell.specs.declared.script.Stop.{Stop}
 use Rattle.cs_shell.specs.declared.script.Stop.TheVariants as stop
-use Rattle.cs_shell.specs.declared.told.Told.{Told}
-use Rattle.cs_shell.specs.Told.{known}
-use Rattle.cs_shell.specs.Calls.{Writes}
+use Rattle.cs_files.specs.declared.told.Told.{Told}
+use Rattle.cs_files.specs.Told.{known}
+use Rattle.cs_files.specs.Calls.{Writes}
 use Rattle.cs_shell.specs.Lines.{Splits}
 use Rattle.cs_shell.specs.Script.{SlotMap, Reply, LineGives, LinesGive, ScriptGives, SCRIPT_LIMIT}
 use Rattle.cs_shell.specs.Script.{error_line, reply_text, replies_text, is_refused}

@@ -9,8 +9,8 @@ use Rattle.cs_shell.specs.declared.lines.LineFault.TheVariants as fault
 use Rattle.cs_value.specs.declared.refusal.OrNoMemory.{OrNoMemory}
 use Rattle.cs_value.specs.declared.refusal.OrNoMemory.TheVariants as tool
 use Rattle.cs_wire.specs.declared.fault.ReadFault.{ReadFault}
-use Rattle.cs_shell.specs.declared.fault.FileFault.{FileFault}
-use Rattle.cs_shell.specs.declared.fault.FileFault.TheVariants as file
+use Rattle.cs_files.specs.declared.fault.FileFault.{FileFault}
+use Rattle.cs_files.specs.declared.fault.FileFault.TheVariants as file
 use Rattle.cs_shell.specs.declared.reply.Refusal.TheVariants as refusal
 use Rattle.cs_shell.specs.declared.reply.Reply.{Reply}
 use Rattle.cs_shell.specs.declared.reply.Reply.TheVariants as reply

@@ -6,6 +6,7 @@ use Rattle.std.specs.List.{flat_map, list_any}
 use Rattle.std.specs.Ordering.{nat_cmp}
 use Rattle.std.specs.Cmp.Lexicographic.{slice_cmp}
 use Rattle.std.specs.FinMap.{FinMap, empty, get, insert}
+use Rattle.std.specs.Io.KnownBytes.{Appends}
 use Rattle.hex.specs.Hex.{encode_lower, decode_of}
 use Rattle.hex.specs.declared.error.FromHexError.{FromHexError}
 use Rattle.cs_wire.specs.declared.fault.ReadFault.{ReadFault}
@@ -16,15 +17,14 @@ use Rattle.cs_shell.specs.declared.reply.Refusal.TheVariants.{Fault, Schema, NoM
 use Rattle.cs_shell.specs.declared.reply.Refusal.TheVariants.{BadHex, LineText}
 use Rattle.cs_shell.specs.declared.script.Status.{Status}
 use Rattle.cs_shell.specs.declared.script.Status.TheVariants.{Done, LinesRefused, TooLong, InputFault, OutputFault}
-use Rattle.cs_shell.specs.declared.told.Told.{Told}
-use Rattle.cs_shell.specs.Told.{has_failed, known}
-use Rattle.cs_shell.specs.Calls.{WritesSome}
-use Rattle.cs_shell.specs.declared.fault.FileFault.TheVariants.{First, Second, Schema as Tables}
-use Rattle.cs_shell.specs.Files.{Inverts, Joins, JoinFails}
+use Rattle.cs_files.specs.declared.told.Told.{Told}
+use Rattle.cs_files.specs.Told.{has_failed, known}
+use Rattle.cs_files.specs.declared.fault.FileFault.TheVariants.{First, Second, Schema as Tables}
+use Rattle.cs_files.specs.Files.{Inverts, Joins, JoinFails}
 use Rattle.cs_wire.specs.ReadFaults.{code_of, name_of, ReadFails}
 use Rattle.cs_shell.specs.Lines.{Splits, unended, CommandData, Load, Hex, Invert, Concat, Dump}
 use Rattle.cs_shell.specs.Lines.{Asks, AsksNothing}
-use Rattle.cs_shell.specs.Texts.{dump_of}
+use Rattle.cs_files.specs.Texts.{dump_of}
 
 -- the bytes in each slot that has some
 abbrev pub SlotMap : Type 0
@@ -160,6 +160,11 @@ pub record OverrunGives (old : SlotMap) (text written : List ℕ) : Type 0 where
   pub full : length gives.front ≡ SCRIPT_LIMIT
   pub more : gives.rest ≢ []
   pub written_is : written ≡ answered ++ error_line 63 (codes "ScriptTooLong") []
+
+-- a text of which this holds was written
+abbrev pub WritesSome : {W : Type 0} → (W → Option (List ℕ)) → Told W → Told W → (List ℕ → Type 0) → Type 0
+WritesSome contents old new Holds =
+    (written : List ℕ) × Holds written × Appends (known contents old) (known contents new) written
 
 -- what was written for a text, by how its script ended: where a write failed nothing is said of it
 abbrev pub Ends : {W : Type 0} → (W → Option (List ℕ)) → Status → Told W → Told W → List ℕ → Type 0

@@ -3,13 +3,13 @@ ghost use Rattle.std.specs.Prelude.{◌≡◌, ◌≤◌, length, IfOk};
 ghost use Rattle.cs_shell.specs.declared.command.Failure.TheVariants.{Apply};
 ghost use Rattle.cs_shell.specs.Failures.{unread, unjoined, unwritten};
 
-use crate::fault::{FileFault, OutputFault, ToolFault};
-use crate::files::{concat_bytes, invert_bytes};
 use crate::print::{write_apply_fault, write_error, write_refusal};
 use crate::reply::Refusal;
-use crate::texts::{dump_text, report_text, sql_text};
-use crate::told::Told;
+use crate::report::report_text;
 use cs_apply::{ApplyFault, Choice, apply};
+use cs_files::{
+    FileFault, OutputFault, Told, ToolFault, concat_bytes, dump_text, invert_bytes, sql_text,
+};
 use cs_store::{Store, StoreError};
 use cs_wire::{Changeset, ReadError, read};
 use sqlite::Unknown;

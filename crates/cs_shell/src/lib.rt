@@ -1,5 +1,6 @@
 //! The `changeset` tool as a library: inverting, joining, printing and applying the files of SQLite
-//! changesets, by calls, by the lines of a script and by the words of a command line.
+//! changesets, by the lines of a script and by the words of a command line. The calls on files are those of
+//! [`cs_files`], which is passed on.
 //!
 //! ```rust
 //! // An INSERT of ('x') into the table t of one column, and the DELETE of that row.
@@ -9,31 +10,26 @@
 //! assert_eq!(rt; output, b"error 62 EmptySlot\n");
 //! ```
 //!
-//! `files` makes files of files, and `fault` says why not. `texts` has the readable texts of
-//! changesets, and `gather` what is gathered of them before it is written. `lines` is the grammar of a
-//! script's lines, `slots` what they name, `reply` what they are answered, `print` how that is
-//! printed, and `script` runs them. `told` has the streams, `words` the command line, and `command` what
-//! that does with a file.
+//! `lines` is the grammar of a script's lines, `slots` what they name, `reply` what they are answered,
+//! `print` how that is printed, and `script` runs them. `words` has the command line, `command` what that
+//! does with a file, and `report` the text of what an apply did.
 #![tactic(auto)]
 
 mod command;
-mod fault;
-mod files;
-mod gather;
 mod lines;
 mod print;
 mod reply;
+mod report;
 mod script;
 mod slots;
-mod texts;
-mod told;
 mod words;
 
+pub use cs_files::{
+    FileFault, OutputFault, Told, ToolFault, concat_bytes, dump_file, dump_text, first_fault,
+    invert_bytes, sql_file, sql_text,
+};
 pub use cs_group::SchemaFault;
 pub use cs_wire::{ReadError, ReadFault, ReadFaultKind};
-pub use fault::{FileFault, OutputFault, ToolFault, first_fault};
-pub use files::{concat_bytes, invert_bytes};
+pub use report::report_text;
 pub use script::{Status, run_slots};
-pub use texts::{dump_text, report_text, sql_text};
-pub use told::Told;
 pub use words::{print_usage, run_words};

@@ -1,34 +1,18 @@
 //! How replies are printed.
 ghost use Rattle.std.specs.Prelude.{[]};
 ghost use Rattle.std.specs.List.{flat_map};
-ghost use Rattle.cs_shell.specs.Calls.{Writes};
+ghost use Rattle.cs_files.specs.Calls.{Writes};
 ghost use Rattle.cs_shell.specs.Script.{error_line, number_detail, refusal_text, reply_text};
 ghost use Rattle.cs_shell.specs.Failures.{fault_line};
 ghost use Rattle.cs_shell.specs.Replies.{reply_of};
 
-use crate::fault::OutputFault;
 use crate::reply::{Refusal, Reply};
-use crate::texts::{conflict_line, dump_text};
-use crate::told::Told;
+use crate::report::conflict_line;
 use cs_apply::ApplyFault;
+use cs_files::{OutputFault, Told, dump_text, write_whole};
 use cs_value::{Fault, NoMemory};
 use itoa::Buffer;
 use std::io::Write;
-
-/// Writes all of the bytes. It fails, with some front of them written, where a write fails or takes
-/// none.
-pub(crate) fn write_whole<W: Write>(out: &mut Told<W>, bytes: &[u8]) -> Result<(), OutputFault>
-    ensures { Writes W.contents result out.old out.new bytes.now }
-{
-    let mut rest = bytes;
-    while !rest.is_empty() {
-        match out.write(rest) {
-            Ok(count) if count > 0 => rest = &rest[count..],
-            _ => return Err(OutputFault),
-        }
-    }
-    Ok(())
-}
 
 /// Writes pieces in turn, and fails as `write_whole` does.
 fn write_pieces<W: Write>(out: &mut Told<W>, pieces: &[&[u8]]) -> Result<(), OutputFault>

@@ -4,10 +4,9 @@ ghost use Rattle.cs_shell.specs.Lines as lines;
 ghost use Rattle.cs_shell.specs.Script.{CommandGives, LineGives, is_refused as refused};
 ghost use Rattle.cs_shell.specs.Replies.{command_of, reply_of, IsRefusalOf, IsJoinRefusal};
 
-use crate::fault::{FileFault, ToolFault};
-use crate::files::{concat_bytes, invert_bytes};
 use crate::lines::{Command, LineFault, parse_line};
 use crate::slots::Slots;
+use cs_files::{FileFault, ToolFault, concat_bytes, invert_bytes};
 use cs_group::SchemaFault;
 use cs_value::NoMemory;
 use cs_wire::{Changeset, ReadError, ReadFault, read};

@@ -4,17 +4,16 @@ ghost use Rattle.std.specs.Prelude.{IfOk, IfErr, IfSome, OnOk, OnErr};
 ghost use Rattle.std.specs.FinMap as map;
 ghost use Rattle.std.specs.Io.KnownBytes.{Consumes, IsAtEnd};
 ghost use Rattle.cs_shell.specs.declared.script.Stop.TheVariants.{Output};
-ghost use Rattle.cs_shell.specs.Told.{has_failed, known};
+ghost use Rattle.cs_files.specs.Told.{has_failed, known};
 ghost use Rattle.cs_shell.specs.Script.{LineGives, Ends, IsFlagged};
 ghost use Rattle.cs_shell.specs.Replies.{reply_of};
 ghost use Rattle.cs_shell.specs.Progress.{HoldsLine, AddsByte, EndsLine, Advances, Finishes};
 ghost use Rattle.cs_shell.specs.Progress.{RunsText, RunsScript, StopsAt, status_of};
 
-use crate::fault::OutputFault;
 use crate::print::{write_error, write_reply};
 use crate::reply::{Refusal, Reply, answer};
 use crate::slots::Slots;
-use crate::told::Told;
+use cs_files::{OutputFault, Told};
 use std::alloc::Global;
 use std::io::{Read, Write};
 

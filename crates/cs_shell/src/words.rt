@@ -1,14 +1,13 @@
 //! The words of a command line, and what they are answered.
 ghost use Rattle.std.specs.Prelude.{◌≡◌, ◌≤◌, Some, length, false};
 ghost use Rattle.std.specs.Io.KnownBytes.{Appends};
-ghost use Rattle.cs_shell.specs.Told.{has_failed, known};
-ghost use Rattle.cs_shell.specs.Calls.{AppendsFront};
+ghost use Rattle.cs_files.specs.Told.{has_failed, known};
+ghost use Rattle.cs_files.specs.Calls.{AppendsFront};
 ghost use Rattle.cs_shell.specs.Script.{exit_of, RunsInput};
 
 use crate::command::{Command, Failure, report, run_command};
-use crate::print::write_whole;
 use crate::script::{Status, run_slots};
-use crate::told::Told;
+use cs_files::{Told, write_whole};
 use std::io::{Read, Write};
 use std::rt::HostRuntime;
 

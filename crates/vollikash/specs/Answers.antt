@@ -4,9 +4,9 @@ use Rattle.std.specs.declared.alloc.Global.{Global}
 use Rattle.cs_value.specs.declared.refusal.OrNoMemory.{OrNoMemory}
 use Rattle.cs_value.specs.declared.refusal.OrNoMemory.TheVariants.{Fault, NoMemory}
 use Rattle.cs_value.specs.Refusals.{Refuses, of_refusal}
-use Rattle.cs_shell.specs.declared.fault.FileFault.{FileFault}
-use Rattle.cs_shell.specs.declared.fault.FileFault.TheVariants.{First, Second, Schema}
-use Rattle.cs_shell.specs.Faults.{code_of}
+use Rattle.cs_files.specs.declared.fault.FileFault.{FileFault}
+use Rattle.cs_files.specs.declared.fault.FileFault.TheVariants.{First, Second, Schema}
+use Rattle.cs_files.specs.Faults.{code_of}
 use Rattle.vollikash.specs.declared.answer.FaultReport.{FaultReport}
 use Rattle.vollikash.specs.declared.answer.TheConstants.{OK, NO_ROOM}
 

@@ -2,7 +2,7 @@
 ghost use Rattle.std.specs.Prelude.{◌≡◌, ◌≢◌};
 ghost use Rattle.vollikash.specs.Answers.{IsMade, IsWhy, Gives, Lacks, Tells, IsMadeCode, IsRefusal, no_fault, report_of};
 
-use cs_shell::{FileFault, ToolFault};
+use cs_files::{FileFault, ToolFault};
 use cs_value::Fault;
 
 /// The call did what it was asked for.

@@ -5,25 +5,31 @@
 //! anything: what it makes goes into the caller's buffer, and what it took is freed when it returns.
 //!
 //! Where the buffer is too small nothing is written to it, and `written` has the length that is
-//! needed. `answer` has what is answered and reported, and `texts` the readable texts of a file.
+//! needed. `answer` has what is answered and reported.
 #![tactic(auto)]
 
-ghost use Rattle.std.specs.Prelude.{◌≡◌, ◌≢◌, ◌+◌, ◌≤◌, length};
+ghost use Rattle.std.specs.Prelude.{◌≡◌, ◌≢◌, ◌+◌, ◌≤◌, length, pos};
 ghost use Rattle.cs_wire.specs.Changeset.{IsAccepted};
-ghost use Rattle.cs_shell.specs.Files.{Inverts, Joins, JoinFails, FirstFails};
-ghost use Rattle.cs_shell.specs.Texts.{dump_of, sql_of};
+ghost use Rattle.cs_files.specs.Files.{Inverts, Joins, Prints, JoinFails, FirstFails};
+ghost use Rattle.cs_files.specs.Texts.{dump_of, sql_of};
 ghost use Rattle.vollikash.specs.Answers.{Gives, Lacks, Tells, IsMadeCode, IsRefusal, no_fault};
-ghost use Rattle.vollikash.specs.Texts.{Prints};
 
 mod answer;
-mod texts;
 
 pub use answer::{FaultReport, NO_ROOM, OK};
 use answer::{hand_out, report, report_plain};
-use cs_shell::{concat_bytes, first_fault, invert_bytes};
+use cs_files::{concat_bytes, dump_file, first_fault, invert_bytes, sql_file};
 use cs_wire::read;
 use std::alloc::Global;
-use texts::{dump_file, sql_file};
+
+/// The version of the library, as one number: a million times the major one, a thousand times the minor one,
+/// and the patch.
+#[unsafe(no_mangle)]
+pub extern "C" fn vollikash_version() -> i32
+    ensures { result ≡ pos 1000000 }
+{
+    1_000_000
+}
 
 /// Whether the bytes are a changeset's file.
 ///

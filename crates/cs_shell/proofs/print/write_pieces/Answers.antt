@@ -1,6 +1,6 @@
 use Rattle.std.proofs.Common.{arith, rules}
 use Rattle.std.proofs.lemmas.Result.{MatchResult-from_err}
-use Rattle.cs_shell.proofs.WriteLemmas.{AppendsFront-after, flat_map_at}
+use Rattle.cs_files.proofs.WriteLemmas.{AppendsFront-after, flat_map_at}
 use Rattle.cs_shell.proofs.print.write_pieces.Goals as goal
 
 pub returns-in_err-write_whole : goal.returns-in_err-write_whole

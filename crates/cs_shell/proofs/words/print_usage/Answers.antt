@@ -1,4 +1,4 @@
-use Rattle.cs_shell.proofs.WriteLemmas.{Writes-front}
+use Rattle.cs_files.proofs.WriteLemmas.{Writes-front}
 use Rattle.cs_shell.proofs.words.print_usage.Goals as goal
 
 pub returns-clause-front : goal.returns-clause-front

@@ -1,0 +1,72 @@
+-- Lemmas on lists of texts with something between each two.
+use Rattle.std.proofs.Common.{◌≡◌, ℕ, List, [], ◌∷◌, ◌++◌, refl, sym, ap, ◌∙◌, append_assoc, append-nil, map, take, drop, ◌+◌, ◌<◌, length, get_or, take-append-drop}
+use Rattle.std.specs.List.{flat_map}
+use Rattle.std.proofs.lemmas.List.{drop_more, take_more, map-append}
+use Rattle.std.proofs.lemmas.Grind.{flat_map-append}
+use Rattle.cs_files.specs.Texts.{separated}
+
+-- what stands before a piece behind these
+abbrev pub lead_of : List ℕ → List (List ℕ) → List ℕ
+lead_of between [] = []
+lead_of between (piece ∷ pieces) = between
+
+-- pieces behind others
+abbrev pub behind : List ℕ → List (List ℕ) → List ℕ
+behind between pieces = flat_map (λ piece. between ++ piece) pieces
+
+separated-first : (between piece : List ℕ) (pieces : List (List ℕ)) → separated between (piece ∷ pieces) ≡ piece ++ behind between pieces
+unfolding separated
+separated-first between piece [] = sym (append-nil piece)
+separated-first between piece (next ∷ pieces) =
+    ap (λ l. (piece ++ between) ++ l) (separated-first between next pieces) ∙ append_assoc piece between (next ++ behind between pieces)
+    ∙ ap (λ l. piece ++ l) (sym (append_assoc between next (behind between pieces)))
+
+-- a piece, those before it and those behind it
+pub separated-at : (between : List ℕ) (before : List (List ℕ)) (piece : List ℕ) (after : List (List ℕ))
+    → separated between (before ++ piece ∷ after) ≡ separated between before ++ ((lead_of between before ++ piece) ++ behind between after)
+unfolding separated
+separated-at between [] piece after = separated-first between piece after
+separated-at between (first ∷ before) piece after =
+    separated-first between first (before ++ piece ∷ after) ∙ ap (λ l. first ++ l) (flat_map-append (λ p. between ++ p) before (piece ∷ after))
+    ∙ sym (append_assoc first (behind between before) ((between ++ piece) ++ behind between after))
+    ∙ ap (λ l. l ++ ((between ++ piece) ++ behind between after)) (sym (separated-first between first before))
+
+-- one piece more
+pub separated-more : (between : List ℕ) (before : List (List ℕ)) (piece : List ℕ)
+    → separated between (before ++ piece ∷ []) ≡ separated between before ++ (lead_of between before ++ piece)
+separated-more between before piece = separated-at between before piece [] ∙ ap (λ l. separated between before ++ l) (append-nil (lead_of between before ++ piece))
+
+pub map_more : {X Y : Type 0} (f : X → Y) (xs : List X) (i : ℕ) (d : X) → i < length xs → map f (take (i + 1) xs) ≡ map f (take i xs) ++ f (get_or xs i d) ∷ []
+map_more f xs i d within = ap (map f) (take_more xs i d within) ∙ map-append f (take i xs) (get_or xs i d ∷ [])
+
+pub map_at : {X Y : Type 0} (f : X → Y) (xs : List X) (i : ℕ) (d : X) → i < length xs → map f xs ≡ map f (take i xs) ++ f (get_or xs i d) ∷ map f (drop (i + 1) xs)
+map_at f xs i d within =
+    ap (map f) (sym (take-append-drop i xs)) ∙ map-append f (take i xs) (drop i xs) ∙ ap (λ l. map f (take i xs) ++ map f l) (drop_more xs i d within)
+
+-- a piece behind others leaves between for the next
+pub lead_of-more : (between : List ℕ) (before : List (List ℕ)) (piece : List ℕ) → lead_of between (before ++ piece ∷ []) ≡ between
+lead_of-more between [] piece = refl
+lead_of-more between (first ∷ before) piece = refl
+
+-- one element more of a list of texts, behind what leads to it
+pub separated_step : {X : Type 0} (between : List ℕ) (f : X → List ℕ) (xs : List X) (i : ℕ) (e : X) (lead : List ℕ) → i < length xs → e ≡ get_or xs i e
+    → lead ≡ lead_of between (map f (take i xs)) → separated between (map f (take (i + 1) xs)) ≡ separated between (map f (take i xs)) ++ (lead ++ f e)
+separated_step between f xs i e lead within is leads =
+    let before = map f (take i xs) in
+    ap (separated between) (map_more f xs i e within) ∙ separated-more between before (f (get_or xs i e))
+    ∙ ap (λ d. separated between before ++ (lead_of between before ++ f d)) (sym is) ∙ ap (λ l. separated between before ++ (l ++ f e)) (sym leads)
+
+-- and all that follows
+pub separated_rest : {X : Type 0} (between : List ℕ) (f : X → List ℕ) (xs : List X) (i : ℕ) (e : X) (lead : List ℕ) → i < length xs → e ≡ get_or xs i e
+    → lead ≡ lead_of between (map f (take i xs))
+    → separated between (map f xs) ≡ separated between (map f (take i xs)) ++ ((lead ++ f e) ++ behind between (map f (drop (i + 1) xs)))
+separated_rest between f xs i e lead within is leads =
+    let before = map f (take i xs) in
+    let after = behind between (map f (drop (i + 1) xs)) in
+    ap (separated between) (map_at f xs i e within) ∙ separated-at between before (f (get_or xs i e)) (map f (drop (i + 1) xs))
+    ∙ ap (λ d. separated between before ++ ((lead_of between before ++ f d) ++ after)) (sym is)
+    ∙ ap (λ l. separated between before ++ ((l ++ f e) ++ after)) (sym leads)
+
+-- what leads to the element behind one
+pub lead_step : {X : Type 0} (between : List ℕ) (f : X → List ℕ) (xs : List X) (i : ℕ) (e : X) → i < length xs → between ≡ lead_of between (map f (take (i + 1) xs))
+lead_step between f xs i e within = sym (ap (lead_of between) (map_more f xs i e within) ∙ lead_of-more between (map f (take i xs)) (f (get_or xs i e)))

@@ -1,0 +1,8 @@
+use Rattle.std.proofs.Common.{◌∷◌, [], ap, map, sym, ◌∙◌}
+use Rattle.cs_files.specs.Texts.{separated, literal}
+use Rattle.cs_files.proofs.GatherLemmas.{Gathers-is}
+use Rattle.cs_files.proofs.TextLemmas.{row_texts}
+use Rattle.cs_files.proofs.texts.piece.PiecePrint.print.Goals as goal
+
+pub returns-in-Row : goal.returns-in-Row
+returns-in-Row g c = rw c.in-Row.is (Gathers-is _ (ap (separated (44 ∷ [])) (row_texts c.in-Row.row.now ∙ ap (map literal) (sym c.values.ensures.same))) c.add_separated-in-Row.ensures)

@@ -1,0 +1,38 @@
+-- The numbers, classes and names of faults of files: the numbers and names are this project's own, the classes are the
+-- result codes of SQLite's C interface.
+use Rattle.std.specs.Prelude.{ℕ, List, codes}
+use Rattle.cs_value.specs.declared.refusal.OrNoMemory.{OrNoMemory}
+use Rattle.cs_value.specs.declared.refusal.OrNoMemory.TheVariants.{Fault, NoMemory}
+use Rattle.cs_wire.specs.declared.fault.ReadFault.{ReadFault}
+use Rattle.cs_wire.specs.ReadFaults as read
+use Rattle.cs_group.specs.declared.fault.SchemaFault.{SchemaFault}
+use Rattle.cs_files.specs.declared.fault.FileFault.{FileFault}
+use Rattle.cs_files.specs.declared.fault.FileFault.TheVariants.{First, Second, Schema}
+
+abbrev pub code_of : FileFault → ℕ
+code_of (First f) = read.code_of f.kind
+code_of (Second f) = read.code_of f.kind
+code_of (Schema s) = 43
+
+abbrev pub class_of : FileFault → ℕ
+class_of (First f) = 11
+class_of (Second f) = 11
+class_of (Schema s) = 17
+
+abbrev pub name_of : FileFault → List ℕ
+name_of (First f) = read.name_of f.kind
+name_of (Second f) = read.name_of f.kind
+name_of (Schema s) = codes "Schema"
+
+-- why the first of two files is not read, why the second is not, and why their changesets are not joined
+abbrev pub of_first : OrNoMemory ReadFault → OrNoMemory FileFault
+of_first (Fault f) = Fault (First f)
+of_first NoMemory = NoMemory
+
+abbrev pub of_second : OrNoMemory ReadFault → OrNoMemory FileFault
+of_second (Fault f) = Fault (Second f)
+of_second NoMemory = NoMemory
+
+abbrev pub of_join : OrNoMemory SchemaFault → OrNoMemory FileFault
+of_join (Fault s) = Fault (Schema s)
+of_join NoMemory = NoMemory

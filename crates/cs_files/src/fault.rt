@@ -1,0 +1,109 @@
+//! Why a call on files is refused.
+ghost use Rattle.std.specs.Prelude.{◌≡◌, codes};
+ghost use Rattle.cs_files.specs.Faults.{code_of, class_of, name_of, of_first, of_second, of_join};
+
+use cs_group::{ConcatFault, SchemaFault};
+use cs_value::{Fault, OrNoMemory};
+use cs_wire::{ReadError, ReadFault};
+use thiserror::Error;
+
+/// A write failed, or took no byte of some. What was written before stays.
+#[derive(Clone, Copy, Debug, PartialEq, Eq, Drop, Error)]
+#[error("a write failed")]
+pub struct OutputFault;
+
+impl Fault for OutputFault {
+    ghost code_of = { λ _. 72 };
+
+    ghost class_of = { λ _. 10 };
+
+    ghost name_of = { λ _. codes "OutputFault" };
+
+    fn code(&self) -> u8 {
+        72
+    }
+
+    fn class(&self) -> u8 {
+        10
+    }
+
+    fn name(&self) -> &'static str {
+        "OutputFault"
+    }
+}
+
+/// What is wrong with the first file, with the second, or with both together.
+#[derive(Clone, Copy, Debug, PartialEq, Eq, Drop, Error)]
+pub enum FileFault {
+    /// The first file, or the only one, is no changeset's.
+    #[error("{0}")]
+    First(ReadFault),
+    /// The first file is a changeset's, and the second is not.
+    #[error("{0}")]
+    Second(ReadFault),
+    /// Two files are not joined, since a table differs.
+    #[error("{0}")]
+    Schema(SchemaFault),
+}
+
+impl Fault for FileFault {
+    ghost code_of = { code_of };
+
+    ghost class_of = { class_of };
+
+    ghost name_of = { name_of };
+
+    fn code(&self) -> u8 {
+        match self {
+            FileFault::First(fault) | FileFault::Second(fault) => fault.code(),
+            FileFault::Schema(fault) => fault.code(),
+        }
+    }
+
+    fn class(&self) -> u8 {
+        match self {
+            FileFault::First(fault) | FileFault::Second(fault) => fault.class(),
+            FileFault::Schema(fault) => fault.class(),
+        }
+    }
+
+    fn name(&self) -> &'static str {
+        match self {
+            FileFault::First(fault) | FileFault::Second(fault) => fault.name(),
+            FileFault::Schema(fault) => fault.name(),
+        }
+    }
+}
+
+/// Why a call on files is refused: a fault of theirs, or memory was refused.
+pub type ToolFault = OrNoMemory<FileFault>;
+
+/// Why the first file, or the only one, is not read.
+pub fn first_fault(error: ReadError) -> ToolFault
+    ensures { result ≡ of_first error }
+{
+    match error {
+        ReadError::Fault(fault) => ToolFault::Fault(FileFault::First(fault)),
+        ReadError::NoMemory => ToolFault::NoMemory,
+    }
+}
+
+/// Why the second file is not read.
+pub(crate) fn second_fault(error: ReadError) -> ToolFault
+    ensures { result ≡ of_second error }
+{
+    match error {
+        ReadError::Fault(fault) => ToolFault::Fault(FileFault::Second(fault)),
+        ReadError::NoMemory => ToolFault::NoMemory,
+    }
+}
+
+/// Why two changesets are not joined.
+pub(crate) fn join_fault(fault: ConcatFault) -> ToolFault
+    ensures { result ≡ of_join fault }
+{
+    match fault {
+        ConcatFault::Fault(fault) => ToolFault::Fault(FileFault::Schema(fault)),
+        ConcatFault::NoMemory => ToolFault::NoMemory,
+    }
+}

@@ -1,0 +1,113 @@
+//! From files to files, inverting one and joining two; and from a file to its readable texts.
+ghost use Rattle.std.specs.Prelude.{◌≡◌, ◌+◌, ◌≤◌, length, IfOk, IfErr};
+ghost use Rattle.cs_value.specs.Refusals.{Refuses};
+ghost use Rattle.cs_wire.specs.ReadFaults.{ReadFails};
+ghost use Rattle.cs_wire.specs.Changeset.{IsChangeset, file_bytes};
+ghost use Rattle.cs_group.specs.Joining.{IsJoined};
+ghost use Rattle.cs_files.specs.Files.{Inverts, Joins, Prints, JoinFails, FirstFails, SecondFails, AreUnjoined};
+ghost use Rattle.cs_files.specs.Texts.{dump_of, sql_of};
+
+use crate::fault::{OutputFault, ToolFault, first_fault, join_fault, second_fault};
+use crate::texts::{dump_text, sql_text};
+use crate::told::Told;
+use cs_group::{concat, invert};
+use cs_wire::{Changeset, ReadError, read, write};
+use std::alloc::Global;
+
+/// The file of the changeset that undoes the one whose file this is. It has the same tables and
+/// entries in the same order, with inserts and deletes exchanged, and in updates the two values of
+/// each modified column, and is as long.
+///
+/// # Errors
+///
+/// `Fault` where the bytes are no changeset's file, with the fault's kind and place, and `NoMemory`
+/// where memory is refused.
+pub fn invert_bytes(alloc: Global, file: &[u8]) -> Result<Vec<u8>, ReadError>
+    ensures inverted { IfOk result (λ out. Inverts file.now out.items) }
+    ensures length { IfOk result (λ out. length out.items ≡ length file.now) }
+    ensures refused { IfErr result (Refuses (λ f. ReadFails file.now f.kind f.place)) }
+{
+    let inverse = invert(alloc, read(alloc, file)?)?;
+    Ok(write(alloc, &inverse)?)
+}
+
+/// The file of the changeset that does what the one of the first file does and then what that of
+/// the second does, as [`cs_group::concat`] makes it. It is at most as long as both.
+///
+/// # Errors
+///
+/// `First` where the first file is no changeset's, and else `Second` where the second is none, with
+/// the fault's kind and place; `Schema` where a table has other columns or another key in the second
+/// file, with the place of its group there; and `NoMemory` where memory is refused.
+pub fn concat_bytes(alloc: Global, first: &[u8], second: &[u8]) -> Result<Vec<u8>, ToolFault>
+    ensures joined { IfOk result (λ out. Joins first.now second.now out.items) }
+    ensures length { IfOk result (λ out. length out.items ≤ length first.now + length second.now) }
+    ensures refused { IfErr result (Refuses (JoinFails first.now second.now)) }
+{
+    let first = read_first(alloc, first)?;
+    let second = read_second(alloc, second)?;
+    let joined = join(alloc, &first, &second)?;
+    Ok(write(alloc, &joined)?)
+}
+
+/// What a file holds, as [`dump_text`](crate::dump_text) writes it.
+///
+/// # Errors
+///
+/// `First` where the bytes are no changeset's file, with the fault's kind and place, and `NoMemory` where
+/// memory is refused.
+pub fn dump_file(alloc: Global, file: &[u8]) -> Result<Vec<u8>, ToolFault>
+    ensures printed { IfOk result (λ text. Prints dump_of file.now text.items) }
+    ensures refused { IfErr result (Refuses (FirstFails file.now)) }
+{
+    let changeset = read_first(alloc, file)?;
+    let mut text = Told::new(Vec::new(alloc));
+    match dump_text(&changeset, &mut text) {
+        Ok(()) => Ok(text.into_inner()),
+        Err(OutputFault) => Err(ToolFault::NoMemory),
+    }
+}
+
+/// What a file does, as [`sql_text`](crate::sql_text) writes it.
+///
+/// # Errors
+///
+/// `First` where the bytes are no changeset's file, with the fault's kind and place, and `NoMemory` where
+/// memory is refused.
+pub fn sql_file(alloc: Global, file: &[u8]) -> Result<Vec<u8>, ToolFault>
+    ensures printed { IfOk result (λ text. Prints sql_of file.now text.items) }
+    ensures refused { IfErr result (Refuses (FirstFails file.now)) }
+{
+    let changeset = read_first(alloc, file)?;
+    let mut text = Told::new(Vec::new(alloc));
+    match sql_text(&changeset, &mut text) {
+        Ok(()) => Ok(text.into_inner()),
+        Err(OutputFault) => Err(ToolFault::NoMemory),
+    }
+}
+
+/// The changeset of the first file.
+fn read_first(alloc: Global, file: &[u8]) -> Result<Changeset, ToolFault>
+    ensures found { IfOk result (λ c. IsChangeset c × (file.now ≡ file_bytes c)) }
+    ensures refused { IfErr result (Refuses (FirstFails file.now)) }
+{
+    read(alloc, file).map_err(first_fault)
+}
+
+/// The changeset of the second file.
+fn read_second(alloc: Global, file: &[u8]) -> Result<Changeset, ToolFault>
+    ensures found { IfOk result (λ c. IsChangeset c × (file.now ≡ file_bytes c)) }
+    ensures refused { IfErr result (Refuses (SecondFails file.now)) }
+{
+    read(alloc, file).map_err(second_fault)
+}
+
+/// The join of two changesets.
+fn join(alloc: Global, first: &Changeset, second: &Changeset) -> Result<Changeset, ToolFault>
+    ensures joined { IfOk result (IsJoined first.now second.now) }
+    ensures length { IfOk result (λ join. length (file_bytes join)
+        ≤ length (file_bytes first.now) + length (file_bytes second.now)) }
+    ensures refused { IfErr result (Refuses (AreUnjoined first.now second.now)) }
+{
+    concat(alloc, first, second).map_err(join_fault)
+}

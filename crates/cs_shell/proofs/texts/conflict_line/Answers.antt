@@ -1,6 +1,0 @@
-use Rattle.std.proofs.Common.{refl}
-use Rattle.cs_shell.proofs.GatherLemmas.{Writes-flushed}
-use Rattle.cs_shell.proofs.texts.conflict_line.Goals as goal
-
-pub returns : goal.returns
-returns g c = Writes-flushed _ refl c.new-gather.ensures c.in_ok-add_conflict_error.ensures.gathered c.flush.ensures.written

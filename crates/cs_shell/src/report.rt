@@ -1,0 +1,214 @@
+//! The text of what an apply did.
+ghost use Rattle.std.specs.Prelude.{◌≡◌, length, string_bytes};
+ghost use Rattle.std.specs.List.{flat_map};
+ghost use Rattle.cs_apply.specs.Report.{met_of};
+ghost use Rattle.cs_files.specs.Calls.{Writes};
+ghost use Rattle.cs_files.specs.Gathering.{Gathers};
+ghost use Rattle.cs_shell.specs.Report.{kind_number as number_of, kind_text as text_of, choice_text as text_of_choice};
+ghost use Rattle.cs_shell.specs.Report.{skip_text, met_text, count_text, report_of};
+ghost use Rattle.cs_shell.specs.Script.{error_line};
+ghost use Rattle.cs_shell.specs.Failures.{conflict_detail};
+
+use cs_apply::{Choice, Conflict, Kind, Met, Report};
+use cs_files::{Gather, OutputFault, Piece, Told, add_pieces};
+use std::io::Write;
+
+/// The number of a kind of conflict, which is SQLite's.
+fn kind_number(kind: Kind) -> usize
+    ensures { result ≡ number_of kind }
+{
+    match kind {
+        Kind::Data => 1,
+        Kind::NotFound => 2,
+        Kind::Conflict => 3,
+    }
+}
+
+/// The name of a kind of conflict.
+fn kind_name(kind: Kind) -> &'static [u8]
+    ensures { result.now ≡ text_of kind }
+{
+    match kind {
+        Kind::Data => b"data",
+        Kind::NotFound => b"notfound",
+        Kind::Conflict => b"conflict",
+    }
+}
+
+/// The name of a choice.
+fn choice_name(choice: Choice) -> &'static [u8]
+    ensures { result.now ≡ text_of_choice choice }
+{
+    match choice {
+        Choice::Omit => b"omit",
+        Choice::Replace => b"replace",
+        Choice::Abort => b"abort",
+    }
+}
+
+/// Adds the line of a table that was passed over.
+#[tactic(auto, unfolding(crate::specs::Report::skip_text))]
+fn add_skip<W: Write>(
+    gather: &mut Gather,
+    out: &mut Told<W>,
+    table: &str,
+) -> Result<(), OutputFault>
+    ensures { Gathers W.contents result gather.old gather.new out.old out.new (skip_text table.now) }
+{
+    add_pieces(
+        gather,
+        out,
+        &[
+            Piece::Bytes(b"warning 17 skipped "),
+            Piece::Quoted(table),
+            Piece::Bytes(b"\n"),
+        ],
+    )
+}
+
+/// Adds the lines of tables that were passed over.
+fn add_skips<W: Write>(
+    gather: &mut Gather,
+    out: &mut Told<W>,
+    tables: &[String],
+) -> Result<(), OutputFault>
+    ensures { Gathers W.contents result gather.old gather.new out.old out.new
+        (flat_map (λ table. skip_text (string_bytes table)) tables.now) }
+{
+    for table in tables {
+        add_skip(gather, out, table.as_str())?;
+    }
+    Ok(())
+}
+
+/// Adds the line of a conflict.
+#[tactic(auto, unfolding(crate::specs::Report::met_text))]
+fn add_met<W: Write>(gather: &mut Gather, out: &mut Told<W>, met: &Met) -> Result<(), OutputFault>
+    ensures { Gathers W.contents result gather.old gather.new out.old out.new (met_text (met_of met.now)) }
+{
+    let conflict = &met.conflict;
+    add_pieces(
+        gather,
+        out,
+        &[
+            Piece::Bytes(b"conflict "),
+            Piece::Number(kind_number(conflict.kind)),
+            Piece::Bytes(b" "),
+            Piece::Bytes(kind_name(conflict.kind)),
+            Piece::Bytes(b" "),
+            Piece::Bytes(choice_name(met.choice)),
+            Piece::Bytes(b" "),
+            Piece::Quoted(conflict.table.as_str()),
+            Piece::Bytes(b"\n"),
+        ],
+    )
+}
+
+/// Adds the lines of conflicts.
+fn add_conflicts<W: Write>(
+    gather: &mut Gather,
+    out: &mut Told<W>,
+    conflicts: &[Met],
+) -> Result<(), OutputFault>
+    ensures { Gathers W.contents result gather.old gather.new out.old out.new
+        (flat_map (λ met. met_text (met_of met)) conflicts.now) }
+{
+    for met in conflicts {
+        add_met(gather, out, met)?;
+    }
+    Ok(())
+}
+
+/// Adds the line with the count of the entries that were carried out.
+#[tactic(auto, unfolding(crate::specs::Report::count_text))]
+fn add_count<W: Write>(
+    gather: &mut Gather,
+    out: &mut Told<W>,
+    count: usize,
+) -> Result<(), OutputFault>
+    ensures { Gathers W.contents result gather.old gather.new out.old out.new (count_text count) }
+{
+    add_pieces(
+        gather,
+        out,
+        &[
+            Piece::Bytes(b"applied "),
+            Piece::Number(count),
+            Piece::Bytes(b"\n"),
+        ],
+    )
+}
+
+/// Adds the lines of a report.
+fn add_report<W: Write>(
+    gather: &mut Gather,
+    out: &mut Told<W>,
+    report: &Report,
+) -> Result<(), OutputFault>
+    ensures { Gathers W.contents result gather.old gather.new out.old out.new (report_of report.now) }
+{
+    add_skips(gather, out, &report.skipped)?;
+    add_conflicts(gather, out, &report.conflicts)?;
+    add_count(gather, out, report.written.len())
+}
+
+/// Adds the line of an error that is about a conflict.
+fn add_conflict_error<'a, W: Write>(
+    gather: &mut Gather,
+    out: &mut Told<W>,
+    code: u8,
+    name: &'a str,
+    conflict: &'a Conflict,
+) -> Result<(), OutputFault>
+    ensures { Gathers W.contents result gather.old gather.new out.old out.new
+        (error_line code name.now (conflict_detail conflict.now)) }
+{
+    add_pieces(
+        gather,
+        out,
+        &[
+            Piece::Bytes(b"error "),
+            Piece::Number(usize::from(code)),
+            Piece::Bytes(b" "),
+            Piece::Bytes(name.as_bytes()),
+            Piece::Bytes(b" "),
+            Piece::Bytes(kind_name(conflict.kind)),
+            Piece::Bytes(b" "),
+            Piece::Quoted(conflict.table.as_str()),
+            Piece::Bytes(b"\n"),
+        ],
+    )
+}
+
+/// Writes what an apply did: for each table that was passed over, in the order of the file, a line
+/// `warning 17 skipped` with its name; then for each conflict, in that order, a line with the number and
+/// the name of its kind, what was chosen for it, and the table; and then a line `applied` with the count
+/// of the entries that were carried out. It takes no memory.
+///
+/// # Errors
+///
+/// [`OutputFault`] where a write fails, or takes no byte. Some front of the text is written then, and
+/// the flag of `out` is set.
+pub fn report_text<W: Write>(report: &Report, out: &mut Told<W>) -> Result<(), OutputFault>
+    ensures { Writes W.contents result out.old out.new (report_of report.now) }
+{
+    let mut gather = Gather::new();
+    add_report(&mut gather, out, report)?;
+    gather.flush(out)
+}
+
+/// Writes the line of an error that has a number and a name, and is about a conflict. It fails as
+/// `report_text` does.
+pub(crate) fn conflict_line<W: Write>(
+    code: u8,
+    name: &str,
+    conflict: &Conflict,
+    out: &mut Told<W>,
+) -> Result<(), OutputFault>
+    ensures { Writes W.contents result out.old out.new
+        (error_line code name.now (conflict_detail conflict.now)) }
+{
+    let mut gather = Gather::new();
+    add_conflict_error(&mut gather, out, code, name, conflict)?;
+    gather.flush(out)
+}
