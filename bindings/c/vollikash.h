@@ -50,8 +50,7 @@ int vollikash_version(void);
 /*
 ** What a call answers: 0 where it did what it was asked for, and else why it did
 ** not. The numbers are those that the changeset program prints, where a name is
-** written as NoMemory. The calls below answer OK, 1 to 18, SCHEMA, NO_MEMORY and
-** NO_ROOM; the others are those of stores, applies, sessions and scripts.
+** written as NoMemory.
 */
 enum vollikash_code {
     VOLLIKASH_OK = 0,
@@ -76,6 +75,12 @@ enum vollikash_code {
     VOLLIKASH_NULL_KEY = 17,        /* a key is NULL */
     VOLLIKASH_DUPLICATE_KEY = 18,   /* a key stands twice in a table */
 
+    VOLLIKASH_SCHEMA = 43,    /* a table has other columns or another key in the second file */
+    VOLLIKASH_NO_MEMORY = 60, /* memory was refused */
+    VOLLIKASH_NO_ROOM = 80,   /* `out` is too small, and `written` has the length that is needed */
+
+    /* No call of this library answers those below: stores, applies, sessions and scripts do. */
+
     /* A store refuses. */
     VOLLIKASH_TABLE_EXISTS = 30,  /* there is a table of this name */
     VOLLIKASH_NO_TABLE = 31,      /* there is no table of this name */
@@ -87,17 +92,14 @@ enum vollikash_code {
     VOLLIKASH_DAMAGED_STORE = 37, /* what is stored is not valid */
     VOLLIKASH_STORE_FAULT = 38,   /* the database refused */
 
-    /* A changeset is not applied, or two are not joined. */
+    /* A changeset is not applied. */
     VOLLIKASH_WIDER = 40,  /* a table of the file has fewer columns than the store's */
     VOLLIKASH_ABORT = 41,  /* a conflict ended the apply */
     VOLLIKASH_MISUSE = 42, /* a conflict of this kind cannot be replaced */
-    VOLLIKASH_SCHEMA = 43, /* a table has other columns or another key in the second file */
 
     /* A session refuses. */
     VOLLIKASH_ALREADY_ATTACHED = 50, /* the table is attached */
     VOLLIKASH_WRONG_STORE = 51,      /* the store has not the table as it was attached */
-
-    VOLLIKASH_NO_MEMORY = 60, /* memory was refused */
 
     /* A line of a script is refused, or the program's input or output fails. */
     VOLLIKASH_SYNTAX = 61,          /* the line fits no command */
@@ -106,9 +108,7 @@ enum vollikash_code {
     VOLLIKASH_BAD_HEX = 66,         /* the digits are not hexadecimal, two for each byte */
     VOLLIKASH_LINE_TEXT = 68,       /* the line is not UTF-8 */
     VOLLIKASH_INPUT_FAULT = 71,     /* a read failed */
-    VOLLIKASH_OUTPUT_FAULT = 72,    /* a write failed */
-
-    VOLLIKASH_NO_ROOM = 80 /* `out` is too small, and `written` has the length that is needed */
+    VOLLIKASH_OUTPUT_FAULT = 72     /* a write failed */
 };
 
 /*
@@ -116,16 +116,34 @@ enum vollikash_code {
 ** SQLITE_CORRUPT, SQLITE_SCHEMA, SQLITE_ABORT, SQLITE_MISUSE, SQLITE_NOMEM,
 ** SQLITE_IOERR, SQLITE_TOOBIG, and SQLITE_ERROR for the others.
 */
-#define VOLLIKASH_CLASS(code)                                                      \
-    ((code) == VOLLIKASH_OK                                                 ? 0    \
-     : (code) <= VOLLIKASH_DUPLICATE_KEY || (code) == VOLLIKASH_DAMAGED_STORE ? 11 \
-     : (code) == VOLLIKASH_WIDER || (code) == VOLLIKASH_SCHEMA              ? 17   \
-     : (code) == VOLLIKASH_ABORT                                            ? 4    \
-     : (code) == VOLLIKASH_MISUSE                                           ? 21   \
-     : (code) == VOLLIKASH_NO_MEMORY                                        ? 7    \
-     : (code) == VOLLIKASH_INPUT_FAULT || (code) == VOLLIKASH_OUTPUT_FAULT  ? 10   \
-     : (code) == VOLLIKASH_NO_ROOM                                          ? 18   \
-                                                                            : 1)
+static inline int vollikash_class(int code)
+{
+    if (VOLLIKASH_TRUNCATED <= code && code <= VOLLIKASH_DUPLICATE_KEY) {
+        return 11;
+    }
+    switch (code) {
+    case VOLLIKASH_OK:
+        return 0;
+    case VOLLIKASH_DAMAGED_STORE:
+        return 11;
+    case VOLLIKASH_WIDER:
+    case VOLLIKASH_SCHEMA:
+        return 17;
+    case VOLLIKASH_ABORT:
+        return 4;
+    case VOLLIKASH_MISUSE:
+        return 21;
+    case VOLLIKASH_NO_MEMORY:
+        return 7;
+    case VOLLIKASH_INPUT_FAULT:
+    case VOLLIKASH_OUTPUT_FAULT:
+        return 10;
+    case VOLLIKASH_NO_ROOM:
+        return 18;
+    default:
+        return 1;
+    }
+}
 
 /*
 ** What a call reports of itself. Every call fills it in, whatever it answers.

@@ -4,9 +4,9 @@
     >>> vollikash.dump(b"\\x54\\x01\\x01t\\x00\\x12\\x00\\x03\\x01x")
     "table 't' columns 1 flags 1\\ninsert 0 new 'x'\\n"
 
-It calls libvollikash.so, which is looked for beside this file, then where the repository builds it, and then where
-the system keeps its libraries; the environment variable VOLLIKASH_LIBRARY names another one. No call keeps
-anything, and any number of threads may call at once: a call lets other threads of Python run.
+It calls libvollikash.so, which is looked for where the repository builds it, if this file is there, and else where the
+system keeps its libraries; the environment variable VOLLIKASH_LIBRARY names another one. No call keeps anything, and
+any number of threads may call at once: a call lets other threads of Python run.
 """
 import ctypes
 import enum
@@ -82,12 +82,27 @@ _OUT = (ctypes.c_char_p, ctypes.c_size_t, ctypes.POINTER(ctypes.c_size_t))
 _FAULT = (ctypes.POINTER(_Fault),)
 
 
+# Bytes that are as memory has them, for a call to fill in: most of a generous buffer would be zeroed for nothing. To
+# ask for the length first would make each text twice.
+_new_bytes = ctypes.PYFUNCTYPE(ctypes.py_object, ctypes.c_char_p, ctypes.c_ssize_t)(
+    ("PyBytes_FromStringAndSize", ctypes.pythonapi)
+)
+
+
+def _find() -> str:
+    """What the loader is asked for."""
+    here = pathlib.Path(__file__).resolve().parent
+    built = here.parent / "c/out/libvollikash.so"
+    # In the repository alone: of a copy of this file elsewhere, that path may be anybody's to write to.
+    if here.match("bindings/python") and built.exists():
+        return str(built)
+    # A name with no slash in it: the loader looks for that where the system keeps libraries, not in the working folder.
+    return "libvollikash.so"
+
+
 def _load() -> ctypes.CDLL:
     """The library, with the types of its calls."""
-    here = pathlib.Path(__file__).resolve().parent
-    near = (here / "libvollikash.so", here.parent / "c/out/libvollikash.so")
-    named = os.environ.get("VOLLIKASH_LIBRARY") or next((str(file) for file in near if file.exists()), "libvollikash.so")
-    library = ctypes.CDLL(named)
+    library = ctypes.CDLL(os.environ.get("VOLLIKASH_LIBRARY") or _find())
     library.vollikash_version.argtypes = ()
     library.vollikash_check.argtypes = _FILE + _FAULT
     library.vollikash_concat.argtypes = _FILE + _FILE + _OUT + _FAULT
@@ -117,12 +132,10 @@ def _made(call: Callable[..., int], room: int, *files: bytes) -> bytes:
     """What a call makes of files, in a buffer of this length, or of the one that it asks for."""
     given = [argument for file in files for argument in (file, len(file))]
     while True:
-        out = ctypes.create_string_buffer(max(room, 1))
-        written, fault = ctypes.c_size_t(), _Fault()
+        out, written, fault = _new_bytes(None, room), ctypes.c_size_t(), _Fault()
         code = call(*given, out, room, ctypes.byref(written), ctypes.byref(fault))
         if code == Code.OK:
-            # By a view, whose length is of any size; that of `string_at` is a C int.
-            return bytes(memoryview(out)[: written.value])
+            return out[: written.value]
         if code != Code.NO_ROOM:
             _raise(fault)
         room = written.value
@@ -142,7 +155,7 @@ def invert(file: Bytes) -> bytes:
 
 
 def concat(first: Bytes, second: Bytes) -> bytes:
-    """The file of the changeset that does what the first does and then what the second does. Raises `ChangesetError`."""
+    """The file of the changeset that does what the first does, then what the second does. Raises `ChangesetError`."""
     first, second = _bytes(first), _bytes(second)
     return _made(_LIBRARY.vollikash_concat, len(first) + len(second), first, second)
 

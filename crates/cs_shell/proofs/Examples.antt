@@ -15,9 +15,8 @@ use Rattle.hex.specs.Hex.{encode_with, decode_pairs, encode_lower}
 use Rattle.hex.specs.declared.error.FromHexError.TheVariants.{OddLength}
 use Rattle.cs_wire.specs.declared.entry.Change.TheVariants.{Insert}
 use Rattle.cs_wire.specs.declared.fault.ReadFaultKind.TheVariants.{NotTable, EmptyGroup}
-use Rattle.cs_wire.proofs.Examples.{header, one_change, row, update, insert_file, delete_file, update_file, insert_is_spelled}
+use Rattle.cs_wire.proofs.Examples.{one_change, row, insert_file, delete_file, update_file, insert_is_spelled}
 use Rattle.cs_wire.proofs.Examples.{insert_is_changeset, letter_is_refused}
-use Rattle.cs_wire.proofs.Examples.{flags}
 use Rattle.cs_shell.specs.Lines.{HasNoFeed, words_of, IsSlot, CommandData, Load, Hex, Invert, Concat, Dump, Asks, AsksNothing}
 use Rattle.cs_shell.specs.Script.{SlotMap, error_line, refusal_text, reply_text, Silent, Text as Printed, Refused, CommandGives, loaded, no_hex}
 use Rattle.cs_shell.specs.Script.{shown, nothing_to_show, inverted, not_inverted, nothing_to_invert, LineGives, answered, not_text, malformed}
