@@ -6,13 +6,13 @@ use Rattle.std.specs.Cmp.Lexicographic.{slice_cmp, nat_list_cmp_total}
 use Rattle.std.specs.FinMap.{get, insert, empty, get-insert, get-empty}
 use Rattle.std.proofs.lemmas.List.Elements.{All-nil}
 use Rattle.cs_value.specs.declared.value.OwnedValue.{OwnedValue}
-use Rattle.cs_value.specs.declared.value.OwnedField.TheVariants.{Defined}
-use Rattle.cs_value.specs.declared.value.OwnedValue.TheVariants.{Int, Text}
+use Rattle.cs_value.specs.declared.value.OwnedField.TheVariants.{Undefined, Defined}
+use Rattle.cs_value.specs.declared.value.OwnedValue.TheVariants.{Int, Text, Null}
 use Rattle.cs_value.specs.Spelling.{value_bytes, field_bytes}
 use Rattle.cs_value.specs.State.{SchemaData, TableData, State, schema_at, row_at}
 use Rattle.cs_value.proofs.ByteMaps.{tied_bytes}
 use Rattle.cs_wire.specs.declared.entry.Change.{Change}
-use Rattle.cs_wire.specs.declared.entry.Change.TheVariants.{Insert, Delete}
+use Rattle.cs_wire.specs.declared.entry.Change.TheVariants.{Insert, Delete, Update}
 use Rattle.cs_wire.specs.Entry.{key_of}
 use Rattle.cs_wire.specs.Changeset.{HeaderData, GroupData}
 use Rattle.cs_wire.proofs.Examples.{one, flags, header, direct, group, one_change, one_change_of, x, y, row, update, idle_update, update_is_changeset}
@@ -39,6 +39,18 @@ apart = Int (pos 1) ∷ Text (codes "z") ∷ []
 -- the row (2, 'q')
 abbrev second_row : List OwnedValue
 second_row = Int (pos 2) ∷ Text (codes "q") ∷ []
+
+-- the row (1, NULL)
+abbrev null_row : List OwnedValue
+null_row = Int (pos 1) ∷ Null ∷ []
+
+-- a row of three columns
+abbrev wide : OwnedValue → List OwnedValue
+wide middle = Int (pos 1) ∷ middle ∷ Text (codes "q") ∷ []
+
+-- the update of 'x' to 'y' in the second of three columns
+abbrev middle_update : Change
+middle_update = Update (Defined (Int (pos 1)) ∷ Defined x ∷ Undefined ∷ []) (Undefined ∷ Defined y ∷ Undefined ∷ [])
 
 -- ---- an entry and the row with its key
 
@@ -134,6 +146,30 @@ delete_meets_data = refl
 delete_replaces : entry_result flags (Delete row) (Some later) Replace ≡ Some None
 delete_replaces = refl
 
+-- an update from NULL meets none at (1, NULL)
+update_from_null_meets_none : conflict_kind (update Null y) (Some null_row) ≡ None
+update_from_null_meets_none = refl
+
+-- and meets (1, 'x'), which has another value
+update_from_null_meets_data : conflict_kind (update Null y) (Some row) ≡ Some Data
+update_from_null_meets_data = refl
+
+-- where no row stands an update finds none
+update_finds_none : conflict_kind (update x y) None ≡ Some NotFound
+update_finds_none = refl
+
+-- and passed over it leaves none
+update_of_none_omitted : entry_result flags (update x y) None Omit ≡ Some None
+update_of_none_omitted = refl
+
+-- an update of the second of three columns meets (1, 'z', 'q'), which has another value there
+middle_update_meets_data : conflict_kind middle_update (Some (wide (Text (codes "z")))) ≡ Some Data
+middle_update_meets_data = refl
+
+-- in its place it leaves (1, 'y', 'q'): the third column, which it does not say, stays
+middle_update_replaces : entry_result (1 ∷ 0 ∷ 0 ∷ []) middle_update (Some (wide (Text (codes "z")))) Replace ≡ Some (Some (wide y))
+middle_update_replaces = refl
+
 -- ---- the columns of a group and of its table
 
 -- there is no table
@@ -143,6 +179,10 @@ no_table_is_skipped = refl
 -- it has a third column
 third_column_is_wider : judgement flags (Some (1 ∷ 0 ∷ 0 ∷ [])) ≡ Wider
 third_column_is_wider = refl
+
+-- so it is where that column is of the key
+third_key_column_is_wider : judgement flags (Some (1 ∷ 0 ∷ 1 ∷ [])) ≡ Wider
+third_key_column_is_wider = refl
 
 -- it has the second column as its key
 other_key_is_skipped : judgement flags (Some (0 ∷ 1 ∷ [])) ≡ Skipped

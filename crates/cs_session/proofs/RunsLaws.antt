@@ -1,5 +1,5 @@
 -- The rows from before, over any run of a session.
-use Rattle.std.proofs.Common.{◌≡◌, ◌≢◌, inl, inr, ℕ, List, [], ◌∷◌, ◌++◌, Option, Some, None, option_map, refl, sym, ap, ◌∙◌, subst}
+use Rattle.std.proofs.Common.{◌≡◌, ◌≢◌, inl, inr, ℕ, List, [], ◌∷◌, ◌++◌, Option, Some, None, option_map, Ok, IsTrue, refl, sym, ap, ◌∙◌, subst}
 use Rattle.std.specs.Prelude.{unwrap_or}
 use Rattle.std.specs.List.{AllByRecursion}
 use Rattle.std.specs.FinMap.{get, empty, get-insert}
@@ -11,7 +11,11 @@ use Rattle.cs_value.specs.declared.value.OwnedValue.{OwnedValue}
 use Rattle.cs_value.specs.State.{SchemaData, TableData, RowMap, State, WrittenData, schema_at, rows_at, with_table}
 use Rattle.cs_value.proofs.ByteMaps.{same_maps}
 use Rattle.cs_store.specs.declared.edit.Edit.{Edit}
-use Rattle.cs_store.specs.Editing.{Edited}
+use Rattle.sqlite.specs.Effect.{Database}
+use Rattle.sqlite.specs.State.{State as Connection}
+use Rattle.cs_store.specs.Editing.{Declares, Edited}
+use Rattle.cs_store.specs.Records.{KeepsContent}
+use Rattle.cs_store.specs.Store.{tables_in}
 use Rattle.cs_group.specs.Laws.{TellsFormer}
 use Rattle.cs_group.specs.Applying.{written}
 use Rattle.cs_group.proofs.ApplyLaws.{written_tells}
@@ -207,3 +211,12 @@ undone_step m n report done notes = inr (inr (inr (inr (inl (record { rewound = 
 
 pub attached_step : (name : List ℕ) (m n : Moment) → Attaches m.state name m.notes n.notes → n.state ≡ m.state → Step m n
 attached_step name m n done state = inl (record { name = name; attached = done; state = state })
+
+pub declared_step : (name : List ℕ) (schema : SchemaData) (m n : Moment) → Declares m.state name schema (Ok n.state) → n.notes ≡ m.notes → Step m n
+declared_step name schema m n done notes = inr (inl (record { name = name; schema = schema; declared = done; notes = notes }))
+
+-- and so is one that is refused, while the connection is open
+pub refused_step : (old new : Connection) (notes after : Notes) → KeepsContent old new → IsTrue new.is_open → after ≡ notes
+    → Step (record { state = tables_in old.now; notes = notes }) (record { state = tables_in new.now; notes = after })
+refused_step old new notes after kept is_open same =
+    inr (inr (inr (inr (inr (record { state = ap (λ (db : Database). tables_in db) (kept.now is_open); notes = same })))))
