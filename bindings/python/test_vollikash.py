@@ -12,6 +12,7 @@ import os
 import pathlib
 import pickle
 import re
+import shutil
 import subprocess
 import sys
 import tempfile
@@ -26,6 +27,8 @@ BUILT = HERE.parent / "c/out"
 HEADER = HERE.parent / "c/vollikash.h"
 PROGRAM = TOP / "crates/changeset/out/changeset"
 RECORDED = sorted([*TOP.glob("examples/*.cs"), *TOP.glob("tests/recorded/*.cs")])
+# The C program as it is, and with the sanitizers.
+CHECKS = ("check", "check-sanitized")
 # Recorded files of one entry, so that each of their proper prefixes but the empty one is damaged.
 CUT = [TOP / "tests/recorded" / name for name in ("insert-one.cs", "update-one.cs", "delete-one.cs")]
 INSERT, UPDATE, DELETE = (path.read_bytes() for path in CUT)
@@ -47,7 +50,19 @@ def program(*cases):
     return answers[:-1]
 
 
-def harness(*requests, name="check"):
+def statements(files):
+    """What the program prints of each file as SQL."""
+    with tempfile.TemporaryDirectory() as folder:
+        path = pathlib.Path(folder) / "file.cs"
+        texts = []
+        for file in files:
+            path.write_bytes(file)
+            ran = subprocess.run([PROGRAM, path, "sql"], capture_output=True, text=True, check=False)
+            texts.append(ran.stdout + ran.stderr)
+        return texts
+
+
+def harness(requests, name):
     """What the C program prints for each request."""
     answers = run(BUILT / name, given="".join(f"{request}\n" for request in requests)).splitlines()
     assert len(answers) == len(requests)
@@ -63,17 +78,13 @@ def compiled(source):
         return subprocess.run([built], check=True, capture_output=True, text=True).stdout
 
 
-def digits(file):
-    return file.hex() or "-"
-
-
 def told(call, *files):
-    """What a call answers, as the program prints it: hexadecimal digits, a text, or an error line."""
+    """What a call answers, as the program prints it: hexadecimal digits, a text, nothing, or an error line."""
     try:
         made = call(*files)
     except ChangesetError as error:
         return f"error {error.code} {error.name} {error.place}\n"
-    return f"{made.hex()}\n" if isinstance(made, bytes) else made
+    return f"{made.hex()}\n" if isinstance(made, bytes) else made or ""
 
 
 def printed(answer):
@@ -96,42 +107,57 @@ def loaded():
     return sorted({bytes.fromhex(load[1].decode()) for load in loads if load})
 
 
+def wanted_of(files):
+    """What the program prints for each file, by the call that is to answer the same: no text where it has none."""
+    shown = program(*((f".load a {file.hex()}", ".dump a") for file in files))
+    undone = program(*((f".load a {file.hex()}", ".load b", ".invert a b", ".hex b") for file in files))
+    refusals = [text if text.startswith("error") else "" for text in shown]
+    # Behind the error line of a file that is refused, the slot of its inverse is printed too, which has no bytes.
+    inverses = [refusal or undo for refusal, undo in zip(refusals, undone)]
+    return {"check": refusals, "invert": inverses, "dump": shown, "sql": statements(files)}
+
+
 class Files(unittest.TestCase):
     """Every file is answered as the program answers it, from Python and from C."""
 
     def check_files(self, files):
-        shown = program(*((f".load a {file.hex()}", ".dump a") for file in files))
-        undone = program(*((f".load a {file.hex()}", ".load b", ".invert a b", ".hex b") for file in files))
-        for name in ("check", "check-sanitized"):
-            dumps = harness(*(f"dump {digits(file)}" for file in files), name=name)
-            inverses = harness(*(f"invert {digits(file)}" for file in files), name=name)
-            for file, dump, inverse, text, undo in zip(files, dumps, inverses, shown, undone):
-                with self.subTest(file=file.hex(), by=name):
-                    refused = text.startswith("error")
-                    self.assertEqual(printed(dump), (text, 1) if refused else (text.encode(), 0))
-                    self.assertEqual(printed(inverse), (text, 1) if refused else (bytes.fromhex(undo), 0))
-        for file, text, undo in zip(files, shown, undone):
-            with self.subTest(file=file.hex()):
-                refused = text.startswith("error")
-                self.assertEqual(told(vollikash.dump, file), text)
-                self.assertEqual(told(vollikash.invert, file), text if refused else undo)
-                self.assertEqual(told(vollikash.sql, file).startswith("error"), refused)
-                if refused:
-                    self.assert_refused(file, text)
+        wanted = wanted_of(files)
+        for call, texts in wanted.items():
+            self.check_python(call, files, texts)
+            self.check_c(call, files, texts)
+        for file, text in zip(files, wanted["check"]):
+            if text:
+                self.assert_refused(file, text)
+
+    def check_python(self, call, files, texts):
+        for file, text in zip(files, texts):
+            with self.subTest(call=call, file=file.hex()):
+                self.assertEqual(told(getattr(vollikash, call), file), text)
+
+    def check_c(self, call, files, texts):
+        for name in CHECKS:
+            answers = harness([f"{call} {file.hex()}" for file in files], name)
+            for file, answer, text in zip(files, answers, texts):
+                with self.subTest(call=call, file=file.hex(), by=name):
+                    made = bytes.fromhex if call == "invert" else str.encode
+                    self.assertEqual(printed(answer), (text, 1) if text.startswith("error") else (made(text), 0))
 
     def assert_refused(self, file, text):
         """Every call refuses a file for the same reason, and says which file it is."""
         for call, files, which in (
             (vollikash.check, [file], 1),
+            (vollikash.invert, [file], 1),
+            (vollikash.dump, [file], 1),
             (vollikash.sql, [file], 1),
             (vollikash.concat, [file, file], 1),
             (vollikash.concat, [INSERT, file], 2),
         ):
-            with self.assertRaises(ChangesetError) as caught:
-                call(*files)
-            error = caught.exception
-            self.assertEqual(f"error {error.code} {error.name} {error.place}\n", text)
-            self.assertEqual(error.which, which)
+            with self.subTest(call=call.__name__, file=file.hex()):
+                with self.assertRaises(ChangesetError) as caught:
+                    call(*files)
+                error = caught.exception
+                self.assertEqual(f"error {error.code} {error.name} {error.place}\n", text)
+                self.assertEqual(error.which, which)
 
     def test_recorded_files(self):
         self.check_files([path.read_bytes() for path in RECORDED])
@@ -153,40 +179,41 @@ class Files(unittest.TestCase):
         pairs = [(path, path.with_suffix(".inverse.cs")) for path in RECORDED]
         pairs = [(path.read_bytes(), other.read_bytes()) for path, other in pairs if other.exists()]
         self.assertGreater(len(pairs), 15)
-        joined = harness(*(f"concat {file.hex()} {inverse.hex()}" for file, inverse in pairs))
-        for (file, inverse), join in zip(pairs, joined):
+        for (file, inverse), join in zip(pairs, self.joins(pairs)):
             with self.subTest(file=file.hex()):
                 self.assertEqual(vollikash.invert(file), inverse)
                 self.assertEqual(vollikash.concat(file, inverse), b"")
-                self.assertEqual(join, "ok -")
+                self.assertEqual(join, (b"", 0))
+
+    def joins(self, pairs):
+        """What the C program answers for the join of each two files, and which of them it refuses."""
+        requests = [f"concat {first.hex()} {second.hex()}" for first, second in pairs]
+        answers, sanitized = (harness(requests, name) for name in CHECKS)
+        self.assertEqual(answers, sanitized)
+        return [printed(answer) for answer in answers]
 
     def test_joins(self):
-        """Each two recorded files joined, which is refused, and never longer than both."""
+        """Each two recorded files joined, which is refused, and never longer than both. What is made is a file too."""
         files = [file for path in RECORDED if told(vollikash.dump, file := path.read_bytes())[:5] == "table"]
         pairs = [(first, second) for first in files for second in files]
         lines = ((f".load a {first.hex()}", f".load b {second.hex()}", ".load c", ".concat a b c", ".hex c")
                  for first, second in pairs)
         wanted = [text.splitlines()[0] for text in program(*lines)]
-        answers = harness(*(f"concat {first.hex()} {second.hex()}" for first, second in pairs))
-        for (first, second), text, answer in zip(pairs, wanted, answers):
+        joins = self.joins(pairs)
+        for (first, second), text, (made, which) in zip(pairs, wanted, joins):
             with self.subTest(first=first.hex(), second=second.hex()):
                 self.assertEqual(told(vollikash.concat, first, second), f"{text}\n")
-                made, which = printed(answer)
                 self.assertEqual((made, which), (f"{text}\n", 2) if which else (bytes.fromhex(text), 0))
                 self.assertLessEqual(0 if which else len(made), len(first) + len(second))
-
-    def test_sql(self):
-        for path in RECORDED:
-            wanted = subprocess.run([PROGRAM, path, "sql"], capture_output=True, text=True, check=False)
-            with self.subTest(file=path.name):
-                self.assertEqual(told(vollikash.sql, path.read_bytes()), wanted.stdout + wanted.stderr)
+        self.check_files(sorted({made for made, which in joins if made and not which} - set(files)))
 
     def test_no_bytes(self):
         self.assertIsNone(vollikash.check(b""))
         self.assertEqual([vollikash.invert(b""), vollikash.concat(b"", b"")], [b"", b""])
         self.assertEqual([vollikash.dump(b""), vollikash.sql(b"")], ["", ""])
         self.assertEqual(vollikash.concat(b"", INSERT), INSERT)
-        self.assertEqual(harness("check -", "invert -", "concat - -", "dump -", "sql -"), ["ok -"] * 5)
+        for name in CHECKS:
+            self.assertEqual(harness(["check -", "invert -", "concat - -", "dump -", "sql -"], name), ["ok -"] * 5)
 
 
 class Calls(unittest.TestCase):
@@ -264,6 +291,43 @@ class Numbers(unittest.TestCase):
         printed_classes = compiled("\n".join(source)).split()
         self.assertEqual({title: int(line) for title, line in zip(numbers, printed_classes)},
                          {title: classes.get(title, 11) for title in numbers})
+
+
+class Linked(unittest.TestCase):
+    """The libraries have what the header and the module say, and are found."""
+
+    def test_exports(self):
+        declared = re.findall(r"^int (vollikash_\w+)\(", HEADER.read_text(), re.M)
+        listed = run("nm", "-D", "--defined-only", BUILT / "libvollikash.so").splitlines()
+        self.assertEqual(sorted(line.split()[-1] for line in listed), sorted(declared))
+
+    def test_versions(self):
+        versions = compiled("""
+            #include <stdio.h>
+            #include "vollikash.h"
+            int main(void)
+            {
+                printf("%d %d\\n", VOLLIKASH_VERSION, vollikash_version());
+            }
+        """)
+        major, minor, patch = map(int, vollikash.__version__.split("."))
+        version = 1_000_000 * major + 1_000 * minor + patch
+        self.assertEqual(versions, f"{version} {version}\n")
+        self.assertEqual(vollikash._LIBRARY.vollikash_version(), version)
+
+    def test_what_the_loader_is_asked_for(self):
+        """The library of the repository, but none of a folder that only looks like the repository's."""
+        built = BUILT / "libvollikash.so"
+        self.assertEqual(vollikash._find(), str(built))
+        with tempfile.TemporaryDirectory() as folder:
+            copied, beside = pathlib.Path(folder) / "python/vollikash.py", pathlib.Path(folder) / "c/out" / built.name
+            for source, copy in ((HERE / "vollikash.py", copied), (built, beside), (built, copied.parent / built.name)):
+                copy.parent.mkdir(parents=True, exist_ok=True)
+                shutil.copy(source, copy)
+            environment = {**os.environ, "PYTHONPATH": str(copied.parent), "VOLLIKASH_LIBRARY": str(built)}
+            words = [sys.executable, "-c", "import vollikash; print(vollikash.__file__, vollikash._find())"]
+            ran = subprocess.run(words, cwd=folder, env=environment, capture_output=True, text=True, check=True)
+        self.assertEqual(ran.stdout, f"{copied} {built.name}\n")
 
 
 class Readme(unittest.TestCase):
