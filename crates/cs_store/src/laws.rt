@@ -5,5 +5,4 @@ ghost use Rattle.cs_store.specs.Store.{MemoryIsHonest};
 /// returns what was written holds of a store in memory without that premise.
 pub fn memory_law()
     ensures { MemoryIsHonest }
-{
-}
+{}
