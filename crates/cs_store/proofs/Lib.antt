@@ -33,3 +33,4 @@ pub mod TableLaws
 pub mod TransactionLaws
 pub mod ValidLaws
 pub mod WriteLaws
+pub mod WrittenRows

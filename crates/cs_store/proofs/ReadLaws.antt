@@ -93,11 +93,6 @@ row_is state name key schema is has = at (tables.row_at state name key) refl
 pub declared_named : (db : Database) (name : List ℕ) (schema : tables.SchemaData) → tables.schema_at (tables_in db) name ≡ Some schema → name ≢ []
 declared_named db name schema has e = absurd (let k = sym has ∙ ap (tables.schema_at (tables_in db)) e ∙ unnamed db in cc)
 
--- what holds anyway holds of a success
-pub on_ok_from : {X E P : Type 0} (r : Result X E) → P → OnOk r P
-on_ok_from (Ok x) p = p
-on_ok_from (Err e) p = tt
-
 -- no row stands in a table that is not there
 pub no_row : (state : tables.State) (name key : List ℕ) → tables.schema_at state name ≡ None → tables.row_at state name key ≡ None
 no_row state name key none = at (map.get state name) refl
@@ -107,7 +102,7 @@ no_row state name key none = at (map.get state name) refl
     at (Some table) some = absurd (let e = sym none ∙ ap (option_map (λ (t : tables.TableData). t.schema)) some in cc)
 
 -- a row that is read fits
-pub read_fits : (db : Database) (name key : List ℕ) (r : Result (Option (List OwnedValue)) StoreError) → Recovers r (tables.row_at (tables_in db) name key) → OnOk r (HoldsState db)
+pub read_fits : (db : Database) (name key : List ℕ) (r : Result (Option (List OwnedValue)) StoreError) → Recovers r (tables.row_at (tables_in db) name key) → HoldsState db
     → IfOk r (λ o. IfSome o (Fits (tables_in db) name key))
 read_fits db name key (Ok o) same holds = rows_fit (tables_in db) name key holds.stores.is_state o same
 read_fits db name key (Err e) same holds = tt

@@ -1,6 +1,6 @@
 -- What a store over a connection holds: a state, as its records stand for it.
 use Rattle.std.specs.Prelude.{◌≡◌, ◌⊎◌, ℕ, List, [], map as map_list, Vec, IsTrue, true, false}
-use Rattle.std.specs.Prelude.{None, Result, Ok, Err, string_bytes}
+use Rattle.std.specs.Prelude.{Option, None, Some, IfSome, Result, Ok, Err, string_bytes}
 use Rattle.std.specs.List.{AllByRecursion}
 use Rattle.std.specs.FinMap as map
 use Rattle.std.specs.declared.alloc.Global.{Global}
@@ -50,6 +50,10 @@ pub record IsStore (s : State) : Type 0 where
 -- it is a store, if the disk has returned what was written
 abbrev pub IsSound : State → Type 0
 IsSound s = HasCleanDisk s → IsStore s
+
+-- what is known of a table is so, if the disk has returned what was written
+abbrev pub Knows : State → Option (List ℕ × tables.SchemaData) → Type 0
+Knows s known = HasCleanDisk s → IfSome known (λ t. tables.schema_at (tables_in s.now) t.0 ≡ Some t.1)
 
 -- what a call that commits nothing keeps: what a crash leaves, what was committed last, and that this is a store;
 -- outside a transaction, where what is shown was committed, all that is shown

@@ -14,7 +14,7 @@ use crate::fault::StoreError;
 use crate::rows::Rows;
 use crate::schema::Schema;
 use crate::store::Store;
-use crate::transactions;
+use crate::{known, transactions};
 use cs_value::{Key, Row};
 use sqlite::Alter;
 use std::alloc::Global;
@@ -56,6 +56,7 @@ impl<S: Alter> SqlBatch<'_, S> {
             (MayLeave (λ tables. tables ≡ tables_in (state S.Store self.entry.store.now).now)) }
     {
         let SqlBatch { store } = self;
+        store.known = None;
         transactions::commit(&mut store.conn)
     }
 }
@@ -67,6 +68,7 @@ impl<S: Alter> Drop for SqlBatch<'_, S> {
         ensures survives { KeepsCrash (state S.Store self.entry.store.now) (state S.Store self.exit.0.now) }
     {
         let SqlBatch { store } = self;
+        store.known = None;
         transactions::roll_back(&mut store.conn);
     }
 }
@@ -94,18 +96,22 @@ impl<S: Alter> Rows for SqlBatch<'_, S> {
     }
 
     fn get(&mut self, alloc: Global, table: &str, key: &Key) -> Result<Option<Row>, StoreError> {
-        self.store.find_row(alloc, table, key)
+        let store = &mut *self.store;
+        known::find_row(&mut store.conn, &mut store.known, alloc, table, key)
     }
 
     fn put(&mut self, alloc: Global, table: &str, key: &Key, row: &Row) -> Result<(), StoreError> {
-        self.store.put_row(alloc, table, key, row)
+        let store = &mut *self.store;
+        known::put_row(&mut store.conn, &mut store.known, alloc, table, key, row)
     }
 
     fn remove(&mut self, _alloc: Global, table: &str, key: &Key) -> Result<(), StoreError> {
-        self.store.remove_row(table, key)
+        let store = &mut *self.store;
+        known::remove_row(&mut store.conn, &mut store.known, table, key)
     }
 
     fn list(&mut self, alloc: Global, table: &str) -> Result<Vec<Row>, StoreError> {
-        self.store.list_rows(alloc, table)
+        let store = &mut *self.store;
+        known::list_rows(&mut store.conn, &mut store.known, alloc, table)
     }
 }

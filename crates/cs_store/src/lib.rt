@@ -13,8 +13,8 @@
 //! carries them out over any rows, and `fault` says why a call is refused.
 //!
 //! A database is taken over as a store by `adoption`: `layout` says what it declares, and `check`
-//! whether its records are those of tables. Below a batch, `tables` has the calls on the tables of a
-//! store, `declaration` and `stored_row` the bytes of schemas and rows, `records` the statements on
+//! whether its records are those of tables. Below a batch, `known` has the calls on tables and rows, which
+//! read the schema of a table once, and `tables` what these do with records; `declaration` and `stored_row` the bytes of schemas and rows, `records` the statements on
 //! the SQL table of records, and `transactions` those that begin and end a transaction.
 #![tactic(auto)]
 
@@ -25,6 +25,7 @@ mod declaration;
 mod edit;
 mod editing;
 mod fault;
+mod known;
 mod laws;
 mod layout;
 mod memory;

@@ -24,8 +24,9 @@ use crate::batch::SqlBatch;
 use crate::edit::{Edit, Written};
 use crate::editing::edit_in;
 use crate::fault::StoreError;
+use crate::known::KnownTable;
 use crate::schema::Schema;
-use crate::{adoption, tables, transactions};
+use crate::{adoption, known, tables, transactions};
 use cs_value::{Key, Row, is_table_name};
 use sqlite::{Alter, Connection, FileFrom, FileStore, MemStore, Start};
 use std::alloc::Global;
@@ -36,11 +37,12 @@ use std::rt::HostRuntime;
 #[derive(Drop)]
 pub struct Store<S: Alter> {
     pub(crate) conn: Connection<S>,
+    pub(crate) known: Option<KnownTable>,
 }
 
 impl<S: Alter> Model for Store<S> {
     ghost use Rattle.sqlite.specs.Held.{Held, held_code, state};
-    ghost use Rattle.cs_store.specs.Store.{IsSound};
+    ghost use Rattle.cs_store.specs.Store.{IsSound, Knows};
 
     ghost Value = { Held S };
 
@@ -48,7 +50,7 @@ impl<S: Alter> Model for Store<S> {
 
     ghost view = { λ s. s.conn };
 
-    ghost invariant = { λ s. IsSound (state S.Store s.conn) };
+    ghost invariant = { λ s. IsSound (state S.Store s.conn) × Knows (state S.Store s.conn) s.known };
 }
 
 impl Store<MemStore> {
@@ -119,7 +121,7 @@ impl<S: Alter> Store<S> {
             (λ e. Survives (state S.Store conn) (state S.Store e.1) (MayLeave (HoldsTables (state S.Store conn).now))) }
     {
         match adoption::adopt(&mut conn, alloc) {
-            Ok(()) => Ok(Store { conn }),
+            Ok(()) => Ok(Store { conn, known: None }),
             Err(error) => Err((error, conn)),
         }
     }
@@ -137,7 +139,7 @@ impl<S: Alter> Store<S> {
     pub fn into_connection(self) -> Connection<S>
         ensures { result ≡ self }
     {
-        let Store { conn } = self;
+        let Store { conn, .. } = self;
         conn
     }
 }
@@ -163,6 +165,7 @@ impl<S: Alter> Store<S> {
         ensures survives { IfOk result (λ b. KeepsCrash (state S.Store self.old)
             (state S.Store b.store.now)) }
     {
+        self.known = None;
         match transactions::begin(&mut self.conn) {
             Ok(()) => Ok(SqlBatch { store: self }),
             Err(error) => Err(error),
@@ -213,6 +216,7 @@ impl<S: Alter> Store<S> {
         ensures named { IfErr result IsReadRefusal }
         ensures kept { KeepsStore (state S.Store self.old) (state S.Store self.new) }
     {
+        self.known = None;
         tables::list_tables(&mut self.conn, alloc)
     }
 
@@ -226,7 +230,7 @@ impl<S: Alter> Store<S> {
         ensures named { IfErr result IsReadRefusal }
         ensures kept { KeepsStore (state S.Store self.old) (state S.Store self.new) }
     {
-        tables::find_schema(&mut self.conn, alloc, name)
+        known::find_schema(&mut self.conn, &mut self.known, alloc, name)
     }
 
     /// The rows of a table, by the bytes of their keys.
@@ -245,10 +249,10 @@ impl<S: Alter> Store<S> {
         ensures named { IfErr result (λ e. (e ≡ NoSuchTable) ⊎ IsReadRefusal e) }
         ensures kept { KeepsStore (state S.Store self.old) (state S.Store self.new) }
     {
-        match self.schema(alloc, name) {
-            Ok(Some(_)) => self.list_rows(alloc, name),
-            Ok(None) => Err(StoreError::NoTable),
-            Err(error) => Err(error),
+        let listed = known::list_rows(&mut self.conn, &mut self.known, alloc, name)?;
+        match &self.known {
+            Some(_) => Ok(listed),
+            None => Err(StoreError::NoTable),
         }
     }
 
@@ -258,6 +262,8 @@ impl<S: Alter> Store<S> {
     pub fn get(&mut self, alloc: Global, name: &str, key: &Key) -> Result<Option<Row>, StoreError>
         ensures found { HasCleanDisk (state S.Store self.new)
             → IfOk result (λ o. o ≡ row_at (tables_in (state S.Store self.old).now) name.now key.now) }
+        ensures fits { HasCleanDisk (state S.Store self.new)
+            → IfOk result (λ o. IfSome o (Fits (tables_in (state S.Store self.old).now) name.now key.now)) }
         ensures declared { HasCleanDisk (state S.Store self.new)
             → OnOk result (IsDeclared (tables_in (state S.Store self.old).now) name.now) }
         ensures same { HasCleanDisk (state S.Store self.new) → OnOk result ((state S.Store self.new).now
@@ -267,10 +273,10 @@ impl<S: Alter> Store<S> {
         ensures named { IfErr result (λ e. (e ≡ NoSuchTable) ⊎ IsReadRefusal e) }
         ensures kept { KeepsStore (state S.Store self.old) (state S.Store self.new) }
     {
-        match self.schema(alloc, name) {
-            Ok(Some(_)) => self.find_row(alloc, name, key),
-            Ok(None) => Err(StoreError::NoTable),
-            Err(error) => Err(error),
+        let found = known::find_row(&mut self.conn, &mut self.known, alloc, name, key)?;
+        match &self.known {
+            Some(_) => Ok(found),
+            None => Err(StoreError::NoTable),
         }
     }
 
@@ -293,77 +299,6 @@ impl<S: Alter> Store<S> {
         let written = edit_in(alloc, &mut batch, edit)?;
         batch.commit()?;
         Ok(written)
-    }
-
-    /// The row of a table under a key, and none where there is none.
-    pub(crate) fn find_row(
-        &mut self,
-        alloc: Global,
-        name: &str,
-        key: &Key,
-    ) -> Result<Option<Row>, StoreError>
-        ensures found { HasCleanDisk (state S.Store self.new)
-            → IfOk result (λ o. o ≡ row_at (tables_in (state S.Store self.old).now) name.now key.now) }
-        ensures fits { HasCleanDisk (state S.Store self.new)
-            → IfOk result (λ o. IfSome o (Fits (tables_in (state S.Store self.old).now) name.now key.now)) }
-        ensures same { HasCleanDisk (state S.Store self.new) → OnOk result ((state S.Store self.new).now
-            ≡ (state S.Store self.old).now) }
-        ensures refused { HasCleanDisk (state S.Store self.new) → IfErr result IsResource }
-        ensures named { IfErr result IsReadRefusal }
-        ensures kept { KeepsStore (state S.Store self.old) (state S.Store self.new) }
-    {
-        tables::find_row(&mut self.conn, alloc, name, key)
-    }
-
-    /// The rows of a table by the bytes of their keys, and none where there is no table.
-    pub(crate) fn list_rows(&mut self, alloc: Global, name: &str) -> Result<Vec<Row>, StoreError>
-        ensures listed { HasCleanDisk (state S.Store self.new)
-            → IfOk result (λ rows. rows.items
-            ≡ map.values (rows_at (tables_in (state S.Store self.old).now) name.now)) }
-        ensures same { HasCleanDisk (state S.Store self.new) → OnOk result ((state S.Store self.new).now
-            ≡ (state S.Store self.old).now) }
-        ensures refused { HasCleanDisk (state S.Store self.new) → IfErr result IsResource }
-        ensures named { IfErr result IsReadRefusal }
-        ensures kept { KeepsStore (state S.Store self.old) (state S.Store self.new) }
-    {
-        tables::list_rows(&mut self.conn, alloc, name)
-    }
-
-    /// Puts a row under its key in a table that it fits. It is refused outside a batch.
-    pub(crate) fn put_row(
-        &mut self,
-        alloc: Global,
-        name: &str,
-        key: &Key,
-        row: &Row,
-    ) -> Result<(), StoreError>
-        requires { HasCleanDisk (state S.Store self.old)
-            → Fits (tables_in (state S.Store self.old).now) name.now key.now row.now }
-        ensures put { HasCleanDisk (state S.Store self.new) → OnOk result (tables_in (state S.Store self.new).now
-            ≡ with_row (tables_in (state S.Store self.old).now) name.now key.now row.now) }
-        ensures refused { IfErr result IsResource }
-        ensures kept { KeepsStore (state S.Store self.old) (state S.Store self.new) }
-    {
-        if self.conn.is_autocommit() {
-            return Err(StoreError::StoreFault);
-        }
-        tables::put_row(&mut self.conn, alloc, name, key, row)
-    }
-
-    /// Removes the row under a key of a declared table, if there is one. It is refused outside a batch.
-    pub(crate) fn remove_row(&mut self, name: &str, key: &Key) -> Result<(), StoreError>
-        requires { HasCleanDisk (state S.Store self.old)
-            → IsDeclared (tables_in (state S.Store self.old).now) name.now }
-        ensures removed { HasCleanDisk (state S.Store self.new)
-            → OnOk result (tables_in (state S.Store self.new).now
-            ≡ without_row (tables_in (state S.Store self.old).now) name.now key.now) }
-        ensures refused { IfErr result IsResource }
-        ensures kept { KeepsStore (state S.Store self.old) (state S.Store self.new) }
-    {
-        if self.conn.is_autocommit() {
-            return Err(StoreError::StoreFault);
-        }
-        tables::remove_row(&mut self.conn, name, key)
     }
 
     /// Adds a table without rows, in a batch.
@@ -403,6 +338,7 @@ impl<S: Alter> Store<S> {
         if self.conn.is_autocommit() {
             return Err(StoreError::StoreFault);
         }
+        self.known = None;
         tables::put_table(&mut self.conn, alloc, name, schema)
     }
 }

@@ -16,7 +16,7 @@ ghost use Rattle.sqlite.specs.State.{HasCleanDisk};
 ghost use Rattle.sqlite.specs.Held.{state};
 ghost use Rattle.cs_store.specs.Faults.{IsResource, IsReadRefusal};
 ghost use Rattle.cs_store.specs.Rows.{IsDeclared, Fits};
-ghost use Rattle.cs_store.specs.Store.{HoldsState, IsSound, KeepsStore, Recovers, RecoversList};
+ghost use Rattle.cs_store.specs.Store.{IsSound, KeepsStore, Recovers, RecoversList};
 ghost use Rattle.cs_store.specs.Store.{AddsTable, AreNamed, AreStored, tables_in};
 
 use crate::check::read_name;
@@ -64,32 +64,8 @@ fn schema_in(alloc: Global, stored: Option<Vec<u8>>) -> Result<Option<Schema>, S
     }
 }
 
-/// The row of a table under a key, and none where no row has the key or no table the name.
-pub(crate) fn find_row<S: Alter>(
-    conn: &mut Connection<S>,
-    alloc: Global,
-    name: &str,
-    key: &Key,
-) -> Result<Option<Row>, StoreError>
-    ensures found { IsSound (state S.Store conn.old) → HasCleanDisk (state S.Store conn.new)
-        → IfOk result (λ o. o ≡ row_at (tables_in (state S.Store conn.old).now) name.now key.now) }
-    ensures fits { IsSound (state S.Store conn.old) → HasCleanDisk (state S.Store conn.new)
-        → IfOk result (λ o. IfSome o (Fits (tables_in (state S.Store conn.old).now) name.now key.now)) }
-    ensures same { HasCleanDisk (state S.Store conn.new) → OnOk result ((state S.Store conn.new).now
-        ≡ (state S.Store conn.old).now) }
-    ensures refused { IsSound (state S.Store conn.old) → HasCleanDisk (state S.Store conn.new)
-        → IfErr result IsResource }
-    ensures named { IfErr result IsReadRefusal }
-    ensures kept { KeepsStore (state S.Store conn.old) (state S.Store conn.new) }
-{
-    match find_schema(conn, alloc, name)? {
-        Some(schema) => find_row_of(conn, alloc, name, &schema, key),
-        None => Ok(None),
-    }
-}
-
 /// The row under a key of the table of this name, which has this schema.
-fn find_row_of<S: Alter>(
+pub(crate) fn find_row<S: Alter>(
     conn: &mut Connection<S>,
     alloc: Global,
     name: &str,
@@ -101,8 +77,9 @@ fn find_row_of<S: Alter>(
         → Recovers result (row_at (tables_in (state S.Store conn.old).now) name.now key.now) }
     ensures same { HasCleanDisk (state S.Store conn.new) → OnOk result ((state S.Store conn.new).now
         ≡ (state S.Store conn.old).now) }
-    ensures shows { IsSound (state S.Store conn.old) → HasCleanDisk (state S.Store conn.new)
-        → OnOk result (HoldsState (state S.Store conn.old).now) }
+    ensures fits { IsSound (state S.Store conn.old) → HasCleanDisk (state S.Store conn.new)
+        → schema_at (tables_in (state S.Store conn.old).now) name.now ≡ Some schema.now
+        → IfOk result (λ o. IfSome o (Fits (tables_in (state S.Store conn.old).now) name.now key.now)) }
     ensures named { IfErr result IsReadRefusal }
     ensures kept { KeepsStore (state S.Store conn.old) (state S.Store conn.new) }
 {
@@ -124,29 +101,8 @@ fn row_in(alloc: Global, flags: &[u8], stored: Option<Vec<u8>>) -> Result<Option
     }
 }
 
-/// The rows of a table by the bytes of their keys, and none where no table has the name.
-pub(crate) fn list_rows<S: Alter>(
-    conn: &mut Connection<S>,
-    alloc: Global,
-    name: &str,
-) -> Result<Vec<Row>, StoreError>
-    ensures listed { IsSound (state S.Store conn.old) → HasCleanDisk (state S.Store conn.new)
-        → IfOk result (λ rows. rows.items ≡ map.values (rows_at (tables_in (state S.Store conn.old).now) name.now)) }
-    ensures same { HasCleanDisk (state S.Store conn.new) → OnOk result ((state S.Store conn.new).now
-        ≡ (state S.Store conn.old).now) }
-    ensures refused { IsSound (state S.Store conn.old) → HasCleanDisk (state S.Store conn.new)
-        → IfErr result IsResource }
-    ensures named { IfErr result IsReadRefusal }
-    ensures kept { KeepsStore (state S.Store conn.old) (state S.Store conn.new) }
-{
-    match find_schema(conn, alloc, name)? {
-        Some(schema) => list_rows_of(conn, alloc, name, &schema),
-        None => Ok(Vec::new(alloc)),
-    }
-}
-
 /// The rows of the table of this name, which has this schema.
-fn list_rows_of<S: Alter>(
+pub(crate) fn list_rows<S: Alter>(
     conn: &mut Connection<S>,
     alloc: Global,
     name: &str,

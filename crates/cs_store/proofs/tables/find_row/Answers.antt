@@ -1,27 +1,36 @@
-use Rattle.std.proofs.Common.{ap, sym, subst, OnOk, ◌∙◌}
+use Rattle.std.proofs.Common.{inl, ap, sym, subst, List, ℕ, ◌∙◌}
+use Rattle.std.specs.Option.{IfSome}
 use Rattle.sqlite.specs.Held.{state}
-use Rattle.sqlite.specs.Effect.{Database}
-use Rattle.cs_value.specs.State.{schema_at, row_at}
-use Rattle.cs_store.specs.Store.{HoldsState, Recovers, tables_in}
-use Rattle.cs_store.specs.Laws.{was_clean, keeps_then}
-use Rattle.cs_store.proofs.ReadLaws.{no_row, read_fits}
+use Rattle.cs_value.specs.Value.{IsRow}
+use Rattle.cs_value.specs.Table.{IsKeyedRow}
+use Rattle.cs_value.specs.State.{row_at}
+use Rattle.cs_store.specs.Records.{records_in}
+use Rattle.cs_store.specs.Store.{tables_in}
+use Rattle.cs_store.proofs.StoredLaws.{row_stored}
+use Rattle.cs_store.proofs.StoreLaws.{rests_keeps}
+use Rattle.cs_store.proofs.ReadLaws.{shows_read, row_is, declared_named, read_fits}
 use Rattle.cs_store.proofs.tables.find_row.Goals as goal
 
-pub returns-in-Some-clause-fits : goal.returns-in-Some-clause-fits
-returns-in-Some-clause-fits g c sound clean =
+pub returns-in-Err-clause-kept : goal.returns-in-Err-clause-kept
+returns-in-Err-clause-kept g c = rests_keeps _ _ c.find_record.ensures.keeps_crash (λ clean. c.in-Err.ensures.rests clean)
+
+pub returns-in-Ok-clause-found : goal.returns-in-Ok-clause-found
+returns-in-Ok-clause-found g c sound clean has =
     let old = state g.S.Store c.args.conn.now in
-    let mid = state g.S.Store c.find_schema.new.conn in
-    let new = state g.S.Store c.find_row_of.new.conn in
-    let before = was_clean mid new c.find_row_of.ensures.kept.crash clean in
-    let still = c.find_schema.ensures.kept.sound sound in
-    let same = c.in_ok-schema.ensures.same before in
-    let has = ap (λ (db : Database). schema_at (tables_in db) c.args.name.now) same ∙ sym (c.in_ok-schema.ensures.found sound before) ∙ c.in-Some.is in
-    read_fits old.now c.args.name.now c.args.key.now c.find_row_of.result
-    (subst (λ (db : Database). Recovers c.find_row_of.result (row_at (tables_in db) c.args.name.now c.args.key.now)) same (c.find_row_of.ensures.found still clean has))
-    (subst (λ (db : Database). OnOk c.find_row_of.result (HoldsState db)) same (c.find_row_of.ensures.shows still clean))
+    let new = state g.S.Store c.find_record.new.conn in
+    let holds = shows_read old new sound c.find_record.ensures.keeps_crash clean (c.in-Ok.ensures.reads clean) in
+    let name = c.args.name.now in
+    let stored = row_stored (records_in old.now) (tables_in old.now) name c.args.key.now holds.stores (declared_named old.now name c.args.schema.now has) in
+    let fits = row_is (tables_in old.now) name c.args.key.now c.args.schema.now holds.stores.is_state has in
+    c.row_in.ensures.found (row_at (tables_in old.now) name c.args.key.now)
+    (subst (λ (flags : List ℕ). IfSome (row_at (tables_in old.now) name c.args.key.now) (λ row. IsRow row × IsKeyedRow flags row)) (sym c.flags.ensures.same) fits)
+    (c.in-Ok.ensures.found clean holds.records ∙ ap (records_in old.now name) c.bytes.ensures ∙ stored)
 
-pub returns-in-Some-clause-kept : goal.returns-in-Some-clause-kept
-returns-in-Some-clause-kept g c = keeps_then c.find_schema.ensures.kept c.find_row_of.ensures.kept
+pub returns-in-Ok-clause-fits : goal.returns-in-Ok-clause-fits
+returns-in-Ok-clause-fits g c sound clean has =
+    let old = state g.S.Store c.args.conn.now in
+    let holds = shows_read old (state g.S.Store c.find_record.new.conn) sound c.find_record.ensures.keeps_crash clean (c.in-Ok.ensures.reads clean) in
+    read_fits old.now c.args.name.now c.args.key.now c.row_in.result (returns-in-Ok-clause-found g c sound clean has) holds
 
-pub returns-in-None-clause-found : goal.returns-in-None-clause-found
-returns-in-None-clause-found g c sound clean = sym (no_row _ c.args.name.now c.args.key.now (sym (c.in_ok-schema.ensures.found sound clean) ∙ c.in-None.is))
+pub returns-in-Ok-clause-kept : goal.returns-in-Ok-clause-kept
+returns-in-Ok-clause-kept g c = rests_keeps _ _ c.find_record.ensures.keeps_crash (λ clean. inl (c.in-Ok.ensures.reads clean))

@@ -1,4 +1,4 @@
 use Rattle.cs_store.proofs.store.Store.tables_law.Goals as goal
 
 pub returns : goal.returns
-returns g c = rw (← c.self.view_is) (λ clean is_open. ((c.self.invariant clean).now is_open).stores.is_state)
+returns g c = rw (← c.self.view_is) (λ clean is_open. ((c.self.invariant.0 clean).now is_open).stores.is_state)

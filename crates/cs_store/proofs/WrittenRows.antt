@@ -1,0 +1,56 @@
+-- What stands in a state once the rows of a table were written.
+use Rattle.std.proofs.Common.{◌≡◌, ℕ, Bool, true, false, cond, List, Option, Some, None, option_map, refl, sym, ap, ◌∙◌, true≢false}
+use Rattle.std.specs.Prelude.{unwrap_or, IsSome}
+use Rattle.std.specs.Ordering.{nat_cmp, is_eq}
+use Rattle.std.specs.Cmp.Lexicographic.{slice_cmp, nat_list_cmp_total}
+use Rattle.std.specs.FinMap.{get, insert, remove, empty, get-insert, get-remove}
+use Rattle.cs_value.specs.State.{TableData, SchemaData, RowMap, State, schema_at, rows_at, with_rows}
+use Rattle.cs_value.proofs.ByteMaps.{tied_bytes, self_tied}
+use Rattle.sqlite.specs.Effect.{Database}
+use Rattle.sqlite.specs.State.{State as Connection, HasCleanDisk}
+use Rattle.cs_store.specs.Store.{Knows, tables_in}
+
+module _ (state : State) (table : List ℕ) (found : TableData) (rows : RowMap) (is : get state table ≡ Some found) where
+  abbrev next : TableData
+  next = record found { rows = rows }
+
+  with_rows_is : with_rows state table rows ≡ insert state table next
+  with_rows_is = rw is refl
+
+  -- what stands at a name
+  at_name : (name : List ℕ) → get (with_rows state table rows) name ≡ cond (is_eq (slice_cmp nat_cmp name table)) (Some next) (get state name)
+  at_name name = ap (λ (s : State). get s name) with_rows_is ∙ get-insert nat_list_cmp_total state table next name
+
+  pub same_schemas : (name : List ℕ) → schema_at (with_rows state table rows) name ≡ schema_at state name
+  same_schemas name = ap (option_map (λ (t : TableData). t.schema)) (at_name name) ∙ at (is_eq (slice_cmp nat_cmp name table)) refl
+    where
+      at : (b : Bool) → is_eq (slice_cmp nat_cmp name table) ≡ b → option_map (λ (t : TableData). t.schema) (cond b (Some next) (get state name)) ≡ schema_at state name
+      at true here = sym (rw (tied_bytes name table here, is) refl)
+      at false other = refl
+
+  pub rows_here : rows_at (with_rows state table rows) table ≡ rows
+  rows_here = ap (λ (o : Option TableData). unwrap_or (option_map (λ (t : TableData). t.rows) o) empty) (at_name table ∙ ap (λ (b : Bool). cond b (Some next) (get state table)) (self_tied table))
+
+  pub rows_other : (name : List ℕ) → is_eq (slice_cmp nat_cmp name table) ≡ false → rows_at (with_rows state table rows) name ≡ rows_at state name
+  rows_other name other = ap (λ (o : Option TableData). unwrap_or (option_map (λ (t : TableData). t.rows) o) empty) (at_name name ∙ ap (λ (b : Bool). cond b (Some next) (get state name)) other)
+
+-- a table that is known is so after its rows were written
+pub knows_written : (old new : Connection) (known : Option (List ℕ × SchemaData)) (table : List ℕ) (rows : RowMap) → (HasCleanDisk new → HasCleanDisk old) → (HasCleanDisk old → IsSome (get (tables_in old.now) table))
+    → (HasCleanDisk new → tables_in new.now ≡ with_rows (tables_in old.now) table rows) → Knows old known → Knows new known
+knows_written old new None table rows was declared wrote knows clean = tt
+knows_written old new (Some k) table rows was declared wrote knows clean = at (get (tables_in old.now) table) refl (declared (was clean))
+  where
+    at : (o : Option TableData) → get (tables_in old.now) table ≡ o → IsSome o → schema_at (tables_in new.now) k.0 ≡ Some k.1
+    at None none is = absurd (true≢false (sym is))
+    at (Some found) is some = ap (λ (s : State). schema_at s k.0) (wrote clean) ∙ same_schemas (tables_in old.now) table found rows is k.0 ∙ knows (was clean)
+
+-- and where nothing was written
+pub knows_same : (old new : Connection) (known : Option (List ℕ × SchemaData)) → (HasCleanDisk new → HasCleanDisk old) → (HasCleanDisk new → new.now ≡ old.now) → Knows old known → Knows new known
+knows_same old new None was same knows clean = tt
+knows_same old new (Some k) was same knows clean = ap (λ (db : Database). schema_at (tables_in db) k.0) (same clean) ∙ knows (was clean)
+
+-- the schema that is known of a name is that of the table
+pub known_found : (s : Connection) (known : Option (List ℕ × SchemaData)) (name : List ℕ) → option_map (λ (t : List ℕ × SchemaData). t.0) known ≡ Some name → Knows s known → HasCleanDisk s
+    → option_map (λ (t : List ℕ × SchemaData). t.1) known ≡ schema_at (tables_in s.now) name
+known_found s None name named knows clean = absurd (cc)
+known_found s (Some k) name named knows clean = let same : k.0 ≡ name = cc in sym (rw (← same) (knows clean))

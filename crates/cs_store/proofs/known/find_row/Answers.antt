@@ -1,0 +1,11 @@
+use Rattle.std.proofs.Common.{ap, sym, ◌∙◌}
+use Rattle.std.specs.Option.{option_map}
+use Rattle.cs_store.proofs.ReadLaws.{no_row}
+use Rattle.cs_store.specs.Laws.{keeps_then}
+use Rattle.cs_store.proofs.known.find_row.Goals as goal
+
+pub returns-in-Ok-clause-kept : goal.returns-in-Ok-clause-kept
+returns-in-Ok-clause-kept g c = keeps_then c.look_up.ensures.kept c.find_row.ensures.kept
+
+pub returns-in-None-clause-found : goal.returns-in-None-clause-found
+returns-in-None-clause-found g c clean = sym (no_row _ c.args.name.now c.args.key.now (sym (c.in_ok-look_up.ensures.found clean) ∙ ap (option_map (λ t. t.1)) c.in-None.is))

@@ -1,9 +1,0 @@
-use Rattle.std.proofs.Common.{inr}
-use Rattle.cs_store.specs.Laws.{keeps_then}
-use Rattle.cs_store.proofs.store.Store.get.Goals as goal
-
-pub returns-in-Ok-Some-clause-kept : goal.returns-in-Ok-Some-clause-kept
-returns-in-Ok-Some-clause-kept g c = keeps_then c.schema.ensures.kept c.find_row.ensures.kept
-
-pub returns-clause-named : goal.returns-clause-named
-returns-clause-named g c = inr c.in-Err.ensures.named

@@ -1,8 +1,0 @@
-use Rattle.cs_store.proofs.StoreLaws.{in_transaction}
-use Rattle.cs_store.proofs.store.Store.remove_row.Goals as goal
-
-pub invariant_of-self : goal.invariant_of-self
-invariant_of-self g c = (c.remove_row.ensures.kept c.self.invariant (in_transaction _ c.if-is_autocommit.ensures.value)).sound c.self.invariant
-
-pub returns-clause-kept : goal.returns-clause-kept
-returns-clause-kept g c = rw (← c.self.view_is) (c.remove_row.ensures.kept c.self.invariant (in_transaction _ c.if-is_autocommit.ensures.value))

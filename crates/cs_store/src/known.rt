@@ -1,0 +1,232 @@
+//! What is read and written through a store. The table that was looked up last is known: inside a transaction, where
+//! nobody else writes, its schema is not read again.
+ghost use Rattle.std.specs.Prelude.{◌≡◌, IsTrue, IfOk, IfErr, OnOk, IfSome, Some, option_map};
+ghost use Rattle.std.specs.FinMap as map;
+ghost use Rattle.cs_value.specs.State.{schema_at, row_at, rows_at, with_row, without_row};
+ghost use Rattle.cs_store.specs.Faults.{IsResource, IsReadRefusal};
+ghost use Rattle.cs_store.specs.Rows.{IsDeclared, Fits};
+ghost use Rattle.cs_store.specs.Store.{IsSound, KeepsStore, Knows, tables_in};
+ghost use Rattle.sqlite.specs.State.{HasCleanDisk};
+ghost use Rattle.sqlite.specs.Held.{state};
+
+use crate::fault::StoreError;
+use crate::schema::Schema;
+use crate::tables;
+use cs_value::{Key, Row};
+use sqlite::{Alter, Connection};
+use std::alloc::Global;
+use std::marker::Model;
+
+/// A table whose schema is known.
+#[derive(Debug, Drop)]
+pub(crate) struct KnownTable {
+    name: String,
+    schema: Schema,
+}
+
+impl Model for KnownTable {
+    ghost use Rattle.std.specs.Prelude.{List, ℕ, string_bytes};
+    ghost use Rattle.cs_value.specs.State.{SchemaData};
+
+    ghost Value = { List ℕ × SchemaData };
+
+    ghost view = { λ t. (string_bytes t.name, t.schema) };
+}
+
+/// The schema of a table, and none where no table has the name.
+pub(crate) fn find_schema<S: Alter>(
+    conn: &mut Connection<S>,
+    known: &mut Option<KnownTable>,
+    alloc: Global,
+    name: &str,
+) -> Result<Option<Schema>, StoreError>
+    requires sound { IsSound (state S.Store conn.old) }
+    requires knows { Knows (state S.Store conn.old) known.old }
+    ensures found { HasCleanDisk (state S.Store conn.new)
+        → IfOk result (λ o. o ≡ schema_at (tables_in (state S.Store conn.old).now) name.now) }
+    ensures same { HasCleanDisk (state S.Store conn.new) → OnOk result ((state S.Store conn.new).now
+        ≡ (state S.Store conn.old).now) }
+    ensures refused { HasCleanDisk (state S.Store conn.new)
+        → IfErr result IsResource }
+    ensures named { IfErr result IsReadRefusal }
+    ensures knows { Knows (state S.Store conn.new) known.new }
+    ensures kept { KeepsStore (state S.Store conn.old) (state S.Store conn.new) }
+{
+    look_up(conn, known, alloc, name)?;
+    match known {
+        Some(table) => Ok(Some(table.schema.copy(alloc)?)),
+        None => Ok(None),
+    }
+}
+
+/// The row of a table under a key, and none where no row has the key or no table the name. A table is known then,
+/// if one has the name.
+pub(crate) fn find_row<S: Alter>(
+    conn: &mut Connection<S>,
+    known: &mut Option<KnownTable>,
+    alloc: Global,
+    name: &str,
+    key: &Key,
+) -> Result<Option<Row>, StoreError>
+    requires sound { IsSound (state S.Store conn.old) }
+    requires knows { Knows (state S.Store conn.old) known.old }
+    ensures found { HasCleanDisk (state S.Store conn.new)
+        → IfOk result (λ o. o ≡ row_at (tables_in (state S.Store conn.old).now) name.now key.now) }
+    ensures fits { HasCleanDisk (state S.Store conn.new)
+        → IfOk result (λ o. IfSome o (Fits (tables_in (state S.Store conn.old).now) name.now key.now)) }
+    ensures tells { HasCleanDisk (state S.Store conn.new) → OnOk result (option_map (λ t. t.1) known.new
+        ≡ schema_at (tables_in (state S.Store conn.old).now) name.now) }
+    ensures same { HasCleanDisk (state S.Store conn.new) → OnOk result ((state S.Store conn.new).now
+        ≡ (state S.Store conn.old).now) }
+    ensures refused { HasCleanDisk (state S.Store conn.new) → IfErr result IsResource }
+    ensures named { IfErr result IsReadRefusal }
+    ensures knows { Knows (state S.Store conn.new) known.new }
+    ensures kept { KeepsStore (state S.Store conn.old) (state S.Store conn.new) }
+{
+    look_up(conn, known, alloc, name)?;
+    match known {
+        Some(table) => match tables::find_row(conn, alloc, name, &table.schema, key) {
+            Ok(found) => Ok(found),
+            Err(error) => {
+                *known = None;
+                Err(error)
+            }
+        },
+        None => Ok(None),
+    }
+}
+
+/// The rows of a table by the bytes of their keys, and none where no table has the name. A table is known then, if
+/// one has the name.
+pub(crate) fn list_rows<S: Alter>(
+    conn: &mut Connection<S>,
+    known: &mut Option<KnownTable>,
+    alloc: Global,
+    name: &str,
+) -> Result<Vec<Row>, StoreError>
+    requires sound { IsSound (state S.Store conn.old) }
+    requires knows { Knows (state S.Store conn.old) known.old }
+    ensures listed { HasCleanDisk (state S.Store conn.new)
+        → IfOk result (λ rows. rows.items ≡ map.values (rows_at (tables_in (state S.Store conn.old).now) name.now)) }
+    ensures tells { HasCleanDisk (state S.Store conn.new) → OnOk result (option_map (λ t. t.1) known.new
+        ≡ schema_at (tables_in (state S.Store conn.old).now) name.now) }
+    ensures same { HasCleanDisk (state S.Store conn.new) → OnOk result ((state S.Store conn.new).now
+        ≡ (state S.Store conn.old).now) }
+    ensures refused { HasCleanDisk (state S.Store conn.new) → IfErr result IsResource }
+    ensures named { IfErr result IsReadRefusal }
+    ensures knows { Knows (state S.Store conn.new) known.new }
+    ensures kept { KeepsStore (state S.Store conn.old) (state S.Store conn.new) }
+{
+    look_up(conn, known, alloc, name)?;
+    match known {
+        Some(table) => match tables::list_rows(conn, alloc, name, &table.schema) {
+            Ok(listed) => Ok(listed),
+            Err(error) => {
+                *known = None;
+                Err(error)
+            }
+        },
+        None => Ok(Vec::new(alloc)),
+    }
+}
+
+/// Puts a row under its key in a table that it fits. It is refused outside a transaction.
+pub(crate) fn put_row<S: Alter>(
+    conn: &mut Connection<S>,
+    known: &mut Option<KnownTable>,
+    alloc: Global,
+    name: &str,
+    key: &Key,
+    row: &Row,
+) -> Result<(), StoreError>
+    requires sound { IsSound (state S.Store conn.old) }
+    requires knows { Knows (state S.Store conn.old) known.old }
+    requires fits { HasCleanDisk (state S.Store conn.old)
+        → Fits (tables_in (state S.Store conn.old).now) name.now key.now row.now }
+    ensures put { HasCleanDisk (state S.Store conn.new) → OnOk result (tables_in (state S.Store conn.new).now
+        ≡ with_row (tables_in (state S.Store conn.old).now) name.now key.now row.now) }
+    ensures refused { IfErr result IsResource }
+    ensures knows { Knows (state S.Store conn.new) known.new }
+    ensures kept { KeepsStore (state S.Store conn.old) (state S.Store conn.new) }
+{
+    if conn.is_autocommit() {
+        return Err(StoreError::StoreFault);
+    }
+    match tables::put_row(conn, alloc, name, key, row) {
+        Ok(()) => Ok(()),
+        Err(error) => {
+            *known = None;
+            Err(error)
+        }
+    }
+}
+
+/// Removes the row under a key of a declared table, if there is one. It is refused outside a transaction.
+pub(crate) fn remove_row<S: Alter>(
+    conn: &mut Connection<S>,
+    known: &mut Option<KnownTable>,
+    name: &str,
+    key: &Key,
+) -> Result<(), StoreError>
+    requires sound { IsSound (state S.Store conn.old) }
+    requires knows { Knows (state S.Store conn.old) known.old }
+    requires declared { HasCleanDisk (state S.Store conn.old)
+        → IsDeclared (tables_in (state S.Store conn.old).now) name.now }
+    ensures removed { HasCleanDisk (state S.Store conn.new) → OnOk result (tables_in (state S.Store conn.new).now
+        ≡ without_row (tables_in (state S.Store conn.old).now) name.now key.now) }
+    ensures refused { IfErr result IsResource }
+    ensures knows { Knows (state S.Store conn.new) known.new }
+    ensures kept { KeepsStore (state S.Store conn.old) (state S.Store conn.new) }
+{
+    if conn.is_autocommit() {
+        return Err(StoreError::StoreFault);
+    }
+    match tables::remove_row(conn, name, key) {
+        Ok(()) => Ok(()),
+        Err(error) => {
+            *known = None;
+            Err(error)
+        }
+    }
+}
+
+/// Makes the table of this name the known one, and none where no table has the name.
+fn look_up<S: Alter>(
+    conn: &mut Connection<S>,
+    known: &mut Option<KnownTable>,
+    alloc: Global,
+    name: &str,
+) -> Result<(), StoreError>
+    requires sound { IsSound (state S.Store conn.old) }
+    requires knows { Knows (state S.Store conn.old) known.old }
+    ensures found { HasCleanDisk (state S.Store conn.new)
+        → OnOk result (option_map (λ t. t.1) known.new
+        ≡ schema_at (tables_in (state S.Store conn.old).now) name.now) }
+    ensures same { HasCleanDisk (state S.Store conn.new) → OnOk result ((state S.Store conn.new).now
+        ≡ (state S.Store conn.old).now) }
+    ensures refused { HasCleanDisk (state S.Store conn.new)
+        → IfErr result IsResource }
+    ensures named { IfErr result IsReadRefusal }
+    ensures knows { Knows (state S.Store conn.new) known.new }
+    ensures kept { KeepsStore (state S.Store conn.old) (state S.Store conn.new) }
+{
+    if !conn.is_autocommit() && has_name(known, name) {
+        return Ok(());
+    }
+    *known = None;
+    if let Some(schema) = tables::find_schema(conn, alloc, name)? {
+        let name = String::from_str(alloc, name)?;
+        *known = Some(KnownTable { name, schema });
+    }
+    Ok(())
+}
+
+/// Whether a table is known, and has this name.
+fn has_name(known: &Option<KnownTable>, name: &str) -> bool
+    ensures { IsTrue result → option_map (λ t. t.0) known.now ≡ Some name.now }
+{
+    match known {
+        Some(table) => table.name.as_str() == name,
+        None => false,
+    }
+}
