@@ -13,9 +13,10 @@
 //! carries them out over any rows, and `fault` says why a call is refused.
 //!
 //! A database is taken over as a store by `adoption`: `layout` says what it declares, and `check`
-//! whether its records are those of tables. Below a batch, `known` has the calls on tables and rows, which
-//! read the schema of a table once, and `tables` what these do with records; `declaration` and `stored_row` the bytes of schemas and rows, `records` the statements on
-//! the SQL table of records, and `transactions` those that begin and end a transaction.
+//! whether its records are those of tables. Below a batch, `known` has the calls on tables and rows,
+//! which read the schema of a table once, and `tables` what they do with records; `declaration` and
+//! `stored_row` have the bytes of schemas and rows, `records` the statements on the SQL table of
+//! records, and `transactions` those that begin and end a transaction.
 #![tactic(auto)]
 
 mod adoption;
