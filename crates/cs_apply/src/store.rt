@@ -22,7 +22,7 @@ use sqlite::Alter;
 use std::alloc::Global;
 
 /// Applies the changeset of a file to a store in one transaction, as [`run_in`] does. A refusal changes
-/// nothing. A crash leaves the tables as before or as applied.
+/// nothing. A crash leaves what it could leave before, or the tables as applied.
 pub fn apply<S: Alter, H: Fn(&Conflict) -> Choice>(
     alloc: Global,
     store: &mut Store<S>,
@@ -46,7 +46,7 @@ pub fn apply<S: Alter, H: Fn(&Conflict) -> Choice>(
 }
 
 /// Applies the inverse of the changeset of a file to a store in one transaction. Each conflict ends the
-/// call. A refusal changes nothing. A crash leaves the tables as before or as applied.
+/// call. A refusal changes nothing. A crash leaves what it could leave before, or the tables as applied.
 ///
 /// On the tables that an apply of the file left without a conflict it meets none, and gives the tables
 /// back that were there before, unless memory is refused, or the database refuses.

@@ -136,8 +136,8 @@ impl Session {
     /// the keys that were written where their table is attached.
     ///
     /// Refuses with [`WrongStore`](SessionFault::WrongStore) where the store has not one of the tables as
-    /// it was attached, and then as `apply` does. A refusal changes nothing. A crash leaves the tables as
-    /// before or as applied.
+    /// it was attached, and then as `apply` does. A refusal changes nothing. A crash leaves what it
+    /// could leave before, or the tables as applied.
     pub fn apply_recorded<S: Alter, H: Fn(&Conflict) -> Choice>(
         &mut self,
         alloc: Global,
@@ -196,7 +196,8 @@ impl Session {
     /// transaction. What is noted stays.
     ///
     /// Refuses with [`WrongStore`](SessionFault::WrongStore) where the store has not one of the tables as
-    /// it was attached. A refusal changes nothing. A crash leaves the tables as before or as undone.
+    /// it was attached. A refusal changes nothing. A crash leaves what it could leave before, or the tables
+    /// as undone.
     pub fn undo<S: Alter>(
         &self,
         alloc: Global,

@@ -5,7 +5,7 @@ ghost use Rattle.std.specs.FinMap as map;
 ghost use Rattle.cs_value.specs.State as tables;
 ghost use Rattle.cs_value.specs.State.{schema_at, row_at, rows_at, with_row, without_row};
 ghost use Rattle.cs_store.specs.declared.fault.StoreError.TheVariants.{DamagedStore as Damaged, NoTable as NoSuchTable};
-ghost use Rattle.cs_store.specs.declared.fault.StoreError.TheVariants.{TableExists as TakenName};
+ghost use Rattle.cs_store.specs.declared.fault.StoreError.TheVariants.{BadSchema as NoSchema, TableExists as TakenName};
 ghost use Rattle.cs_value.specs.Table.{IsName};
 ghost use Rattle.cs_store.specs.Faults.{IsResource, IsReadRefusal, IsEditRefusal};
 ghost use Rattle.cs_store.specs.Editing.{Declares, EditsInto, schema_of, edited, written_of};
@@ -173,7 +173,7 @@ impl<S: Alter> Store<S> {
     }
 
     /// Declares a table without rows: the names of its columns, of which the marked ones are the key. A crash
-    /// leaves the tables as before, or with this one.
+    /// leaves what it could leave before, or the tables with this one.
     ///
     /// Refuses with [`BadSchema`](StoreError::BadSchema) where the name or the columns make no table,
     /// and then with [`TableExists`](StoreError::TableExists). A refusal changes nothing.
@@ -190,6 +190,7 @@ impl<S: Alter> Store<S> {
         ensures refused { HasCleanDisk (state S.Store self.new)
             → IfErr result (λ e. (Declares (tables_in (state S.Store self.old).now) name.now
             (schema_of columns.now keys.now) (Err e)) ⊎ IsResource e) }
+        ensures named { IfErr result (λ e. (e ≡ NoSchema) ⊎ (e ≡ TakenName) ⊎ IsReadRefusal e) }
         ensures at_rest { HasCleanDisk (state S.Store self.new) → OnOk result (IsAtRest (state S.Store self.new)) }
         ensures kept { HasCleanDisk (state S.Store self.new)
             → OnErr result (KeepsContent (state S.Store self.old) (state S.Store self.new)) }
@@ -280,8 +281,8 @@ impl<S: Alter> Store<S> {
         }
     }
 
-    /// Carries out an edit as [`edit_in`] does, and commits it. A refusal changes nothing. A crash leaves the
-    /// tables as before or as edited.
+    /// Carries out an edit as [`edit_in`] does, and commits it. A refusal changes nothing. A crash leaves
+    /// what it could leave before, or the tables as edited.
     pub fn edit(&mut self, alloc: Global, edit: &Edit) -> Result<Vec<Written>, StoreError>
         ensures edited { HasCleanDisk (state S.Store self.new)
             → IfOk result (λ w. edited (tables_in (state S.Store self.old).now) edit.now
