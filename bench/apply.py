@@ -1,42 +1,82 @@
 #!/usr/bin/env python3
 """Times applying a changeset to a store in a file, and applying its inverse, which is what a revert does.
 
-The store is written by SQLite: a table of two columns, or tables that ten entries each are for, with a row for each
-entry that updates or deletes one. A third of the entries inserts a row, a third deletes one, a third updates one.
-Opening a store reads and checks every record; it is timed alone by applying a changeset of no bytes, and is part of
-the other times. After the inverse the store has the records that it had. Entries a second are those of the apply and
-of its inverse, opening aside. A peak below about 50 MiB is that of this script, from which the program is started.
+The store is written by SQLite: a table of two columns, tables that ten entries each are for, a table of a thousand
+columns, or one whose columns have names of 10 kB, with a row for each entry that updates or deletes one. A third of the
+entries inserts a row, a third deletes one, a third updates one. Opening a store reads and checks every record; it is
+timed alone by applying a changeset of no bytes, and is part of the other times. After the inverse the store has the
+records that it had. Entries a second are those of the apply and of its inverse, opening aside. A peak below about 50 MiB
+is that of this script, from which the program is started.
 The program has to be built first: `cd crates/changeset && rt run`.
 
 usage: bench/apply.py [PROGRAM]
 """
+import collections
 import os
 import shutil
 import subprocess
 import sys
 import tempfile
 
-from read_write import RUNS, fill, measure, one_table, tables_of_ten
+from read_write import RUNS, fill, measure
 
 TOP = os.path.dirname(os.path.dirname(os.path.abspath(__file__)))
 sys.path.insert(0, os.path.join(TOP, "tests"))
 
 import stores  # noqa: E402
 
-COUNTS = (1_000, 10_000, 100_000)
+# Tables of the same columns, of which the first is the key, and how many entries each is for: all, where that is None.
+Shape = collections.namedtuple("Shape", "name counts columns in_each")
+
+SHAPES = (
+    Shape("one table", (1_000, 10_000, 100_000), ("a", "b"), None),
+    Shape("tables of ten", (1_000, 10_000, 100_000), ("a", "b"), 10),
+    Shape("a thousand columns", (100, 1_000, 10_000), tuple(f"c{number}" for number in range(1_000)), None),
+    Shape("names of 10 kB", (1_000, 10_000, 100_000), ("a" * 10_000, "b" * 10_000), None),
+)
 
 
-def table_of(keys):
-    """The table before the entries of these keys, of which each third inserts its row."""
-    rows = [(key, "hello") for key in keys if key % 3 != 0]
-    return stores.Table(("a", "b"), (True, False), rows)
+def names(shape, entries):
+    """The tables of a shape, by name, with how many entries each is for."""
+    if shape.in_each is None:
+        return {"t": entries}
+    return {f"t{number}": shape.in_each for number in range(entries // shape.in_each)}
+
+
+def keys_of(shape):
+    """For each column whether it is of the key."""
+    return (True,) + (False,) * (len(shape.columns) - 1)
+
+
+def row_of(shape, key):
+    """The row of a key."""
+    return (key, "hello") + (None,) * (len(shape.columns) - 2)
+
+
+def entry(shape, key):
+    """The entry that inserts, deletes or updates the row of a key."""
+    others = (stores.UNDEFINED,) * (len(shape.columns) - 2)
+    if key % 3 == 0:
+        return stores.insert(*row_of(shape, key))
+    if key % 3 == 1:
+        return stores.delete(*row_of(shape, key))
+    return stores.update((key, "hello") + others, (stores.UNDEFINED, "world") + others)
+
+
+def changeset(shape, entries):
+    """The parts of a changeset."""
+    for name, count in names(shape, entries).items():
+        yield stores.header(name, *keys_of(shape))
+        for key in range(count):
+            yield entry(shape, key)
 
 
 def tables_before(shape, entries):
-    """The tables before the entries of a shape."""
-    if shape is one_table:
-        return {"t": table_of(range(entries))}
-    return {f"t{number}": table_of(range(10)) for number in range(entries // 10)}
+    """The tables before the entries of a shape, of which each third inserts its row."""
+    return {
+        name: stores.Table(shape.columns, keys_of(shape), [row_of(shape, key) for key in range(count) if key % 3 != 0])
+        for name, count in names(shape, entries).items()
+    }
 
 
 def measure_apply(program, file, before, store, printed):
@@ -51,18 +91,18 @@ def measure_apply(program, file, before, store, printed):
 def main():
     program = sys.argv[1] if len(sys.argv) > 1 else os.path.join(TOP, "crates/changeset/out/changeset")
     with tempfile.TemporaryDirectory() as folder:
-        names = ("file.cs", "inverse.cs", "none.cs", "before", "after", "again", "printed")
-        file, inverse, none, before, after, again, printed = (os.path.join(folder, name) for name in names)
+        files = ("file.cs", "inverse.cs", "none.cs", "before", "after", "again", "printed")
+        file, inverse, none, before, after, again, printed = (os.path.join(folder, name) for name in files)
         fill(none, [])
-        for shape in (one_table, tables_of_ten):
-            print(shape.__name__.replace("_", " "))
+        for shape in SHAPES:
+            print(shape.name)
             print("  entries   opened  applied  reverted   entries/s  reverted/s   peak MiB")
-            for entries in COUNTS:
+            for entries in shape.counts:
                 tables = tables_before(shape, entries)
                 if os.path.exists(before):
                     os.remove(before)
                 stores.write_store(before, tables)
-                fill(file, shape(entries))
+                fill(file, changeset(shape, entries))
                 subprocess.run([program, file, "invert", inverse], check=True)
                 opened, _ = measure_apply(program, none, before, after, printed)
                 applied, peak = measure_apply(program, file, before, after, printed)
