@@ -7,6 +7,7 @@ use crate::store::{row_of, tables};
 use crate::stores::{end, listed, rows_of, store_with_table};
 use crate::{DELETE, INSERT, UPDATE, WIDER_INSERT};
 use cs_apply::{ApplyFault, Choice, Conflict, Direction, Kind, Report, apply, revert, run_in};
+use cs_shell::{Told, report_text};
 use cs_store::{Rows, Store};
 use cs_value::{Fault, Row, Value};
 use sqlite::Alter;
@@ -255,4 +256,43 @@ fn names_of_refusals(rt: HostRuntime) {
     assert!(rt; fault.class() == 4 && fault.name() == "Abort");
     let fault = refusal(&rt, Choice::Replace);
     assert!(rt; fault.class() == 21 && fault.name() == "Misuse");
+}
+
+/// What is printed of a file that is applied to what another one leaves in memory, with one choice for
+/// all conflicts.
+fn printed(rt: &(impl Abort + AllocGlobal), before: &[u8], file: &[u8], choice: Choice) -> Vec<u8> {
+    let handler = |_: &Conflict| choice;
+    let mut rows = tables(rt);
+    assert!(rt; run(rt, &mut rows, before, Choice::Abort)[0] == 0);
+    let direction = Direction::Forward;
+    let report = run_in(rt.alloc(), &mut rows, file, direction, &handler).expect(rt, "a report");
+    let mut out = Told::new(Vec::new(rt.alloc()));
+    assert!(rt; report_text(&report, &mut out).is_ok());
+    out.into_inner()
+}
+
+#[test]
+fn prints_conflicts(rt: HostRuntime) {
+    for (before, file, choice, text) in [
+        (
+            OTHER,
+            INSERT,
+            Choice::Omit,
+            "conflict 3 conflict omit 't'\napplied 0\n",
+        ),
+        (
+            OTHER,
+            UPDATE,
+            Choice::Replace,
+            "conflict 1 data replace 't'\napplied 1\n",
+        ),
+        (
+            b"".as_slice(),
+            DELETE,
+            Choice::Omit,
+            "conflict 2 notfound omit 't'\napplied 0\n",
+        ),
+    ] {
+        assert!(rt; printed(&rt, before, file, choice).as_slice() == text.as_bytes());
+    }
 }

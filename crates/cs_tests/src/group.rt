@@ -57,8 +57,9 @@ fn changes_of_rows(rt: HostRuntime) {
     assert!(rt; matches!(some, Some(Change::Update { .. })));
 }
 
+/// They do nothing, and are called for their contracts alone.
 #[test]
-fn laws() {
+fn laws_return() {
     changeset_inverses_law();
     inverse_twice_law();
 }

@@ -54,10 +54,19 @@ impl Read for Script<'_> {
     }
 }
 
-/// A writer that fails, or takes nothing.
+/// A writer that fails, or takes nothing, and knows whether it was flushed.
 #[derive(Drop)]
 struct Closed {
     fails: bool,
+    flushed: bool,
+}
+
+/// Such a writer, not flushed yet.
+fn closed_writer(fails: bool) -> Closed {
+    Closed {
+        fails,
+        flushed: false,
+    }
 }
 
 impl Write for Closed {
@@ -69,6 +78,7 @@ impl Write for Closed {
     }
 
     fn flush(&mut self) -> io::Result<()> {
+        self.flushed = true;
         Ok(())
     }
 }
@@ -103,7 +113,7 @@ fn joins_pieces_of_a_line(rt: HostRuntime) {
 fn reports_a_broken_or_full_output(rt: HostRuntime) {
     for fails in [true, false] {
         let mut input = Told::new(b".hex q\n".as_slice());
-        let mut out = Told::new(Closed { fails });
+        let mut out = Told::new(closed_writer(fails));
         assert!(rt; run_slots(rt.alloc(), &mut input, &mut out) == Status::OutputFault);
         assert!(rt; out.failed() && !input.failed());
     }
@@ -111,9 +121,10 @@ fn reports_a_broken_or_full_output(rt: HostRuntime) {
 
 #[test]
 fn hands_a_flush_on(rt: HostRuntime) {
-    let mut out = Told::new(Closed { fails: true });
-    out.flush().expect(&rt, "nothing to hand on");
+    let mut out = Told::new(closed_writer(true));
+    out.flush().expect(&rt, "a flush");
     assert!(rt; !out.failed());
+    assert!(rt; out.into_inner().flushed);
 }
 
 /// These words, of which the first is the program's name.
@@ -133,7 +144,7 @@ fn end_of(rt: &HostRuntime, words: &[String]) -> (u8, usize) {
         rt,
         words,
         &mut Told::new(b"".as_slice()),
-        &mut Told::new(Closed { fails: true }),
+        &mut Told::new(closed_writer(true)),
         &mut Told::new(&mut err),
     );
     (status, err.len())

@@ -147,8 +147,9 @@ fn keys_in_order(rt: HostRuntime) {
     }
 }
 
+/// They do nothing, and are called for their contracts alone.
 #[test]
-fn laws() {
+fn laws_return() {
     varint_spellings_law();
     field_spellings_law();
     record_spellings_law();

@@ -74,8 +74,9 @@ fn inverses_of_groups(rt: HostRuntime) {
     );
 }
 
+/// They do nothing, and are called for their contracts alone.
 #[test]
-fn laws() {
+fn laws_return() {
     changeset_files_law();
     entry_inverses_law();
     row_keys_law();
