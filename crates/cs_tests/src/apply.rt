@@ -3,6 +3,7 @@
 //! The table t of these tests has the columns a and b, of which a is the key. The integers of the
 //! files are 1, but where their last byte says otherwise.
 
+use crate::refusals::expect_text;
 use crate::store::{row_of, tables};
 use crate::stores::{end, listed, rows_of, store_with_table};
 use crate::{DELETE, INSERT, UPDATE, WIDER_INSERT};
@@ -256,6 +257,22 @@ fn names_of_refusals(rt: HostRuntime) {
     assert!(rt; fault.class() == 4 && fault.name() == "Abort");
     let fault = refusal(&rt, Choice::Replace);
     assert!(rt; fault.class() == 21 && fault.name() == "Misuse");
+}
+
+#[test]
+fn texts_of_refusals(rt: HostRuntime) {
+    for (choice, text) in [
+        (
+            Choice::Abort,
+            "aborted at a conflict of kind notfound in table t",
+        ),
+        (
+            Choice::Replace,
+            "no row to replace at a conflict of kind notfound in table t",
+        ),
+    ] {
+        expect_text(&rt, &refusal(&rt, choice), text);
+    }
 }
 
 /// What is printed of a file that is applied to what another one leaves in memory, with one choice for

@@ -79,7 +79,7 @@ const FILE_TEXTS: &[(ReadFaultKind, &str)] = &[
 ];
 
 /// Asserts what is printed of a fault.
-fn expect_text(rt: &(impl Abort + AllocGlobal), fault: &impl Display, text: &str) {
+pub(crate) fn expect_text(rt: &(impl Abort + AllocGlobal), fault: &impl Display, text: &str) {
     let shown = format!(in rt.alloc(); "{fault}").expect(rt, "memory");
     assert!(rt; shown.as_str() == text, "at {text}");
 }
