@@ -1,5 +1,6 @@
 #!/usr/bin/env python3
-"""Runs the script of `crates/cases`, and names the case where something else is printed than has to be.
+"""Runs the script of `crates/cases`, and names the case where something else is printed than has to be, or the one behind
+it where it prints too little.
 
 python3 tests/cases.py [PROGRAM], where PROGRAM is `crates/cases/out/cases` unless it is named."""
 import subprocess
