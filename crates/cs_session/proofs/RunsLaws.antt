@@ -195,7 +195,7 @@ rows_from_before m later is run =
 
 -- ---- calls that succeed are steps
 
-pub applied_step : (chooses : Handler) (file : List ℕ) (m n : Moment) (report : Report) → RecordsApply chooses file m.state m.notes report n.state n.notes → Step m n
+unfoldable pub applied_step : (chooses : Handler) (file : List ℕ) (m n : Moment) (report : Report) → RecordsApply chooses file m.state m.notes report n.state n.notes → Step m n
 applied_step chooses file m n report done = inr (inr (inr (inl (record {
   changeset = done.applied.changeset;
   choose = done.applied.choose;
@@ -203,20 +203,20 @@ applied_step chooses file m n report done = inr (inr (inr (inl (record {
   noted = done.noted ∙ ap (recorded m.notes) done.applied.written;
 }))))
 
-pub edited_step : (edit : Edit) (m n : Moment) → Records m.state edit m.notes n.state n.notes → Step m n
+unfoldable pub edited_step : (edit : Edit) (m n : Moment) → Records m.state edit m.notes n.state n.notes → Step m n
 edited_step edit m n done = inr (inr (inl (record { edit = edit; recorded = done })))
 
-pub undone_step : (m n : Moment) (report : Report) → Undoes m.notes m.state report n.state → n.notes ≡ m.notes → Step m n
+unfoldable pub undone_step : (m n : Moment) (report : Report) → Undoes m.notes m.state report n.state → n.notes ≡ m.notes → Step m n
 undone_step m n report done notes = inr (inr (inr (inr (inl (record { rewound = done.rewound; notes = notes })))))
 
-pub attached_step : (name : List ℕ) (m n : Moment) → Attaches m.state name m.notes n.notes → n.state ≡ m.state → Step m n
+unfoldable pub attached_step : (name : List ℕ) (m n : Moment) → Attaches m.state name m.notes n.notes → n.state ≡ m.state → Step m n
 attached_step name m n done state = inl (record { name = name; attached = done; state = state })
 
-pub declared_step : (name : List ℕ) (schema : SchemaData) (m n : Moment) → Declares m.state name schema (Ok n.state) → n.notes ≡ m.notes → Step m n
+unfoldable pub declared_step : (name : List ℕ) (schema : SchemaData) (m n : Moment) → Declares m.state name schema (Ok n.state) → n.notes ≡ m.notes → Step m n
 declared_step name schema m n done notes = inr (inl (record { name = name; schema = schema; declared = done; notes = notes }))
 
 -- and so is one that is refused, while the connection is open
-pub refused_step : (old new : Connection) (notes after : Notes) → KeepsContent old new → IsTrue new.is_open → after ≡ notes
+unfoldable pub refused_step : (old new : Connection) (notes after : Notes) → KeepsContent old new → IsTrue new.is_open → after ≡ notes
     → Step (record { state = tables_in old.now; notes = notes }) (record { state = tables_in new.now; notes = after })
 refused_step old new notes after kept is_open same =
     inr (inr (inr (inr (inr (record { state = ap (λ (db : Database). tables_in db) (kept.now is_open); notes = same })))))

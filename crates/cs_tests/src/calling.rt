@@ -1,12 +1,17 @@
 //! Callers of `cs_wire`, `cs_group`, `cs_store`, `cs_apply` and `cs_session`, as `CALLING.md` of these
 //! crates shows them.
+ghost use Rattle.std.specs.Prelude.{◌≡◌, OnOk};
+ghost use Rattle.sqlite.specs.State.{HasCleanDisk};
+ghost use Rattle.sqlite.specs.Held.{state};
+ghost use Rattle.cs_value.specs.State.{rows_at};
+ghost use Rattle.cs_store.specs.Store.{tables_in};
 
 use crate::store::insertion;
 use crate::stores::{end, rows_of, store_with_table};
 use crate::{DELETE, INSERT, UPDATE, WIDER_INSERT};
-use cs_apply::{ApplyFault, Choice, Policy, apply};
+use cs_apply::{ApplyFault, Choice, Policy, Report, apply};
 use cs_group::{ConcatFault, concat, invert};
-use cs_session::{Session, SessionFault};
+use cs_session::{Session, SessionFault, runs_law};
 use cs_store::{Edit, Rows, Store, StoreError, edit_in};
 use cs_value::{OwnedValue, Row, Value};
 use cs_wire::{Changeset, Entry, ReadError, read, write};
@@ -153,6 +158,38 @@ fn undoes_what_a_refused_edit_follows(rt: HostRuntime) {
     ];
     let answer = edit_all(rt.alloc(), &mut session, &mut store, &edits);
     assert!(rt; matches!(answer, Err(SessionFault::Store(StoreError::KeyTaken))));
+    assert!(rt; rows_of(&rt, &mut store).is_empty());
+    end(store);
+}
+
+/// Tells what an apply would report behind an edit, and gives the table its rows back. Where a call is
+/// refused, what was done before it stands.
+fn rehearse<S: Alter>(
+    alloc: Global,
+    store: &mut Store<S>,
+    table: &str,
+    edit: &Edit,
+    file: &[u8],
+) -> Result<Report, SessionFault>
+    ensures { HasCleanDisk (state S.Store store.new) → OnOk result
+        (rows_at (tables_in (state S.Store store.new).now) table.now
+        ≡ rows_at (tables_in (state S.Store store.old).now) table.now) }
+{
+    let mut session = Session::new(alloc);
+    session.attach(alloc, store, table)?;
+    session.edit(alloc, store, edit)?;
+    let report = session.apply_recorded(alloc, store, file, &|_| Choice::Omit)?;
+    session.undo(alloc, store)?;
+    runs_law();
+    Ok(report)
+}
+
+#[test]
+fn rehearses_an_apply(rt: HostRuntime) {
+    let mut store = store_with_table(&rt);
+    let edit = insertion(&rt, "t", &[Value::Int(1), Value::Text("x")]);
+    let report = rehearse(rt.alloc(), &mut store, "t", &edit, UPDATE).expect(&rt, "no refusal");
+    assert!(rt; report.written.len() == 1);
     assert!(rt; rows_of(&rt, &mut store).is_empty());
     end(store);
 }
