@@ -19,11 +19,9 @@ use Rattle.cs_group.specs.Conflicts.{row_after, is_carried_out, ends}
 use Rattle.cs_group.specs.Applying.{PlacedEntry, placed_by, placed_in, placed, placed_key, current, IsElsewhere, compatible_groups, applicable, placed_kind, conflict_at, Choices, written_for, written, placed_result}
 use Rattle.cs_group.specs.Laws.{AppliedOnce, AppliedReverts, WrittenTells}
 use Rattle.cs_group.proofs.ConflictLaws.{undone}
+use Rattle.std.proofs.lemmas.Option.{same_Some}
 
 -- ---- by the place of a row
-
-some_same : {X : Type 0} (x y : X) → Some x ≡ Some y → x ≡ y
-some_same x y e = cc
 
 module _ (table key : List ℕ) where
   abbrev IsHere : PlacedEntry → Type 0
@@ -60,7 +58,7 @@ same_table None None e rows = refl
 same_table None (Some t) e rows = absurd (none-some t.schema e)
 same_table (Some s) None e rows = absurd (none-some s.schema (sym e))
 same_table (Some s) (Some t) e rows =
-    let schema : s.schema ≡ t.schema = some_same s.schema t.schema e in
+    let schema : s.schema ≡ t.schema = same_Some s.schema t.schema e in
     let held : s.rows ≡ t.rows = same_maps s.rows t.rows rows in
     ap Some (λ i. record { schema = schema i; rows = held i })
 
@@ -74,7 +72,7 @@ pub applied_once : AppliedOnce
 applied_once old changeset choose new other p q =
     same_state new other (λ table. p.schemas table ∙ sym (q.schemas table)) (λ table key.
     let ps = applicable old changeset in
-    let same : All (λ p. current new p ≡ current other p) ps = λ k d lt. some_same _ _ (sym (p.results k d lt) ∙ q.results k d lt) in
+    let same : All (λ p. current new p ≡ current other p) ps = λ k d lt. same_Some _ _ (sym (p.results k d lt) ∙ q.results k d lt) in
     by_place table key (λ p. current new p ≡ current other p) ps (recursion_from_All _ ps same) (λ p e here. at_place new other p table key e here.0 here.1) (λ elsewhere.
     let all = All-from_recursion (λ p. IsElsewhere p table key) ps elsewhere in
     p.others table key all ∙ sym (q.others table key all)))
@@ -101,7 +99,7 @@ module _ (old new : State) (choose : Choices) where
     where
       at : (b : Bool) → (if b then None else Some (current old p)) ≡ Some (current new p) → current new p ≡ current old p
       at true e = absurd (none-some (current new p) e)
-      at false e = some_same _ _ (sym e)
+      at false e = same_Some _ _ (sym e)
 
   other_rows : (table key : List ℕ) (ps : List PlacedEntry) → AllByRecursion (λ p. placed_result old choose p ≡ Some (current new p)) ps
       → AllByRecursion (NotWritten table key) (filter_map (written_for old choose) ps) → (AllByRecursion (λ p. IsElsewhere p table key) ps → row_at new table key ≡ row_at old table key)
@@ -212,7 +210,7 @@ none_met state (p ∷ ps) h = rw (h.0) (none_met state ps h.1)
 -- an entry that meets no conflict leaves what it says
 pub left_row : (old new : State) (choose : Choices) (p : PlacedEntry) → placed_kind old p ≡ None → placed_result old choose p ≡ Some (current new p)
     → current new p ≡ row_after p.flags p.entry.change (current old p)
-left_row old new choose p none e = some_same _ _ (sym (rw none at e))
+left_row old new choose p none e = same_Some _ _ (sym (rw none at e))
 
 module _ (old new : State) (choose again : Choices) where
   undone_at : (p q : PlacedEntry) → Undoes p q → placed_kind old p ≡ None → placed_result old choose p ≡ Some (current new p)

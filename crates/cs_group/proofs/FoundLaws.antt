@@ -6,8 +6,9 @@ use Rattle.std.specs.Option.{option_and_then, option_or}
 use Rattle.std.specs.Cmp.Lexicographic.{pointwise, same_text}
 use Rattle.std.proofs.lemmas.List.Elements.{All-head, All-tail}
 use Rattle.std.proofs.lemmas.List.Folds.{find-append}
+use Rattle.cs_value.proofs.ListLemmas.{AllPairs-head, AllPairs-tail}
 use Rattle.cs_group.specs.Joining.{with_text, is_new, outcome, joined_by}
-use Rattle.cs_group.proofs.TextLaws.{AllPairs-head, AllPairs-tail, Once, with_text-none, with_text-found}
+use Rattle.cs_group.proofs.TextLaws.{Once, with_text-none, with_text-found}
 
 -- what a thing that is found, or none, makes with another that is found, or none
 abbrev pub joined_found : {X : Type 0} → (X → Option X → Option X) → Option X → Option X → Option X

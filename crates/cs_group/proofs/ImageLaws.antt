@@ -13,7 +13,7 @@ use Rattle.cs_value.specs.declared.value.OwnedValue.{OwnedValue}
 use Rattle.cs_value.specs.declared.value.OwnedField.{OwnedField}
 use Rattle.cs_value.specs.declared.value.OwnedField.TheVariants.{Undefined}
 use Rattle.cs_value.specs.Value.{value_of, field_of, FieldFits}
-use Rattle.cs_value.proofs.Lists.{AllByRecursion-push}
+use Rattle.cs_value.proofs.ListLemmas.{AllByRecursion-push}
 use Rattle.cs_wire.specs.Entry.{with_key}
 use Rattle.cs_group.specs.Views.{IsImage}
 use Rattle.cs_group.specs.Net.{is_same, by_flag, by_column, defined, values_of}

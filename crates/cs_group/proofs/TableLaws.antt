@@ -4,6 +4,7 @@ use Rattle.std.specs.Prelude.{IfSome}
 use Rattle.std.specs.List.{AllByRecursion}
 use Rattle.std.proofs.lemmas.List.Elements.{recursion_from_All, All-from_recursion}
 use Rattle.cs_value.specs.State.{State, schema_at, row_at}
+use Rattle.cs_value.proofs.ListLemmas.{AllByRecursion-append, AllByRecursion-map}
 use Rattle.cs_wire.specs.declared.entry.Entry.{Entry}
 use Rattle.cs_wire.specs.Entry.{key_of}
 use Rattle.cs_wire.specs.Changeset.{HeaderData, GroupData, IsChangeset}
@@ -11,7 +12,7 @@ use Rattle.cs_group.specs.declared.judging.Judgement.TheVariants.{Wider}
 use Rattle.cs_group.specs.Judging.{judged, is_compatible}
 use Rattle.cs_group.specs.Joining.{entry_key, table_name, with_text}
 use Rattle.cs_group.specs.JoinLaw.{LeadsFrom}
-use Rattle.cs_group.specs.Applying.{PlacedEntry, placed_by, placed, current, IsElsewhere, compatible_groups, applicable, placed_kind, placed_result, Choices, IsClean, IsApplied}
+use Rattle.cs_group.specs.Applying.{PlacedEntry, placed_by, placed_in, placed, current, IsElsewhere, compatible_groups, applicable, placed_kind, placed_result, Choices, IsClean, IsApplied}
 use Rattle.cs_group.proofs.ApplyLaws.{no_conflict, none_met, left_row}
 use Rattle.cs_group.proofs.EntryJoinLaws.{LeftLeads}
 use Rattle.cs_group.proofs.TextLaws.{with_text-at, with_text-new, with_text-found}
@@ -41,11 +42,6 @@ module _ (state : State) (P : PlacedEntry → Type 0) where
   abbrev pub EachOf : GroupData → Type 0
   EachOf group = is_compatible (judged state group) ≡ true → AllByRecursion (λ e. P (placed_by group.header e)) group.entries
 
-  placed_of : (header : HeaderData) (es : List Entry) (tail : List PlacedEntry) → AllByRecursion (λ e. P (placed_by header e)) es → AllByRecursion P tail
-      → AllByRecursion P (map (placed_by header) es ++ tail)
-  placed_of header [] tail each others = others
-  placed_of header (e ∷ es) tail each others = (each.0, placed_of header es tail each.1 others)
-
   of_placed : (header : HeaderData) (es : List Entry) (tail : List PlacedEntry) → AllByRecursion P (map (placed_by header) es ++ tail)
       → AllByRecursion (λ e. P (placed_by header e)) es × AllByRecursion P tail
   of_placed header [] tail each = (tt, each)
@@ -57,7 +53,7 @@ module _ (state : State) (P : PlacedEntry → Type 0) where
     where
       at : (b : Bool) → is_compatible (judged state g) ≡ b → AllByRecursion P (applicable state gs)
           → AllByRecursion P (placed (cond b (g ∷ compatible_groups state gs) (compatible_groups state gs)))
-      at true is others = placed_of g.header g.entries (applicable state gs) (each.0 is) others
+      at true is others = AllByRecursion-append P (placed_in g) (applicable state gs) (AllByRecursion-map P (placed_by g.header) g.entries (each.0 is)) others
       at false is others = others
 
   of_applicable : (gs : List GroupData) → AllByRecursion P (applicable state gs) → AllByRecursion EachOf gs

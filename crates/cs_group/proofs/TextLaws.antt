@@ -1,22 +1,16 @@
 -- Things that are known by a text, no two by one.
-use Rattle.std.proofs.Common.{◌≡◌, ◌≢◌, ℕ, zero, suc, ◌+◌, ◌<◌, nat_eq, Bool, true, false, true≢false, cond, if◌then◌else◌, List, [], ◌∷◌, ◌++◌, length, get_or, take, Option, Some, None, All, AllPairs, refl, sym, ap, ◌∙◌, append_assoc, arith}
-use Rattle.std.specs.Prelude.{IfSome, is_none, filter, filter_map, option_to_list}
+use Rattle.std.proofs.Common.{◌≡◌, ◌≢◌, ℕ, zero, suc, ◌<◌, nat_eq, Bool, true, false, true≢false, cond, List, [], ◌∷◌, ◌++◌, length, get_or, Option, Some, None, All, AllPairs, refl, sym, ap, ◌∙◌, arith}
+use Rattle.std.specs.Prelude.{IfSome, is_none, filter, filter_map}
 use Rattle.std.specs.List.{cons_option}
 use Rattle.std.specs.Cmp.Lexicographic.{pointwise, same_text, other_text, nat_list_eq_equiv}
-use Rattle.std.proofs.lemmas.List.{take_more}
-use Rattle.std.proofs.lemmas.List.Elements.{All-nil, All-cons, All-head, All-tail, All-append, All-filter, filter_map-append, filter-append, filter_passes}
+use Rattle.std.proofs.lemmas.List.Elements.{All-nil, All-cons, All-head, All-tail, All-append, All-filter, filter_passes}
 use Rattle.std.proofs.lemmas.List.Kept.{AllPairs-cons, AllPairs-filter}
 use Rattle.std.proofs.lemmas.Option.{none-some}
+use Rattle.cs_value.proofs.ListLemmas.{AllPairs-head, AllPairs-tail}
 use Rattle.cs_wire.specs.Views.{IsPlaceOf}
 use Rattle.cs_group.specs.Joining.{with_text, is_new, outcome, joined_by}
 
 -- ---- lists
-
-pub AllPairs-tail : {X : Type 0} (R : X → X → Type 0) (x : X) (xs : List X) → AllPairs R (x ∷ xs) → AllPairs R xs
-AllPairs-tail R x xs h i j d lt within = h (suc i) (suc j) d (omega arith) (omega arith)
-
-pub AllPairs-head : {X : Type 0} (R : X → X → Type 0) (x : X) (xs : List X) → AllPairs R (x ∷ xs) → All (R x) xs
-AllPairs-head R x xs h k d lt = h zero (suc k) d (omega arith) (omega arith)
 
 AllPairs-append : {X : Type 0} (R : X → X → Type 0) (xs ys : List X) → AllPairs R xs → AllPairs R ys → All (λ x. All (R x) ys) xs → AllPairs R (xs ++ ys)
 AllPairs-append R [] ys p q across = q
@@ -31,29 +25,6 @@ filter_map-each {X} {Y} h P (x ∷ xs) each = kept (h x) (All-head (λ x. IfSome
     kept : (o : Option Y) → IfSome o P → All P (filter_map h xs) → All P (cons_option o (filter_map h xs))
     kept None p others = others
     kept (Some y) p others = All-cons P y (filter_map h xs) p others
-
--- one more element
-pub filter_map_more : {X Y : Type 0} (h : X → Option Y) (xs : List X) (i : ℕ) (x : X) → i < length xs → x ≡ get_or xs i x
-    → filter_map h (take i xs) ++ option_to_list (h x) ≡ filter_map h (take (i + 1) xs)
-filter_map_more {X} {Y} h xs i x lt is = sym (ap (filter_map h) (take_more xs i x lt) ∙ filter_map-append h (take i xs) (get_or xs i x ∷ []) ∙ ap (λ (z : X). filter_map h (take i xs) ++ cons_option (h z) []) (sym is) ∙ one (h x))
-  where
-    one : (o : Option Y) → filter_map h (take i xs) ++ cons_option o [] ≡ filter_map h (take i xs) ++ option_to_list o
-    one None = refl
-    one (Some y) = refl
-
-filter_more_by : {X : Type 0} (p : X → Bool) (xs : List X) (i : ℕ) (x : X) → i < length xs → x ≡ get_or xs i x
-    → filter p (take i xs) ++ option_to_list (if p x then Some x else None) ≡ filter p (take (i + 1) xs)
-filter_more_by {X} p xs i x lt is = sym (ap (filter p) (take_more xs i x lt) ∙ filter-append p (take i xs) (get_or xs i x ∷ []) ∙ ap (λ (z : X). filter p (take i xs) ++ filter p (z ∷ [])) (sym is) ∙ one (p x))
-  where
-    one : (b : Bool) → filter p (take i xs) ++ cond b (x ∷ []) [] ≡ filter p (take i xs) ++ option_to_list (if b then Some x else None)
-    one true = refl
-    one false = refl
-
--- the same behind other elements
-pub filter_grown : {X : Type 0} (p : X → Bool) (xs start now new : List X) (i : ℕ) (x : X) (o : Option X) → i < length xs → x ≡ get_or xs i x
-    → now ≡ start ++ filter p (take i xs) → o ≡ (if p x then Some x else None) → new ≡ now ++ option_to_list o → new ≡ start ++ filter p (take (i + 1) xs)
-filter_grown {X} p xs start now new i x o lt is so o_is grown =
-    grown ∙ cc (so, o_is) ∙ append_assoc start (filter p (take i xs)) (option_to_list (if p x then Some x else None)) ∙ ap (λ (l : List X). start ++ l) (filter_more_by p xs i x lt is)
 
 -- ---- looking for a text
 

@@ -11,7 +11,7 @@ use Rattle.cs_value.specs.Spelling.{field_bytes, record_bytes, BeginsWith}
 use Rattle.cs_value.specs.ImageFaults.{RecordFails}
 use Rattle.cs_value.specs.Reading.{NoFieldAt}
 use Rattle.cs_value.specs.Refusals.{Refuses}
-use Rattle.cs_value.proofs.Lists.{AllByRecursion-push}
+use Rattle.cs_value.proofs.ListLemmas.{AllByRecursion-push}
 use Rattle.cs_value.proofs.Spellings.{field_spellings, record_spellings}
 
 -- the fields that were read, and where they end

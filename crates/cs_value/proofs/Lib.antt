@@ -1,4 +1,4 @@
-pub mod Lists
+pub mod ListLemmas
 pub mod ByteLists
 pub mod ByteMaps
 pub mod Digits

@@ -9,6 +9,7 @@ use Rattle.cs_value.specs.declared.value.OwnedField.{OwnedField}
 use Rattle.cs_value.specs.declared.value.OwnedField.TheVariants.{Undefined, Defined}
 use Rattle.cs_value.specs.Value.{IsField, IsRecord, IsRow}
 use Rattle.cs_value.specs.Spelling.{field_bytes, record_bytes}
+use Rattle.cs_value.proofs.ListLemmas.{AllByRecursion-append}
 use Rattle.cs_wire.specs.declared.entry.Change.{Change}
 use Rattle.cs_wire.specs.declared.entry.Change.TheVariants.{Insert, Delete, Update}
 use Rattle.cs_wire.specs.declared.fault.ReadFaultKind.{ReadFaultKind}
@@ -180,13 +181,9 @@ filled_met wants [] le h = fillers_met wants
 filled_met [] (f ∷ fields) le h = absurd (omega arith)
 filled_met (w ∷ wants) (f ∷ fields) le h = (h.0, filled_met wants fields (omega arith) h.1)
 
-pub IsRecord-append : (fields others : List OwnedField) → IsRecord fields → IsRecord others → IsRecord (fields ++ others)
-IsRecord-append [] others h k = k
-IsRecord-append (f ∷ fields) others h k = (h.0, IsRecord-append fields others h.1 k)
-
 pub filled_is : (wants : List Want) (fields : List OwnedField) → IsRecord fields → IsRecord (filled wants fields)
 unfolding filled
-filled_is wants fields h = IsRecord-append fields (map filler (drop (length fields) wants)) h (fillers_are (drop (length fields) wants))
+filled_is wants fields h = AllByRecursion-append IsField fields (map filler (drop (length fields) wants)) h (fillers_are (drop (length fields) wants))
 
 -- ---- changes that are begun
 

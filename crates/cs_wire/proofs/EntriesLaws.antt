@@ -57,15 +57,12 @@ pub record HasNextEntry (file : List ℕ) (header : HeaderData) (entries : List 
   pub fresh : All (λ e. key_of header.flags e.change ≢ key_of header.flags entry.change) entries
   pub spelled : drop end file ≡ entry_bytes entry ++ rest
 
-at_seam : {X : Type 0} (xs : List X) (x : X) (ys : List X) (d : X) → get_or (xs ++ x ∷ ys) (length xs) d ≡ x
-at_seam xs x ys d = get_or_at xs x ys d (length xs) refl
-
 module _ (file : List ℕ) (at : ℕ) (header : HeaderData) (entries : List Entry) (end : ℕ) (stands : Stands file at (entries_bytes entries) end) where
   next_entry : (all : List Entry) (rest : List ℕ) → IsGroup (record { header = header; entries = all }) → drop at file ≡ entries_bytes all ++ rest
       → (entry : Entry) (others : List Entry) → all ≡ entries ++ entry ∷ others → HasNextEntry file header entries end all
   next_entry all rest g e entry others is =
       let lt : length entries < length all = omega (arith, ap length is, length-append entries (entry ∷ others)) in
-      let here : get_or all (length entries) entry ≡ entry = rw is (at_seam entries entry others entry) in record {
+      let here : get_or all (length entries) entry ≡ entry = rw is (get_or_at entries entry others entry (length entries) refl) in record {
         entry = entry;
         others = others;
         rest = entries_bytes others ++ rest;
@@ -73,7 +70,7 @@ module _ (file : List ℕ) (at : ℕ) (header : HeaderData) (entries : List Entr
         is_entry = rw here at (g.each (length entries) entry lt);
         fresh = λ k d k_lt same.
             let before : get_or all k d ≡ get_or entries k d = rw is (get_or_append_left entries (entry ∷ others) d k k_lt) in
-            let there : get_or all (length entries) d ≡ entry = rw is (at_seam entries entry others d) in
+            let there : get_or all (length entries) d ≡ entry = rw is (get_or_at entries entry others d (length entries) refl) in
             g.once k (length entries) d k_lt lt (ap (λ (x : Entry). key_of header.flags x.change) before ∙ same ∙ ap (λ (x : Entry). key_of header.flags x.change) (sym there));
         spelled =
             let regrouped : entries_bytes all ++ rest ≡ entries_bytes entries ++ (entry_bytes entry ++ (entries_bytes others ++ rest)) =

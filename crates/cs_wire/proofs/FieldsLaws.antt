@@ -1,25 +1,18 @@
 -- Records that are read field by field.
 use Rattle.std.proofs.Common.{◌≡◌, ℕ, zero, suc, ◌+◌, ◌<◌, ◌≤◌, List, [], ◌∷◌, ◌++◌, length, map, take, drop, get_or, None, refl, sym, ap, ◌∙◌, append_assoc, arith, length-append}
-use Rattle.std.specs.List.{AllByRecursion}
 use Rattle.std.proofs.lemmas.List.{append-nil, nil_from_length, take_all, get_or-map, length-map}
 use Rattle.std.proofs.lemmas.List.Concat.{flat_map-append}
 use Rattle.cs_value.specs.declared.value.OwnedField.{OwnedField}
 use Rattle.cs_value.specs.declared.value.OwnedField.TheVariants.{Undefined}
 use Rattle.cs_value.specs.Value.{IsField, IsRecord}
 use Rattle.cs_value.specs.Spelling.{field_bytes, record_bytes}
-use Rattle.cs_value.proofs.Lists.{AllByRecursion-push}
+use Rattle.cs_value.proofs.ListLemmas.{AllByRecursion-push, AllByRecursion-append_right}
 use Rattle.cs_wire.specs.declared.fault.ReadFaultKind.{ReadFaultKind}
 use Rattle.cs_wire.specs.declared.reader.record.Columns.{Columns}
 use Rattle.cs_wire.specs.declared.reader.record.Columns.TheVariants.{Row, Old, New}
 use Rattle.cs_wire.specs.ReadFaults.{Stands}
 use Rattle.cs_wire.specs.Reading.{Want, AnyField, is_key_flag, in_row, in_old, in_new, is_modified, new_wants, want_in, wants_in, refusal, Meets, IsFieldAt, IsRecordAt, FieldRefused, RecordRefused}
 use Rattle.cs_wire.proofs.ReadingLaws.{Stands-then, rest_is}
-
--- ---- lists
-
-pub each-at : {X : Type 0} (P : X → Type 0) (xs : List X) (x : X) (ys : List X) → AllByRecursion P (xs ++ x ∷ ys) → P x
-each-at P [] x ys h = h.0
-each-at P (z ∷ xs) x ys h = each-at P xs x ys h.1
 
 -- ---- what is wanted
 
@@ -121,7 +114,7 @@ module _ {wants : List Want} {file : List ℕ} {at i : ℕ} {fields : List Owned
     others = others;
     rest = record_bytes others ++ rest;
     all_is = is;
-    is_field = each-at IsField fields field others (rw is at h);
+    is_field = (AllByRecursion-append_right IsField fields (field ∷ others) (rw is at h)).0;
     met = rw (← next.is, ← so.count) (Meets-at wants fields field others (rw is at m));
     spelled =
         let regrouped : record_bytes all ++ rest ≡ record_bytes fields ++ (field_bytes field ++ (record_bytes others ++ rest)) =

@@ -5,7 +5,7 @@ use Rattle.std.proofs.lemmas.List.{length-map}
 use Rattle.std.proofs.lemmas.List.Elements.{recursion_from_All}
 use Rattle.cs_value.specs.declared.TheConstants.{MAX_CONTENT_LEN}
 use Rattle.cs_value.specs.declared.value.OwnedField.TheVariants.{Defined}
-use Rattle.cs_value.specs.Value.{IsRecord}
+use Rattle.cs_value.specs.Value.{IsField, IsRecord}
 use Rattle.cs_value.specs.Varint.{varint}
 use Rattle.cs_value.specs.Spelling.{record_bytes}
 use Rattle.cs_wire.specs.declared.entry.Change.{Change}
@@ -18,25 +18,17 @@ use Rattle.cs_wire.specs.Reading.{EndsGroup}
 use Rattle.cs_wire.proofs.ReadingLaws.{flags_bytes-append, header_bytes-append, same_header}
 use Rattle.cs_value.proofs.KeyedRows.{length-IsKeyedRow}
 use Rattle.cs_wire.proofs.EntryLaws.{length-IsKeyedUpdate, IsRecord-map, entry_bytes-append, same_entry}
-use Rattle.cs_wire.proofs.ChangeLaws.{IsRecord-append, same_values}
+use Rattle.cs_wire.proofs.ChangeLaws.{same_values}
 use Rattle.cs_wire.proofs.EntriesLaws.{operation_no_header}
 use Rattle.cs_wire.proofs.GroupsLaws.{group_bytes-append, group_bytes_some, same_group, ends_group}
 use Rattle.cs_value.specs.Laws.{RecordSpellings}
+use Rattle.cs_value.proofs.ListLemmas.{same_from_append, AllByRecursion-append}
 
 -- no varint begins another's spelling
 abbrev pub VarintSpellings : Type 0
 VarintSpellings = (m n : ℕ) (x y : List ℕ) → m ≤ MAX_CONTENT_LEN → n ≤ MAX_CONTENT_LEN → varint m ++ x ≡ varint n ++ y → (m ≡ n) × (x ≡ y)
 
 -- ---- lists
-
--- equal lists that begin with as many elements begin with the same
-split_alike : {X : Type 0} (a b x y : List X) → length a ≡ length b → a ++ x ≡ b ++ y → (a ≡ b) × (x ≡ y)
-split_alike [] [] x y len e = (refl, e)
-split_alike [] (q ∷ b) x y len e = absurd (omega arith)
-split_alike (p ∷ a) [] x y len e = absurd (omega arith)
-split_alike (p ∷ a) (q ∷ b) x y len e =
-    let others = split_alike a b x y (omega arith) (cc) in
-    (cc (others.0), others.1)
 
 -- the first zero byte ends a name
 split_zero : (m n x y : List ℕ) → AllByRecursion (λ b. b ≢ 0) m → AllByRecursion (λ b. b ≢ 0) n → m ++ 0 ∷ x ≡ n ++ 0 ∷ y → (m ≡ n) × (x ≡ y)
@@ -70,7 +62,7 @@ same_change flags (Insert row) (Insert other) h k e same = ap Insert (same_value
 same_change flags (Delete row) (Delete other) h k e same = ap Delete (same_values row other same)
 same_change flags (Update old new) (Update before after) h k e same =
     let width : length old ≡ length before = sym (length-IsKeyedUpdate flags old new h.2).0 ∙ (length-IsKeyedUpdate flags before after k.2).0 in
-    let both = split_alike old before new after width same in
+    let both = same_from_append old before new after width same in
     cc (both.0, both.1)
 same_change flags (Insert row) (Delete other) h k e same = absurd (omega arith)
 same_change flags (Insert row) (Update before after) h k e same = absurd (omega arith)
@@ -82,7 +74,7 @@ same_change flags (Update old new) (Delete other) h k e same = absurd (omega ari
 fields_are : (flags : List ℕ) (c : Change) → IsChange flags c → IsRecord (fields_of c)
 fields_are flags (Insert row) h = IsRecord-map row h.0
 fields_are flags (Delete row) h = IsRecord-map row h.0
-fields_are flags (Update old new) h = IsRecord-append old new h.0 h.1
+fields_are flags (Update old new) h = AllByRecursion-append IsField old new h.0 h.1
 
 -- the indirect flag is told by its byte
 same_flag : (a b : Bool) → ◌≡◌ {A = ℕ} (cond a 1 0) (cond b 1 0) → a ≡ b
@@ -128,7 +120,7 @@ entries_spellings law flags (f ∷ c) (e ∷ d) x y h k p q same =
 flags_spellings : VarintSpellings → (f g x y : List ℕ) → IsFlags f → IsFlags g → flags_bytes f ++ x ≡ flags_bytes g ++ y → (f ≡ g) × (x ≡ y)
 flags_spellings law f g x y h k same =
     let count = law (length f) (length g) (f ++ x) (g ++ y) (omega (arith, h.few)) (omega (arith, k.few)) (sym (flags_bytes-append f x) ∙ same ∙ flags_bytes-append g y) in
-    split_alike f g x y count.0 count.1
+    same_from_append f g x y count.0 count.1
 
 behind_first : (a b : ℕ) (x y : List ℕ) → a ∷ x ≡ b ∷ y → x ≡ y
 behind_first a b x y e = cc

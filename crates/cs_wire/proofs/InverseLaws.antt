@@ -222,37 +222,3 @@ IsInverseGroup-is group g = record { header = refl; entries = entries-inverse gr
 pub index-inverse : (group : GroupData) (places : ByBytes ℕ) → IsGroup group → IsIndex places (group_keys group.header.flags group.entries)
     → IsIndex places (group_keys group.header.flags (map (inverse_entry group.header.flags) group.entries))
 index-inverse group places g index = rw (keys-inverse group.header.flags group.entries (each_entry group g)) index
-
--- ---- a list whose elements are replaced one after the other
-
-mapped_get : {X : Type 0} (f : X → X) (es : List X) (i : ℕ) (d : X) → get_or (map f (take i es) ++ drop i es) i d ≡ get_or es i d
-mapped_get f [] zero d = refl
-mapped_get f [] (suc i) d = refl
-mapped_get f (e ∷ es) zero d = refl
-mapped_get f (e ∷ es) (suc i) d = mapped_get f es i d
-
-mapped_set : {X : Type 0} (f : X → X) (es : List X) (i : ℕ) (y : X) → i < length es → y ≡ f (get_or es i y) → set (map f (take i es) ++ drop i es) i y ≡ map f (take (suc i) es) ++ drop (suc i) es
-mapped_set f [] i y lt is = absurd (omega arith)
-mapped_set {X = X} f (e ∷ es) zero y lt is = ap (λ (z : X). z ∷ es) is
-mapped_set {X = X} f (e ∷ es) (suc i) y lt is = ap (λ (zs : List X). f e ∷ zs) (mapped_set f es i y (omega arith) is)
-
--- one more is replaced
-pub mapped_more : {X : Type 0} (f : X → X) (es xs : List X) (i : ℕ) (x y : X) → xs ≡ map f (take i es) ++ drop i es → i < length es → x ≡ get_or xs i x → y ≡ f x
-    → set xs i y ≡ map f (take (i + 1) es) ++ drop (i + 1) es
-mapped_more {X = X} f es xs i x y so lt here is =
-    let n : i + 1 ≡ suc i = omega arith in
-    let there : x ≡ get_or es i y = here ∙ ap (λ (zs : List X). get_or zs i x) so ∙ mapped_get f es i x ∙ get_or_any es i x y lt in
-    rw (n, so) (mapped_set f es i y lt (is ∙ ap f there))
-  where
-    get_or_any : (zs : List X) (k : ℕ) (d e : X) → k < length zs → get_or zs k d ≡ get_or zs k e
-    get_or_any [] k d e lt = absurd (omega arith)
-    get_or_any (z ∷ zs) zero d e lt = refl
-    get_or_any (z ∷ zs) (suc k) d e lt = get_or_any zs k d e (omega arith)
-
--- what is written back into a vector is all of it
-pub written_back : {X : Type 0} (f : X → X) (items new : List X) (len : ℕ) → new ≡ map f items → len ≡ length items → take len (new ++ drop (length new) items) ≡ map f items
-written_back {X = X} f items new len is all =
-    let same : length new ≡ length items = ap length is ∙ length-map items f in
-    let none : drop (length new) items ≡ [] = drop_all (length new) items (omega arith) in
-    let whole : new ++ drop (length new) items ≡ new = ap (λ (z : List X). new ++ z) none ∙ append-nil new in
-    rw whole (take_all len new (omega arith) ∙ is)

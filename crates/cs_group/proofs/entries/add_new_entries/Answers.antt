@@ -3,7 +3,7 @@ use Rattle.cs_wire.specs.declared.entry.Entry.{Entry}
 use Rattle.cs_wire.specs.Entry.{IsEntry, key_of}
 use Rattle.cs_group.specs.Joining.{is_new}
 use Rattle.cs_group.proofs.KeyPlaceLaws.{fits_same}
-use Rattle.cs_group.proofs.TextLaws.{filter_grown}
+use Rattle.cs_value.proofs.ListLemmas.{filter_more_behind}
 use Rattle.cs_group.proofs.entries.add_new_entries.Goals as goal
 
 pub new_entry-requires : goal.new_entry-requires
@@ -19,5 +19,5 @@ new_entry-requires c =
 pub loop-entry-preserved : goal.loop-entry-preserved
 loop-entry-preserved c =
     let new = is_new (λ (e : Entry). key_of c.args.first.now.header.flags e.change) c.args.first.now.entries in
-    filter_grown new c.entries-entry-items.result.now c.args.entries.now.items c.loop-entry.entries.items c.push_some.new.list.items c.loop-entry.entry-index c.entry-item.result c.in_ok-new_entry.field-0
-    c.loop-entry-test.true c.entry-item.is c.loop-entry.invariant c.in_ok-new_entry.ensures c.in_ok-push_some.ensures
+    filter_more_behind c.entries-entry-items.result.now c.loop-entry.entry-index c.entry-item.result c.loop-entry-test.true c.entry-item.is
+    new c.args.entries.now.items c.loop-entry.entries.items c.push_some.new.list.items c.in_ok-new_entry.field-0 c.loop-entry.invariant c.in_ok-new_entry.ensures c.in_ok-push_some.ensures

@@ -2,7 +2,7 @@ use Rattle.std.proofs.Common.{List, get_or, ap, ◌∙◌}
 use Rattle.cs_wire.specs.Changeset.{GroupData}
 use Rattle.cs_group.specs.Joining.{outcome, joined_group}
 use Rattle.cs_group.proofs.JoinLaws.{agree_found}
-use Rattle.cs_group.proofs.TextLaws.{filter_map_more}
+use Rattle.cs_value.proofs.ListLemmas.{filter_map_more}
 use Rattle.cs_group.proofs.joining.kept_groups.Goals as goal
 
 pub join_group-requires : goal.join_group-requires
@@ -16,5 +16,5 @@ join_group-requires c =
 pub loop-group-preserved : goal.loop-group-preserved
 loop-group-preserved c =
     let becomes = outcome (λ (g : GroupData). g.header.name) joined_group c.args.second.now in
-    let more = filter_map_more becomes c.groups-group-items.result.now c.loop-group.group-index c.group-item.result c.loop-group-test.true c.group-item.is in
+    let more = filter_map_more c.groups-group-items.result.now c.loop-group.group-index c.group-item.result c.loop-group-test.true c.group-item.is becomes in
     cc (c.in_ok-push_some.ensures, c.in_ok-join_group.ensures, c.loop-group.invariant, more)

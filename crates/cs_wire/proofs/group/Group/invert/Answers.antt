@@ -1,7 +1,9 @@
-use Rattle.std.proofs.Common.{ℕ, List, map, ap, ◌∙◌, arith}
+use Rattle.std.proofs.Common.{ℕ, List, length, map, ap, ◌∙◌, arith}
+use Rattle.std.proofs.lemmas.List.{length-map}
+use Rattle.cs_value.proofs.ListLemmas.{written_whole}
 use Rattle.cs_wire.specs.Changeset.{GroupData}
 use Rattle.cs_wire.specs.Views.{inverse_entry}
-use Rattle.cs_wire.proofs.InverseLaws.{written_back, IsGroup-inverse, IsInverseGroup-is, index-inverse}
+use Rattle.cs_wire.proofs.InverseLaws.{IsGroup-inverse, IsInverseGroup-is, index-inverse}
 use Rattle.cs_wire.proofs.group.Group.invert.Goals as goal
 
 pub invariant_of-self : goal.invariant_of-self
@@ -10,7 +12,8 @@ invariant_of-self c =
     let group : GroupData = record { header = inside.header; entries = inside.entries.items } in
     let inverse = inverse_entry inside.header.flags in
     let changed = c.invert_entries.ensures ∙ ap (λ (f : List ℕ). map (inverse_entry f) c.deref_mut.result.now) c.flags.ensures.same ∙ ap (map inverse) c.deref_mut.ensures.value in
-    rw (written_back inverse inside.entries.items c.invert_entries.new.entries inside.entries.len changed (omega arith))
+    let whole = written_whole inside.entries.items c.invert_entries.new.entries inside.entries.len (omega arith) (ap length changed ∙ length-map inside.entries.items inverse) ∙ changed in
+    rw whole
     (IsGroup-inverse group c.self.invariant.0, index-inverse group inside.places c.self.invariant.0 c.self.invariant.1)
 
 pub returns-clause-inverse : goal.returns-clause-inverse
@@ -19,7 +22,8 @@ returns-clause-inverse c =
     let group : GroupData = record { header = inside.header; entries = inside.entries.items } in
     let inverse = inverse_entry inside.header.flags in
     let changed = c.invert_entries.ensures ∙ ap (λ (f : List ℕ). map (inverse_entry f) c.deref_mut.result.now) c.flags.ensures.same ∙ ap (map inverse) c.deref_mut.ensures.value in
-    rw (← c.self.view_is, written_back inverse inside.entries.items c.invert_entries.new.entries inside.entries.len changed (omega arith))
+    let whole = written_whole inside.entries.items c.invert_entries.new.entries inside.entries.len (omega arith) (ap length changed ∙ length-map inside.entries.items inverse) ∙ changed in
+    rw (← c.self.view_is, whole)
     (IsInverseGroup-is group c.self.invariant.0)
 
 pub returns-clause-well_formed : goal.returns-clause-well_formed
@@ -28,5 +32,6 @@ returns-clause-well_formed c =
     let group : GroupData = record { header = inside.header; entries = inside.entries.items } in
     let inverse = inverse_entry inside.header.flags in
     let changed = c.invert_entries.ensures ∙ ap (λ (f : List ℕ). map (inverse_entry f) c.deref_mut.result.now) c.flags.ensures.same ∙ ap (map inverse) c.deref_mut.ensures.value in
-    rw (written_back inverse inside.entries.items c.invert_entries.new.entries inside.entries.len changed (omega arith))
+    let whole = written_whole inside.entries.items c.invert_entries.new.entries inside.entries.len (omega arith) (ap length changed ∙ length-map inside.entries.items inverse) ∙ changed in
+    rw whole
     (IsGroup-inverse group c.self.invariant.0)
