@@ -1,13 +1,13 @@
 -- The join of the net changes from a state to a second, and from there to a third.
-use Rattle.std.proofs.Common.{◌≡◌, ℕ, zero, suc, false, List, [], ◌∷◌, get_or, map, All, Option, Some, None, option_map, refl, sym, ap, ◌∙◌, subst}
-use Rattle.std.specs.Prelude.{IfSome, unwrap_or}
-use Rattle.std.specs.FinMap.{get, empty}
+use Rattle.std.proofs.Common.{◌≡◌, ℕ, zero, suc, false, List, [], ◌∷◌, get_or, map, All, Option, Some, None, option_map, refl, sym, ap, ◌∙◌}
+use Rattle.std.specs.Prelude.{IfSome}
 use Rattle.std.specs.Cmp.Lexicographic.{pointwise}
 use Rattle.std.proofs.lemmas.Option.{none-some, same_Some}
 use Rattle.cs_value.specs.declared.value.OwnedValue.{OwnedValue}
 use Rattle.cs_value.specs.declared.value.OwnedField.{OwnedField}
 use Rattle.cs_value.specs.declared.value.OwnedField.TheVariants.{Undefined, Defined}
-use Rattle.cs_value.specs.State.{SchemaData, RowMap, TableData, State, IsState, IsRowAt, schema_at, row_at}
+use Rattle.cs_value.specs.State.{SchemaData, State, IsState, IsRowAt, schema_at, row_at}
+use Rattle.cs_value.proofs.StateLaws.{row_at_fits}
 use Rattle.cs_wire.specs.declared.entry.Change.{Change}
 use Rattle.cs_wire.specs.declared.entry.Change.TheVariants.{Insert, Delete, Update}
 use Rattle.cs_wire.specs.declared.entry.Entry.{Entry}
@@ -234,25 +234,6 @@ module _ (flags key : List ℕ) (before mid after : Option (List OwnedValue)) (b
   tables_join (Some g) None p q one two = alone g.header.flags (entry_in key (Some g)) ∙ found_join g.header.flags p.1 (entry_in key (Some g)) None one two
   tables_join (Some g) (Some h) p q one two = groups_join key g h p.0 q.0 (q.1 ∙ sym p.1) ∙ found_join g.header.flags p.1 (entry_in key (Some g)) (entry_in key (Some h)) one two
 
--- ---- the rows of a state
-
--- a row that is found, if there is one, is as each that is found
-held_if : (flags key : List ℕ) (rows : RowMap) → ((row : List OwnedValue) → get rows key ≡ Some row → IsRowAt flags key row) → (o : Option (List OwnedValue)) → get rows key ≡ o → IfSome o (IsRowAt flags key)
-held_if flags key rows is None e = tt
-held_if flags key rows is (Some row) e = is row e
-
--- the row under a key, if there is one, fits the columns of its table
-held : (state : State) (name : List ℕ) (schema : SchemaData) → IsState state → schema_at state name ≡ Some schema → (key : List ℕ) → IfSome (row_at state name key) (IsRowAt schema.flags key)
-held state name schema is found key = at (get state name) refl found
-  where
-    at : (o : Option TableData) → get state name ≡ o → option_map (λ (t : TableData). t.schema) o ≡ Some schema
-        → IfSome (get (unwrap_or (option_map (λ (t : TableData). t.rows) o) empty) key) (IsRowAt schema.flags key)
-    at None e has = absurd (none-some schema has)
-    at (Some table) e has =
-        let same = same_Some table.schema schema has in
-        subst (λ (s : SchemaData). IfSome (get table.rows key) (IsRowAt s.flags key)) same
-        (held_if table.schema.flags key table.rows ((is name table e).is_table.rows key) (get table.rows key) refl)
-
 -- ---- the changesets
 
 -- what is found of a table has its key places
@@ -300,7 +281,7 @@ module _ (first second : List GroupData) (p : IsChangeset first) (q : IsChangese
         let in_new = others name ∙ found in
         ap (entry_in key) (joined_table name)
         ∙ tables_join schema.flags key (row_at old name key) (row_at mid name key) (row_at new name key)
-        (held old name schema old_is found key) (held mid name schema mid_is in_mid key) (held new name schema new_is in_new key)
+        (row_at_fits old name schema old_is found key) (row_at_fits mid name schema mid_is in_mid key) (row_at_fits new name schema new_is in_new key)
         (with_text table_name first name) (with_text table_name second name)
         (found_places old name schema first found p one.tables) (found_places mid name schema second in_mid q two.tables)
         (one.entries name key schema found) (two.entries name key schema in_mid);
