@@ -11,9 +11,9 @@ pub record IsImage (flags : List ℕ) (fields : List Field) : Type 0 where
   pub width : length flags ≡ length fields
   pub short : AllByRecursion FieldFits fields
 
--- what is known of a row, or that there is none
-abbrev pub image_of : Option (Bor (List Field)) → Option (List OwnedField)
-image_of fields = option_map (λ f. map field_of f.now) fields
+-- what lent fields say of a row, or that there is none
+abbrev pub lent_image : Option (Bor (List Field)) → Option (List OwnedField)
+lent_image fields = option_map (λ f. map field_of f.now) fields
 
 abbrev pub image_in : {Z : Type 0} → Option (Vec Field Z) → Option (List OwnedField)
 image_in fields = option_map (λ f. map field_of f.items) fields

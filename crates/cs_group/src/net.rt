@@ -5,7 +5,7 @@ ghost use Rattle.std.specs.Cmp.Lexicographic.{pointwise};
 ghost use Rattle.cs_value.specs.declared.value.OwnedField.TheVariants.{Undefined as UndefinedField};
 ghost use Rattle.cs_value.specs.Value.{field_of, FieldFits};
 ghost use Rattle.cs_wire.specs.declared.entry.Change.TheVariants.{Update};
-ghost use Rattle.cs_group.specs.Views.{IsImage, image_of, image_in};
+ghost use Rattle.cs_group.specs.Views.{IsImage, lent_image, image_in};
 ghost use Rattle.cs_group.specs.Net.{is_same, unless_same, by_flag, old_record, new_record, values_of, net_between};
 ghost use Rattle.cs_group.specs.Net.{image_of_row, net_row_change as change_between};
 
@@ -95,7 +95,7 @@ pub fn net_change(
 ) -> Result<Option<Change>, NoMemory>
     requires before { IfSome before (λ fields. IsImage flags.now fields.now) }
     requires after { IfSome after (λ fields. IsImage flags.now fields.now) }
-    ensures { IfOk result (λ change. change ≡ net_between flags.now (image_of before.entry) (image_of after.entry)) }
+    ensures { IfOk result (λ change. change ≡ net_between flags.now (lent_image before.entry) (lent_image after.entry)) }
 {
     Ok(match (before, after) {
         (None, None) => None,
