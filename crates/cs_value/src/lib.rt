@@ -12,8 +12,8 @@
 //!
 //! `value` has the values, `text` and `bytes` what they hold, `varint` the numbers of the format,
 //! `field` the reader and the writer of fields, `row` lists of values, `image` lists of fields,
-//! `parts` what both are made of, `key` what tells rows apart, `name` what tables are called, `fault` and `refusal` what calls
-//! refuse with, and `laws` what holds of all spellings.
+//! `parts` what both are made of, `key` what tells rows apart, `name` what tables are called,
+//! `fault` and `refusal` what calls refuse with, and `laws` what holds of all spellings.
 #![tactic(auto)]
 
 mod bytes;
