@@ -1,14 +1,12 @@
 -- One entry, applied.
-use Rattle.std.proofs.Common.{◌≡◌, ℕ, Bool, true, false, List, [], ◌∷◌, ◌++◌, map, filter_map, Option, Some, None, option_map, refl, sym, ap, ◌∙◌}
+use Rattle.std.proofs.Common.{◌≡◌, Bool, true, false, List, [], ◌∷◌, ◌++◌, map, filter_map, Option, Some, option_map, refl, sym, ap, ◌∙◌}
 use Rattle.std.specs.Prelude.{option_to_list, Result, Ok, Err, OnOk}
-use Rattle.std.proofs.lemmas.Option.{none-some}
-use Rattle.std.specs.List.{cons_option}
 use Rattle.std.specs.FinMap.{get}
 use Rattle.std.proofs.lemmas.List.{append-nil}
 use Rattle.std.proofs.lemmas.List.Elements.{All-nil, All-cons, All-head}
 use Rattle.cs_value.specs.declared.value.OwnedValue.{OwnedValue}
 use Rattle.cs_value.specs.State.{TableData, State, schema_at, row_at}
-use Rattle.cs_wire.specs.Changeset.{HeaderData}
+use Rattle.cs_value.proofs.ListLemmas.{cons_option-nil}
 use Rattle.cs_store.specs.Editing.{written_of}
 use Rattle.cs_group.specs.declared.conflict.Choice.{Choice}
 use Rattle.cs_group.specs.Conflicts.{conflict_kind, row_after, ends, is_carried_out}
@@ -19,23 +17,19 @@ use Rattle.cs_apply.specs.declared.fault.ApplyFault.TheVariants as fault
 use Rattle.cs_apply.specs.declared.report.Report.{Report}
 use Rattle.cs_apply.specs.Report.{conflict_of, met_of}
 use Rattle.cs_apply.specs.Running.{Handler}
-use Rattle.cs_apply.specs.Steps.{HasTable, Settles, Unsettled, EndsRun, Carries, Stops, RefusesEntries, with_result}
+use Rattle.cs_apply.specs.Steps.{Settles, Unsettled, EndsRun, Carries, Stops, RefusesEntries, with_result}
 use Rattle.cs_apply.proofs.WriteLaws.{result_schemas, result_here, result_elsewhere}
 
 -- a choice for this entry alone
 abbrev always : Choice → Choices
 always choice p = choice
 
-one_list : {X : Type 0} (o : Option X) → cons_option o [] ≡ option_to_list o
-one_list None = refl
-one_list (Some x) = refl
-
 module _ (chooses : Handler) (s : State) (p : PlacedEntry) (row : Option (List OwnedValue)) (r t : Report) (is : row ≡ current s p) where
   told_so : (carried : Bool) (settles : Settles chooses p row r.conflicts.items t.conflicts.items carried)
       → map met_of t.conflicts.items ≡ map met_of r.conflicts.items ++ filter_map (met_at s (always settles.choice)) (p ∷ [])
   told_so carried settles =
       settles.told ∙ ap (λ (l : List MetData). map met_of r.conflicts.items ++ l)
-      (sym (one_list (met_at s (always settles.choice) p) ∙ ap (λ (o : Option (List OwnedValue)). option_to_list (option_map (λ k. record { conflict = k; choice = settles.choice }) (conflict_with p o))) (sym is)))
+      (sym (cons_option-nil (met_at s (always settles.choice) p) ∙ ap (λ (o : Option (List OwnedValue)). option_to_list (option_map (λ k. record { conflict = k; choice = settles.choice }) (conflict_with p o))) (sym is)))
 
   -- an entry that is carried out
   pub carries_written : (found : TableData) (next : State) → get s p.table ≡ Some found → Settles chooses p row r.conflicts.items t.conflicts.items true
@@ -98,18 +92,6 @@ module _ (chooses : Handler) (s : State) (p : PlacedEntry) (row : Option (List O
   refuses_here (fault.Wider place) h = absurd h
 
 -- ---- from what calls say
-
--- a table that is there
-pub record IsFound (s : State) (table : List ℕ) : Type 0 where
-  pub found : TableData
-  pub is : get s table ≡ Some found
-
-pub found_table : (s : State) (header : HeaderData) → HasTable s header → IsFound s header.name
-found_table s header has = at (get s header.name) refl has.found
-  where
-    at : (o : Option TableData) → get s header.name ≡ o → option_map (λ (t : TableData). t.schema) o ≡ Some has.schema → IsFound s header.name
-    at None is e = absurd (none-some has.schema e)
-    at (Some table) is e = record { found = table; is = is }
 
 -- what two clauses say of success
 pub on_both : {A E : Type 0} {P Q R : Type 0} (r : Result A E) → OnOk r P → OnOk r Q → (P → Q → R) → OnOk r R

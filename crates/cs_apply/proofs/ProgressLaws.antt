@@ -2,6 +2,7 @@
 use Rattle.std.proofs.Common.{◌≡◌, ◌≢◌, ℕ, ◌<◌, ◌+◌, List, [], ◌∷◌, ◌++◌, length, take, drop, get_or, map, refl, sym, ap, subst, append_assoc, ◌∙◌, arith}
 use Rattle.std.proofs.lemmas.List.{take-append-drop, map-append, append-nil}
 use Rattle.cs_value.specs.State.{State}
+use Rattle.cs_value.proofs.ListLemmas.{map_more_at, take_more_at}
 use Rattle.cs_wire.specs.declared.entry.Entry.{Entry}
 use Rattle.cs_wire.specs.Changeset.{GroupData, IsGroup, IsChangeset}
 use Rattle.cs_store.specs.Editing.{written_of}
@@ -16,7 +17,7 @@ use Rattle.cs_apply.specs.Report.{met_of}
 use Rattle.cs_apply.specs.Running.{Handler}
 use Rattle.cs_apply.specs.Steps.{Carries, RefusesEntries}
 use Rattle.cs_apply.proofs.StepLaws.{carries_then, refuses_then, refuses_more}
-use Rattle.cs_apply.proofs.RunLaws.{one_more, entries_more, entry_apart, applicable_more, skipped_more, group_apart, passed_group, passed_skipped}
+use Rattle.cs_apply.proofs.RunLaws.{entry_apart, applicable_more, skipped_more, group_apart, passed_group, passed_skipped}
 
 -- ---- entries
 
@@ -30,12 +31,12 @@ module _ (chooses : Handler) (group : GroupData) (i : ℕ) (e : Entry) (is : IsG
 
   pub entry_carried : (d : State) (t : Report) → Carries chooses here b s d t → Carries chooses (map (placed_by group.header) (take (i + 1) group.entries)) a r d t
   entry_carried d t two =
-      subst (λ (ps : List PlacedEntry). Carries chooses ps a r d t) (sym (entries_more group.header group.entries i e lt at))
+      subst (λ (ps : List PlacedEntry). Carries chooses ps a r d t) (sym (map_more_at group.entries i e lt at (placed_by group.header)))
       (carries_then chooses before here a b r s (entry_apart group i e is lt at) one d t two)
 
   whole : (before ++ here) ++ map (placed_by group.header) (drop (i + 1) group.entries) ≡ placed_in group
   whole =
-      ap (λ (ps : List PlacedEntry). ps ++ map (placed_by group.header) (drop (i + 1) group.entries)) (sym (entries_more group.header group.entries i e lt at))
+      ap (λ (ps : List PlacedEntry). ps ++ map (placed_by group.header) (drop (i + 1) group.entries)) (sym (map_more_at group.entries i e lt at (placed_by group.header)))
       ∙ sym (map-append (placed_by group.header) (take (i + 1) group.entries) (drop (i + 1) group.entries))
       ∙ ap (map (placed_by group.header)) (take-append-drop (i + 1) group.entries)
 
@@ -60,7 +61,7 @@ module _ (chooses : Handler) (gs : List GroupData) (i : ℕ) (g : GroupData) (is
   same_skipped = rw still_judged refl
 
   one_group : take (i + 1) gs ≡ take i gs ++ g ∷ []
-  one_group = one_more gs i g lt at
+  one_group = take_more_at gs i g lt at
 
   more_groups : applicable a (take i gs) ++ applicable a (g ∷ []) ≡ applicable a (take (i + 1) gs)
   more_groups = sym (applicable_more a (take i gs) (g ∷ [])) ∙ ap (applicable a) (sym one_group)

@@ -1,6 +1,6 @@
 -- What reverting gives back.
-use Rattle.std.proofs.Common.{◌≡◌, inl, inr, ℕ, List, [], ◌∷◌, ◌++◌, map, All, Option, Some, None, filter_map, refl, sym, ap, subst, ◌∙◌}
-use Rattle.std.specs.Prelude.{Result, Ok, Err, IfOk, IfErr, MatchResult}
+use Rattle.std.proofs.Common.{◌≡◌, inl, inr, ℕ, List, [], ◌∷◌, ◌++◌, length, All, Option, Some, None, filter_map, refl, sym, ap, subst, ◌∙◌}
+use Rattle.std.proofs.lemmas.List.{nil_from_length, length-map}
 use Rattle.cs_value.specs.State.{State}
 use Rattle.cs_wire.specs.Changeset.{GroupData}
 use Rattle.cs_wire.specs.Laws.{ChangesetFiles}
@@ -20,10 +20,6 @@ use Rattle.cs_apply.specs.Report.{conflict_of, met_of}
 use Rattle.cs_apply.specs.Running.{Handler, IsReadAs, GoesOn, Applies, EndsAt, Refuses, AlwaysAborts, Leads, IsResource}
 
 -- ---- lists
-
-pub none_mapped : {X Y : Type 0} (f : X → Y) (xs : List X) → map f xs ≡ [] → xs ≡ []
-none_mapped f [] e = refl
-none_mapped f (x ∷ xs) e = absurd cc
 
 none_met : (s : State) (choose : Choices) (ps : List PlacedEntry) → filter_map (conflict_at s) ps ≡ [] → filter_map (met_at s choose) ps ≡ []
 none_met s choose [] e = refl
@@ -53,7 +49,7 @@ pub reverts_ok : (chooses : Handler) (law : ChangesetFiles) (file : List ℕ) (b
 reverts_ok chooses law file before old new report leads applies =
     let given = back law file before old leads applies.changeset applies.read applies.choose in
     let none = none_met old applies.choose (applicable old applies.changeset) given.0.no_conflict in
-    (none_mapped met_of report.conflicts.items (applies.conflicts ∙ none), applied_once old applies.changeset applies.choose new before applies.applied given.1)
+    (nil_from_length report.conflicts.items (sym (length-map report.conflicts.items met_of) ∙ ap length (applies.conflicts ∙ none)), applied_once old applies.changeset applies.choose new before applies.applied given.1)
 
 no_group : GroupData
 no_group = record { header = record { name = []; flags = [] }; entries = [] }
@@ -94,15 +90,6 @@ applies_weaker P Q f file direction old report new applies = record {
   skipped = applies.skipped;
   written = applies.written;
 }
-
--- what is said of an error says more of it
-pub if_err_by : {A E : Type 0} (P Q : E → Type 0) (r : Result A E) → ((e : E) → P e → Q e) → IfErr r P → IfErr r Q
-if_err_by P Q (Ok x) f h = tt
-if_err_by P Q (Err e) f h = f e h
-
-pub match_by : {A E : Type 0} (P R : A → Type 0) (Q T : E → Type 0) (r : Result A E) → ((x : A) → P x → R x) → ((e : E) → Q e → T e) → IfOk r P → IfErr r Q → MatchResult r R T
-match_by P R Q T (Ok x) f g p q = f x p
-match_by P R Q T (Err e) f g p q = g e q
 
 pub reverts_err : (law : ChangesetFiles) (file : List ℕ) (before old : State) (e : ApplyFault) → Leads file before old → Refuses AlwaysAborts file Inverse old e → IsResource e
 reverts_err law file before old (fault.Read f) leads refuses = absurd (refuses.refused (leads.changeset, leads.is_changeset, leads.is_file))

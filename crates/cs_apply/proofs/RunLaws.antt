@@ -1,11 +1,12 @@
 -- The groups and entries of a changeset, one after another.
-use Rattle.std.proofs.Common.{◌≡◌, ◌≢◌, inl, inr, ℕ, zero, suc, ◌<◌, ◌≤◌, ◌+◌, Bool, true, false, true≢false, cond, if◌then◌else◌, nat_lt, List, [], ◌∷◌, ◌++◌, length, take, get_or, map, filter, AllPairs, Option, Some, None, option_map, refl, sym, ap, subst, ◌∙◌, arith}
+use Rattle.std.proofs.Common.{◌≡◌, ◌≢◌, inl, inr, ℕ, zero, suc, ◌<◌, ◌≤◌, ◌+◌, Bool, true, false, true≢false, cond, if◌then◌else◌, nat_lt, List, [], ◌∷◌, ◌++◌, length, take, get_or, map, filter, Option, Some, None, option_map, refl, sym, ap, ◌∙◌, arith}
 use Rattle.std.specs.List.{AllByRecursion, flat_map}
 use Rattle.std.proofs.lemmas.Bool.{ltb-false}
-use Rattle.std.proofs.lemmas.List.{take_more, take_all, map-append, append-nil}
+use Rattle.std.proofs.lemmas.List.{take_all, map-append, append-nil}
 use Rattle.std.proofs.lemmas.List.Elements.{All-nil, All-cons, All-append, at_read, filter-append}
 use Rattle.std.proofs.lemmas.Grind.{flat_map-append}
 use Rattle.cs_value.specs.State.{SchemaData, State, schema_at}
+use Rattle.cs_value.proofs.ListLemmas.{AllPairs-before, AllByRecursion-append, AllByRecursion-map, AllByRecursion-weaker, take_more_at}
 use Rattle.cs_wire.specs.declared.entry.Entry.{Entry}
 use Rattle.cs_wire.specs.Entry.{key_of}
 use Rattle.cs_wire.specs.Changeset.{HeaderData, GroupData, IsGroup, IsChangeset}
@@ -17,7 +18,7 @@ use Rattle.cs_group.specs.Applying.{placed_by, placed_in, placed, placed_key, Is
 use Rattle.cs_apply.specs.declared.fault.ApplyFault.{ApplyFault}
 use Rattle.cs_apply.specs.Running.{IsResource}
 use Rattle.cs_apply.specs.Steps.{HasTable, RefusesWider}
-use Rattle.cs_apply.proofs.StepLaws.{Apart, each_append, each_by}
+use Rattle.cs_apply.proofs.StepLaws.{Apart}
 
 -- ---- the table of a group
 
@@ -63,7 +64,7 @@ judged_none s gs = record { same = refl; judged = refl; none_wider = All-nil (λ
 pub judged_more : (before now next : State) (gs : List GroupData) (i : ℕ) (js : List Judgement) (g : GroupData) (j : Judgement) → JudgedTo before now gs i js
     → i < length gs → g ≡ get_or gs i g → j ≡ judged now g → j ≢ Wider → next ≡ now → JudgedTo before next gs (i + 1) (js ++ j ∷ [])
 judged_more before now next gs i js g j so lt is judgement not_wider same =
-    let one : take (i + 1) gs ≡ take i gs ++ g ∷ [] = take_more gs i g lt ∙ ap (λ (x : GroupData). take i gs ++ x ∷ []) (sym is) in
+    let one : take (i + 1) gs ≡ take i gs ++ g ∷ [] = take_more_at gs i g lt is in
     let here : j ≡ judged before g = judgement ∙ ap (λ (s : State). judged s g) so.same in
     record {
       same = same ∙ so.same;
@@ -88,30 +89,10 @@ pub resource_refuses : (s : State) (gs : List GroupData) (e : ApplyFault) → Is
 resource_refuses s gs e (inl is) = rw is tt
 resource_refuses s gs e (inr is) = rw is refl
 
--- ---- lists whose elements differ by pairs
-
-pairs_tail : {X : Type 0} (R : X → X → Type 0) (x : X) (xs : List X) → AllPairs R (x ∷ xs) → AllPairs R xs
-pairs_tail R x xs h i j d lt within = h (suc i) (suc j) d (omega arith) (omega arith)
-
--- those before one
-pub pairs_before : {X : Type 0} (R : X → X → Type 0) (xs : List X) (i : ℕ) (x : X) → AllPairs R xs → i < length xs → x ≡ get_or xs i x → AllByRecursion (λ y. R y x) (take i xs)
-pairs_before R [] i x h lt is = absurd (omega arith)
-pairs_before R (y ∷ xs) zero x h lt is = tt
-pairs_before R (y ∷ xs) (suc i) x h lt is =
-    (subst (R y) (sym is) (h zero (suc i) x (omega arith) lt), pairs_before R xs i x (pairs_tail R y xs h) (omega arith) is)
-
-each_map : {X Y : Type 0} (f : X → Y) (P : X → Type 0) (Q : Y → Type 0) (xs : List X) → ((x : X) → P x → Q (f x)) → AllByRecursion P xs → AllByRecursion Q (map f xs)
-each_map f P Q [] h p = tt
-each_map f P Q (x ∷ xs) h p = (h x p.0, each_map f P Q xs h p.1)
-
-pub one_more : {X : Type 0} (xs : List X) (i : ℕ) (x : X) → i < length xs → x ≡ get_or xs i x → take (i + 1) xs ≡ take i xs ++ x ∷ []
-one_more {X} xs i x lt is = take_more xs i x lt ∙ ap (λ (y : X). take i xs ++ y ∷ []) (sym is)
-
 -- ---- one more entry of a group
 
-pub entries_more : (header : HeaderData) (es : List Entry) (i : ℕ) (e : Entry) → i < length es → e ≡ get_or es i e
-    → map (placed_by header) (take (i + 1) es) ≡ map (placed_by header) (take i es) ++ placed_by header e ∷ []
-entries_more header es i e lt is = ap (map (placed_by header)) (one_more es i e lt is) ∙ map-append (placed_by header) (take i es) (e ∷ [])
+each_map : {X Y : Type 0} (f : X → Y) (P : X → Type 0) (Q : Y → Type 0) (xs : List X) → ((x : X) → P x → Q (f x)) → AllByRecursion P xs → AllByRecursion Q (map f xs)
+each_map f P Q xs h each = AllByRecursion-map Q f xs (AllByRecursion-weaker P (λ x. Q (f x)) h xs each)
 
 -- it is of another row than those before it
 pub entry_apart : (group : GroupData) (i : ℕ) (e : Entry) → IsGroup group → i < length group.entries → e ≡ get_or group.entries i e
@@ -119,7 +100,7 @@ pub entry_apart : (group : GroupData) (i : ℕ) (e : Entry) → IsGroup group �
 entry_apart group i e is lt at =
     let flags = group.header.flags in (
       each_map (placed_by group.header) (λ d. key_of flags d.change ≢ key_of flags e.change) (λ p. IsElsewhere p group.header.name (key_of flags e.change)) (take i group.entries) (λ d apart here. apart here.1)
-          (pairs_before (λ d e. key_of flags d.change ≢ key_of flags e.change) group.entries i e is.once lt at),
+          (AllPairs-before (λ d e. key_of flags d.change ≢ key_of flags e.change) group.entries i e is.once lt at),
       tt,
     )
 
@@ -158,7 +139,7 @@ other_tables state name (g ∷ gs) h = at (is_compatible (judged state g)) (othe
   where
     at : (b : Bool) → AllByRecursion (λ p. p.table ≢ name) (applicable state gs) → AllByRecursion (λ p. p.table ≢ name) (placed (cond b (g ∷ compatible_groups state gs) (compatible_groups state gs)))
     at true others =
-        each_append (λ p. p.table ≢ name) (placed_in g) (applicable state gs)
+        AllByRecursion-append (λ p. p.table ≢ name) (placed_in g) (applicable state gs)
         (each_map (placed_by g.header) (λ e. g.header.name ≢ name) (λ p. p.table ≢ name) g.entries (λ e apart. apart) (each_same g.entries h.0)) others
     at false others = others
 
@@ -166,13 +147,14 @@ own_table : (state : State) (g : GroupData) → AllByRecursion (λ p. p.table �
 own_table state g = at (is_compatible (judged state g))
   where
     at : (b : Bool) → AllByRecursion (λ p. p.table ≡ g.header.name) (placed (cond b (g ∷ []) []))
-    at true = each_append (λ p. p.table ≡ g.header.name) (placed_in g) [] (each_map (placed_by g.header) (λ e. Unit {0}) (λ p. p.table ≡ g.header.name) g.entries (λ e u. refl) (each_same g.entries tt)) tt
+    at true = AllByRecursion-append (λ p. p.table ≡ g.header.name) (placed_in g) [] (each_map (placed_by g.header) (λ e. Unit {0}) (λ p. p.table ≡ g.header.name) g.entries (λ e u. refl) (each_same g.entries tt)) tt
     at false = tt
 
 -- a group is of another table than those before it
 pub group_apart : (state : State) (gs : List GroupData) (i : ℕ) (g : GroupData) → IsChangeset gs → i < length gs → g ≡ get_or gs i g
     → Apart (applicable state (take i gs)) (applicable state (g ∷ []))
 group_apart state gs i g is lt at =
-    let others = other_tables state g.header.name (take i gs) (pairs_before (λ h g. h.header.name ≢ g.header.name) gs i g is.once lt at) in
-    each_by (λ q. q.table ≡ g.header.name) (λ q. AllByRecursion (λ p. IsElsewhere p q.table (placed_key q)) (applicable state (take i gs))) (applicable state (g ∷ [])) (λ q own.
-    each_by (λ p. p.table ≢ g.header.name) (λ p. IsElsewhere p q.table (placed_key q)) (applicable state (take i gs)) (λ p apart here. apart (here.0 ∙ own)) others) (own_table state g)
+    let others = other_tables state g.header.name (take i gs) (AllPairs-before (λ h g. h.header.name ≢ g.header.name) gs i g is.once lt at) in
+    AllByRecursion-weaker (λ q. q.table ≡ g.header.name) (λ q. AllByRecursion (λ p. IsElsewhere p q.table (placed_key q)) (applicable state (take i gs))) (λ q own.
+    AllByRecursion-weaker (λ p. p.table ≢ g.header.name) (λ p. IsElsewhere p q.table (placed_key q)) (λ p apart here. apart (here.0 ∙ own)) (applicable state (take i gs)) others)
+    (applicable state (g ∷ [])) (own_table state g)

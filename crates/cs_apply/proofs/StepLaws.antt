@@ -2,10 +2,12 @@
 use Rattle.std.proofs.Common.{◌≡◌, Bool, true, false, if◌then◌else◌, ◌&&◌, ◌||◌, nat_eq, List, [], ◌∷◌, ◌++◌, map, filter_map, Option, Some, None, option_map, append_assoc, refl, sym, ap, ◌∙◌, arith}
 use Rattle.std.specs.List.{AllByRecursion, cons_option}
 use Rattle.std.specs.Cmp.Lexicographic.{pointwise, same_text, nat_list_eq_equiv}
+use Rattle.std.proofs.lemmas.Bool.{or_right}
 use Rattle.std.proofs.lemmas.List.{append-nil, map-append}
 use Rattle.std.proofs.lemmas.List.Elements.{filter_map-append, recursion_from_All, All-from_recursion}
 use Rattle.cs_value.specs.declared.value.OwnedValue.{OwnedValue}
 use Rattle.cs_value.specs.State.{State, WrittenData}
+use Rattle.cs_value.proofs.ListLemmas.{AllByRecursion-append, AllByRecursion-append_left, AllByRecursion-append_right, AllByRecursion-weaker}
 use Rattle.cs_store.specs.Editing.{written_of}
 use Rattle.cs_group.specs.declared.conflict.Choice.{Choice}
 use Rattle.cs_group.specs.Conflicts.{conflict_kind, is_carried_out, entry_result}
@@ -20,22 +22,6 @@ use Rattle.cs_apply.specs.declared.fault.ApplyFault.TheVariants as fault
 use Rattle.cs_apply.specs.Steps.{Carries, Stops, RefusesEntries}
 
 -- ---- lists
-
-pub each_append : {X : Type 0} (P : X → Type 0) (xs ys : List X) → AllByRecursion P xs → AllByRecursion P ys → AllByRecursion P (xs ++ ys)
-each_append P [] ys p q = q
-each_append P (x ∷ xs) ys p q = (p.0, each_append P xs ys p.1 q)
-
-each_front : {X : Type 0} (P : X → Type 0) (xs ys : List X) → AllByRecursion P (xs ++ ys) → AllByRecursion P xs
-each_front P [] ys p = tt
-each_front P (x ∷ xs) ys p = (p.0, each_front P xs ys p.1)
-
-each_back : {X : Type 0} (P : X → Type 0) (xs ys : List X) → AllByRecursion P (xs ++ ys) → AllByRecursion P ys
-each_back P [] ys p = p
-each_back P (x ∷ xs) ys p = each_back P xs ys p.1
-
-pub each_by : {X : Type 0} (P Q : X → Type 0) (xs : List X) → ((x : X) → P x → Q x) → AllByRecursion P xs → AllByRecursion Q xs
-each_by P Q [] f p = tt
-each_by P Q (x ∷ xs) f p = (f x p.0, each_by P Q xs f p.1)
 
 each_both : {X : Type 0} (P Q R : X → Type 0) (xs : List X) → ((x : X) → P x → Q x → R x) → AllByRecursion P xs → AllByRecursion Q xs → AllByRecursion R xs
 each_both P Q R [] f p q = tt
@@ -85,13 +71,9 @@ not_among : (ps : List PlacedEntry) (q : PlacedEntry) → AllByRecursion (λ p. 
 not_among [] q apart = refl
 not_among (p ∷ ps) q apart = rw (not_at p q apart.0, not_among ps q apart.1) refl
 
-among_more : (a b : Bool) → b ≡ true → (a || b) ≡ true
-among_more true b e = refl
-among_more false b e = e
-
 all_among : (ps : List PlacedEntry) → AllByRecursion (λ p. is_among ps p ≡ true) ps
 all_among [] = tt
-all_among (p ∷ ps) = (rw (at_itself p) refl, each_by _ _ ps (λ q e. among_more (is_at q p) (is_among ps q) e) (all_among ps))
+all_among (p ∷ ps) = (rw (at_itself p) refl, AllByRecursion-weaker _ _ (λ q e. or_right (is_at q p) (is_among ps q) e) ps (all_among ps))
 
 -- ---- one run after another
 
@@ -110,21 +92,21 @@ module _ (ps qs : List PlacedEntry) (a b : State) (first second : Choices) (apar
   both = both_choices ps first second
 
   chosen_first : AllByRecursion (λ p. both p ≡ first p) ps
-  chosen_first = each_by _ _ ps (λ p e. rw e refl) (all_among ps)
+  chosen_first = AllByRecursion-weaker _ _ (λ p e. rw e refl) ps (all_among ps)
 
   -- the rows of the second run are as before the first
   same_rows : AllByRecursion (λ q. current b q ≡ current a q) qs
-  same_rows = each_by _ _ qs (λ q away. applied.others q.table (placed_key q) (All-from_recursion _ ps away)) apart
+  same_rows = AllByRecursion-weaker _ _ (λ q away. applied.others q.table (placed_key q) (All-from_recursion _ ps away)) qs apart
 
   chosen_second : AllByRecursion (λ q. both q ≡ second q) qs
-  chosen_second = each_by _ _ qs (λ q away. rw (not_among ps q away) refl) apart
+  chosen_second = AllByRecursion-weaker _ (λ q. both q ≡ second q) (λ q away. rw (not_among ps q away) refl) qs apart
 
   -- what is told by row and choice is told alike
   by_row : {Y : Type 0} (f : PlacedEntry → Option (List OwnedValue) → Choice → Option Y)
       → filter_map (λ p. f p (current a p) (first p)) ps ++ filter_map (λ q. f q (current b q) (second q)) qs ≡ filter_map (λ p. f p (current a p) (both p)) (ps ++ qs)
   by_row {Y} f =
       let one : filter_map (λ p. f p (current a p) (first p)) ps ≡ filter_map (λ p. f p (current a p) (both p)) ps =
-      filter_map_same _ _ ps (each_by _ _ ps (λ p e. ap (f p (current a p)) (sym e)) chosen_first) in
+      filter_map_same _ _ ps (AllByRecursion-weaker _ _ (λ p e. ap (f p (current a p)) (sym e)) ps chosen_first) in
       let two : filter_map (λ q. f q (current b q) (second q)) qs ≡ filter_map (λ q. f q (current a q) (both q)) qs =
       filter_map_same _ _ qs (each_both _ _ _ qs (λ q row e. ap (λ o. f q o (second q)) row ∙ ap (f q (current a q)) (sym e)) same_rows chosen_second) in
       ap (λ (l : List Y). l ++ filter_map (λ q. f q (current b q) (second q)) qs) one
@@ -173,11 +155,11 @@ module _ (ps qs : List PlacedEntry) (a b d : State) (first second : Choices) (ap
   applied_then : AreApplied a (ps ++ qs) (both_choices ps first second) d
   applied_then = record {
     schemas = λ table. two.schemas table ∙ one.schemas table;
-    results = All-from_recursion (Left a (both_choices ps first second) d) (ps ++ qs) (each_append (Left a (both_choices ps first second) d) ps qs results_first results_second);
+    results = All-from_recursion (Left a (both_choices ps first second) d) (ps ++ qs) (AllByRecursion-append (Left a (both_choices ps first second) d) ps qs results_first results_second);
     others = λ table key away.
         let all = recursion_from_All (λ p. IsElsewhere p table key) (ps ++ qs) away in
-        two.others table key (All-from_recursion (λ p. IsElsewhere p table key) qs (each_back (λ p. IsElsewhere p table key) ps qs all))
-        ∙ one.others table key (All-from_recursion (λ p. IsElsewhere p table key) ps (each_front (λ p. IsElsewhere p table key) ps qs all));
+        two.others table key (All-from_recursion (λ p. IsElsewhere p table key) qs (AllByRecursion-append_right (λ p. IsElsewhere p table key) ps qs all))
+        ∙ one.others table key (All-from_recursion (λ p. IsElsewhere p table key) ps (AllByRecursion-append_left (λ p. IsElsewhere p table key) ps qs all));
   }
 
 module _ (chooses : Handler) where
@@ -248,7 +230,7 @@ module _ (chooses : Handler) (ps : List PlacedEntry) (a : State) (r : Report) wh
   pub stops_then : (qs : List PlacedEntry) (b : State) (s t : Report) (k : Conflict) → Apart ps qs → Carries chooses ps a r b s → Stops chooses qs b s t k → Stops chooses (ps ++ qs) a r t k
   stops_then qs b s t k apart one ended =
       let same : filter_map (conflict_at b) qs ≡ filter_map (conflict_at a) qs =
-      filter_map_same _ _ qs (each_by _ _ qs (λ q row. ap (conflict_with q) row) (same_rows ps qs a b one.choose one.choose apart one.applied)) in
+      filter_map_same _ _ qs (AllByRecursion-weaker _ _ (λ q row. ap (conflict_with q) row) qs (same_rows ps qs a b one.choose one.choose apart one.applied)) in
       record {
         later = ended.later;
         chosen = λ all. ended.chosen (one.chosen all);

@@ -1,19 +1,21 @@
 use Rattle.std.proofs.Common.{rules}
+use Rattle.std.proofs.lemmas.Result.{IfOk-weaker, IfErr-weaker, MatchResult-from_both}
 use Rattle.cs_apply.specs.declared.running.Direction.TheVariants.{Inverse}
 use Rattle.cs_apply.specs.Running.{AlwaysAborts, IsResource}
-use Rattle.cs_apply.proofs.RevertLaws.{reverts_ok, reverts_err, refuses_weaker, if_err_by, match_by}
+use Rattle.cs_apply.proofs.RevertLaws.{reverts_ok, reverts_err, refuses_weaker}
 use Rattle.cs_apply.proofs.CrashLaws.{crash_weaker}
 use Rattle.cs_apply.proofs.store.revert.Goals as goal
 
 pub returns-clause-refused : goal.returns-clause-refused
 returns-clause-refused g c = λ clean.
-    if_err_by _ _ c.run.result (λ e refuses. refuses_weaker _ AlwaysAborts (λ k chosen given. search rules) c.args.file.now Inverse _ e refuses) (c.run.ensures.refused clean)
+    IfErr-weaker c.run.result _ _ (λ e refuses. refuses_weaker _ AlwaysAborts (λ k chosen given. search rules) c.args.file.now Inverse _ e refuses) (c.run.ensures.refused clean)
 
 pub returns-clause-reverts : goal.returns-clause-reverts
 returns-clause-reverts g c = λ clean before leads.
     let law = c.changeset_files_law.ensures in
-    match_by _ _ _ IsResource c.run.result (λ report applies. reverts_ok _ law c.args.file.now before _ _ report leads applies) (λ e refuses. reverts_err law c.args.file.now before _ e leads (refuses_weaker _ AlwaysAborts (λ k chosen given. search rules) c.args.file.now Inverse _ e refuses))
-    (c.run.ensures.applied clean) (c.run.ensures.refused clean)
+    MatchResult-from_both c.run.result _ IsResource
+    (IfOk-weaker c.run.result _ _ (λ report applies. reverts_ok _ law c.args.file.now before _ _ report leads applies) (c.run.ensures.applied clean))
+    (IfErr-weaker c.run.result _ _ (λ e refuses. reverts_err law c.args.file.now before _ e leads (refuses_weaker _ AlwaysAborts (λ k chosen given. search rules) c.args.file.now Inverse _ e refuses)) (c.run.ensures.refused clean))
 
 pub returns-clause-survives : goal.returns-clause-survives
 returns-clause-survives g c =
