@@ -10,10 +10,12 @@ use Rattle.cs_value.specs.Value.{IsField, IsRecord, IsRow}
 use Rattle.cs_value.specs.Table.{IsKeyedRow}
 use Rattle.cs_value.specs.Spelling.{field_bytes}
 use Rattle.cs_value.specs.Key.{row_key, image_key}
+use Rattle.cs_value.proofs.RowImages.{IsRecord-map}
 use Rattle.cs_wire.specs.declared.entry.Change.{Change}
 use Rattle.cs_wire.specs.declared.entry.Change.TheVariants.{Insert, Delete, Update}
 use Rattle.cs_wire.specs.declared.entry.Entry.{Entry}
 use Rattle.cs_wire.specs.Entry.{IsPaired, IsKeyPair, IsKeyedUpdate, IsChange, IsEntry, with_key, key_of}
+use Rattle.cs_wire.proofs.InverseLaws.{IsRecord-with_key}
 use Rattle.cs_group.specs.Net.{is_same, old_record, new_record, values_of, net_between, net_change}
 use Rattle.cs_value.proofs.KeyedRows.{length-IsKeyedRow}
 use Rattle.cs_wire.proofs.EntryLaws.{length-IsKeyedUpdate}
@@ -117,10 +119,6 @@ row_key_is (suc flag ∷ flags) (Defined w ∷ image) (v ∷ row) k e = ap (λ (
 
 -- ---- the images of rows
 
-pub row_record : (row : List OwnedValue) → IsRow row → IsRecord (map Defined row)
-row_record [] h = tt
-row_record (v ∷ row) h = (h.0, row_record row h.1)
-
 pub row_image_key : (flags : List ℕ) (row : List OwnedValue) → image_key flags (map Defined row) ≡ row_key flags row
 unfolding field_bytes
 row_image_key [] row = refl
@@ -167,13 +165,6 @@ new_image_key (flag ∷ flags) [] new e = refl
 new_image_key (flag ∷ flags) (o ∷ old) [] e = absurd (omega arith)
 new_image_key (zero ∷ flags) (o ∷ old) (n ∷ new) e = new_image_key flags old new (omega arith)
 new_image_key (suc flag ∷ flags) (o ∷ old) (n ∷ new) e = ap (λ (key : List ℕ). field_bytes o ++ key) (new_image_key flags old new (omega arith))
-
-with_key_record : (flags : List ℕ) (old new : List OwnedField) → IsRecord old → IsRecord new → IsRecord (with_key flags old new)
-with_key_record [] old new p q = tt
-with_key_record (flag ∷ flags) [] new p q = tt
-with_key_record (flag ∷ flags) (o ∷ old) [] p q = tt
-with_key_record (zero ∷ flags) (o ∷ old) (n ∷ new) p q = (q.0, with_key_record flags old new p.1 q.1)
-with_key_record (suc flag ∷ flags) (o ∷ old) (n ∷ new) p q = (p.0, with_key_record flags old new p.1 q.1)
 
 over_field : (upper lower : OwnedField) → IsField upper → IsField lower → IsField (over upper lower)
 over_field Undefined lower p q = q
@@ -251,11 +242,11 @@ net_fits flags key (Insert row) (Update old new) p q k l e =
     let keyed = new_keyed flags old new q.2 in
     let width = sym (length-IsKeyedRow flags row p.1) in
     record {
-      fits = row_is flags image row (with_key_record flags old new q.0 q.1) keyed p.0 width;
+      fits = row_is flags image row (IsRecord-with_key flags old new q.0 q.1) keyed p.0 width;
       same = row_key_is flags image row keyed width ∙ new_image_key flags old new (length-IsKeyedUpdate flags old new q.2).1 ∙ l;
     }
 net_fits flags key (Delete row) (Insert other) p q k l e =
-    update_fits flags key (map Defined row) (map Defined other) (row_record row p.0) (row_record other q.0) (rows_paired flags row other p.1 q.1) (row_image_key flags row ∙ k)
+    update_fits flags key (map Defined row) (map Defined other) (IsRecord-map row p.0) (IsRecord-map other q.0) (rows_paired flags row other p.1 q.1) (row_image_key flags row ∙ k)
 net_fits flags key (Delete row) (Delete other) p q k l e = absurd (true≢false (sym e))
 net_fits flags key (Delete row) (Update old new) p q k l e = absurd (true≢false (sym e))
 net_fits flags key (Update old new) (Insert row) p q k l e = absurd (true≢false (sym e))
@@ -270,7 +261,7 @@ net_fits flags key (Update old new) (Update next last) p q k l e =
     let width = length-IsKeyedUpdate flags next last q.2 in
     update_fits flags key (laid_over old next) (laid_over (with_key flags next last) (with_key flags old new))
     (laid_over_record old next p.0 q.0)
-    (laid_over_record (with_key flags next last) (with_key flags old new) (with_key_record flags next last q.0 q.1) (with_key_record flags old new p.0 p.1))
+    (laid_over_record (with_key flags next last) (with_key flags old new) (IsRecord-with_key flags next last q.0 q.1) (IsRecord-with_key flags old new p.0 p.1))
     (updates_paired flags old new next last p.2 q.2)
     (laid_over_key flags old next (old_keyed flags old new p.2) (sym width.0) ∙ k)
 

@@ -11,13 +11,14 @@ use Rattle.cs_value.specs.Key.{key_columns}
 use Rattle.cs_value.specs.State.{IsRowAt}
 use Rattle.cs_value.proofs.KeyedRows.{length-IsKeyedRow}
 use Rattle.cs_value.proofs.Spellings.{row_bytes_same}
+use Rattle.cs_value.proofs.RowImages.{IsRecord-map}
 use Rattle.cs_wire.specs.declared.entry.Change.{Change}
 use Rattle.cs_wire.specs.declared.entry.Change.TheVariants.{Update}
 use Rattle.cs_wire.specs.Entry.{IsChange, with_key, key_of}
 use Rattle.cs_group.specs.Net.{is_same, values_of, old_record, new_record, net_row_change}
 use Rattle.cs_group.specs.Conflicts.{has_values, filled, conflict_kind, row_after}
 use Rattle.cs_group.proofs.ConflictLaws.{same_values, same_itself, filled_row, has_its_values}
-use Rattle.cs_group.proofs.MergeLaws.{update_is, update_key, row_record, rows_paired, row_image_key}
+use Rattle.cs_group.proofs.MergeLaws.{update_is, update_key, rows_paired, row_image_key}
 
 -- ---- the update from a row to a row
 
@@ -121,7 +122,7 @@ update_leads flags key before after b a =
     let n = length-IsKeyedRow flags after a.keyed in
     let paired = rows_paired flags before after b.keyed a.keyed in
     record {
-      fits = update_is flags (map Defined before) (map Defined after) (row_record before b.values) (row_record after a.values) paired;
+      fits = update_is flags (map Defined before) (map Defined after) (IsRecord-map before b.values) (IsRecord-map after a.values) paired;
       same = update_key flags (map Defined before) (map Defined after) paired ∙ row_image_key flags before ∙ sym b.own;
       no_conflict = rw (has_old flags before after m n) refl;
       leaves = ap Some (fills_after flags before after m n (keys_same flags key before after b a));

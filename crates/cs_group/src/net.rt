@@ -95,7 +95,8 @@ pub fn net_change(
 ) -> Result<Option<Change>, NoMemory>
     requires before { IfSome before (λ fields. IsImage flags.now fields.now) }
     requires after { IfSome after (λ fields. IsImage flags.now fields.now) }
-    ensures { IfOk result (λ change. change ≡ net_between flags.now (lent_image before.entry) (lent_image after.entry)) }
+    ensures { IfOk result (λ change.
+        change ≡ net_between flags.now (lent_image before.entry) (lent_image after.entry)) }
 {
     Ok(match (before, after) {
         (None, None) => None,

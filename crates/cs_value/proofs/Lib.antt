@@ -18,3 +18,4 @@ pub mod ImageReading
 pub mod RefusalLaws
 pub mod StateLaws
 pub mod KeyedRows
+pub mod RowImages

@@ -18,7 +18,7 @@ use Rattle.cs_wire.specs.Entry.{IsPaired, IsKeyPair, IsKeyedUpdate, IsChange, op
 use Rattle.cs_wire.specs.ReadFaults.{Stands}
 use Rattle.cs_wire.specs.Reading.{Want, KeyValue, AnyValue, AnyField, NewValue, Nothing, refusal, is_key_flag, in_row, in_old, in_new, is_modified, row_wants, old_wants, new_wants, wants_of, Meets, IsRecordAt, RecordRefused, ChangeRefused}
 use Rattle.cs_wire.proofs.ReadingLaws.{Stands-then, rest_is}
-use Rattle.cs_wire.proofs.EntryLaws.{IsRow-map}
+use Rattle.cs_value.proofs.RowImages.{IsRow-map}
 use Rattle.cs_wire.proofs.FieldsLaws.{length-Meets}
 
 -- a flag other than 0 marks a key column
@@ -267,19 +267,6 @@ pub updated : (change : Change) → operation change ≡ 0x17 → (old : List Ow
 updated (Insert row) e = absurd (omega arith)
 updated (Delete row) e = absurd (omega arith)
 updated (Update old new) e = (old, new, refl)
-
-same_first : (v w : OwnedValue) (vs ws : List OwnedField) → Defined v ∷ vs ≡ Defined w ∷ ws → (v ≡ w) × (vs ≡ ws)
-same_first v w vs ws e = (cc, cc)
-
--- equal fields are equal values
-pub same_values : (xs ys : List OwnedValue) → map Defined xs ≡ map Defined ys → xs ≡ ys
-same_values [] [] e = refl
-same_values [] (y ∷ ys) e = absurd cc
-same_values (x ∷ xs) [] e = absurd cc
-same_values (x ∷ xs) (y ∷ ys) e =
-    let both = same_first x y (map Defined xs) (map Defined ys) e in
-    let others = same_values xs ys both.1 in
-    cc (both.0, others)
 
 -- ---- the records of an update
 

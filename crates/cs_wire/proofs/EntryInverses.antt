@@ -3,6 +3,7 @@ use Rattle.std.proofs.Common.{◌≡◌, ℕ, zero, suc, List, [], ◌∷◌, ma
 use Rattle.cs_value.specs.declared.value.OwnedValue.{OwnedValue}
 use Rattle.cs_value.specs.declared.value.OwnedField.{OwnedField}
 use Rattle.cs_value.specs.declared.value.OwnedField.TheVariants.{Undefined, Defined}
+use Rattle.cs_value.proofs.RowImages.{same_from_fields}
 use Rattle.cs_wire.specs.declared.entry.Change.{Change}
 use Rattle.cs_wire.specs.declared.entry.Change.TheVariants.{Insert, Delete, Update}
 use Rattle.cs_wire.specs.Entry.{IsKeyedUpdate, IsChange, with_key, before_image, after_image}
@@ -24,17 +25,6 @@ same_some x y e = cc
 
 no_some : (x : List OwnedField) → some x ≡ none → ⊥
 no_some x e = cc
-
--- rows with equal fields are equal
-same_values : (r s : List OwnedValue) → map Defined r ≡ map Defined s → r ≡ s
-same_values [] [] e = refl
-same_values [] (w ∷ s) e = absurd cc
-same_values (v ∷ r) [] e = absurd cc
-same_values (v ∷ r) (w ∷ s) e =
-    let head : v ≡ w = cc in
-    let tail : map Defined r ≡ map Defined s = cc in
-    let others = same_values r s tail in
-    cc (head, others)
 
 -- new records are equal that are so outside the key
 same_new : (flags : List ℕ) (old m n : List OwnedField) → IsKeyedUpdate flags old m → IsKeyedUpdate flags old n → with_key flags old m ≡ with_key flags old n → m ≡ n
@@ -65,11 +55,11 @@ same_update flags old m other n p q same e =
 
 -- well-formed changes with the same images are equal
 same_change : (flags : List ℕ) (c d : Change) → IsChange flags c → IsChange flags d → before_image c ≡ before_image d → after_image flags c ≡ after_image flags d → c ≡ d
-same_change flags (Insert r) (Insert s) p q before after = ap (λ (x : List OwnedValue). Insert x) (same_values r s (same_some (map Defined r) (map Defined s) after))
+same_change flags (Insert r) (Insert s) p q before after = ap (λ (x : List OwnedValue). Insert x) (same_from_fields r s (same_some (map Defined r) (map Defined s) after))
 same_change flags (Insert r) (Delete s) p q before after = absurd (no_some (map Defined r) after)
 same_change flags (Insert r) (Update old new) p q before after = absurd (no_some old (sym before))
 same_change flags (Delete r) (Insert s) p q before after = absurd (no_some (map Defined r) before)
-same_change flags (Delete r) (Delete s) p q before after = ap (λ (x : List OwnedValue). Delete x) (same_values r s (same_some (map Defined r) (map Defined s) before))
+same_change flags (Delete r) (Delete s) p q before after = ap (λ (x : List OwnedValue). Delete x) (same_from_fields r s (same_some (map Defined r) (map Defined s) before))
 same_change flags (Delete r) (Update old new) p q before after = absurd (no_some (with_key flags old new) (sym after))
 same_change flags (Update old new) (Insert s) p q before after = absurd (no_some old before)
 same_change flags (Update old new) (Delete s) p q before after = absurd (no_some (with_key flags old new) after)

@@ -1,12 +1,11 @@
 -- Entries: their fields and keys.
-use Rattle.std.proofs.Common.{◌≡◌, ℕ, zero, suc, ◌<◌, Bool, cond, List, [], ◌∷◌, ◌++◌, length, map, refl, sym, ap, arith, inl, inr}
+use Rattle.std.proofs.Common.{◌≡◌, ℕ, zero, suc, ◌<◌, Bool, cond, List, [], ◌∷◌, ◌++◌, length, refl, sym, ap, arith, inl, inr}
 use Rattle.std.specs.Prelude.{◌⊎◌}
 use Rattle.cs_value.specs.declared.value.OwnedValue.{OwnedValue}
 use Rattle.cs_value.specs.declared.value.OwnedField.{OwnedField}
-use Rattle.cs_value.specs.declared.value.OwnedField.TheVariants.{Defined}
 use Rattle.cs_value.specs.Key.{row_key}
-use Rattle.cs_value.specs.Value.{IsRow, IsRecord}
-use Rattle.cs_value.specs.Spelling.{field_bytes, record_bytes, row_bytes}
+use Rattle.cs_value.specs.Spelling.{record_bytes, row_bytes}
+use Rattle.cs_value.proofs.RowImages.{record_bytes-map}
 use Rattle.cs_wire.specs.declared.entry.Change.{Change}
 use Rattle.cs_wire.specs.declared.entry.Entry.{Entry}
 use Rattle.cs_value.proofs.KeyedRows.{length-IsKeyedRow}
@@ -27,20 +26,6 @@ length-IsKeyedUpdate (zero ∷ flags) (o ∷ old) (n ∷ new) h =
     let others = length-IsKeyedUpdate flags old new h.1 in (ap suc others.0, ap suc others.1)
 length-IsKeyedUpdate (suc flag ∷ flags) (o ∷ old) (n ∷ new) h =
     let others = length-IsKeyedUpdate flags old new h.1 in (ap suc others.0, ap suc others.1)
-
--- values are spelled as the fields that they are
-pub record_bytes-map : (values : List OwnedValue) → record_bytes (map Defined values) ≡ row_bytes values
-unfolding field_bytes
-record_bytes-map [] = refl
-record_bytes-map (v ∷ values) = ap (λ (bytes : List ℕ). field_bytes (Defined v) ++ bytes) (record_bytes-map values)
-
-pub IsRecord-map : (values : List OwnedValue) → IsRow values → IsRecord (map Defined values)
-IsRecord-map [] h = tt
-IsRecord-map (v ∷ values) h = (h.0, IsRecord-map values h.1)
-
-pub IsRow-map : (values : List OwnedValue) → IsRecord (map Defined values) → IsRow values
-IsRow-map [] h = tt
-IsRow-map (v ∷ values) h = (h.0, IsRow-map values h.1)
 
 -- ---- what a change does, as a `match` on it tells
 

@@ -17,8 +17,8 @@ use Rattle.cs_wire.specs.Changeset.{HeaderData, GroupData, IsHeader, IsGroup, Is
 use Rattle.cs_wire.specs.Reading.{EndsGroup}
 use Rattle.cs_wire.proofs.ReadingLaws.{flags_bytes-append, header_bytes-append, same_header}
 use Rattle.cs_value.proofs.KeyedRows.{length-IsKeyedRow}
-use Rattle.cs_wire.proofs.EntryLaws.{length-IsKeyedUpdate, IsRecord-map, entry_bytes-append, same_entry}
-use Rattle.cs_wire.proofs.ChangeLaws.{same_values}
+use Rattle.cs_wire.proofs.EntryLaws.{length-IsKeyedUpdate, entry_bytes-append, same_entry}
+use Rattle.cs_value.proofs.RowImages.{IsRecord-map, same_from_fields}
 use Rattle.cs_wire.proofs.EntriesLaws.{operation_no_header}
 use Rattle.cs_wire.proofs.GroupsLaws.{group_bytes-append, group_bytes_some, same_group, ends_group}
 use Rattle.cs_value.specs.Laws.{RecordSpellings}
@@ -58,8 +58,8 @@ same_width flags (Update old new) (Delete other) h k e = absurd (omega arith)
 
 -- and if these are equal, so are the changes
 same_change : (flags : List ℕ) (c d : Change) → IsChange flags c → IsChange flags d → operation c ≡ operation d → fields_of c ≡ fields_of d → c ≡ d
-same_change flags (Insert row) (Insert other) h k e same = ap Insert (same_values row other same)
-same_change flags (Delete row) (Delete other) h k e same = ap Delete (same_values row other same)
+same_change flags (Insert row) (Insert other) h k e same = ap Insert (same_from_fields row other same)
+same_change flags (Delete row) (Delete other) h k e same = ap Delete (same_from_fields row other same)
 same_change flags (Update old new) (Update before after) h k e same =
     let width : length old ≡ length before = sym (length-IsKeyedUpdate flags old new h.2).0 ∙ (length-IsKeyedUpdate flags before after k.2).0 in
     let both = same_from_append old before new after width same in

@@ -61,7 +61,7 @@ keyed_back (suc flag ∷ flags) [] new h = absurd h
 keyed_back (zero ∷ flags) (o ∷ old) [] h = absurd h
 keyed_back (suc flag ∷ flags) (o ∷ old) [] h = absurd h
 
-IsRecord-with_key : (flags : List ℕ) (a b : List OwnedField) → IsRecord a → IsRecord b → IsRecord (with_key flags a b)
+pub IsRecord-with_key : (flags : List ℕ) (a b : List OwnedField) → IsRecord a → IsRecord b → IsRecord (with_key flags a b)
 IsRecord-with_key [] a b h k = tt
 IsRecord-with_key (zero ∷ flags) [] b h k = tt
 IsRecord-with_key (suc flag ∷ flags) [] b h k = tt

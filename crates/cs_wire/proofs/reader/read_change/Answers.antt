@@ -9,8 +9,8 @@ use Rattle.cs_wire.specs.declared.entry.Change.TheVariants.{Insert, Delete, Upda
 use Rattle.cs_wire.specs.Views.{byte_of}
 use Rattle.cs_value.proofs.RefusalLaws.{Answers-err}
 use Rattle.cs_wire.proofs.ReadingLaws.{because, Stands-then}
-use Rattle.cs_wire.proofs.EntryLaws.{IsRecord-map, IsRow-map}
-use Rattle.cs_wire.proofs.ChangeLaws.{row_met, keyed_row, old_met, new_met, keyed_update, row_refused, old_refused, new_refused, inserted, deleted, updated, same_values, spelled_update, behind_old, length-old}
+use Rattle.cs_value.proofs.RowImages.{IsRecord-map, IsRow-map, same_from_fields}
+use Rattle.cs_wire.proofs.ChangeLaws.{row_met, keyed_row, old_met, new_met, keyed_update, row_refused, old_refused, new_refused, inserted, deleted, updated, spelled_update, behind_old, length-old}
 use Rattle.cs_wire.proofs.reader.read_change.Goals as goal
 
 pub returns-in_err-row-in-Insert-clause-only : goal.returns-in_err-row-in-Insert-clause-only
@@ -38,7 +38,7 @@ returns-in_ok-row-in-Insert-clause-only c = λ change rest is does e.
     let row = inserted change (does ∙ ap byte_of c.in-Insert.is) in
     let whole = rw row.1 at is in
     let read = c.in_ok-row-in-Insert.ensures.only (map Defined row.0) rest (IsRecord-map row.0 whole.0) (row_met c.args.flags.now row.0 whole.1) (rw row.1 at e) in
-    ap Insert (same_values c.in_ok-row-in-Insert.row row.0 read) ∙ sym row.1
+    ap Insert (same_from_fields c.in_ok-row-in-Insert.row row.0 read) ∙ sym row.1
 
 pub returns-in_err-row-in-Delete-clause-only : goal.returns-in_err-row-in-Delete-clause-only
 returns-in_err-row-in-Delete-clause-only c =
@@ -65,7 +65,7 @@ returns-in_ok-row-in-Delete-clause-only c = λ change rest is does e.
     let row = deleted change (does ∙ ap byte_of c.in-Delete.is) in
     let whole = rw row.1 at is in
     let read = c.in_ok-row-in-Delete.ensures.only (map Defined row.0) rest (IsRecord-map row.0 whole.0) (row_met c.args.flags.now row.0 whole.1) (rw row.1 at e) in
-    ap Delete (same_values c.in_ok-row-in-Delete.row row.0 read) ∙ sym row.1
+    ap Delete (same_from_fields c.in_ok-row-in-Delete.row row.0 read) ∙ sym row.1
 
 pub returns-in_err-old-in-Update-clause-only : goal.returns-in_err-old-in-Update-clause-only
 returns-in_err-old-in-Update-clause-only c =
