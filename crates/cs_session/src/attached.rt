@@ -61,7 +61,8 @@ pub(crate) fn note_all(
 
 /// Notes the keys that were written in a table.
 fn note_writes(alloc: Global, table: &mut Attached, written: &[Written]) -> Result<(), SessionFault>
-    ensures noted { OnOk result (attached_of table.new ≡ noted_in (map written_of written.now) (attached_of table.old)) }
+    ensures noted { OnOk result (attached_of table.new
+        ≡ noted_in (map written_of written.now) (attached_of table.old)) }
     ensures formers { OnOk result (HasFormers (map written_of written.now) (attached_of table.old)) }
     ensures kept { kept_of table.new ≡ kept_of table.old }
     ensures refused { IfErr result (λ e. (e ≡ OutOfMemory)

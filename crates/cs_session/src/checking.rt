@@ -21,7 +21,8 @@ pub(crate) fn check_tables<B: Rows>(
 ) -> Result<(), SessionFault>
     ensures attached { B.is_honest rows.new → OnOk result (HasTables (B.state rows.old) (map attached_of tables.now)) }
     ensures same { B.is_honest rows.new → OnOk result (B.state rows.new ≡ B.state rows.old) }
-    ensures refused { B.is_honest rows.new → IfErr result (RefusesChanges (B.state rows.old) (map attached_of tables.now)) }
+    ensures refused { B.is_honest rows.new
+        → IfErr result (RefusesChanges (B.state rows.old) (map attached_of tables.now)) }
     ensures named { IfErr result IsNamed }
     ensures was_honest { B.is_honest rows.new → B.is_honest rows.old }
     ensures kept { B.keeps rows.old rows.new }
@@ -39,9 +40,11 @@ pub(crate) fn check_named<B: Rows>(
     tables: &[Attached],
     name: &str,
 ) -> Result<(), SessionFault>
-    ensures attached { B.is_honest rows.new → OnOk result (HasNamed (B.state rows.old) name.now (map attached_of tables.now)) }
+    ensures attached { B.is_honest rows.new
+        → OnOk result (HasNamed (B.state rows.old) name.now (map attached_of tables.now)) }
     ensures same { B.is_honest rows.new → OnOk result (B.state rows.new ≡ B.state rows.old) }
-    ensures refused { B.is_honest rows.new → IfErr result (RefusesNamed (B.state rows.old) name.now (map attached_of tables.now)) }
+    ensures refused { B.is_honest rows.new
+        → IfErr result (RefusesNamed (B.state rows.old) name.now (map attached_of tables.now)) }
     ensures named { IfErr result IsNamed }
     ensures was_honest { B.is_honest rows.new → B.is_honest rows.old }
     ensures kept { B.keeps rows.old rows.new }

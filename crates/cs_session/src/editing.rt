@@ -26,13 +26,14 @@ pub(crate) fn edit_noted<S: Alter>(
 ) -> Result<(), SessionFault>
     requires notes { IsNotes (map attached_of tables.old) }
     requires settled { AllByRecursion IsSettled tables.old }
-    ensures recorded { HasCleanDisk (state S.Store store.new) → OnOk result (Records (tables_in (state S.Store store.old).now)
-        edit.now (map attached_of tables.old) (tables_in (state S.Store store.new).now) (map attached_of tables.new)) }
+    ensures recorded { HasCleanDisk (state S.Store store.new)
+        → OnOk result (Records (tables_in (state S.Store store.old).now) edit.now (map attached_of tables.old)
+        (tables_in (state S.Store store.new).now) (map attached_of tables.new)) }
     ensures same { OnErr result (map attached_of tables.new ≡ map attached_of tables.old) }
     ensures well_formed { IsNotes (map attached_of tables.new) }
     ensures settled { AllByRecursion IsSettled tables.new }
-    ensures refused { HasCleanDisk (state S.Store store.new) → IfErr result (RefusesEdit (tables_in (state S.Store store.old).now)
-        edit.now (map attached_of tables.old)) }
+    ensures refused { HasCleanDisk (state S.Store store.new)
+        → IfErr result (RefusesEdit (tables_in (state S.Store store.old).now) edit.now (map attached_of tables.old)) }
     ensures at_rest { HasCleanDisk (state S.Store store.new) → OnOk result (IsAtRest (state S.Store store.new)) }
     ensures kept { HasCleanDisk (state S.Store store.new)
         → OnErr result (KeepsContent (state S.Store store.old) (state S.Store store.new)) }
@@ -60,12 +61,13 @@ fn edit_batch<S: Alter>(
     edit: &Edit,
 ) -> Result<(), SessionFault>
     requires { IsNotes (map attached_of tables.old) }
-    ensures recorded { HasCleanDisk (state S.Store store.new) → OnOk result (Records (tables_in (state S.Store store.old).now)
-        edit.now (map attached_of tables.old) (tables_in (state S.Store store.new).now) (map attached_of tables.new)) }
+    ensures recorded { HasCleanDisk (state S.Store store.new)
+        → OnOk result (Records (tables_in (state S.Store store.old).now) edit.now (map attached_of tables.old)
+        (tables_in (state S.Store store.new).now) (map attached_of tables.new)) }
     ensures well_formed { OnOk result (IsNotes (map attached_of tables.new)) }
     ensures notes { map kept_of tables.new ≡ map kept_of tables.old }
-    ensures refused { HasCleanDisk (state S.Store store.new) → IfErr result (RefusesEdit (tables_in (state S.Store store.old).now)
-        edit.now (map attached_of tables.old)) }
+    ensures refused { HasCleanDisk (state S.Store store.new)
+        → IfErr result (RefusesEdit (tables_in (state S.Store store.old).now) edit.now (map attached_of tables.old)) }
     ensures at_rest { HasCleanDisk (state S.Store store.new) → OnOk result (IsAtRest (state S.Store store.new)) }
     ensures kept { HasCleanDisk (state S.Store store.new)
         → OnErr result (KeepsContent (state S.Store store.old) (state S.Store store.new)) }

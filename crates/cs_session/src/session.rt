@@ -117,9 +117,11 @@ impl Session {
         edit: &Edit,
     ) -> Result<(), SessionFault>
         ensures recorded { HasCleanDisk (state S.Store store.new) → OnOk result (Records
-            (tables_in (state S.Store store.old).now) edit.now self.old (tables_in (state S.Store store.new).now) self.new) }
+            (tables_in (state S.Store store.old).now) edit.now self.old
+            (tables_in (state S.Store store.new).now) self.new) }
         ensures rewound { HasCleanDisk (state S.Store store.new) → OnOk result
-            (rewound self.new (tables_in (state S.Store store.new).now) ≡ rewound self.old (tables_in (state S.Store store.old).now)) }
+            (rewound self.new (tables_in (state S.Store store.new).now)
+            ≡ rewound self.old (tables_in (state S.Store store.old).now)) }
         ensures refused { HasCleanDisk (state S.Store store.new)
             → IfErr result (RefusesEdit (tables_in (state S.Store store.old).now) edit.now self.old) }
         ensures same { OnErr result (self.new ≡ self.old) }
@@ -147,7 +149,8 @@ impl Session {
     ) -> Result<Report, SessionFault>
         requires { H.IsAlwaysCallable handler.now }
         ensures recorded { HasCleanDisk (state S.Store store.new) → IfOk result (λ report.
-            RecordsApply (FnReturnsAt H.Fn handler.now) file.now (tables_in (state S.Store store.old).now) self.old report
+            RecordsApply (FnReturnsAt H.Fn handler.now) file.now
+            (tables_in (state S.Store store.old).now) self.old report
             (tables_in (state S.Store store.new).now) self.new) }
         ensures rewound { HasCleanDisk (state S.Store store.new) → OnOk result
             (rewound self.new (tables_in (state S.Store store.new).now)
@@ -204,7 +207,8 @@ impl Session {
         store: &mut Store<S>,
     ) -> Result<Report, SessionFault>
         ensures undone { HasCleanDisk (state S.Store store.new) → IfOk result (λ report.
-            Undoes self.now (tables_in (state S.Store store.old).now) report (tables_in (state S.Store store.new).now)) }
+            Undoes self.now (tables_in (state S.Store store.old).now) report
+            (tables_in (state S.Store store.new).now)) }
         ensures refused { HasCleanDisk (state S.Store store.new)
             → IfErr result (RefusesChanges (tables_in (state S.Store store.old).now) self.now) }
         ensures at_rest { HasCleanDisk (state S.Store store.new) → OnOk result (IsAtRest (state S.Store store.new)) }

@@ -24,7 +24,8 @@ pub(crate) fn undo_rows<B: Rows>(
     requires state { B.is_honest rows.old → IsState (B.state rows.old) }
     ensures undone { B.is_honest rows.new → IfOk result (λ report.
         Undoes (map attached_of tables.now) (B.state rows.old) report (B.state rows.new)) }
-    ensures refused { B.is_honest rows.new → IfErr result (RefusesChanges (B.state rows.old) (map attached_of tables.now)) }
+    ensures refused { B.is_honest rows.new
+        → IfErr result (RefusesChanges (B.state rows.old) (map attached_of tables.now)) }
     ensures was_honest { B.is_honest rows.new → B.is_honest rows.old }
     ensures kept { B.keeps rows.old rows.new }
 {
