@@ -5,15 +5,16 @@ use Rattle.std.specs.List.{AllByRecursion, list_all, list_any}
 use Rattle.std.specs.Cmp.Lexicographic.{same_text, other_text}
 use Rattle.std.proofs.lemmas.Bool.{and_parts, eqb-true}
 use Rattle.std.proofs.lemmas.List.{nil_from_length, map-append}
-use Rattle.std.proofs.lemmas.List.Elements.{recursion_from_All, All-from_recursion}
+use Rattle.std.proofs.lemmas.List.Elements.{recursion_from_All, All-from_recursion, All-push}
+use Rattle.std.proofs.lemmas.List.Quantifiers.{all_pairs_push}
 use Rattle.cs_value.specs.Table.{IsName}
 use Rattle.cs_value.specs.State.{SchemaData, IsSchema, State, schema_at, rows_at}
+use Rattle.cs_value.proofs.ListLemmas.{AllByRecursion-push}
 use Rattle.cs_store.specs.Records.{same_bytes}
 use Rattle.cs_session.specs.declared.attached.Attached.{Attached}
 use Rattle.cs_session.specs.FirstImages.{NotedImages, AttachedTable, Notes, IsAttachedTable, IsNotes, rewound_rows, rewound}
 use Rattle.cs_session.specs.Attaching.{IsNewTable, Attaches}
 use Rattle.cs_session.specs.Views.{attached_of, IsSettled}
-use Rattle.cs_session.proofs.RewoundLaws.{PairsByRecursion, pairs_by_recursion, pairs_from_recursion}
 
 -- ---- a name
 
@@ -68,30 +69,18 @@ unwritten tables = (
 
 -- ---- a table behind the others
 
-abbrev Apart : AttachedTable → AttachedTable → Type 0
-Apart s t = s.name ≢ t.name
-
-pub table_behind : (P : AttachedTable → Type 0) (notes : Notes) (new : AttachedTable) → AllByRecursion P notes → P new → AllByRecursion P (notes ++ new ∷ [])
-table_behind P [] new each last = (last, tt)
-table_behind P (table ∷ notes) new each last = (each.0, table_behind P notes new each.1 last)
-
-pub name_behind : (notes : Notes) (new : AttachedTable) → PairsByRecursion Apart notes → AllByRecursion (λ t. t.name ≢ new.name) notes → PairsByRecursion Apart (notes ++ new ∷ [])
-name_behind [] new apart fresh = (tt, tt)
-name_behind (table ∷ notes) new apart fresh = (table_behind (Apart table) notes new apart.0 fresh.0, name_behind notes new apart.1 fresh.1)
-
 pub one_more : (notes : Notes) (name : List ℕ) (schema : SchemaData) → IsNotes notes → IsName name → IsSchema schema → IsNewTable notes name
     → IsNotes (notes ++ record { name = name; schema = schema; firsts = [] } ∷ [])
 one_more notes name schema is named is_schema fresh =
     let new : AttachedTable = record { name = name; schema = schema; firsts = [] } in
     record {
-      each = All-from_recursion IsAttachedTable (notes ++ new ∷ []) (table_behind IsAttachedTable notes new (recursion_from_All IsAttachedTable notes is.each) (record {
+      each = All-push IsAttachedTable notes new is.each (record {
         named = named;
         schema = is_schema;
         rows = λ k d lt. absurd (omega arith);
         once = λ i j d lt within. absurd (omega arith);
-      }));
-      once = pairs_from_recursion Apart (notes ++ new ∷ []) (name_behind notes new (pairs_by_recursion Apart notes is.once)
-          (recursion_from_All (λ (t : AttachedTable). t.name ≢ name) notes fresh));
+      });
+      once = all_pairs_push (λ (s t : AttachedTable). s.name ≢ t.name) notes new is.once fresh;
     }
 
 -- as the code appends it
@@ -101,16 +90,12 @@ pushed old new value name schema is named of_schema none =
     ap (map attached_of) is ∙ map-append attached_of old (value ∷ [])
     ∙ ap (λ (t : AttachedTable). map attached_of old ++ t ∷ []) (λ i. record { name = named i; schema = of_schema i; firsts = (none i).kept ++ (none i).pending })
 
-settled_behind : (old : List Attached) (value : Attached) → AllByRecursion IsSettled old → IsSettled value → AllByRecursion IsSettled (old ++ value ∷ [])
-settled_behind [] value each last = (last, tt)
-settled_behind (table ∷ old) value each last = (each.0, settled_behind old value each.1 last)
-
 pub push_keeps : (old new : List Attached) (value : Attached) (name : List ℕ) (schema : SchemaData) → new ≡ old ++ value ∷ [] → string_bytes value.name ≡ name → value.schema ≡ schema
     → value.firsts ≡ record { kept = []; pending = [] } → IsNotes (map attached_of old) × AllByRecursion IsSettled old → IsName name → IsSchema schema → IsNewTable (map attached_of old) name
     → IsNotes (map attached_of new) × AllByRecursion IsSettled new
 push_keeps old new value name schema is named of_schema none are name_is schema_is fresh = (
   subst IsNotes (sym (pushed old new value name schema is named of_schema none)) (one_more (map attached_of old) name schema are.0 name_is schema_is fresh),
-  subst (AllByRecursion IsSettled) (sym is) (settled_behind old value are.1 (ap (λ (n : NotedImages). n.pending) none)),
+  subst (AllByRecursion IsSettled) (sym is) (AllByRecursion-push IsSettled old value are.1 (ap (λ (n : NotedImages). n.pending) none)),
 )
 
 -- ---- what attaching answers

@@ -1,15 +1,16 @@
 -- The net changeset of a session, applied to the rows from before.
 use Rattle.std.proofs.Common.{◌≡◌, ◌≢◌, ◌⊎◌, inl, inr, ℕ, zero, suc, Bool, true, false, cond, List, [], ◌∷◌, ◌++◌, length, map, filter_map, Option, Some, None, option_map, refl, sym, ap, ◌∙◌, subst}
 use Rattle.std.specs.Prelude.{IfSome, unwrap_or, nat_lt}
-use Rattle.std.specs.FinMap.{get, empty}
+use Rattle.std.specs.FinMap.{get}
 use Rattle.std.proofs.Common.{arith}
 use Rattle.std.proofs.lemmas.Bool.{le-ltb}
-use Rattle.std.proofs.lemmas.Option.{none-some}
 use Rattle.std.proofs.lemmas.List.Elements.{recursion_from_All, All-from_recursion}
 use Rattle.std.specs.List.{AllByRecursion, cons_option}
 use Rattle.std.specs.Cmp.Lexicographic.{same_text, other_text, nat_list_eq_equiv}
 use Rattle.cs_value.specs.declared.value.OwnedValue.{OwnedValue}
-use Rattle.cs_value.specs.State.{SchemaData, TableData, State, IsState, IsRowAt, schema_at, row_at, rows_at}
+use Rattle.cs_value.specs.State.{SchemaData, State, IsState, IsRowAt, schema_at, row_at, rows_at}
+use Rattle.cs_value.proofs.ListLemmas.{AllByRecursion-cons_option, PairsByRecursion, recursion_from_AllPairs, AllPairs-from_recursion}
+use Rattle.cs_value.proofs.StateLaws.{row_at_fits}
 use Rattle.cs_wire.specs.declared.entry.Change.{Change}
 use Rattle.cs_wire.specs.declared.entry.Entry.{Entry}
 use Rattle.cs_wire.specs.Entry.{IsEntry, key_of}
@@ -23,9 +24,9 @@ use Rattle.cs_group.specs.Applying.{PlacedEntry, placed_by, placed, current, IsE
 use Rattle.cs_group.specs.Inverse.{IsInverse}
 use Rattle.cs_group.proofs.ApplyLaws.{none_met, applied_reverts}
 use Rattle.cs_group.proofs.NetLaws.{NetLeads, net_leads}
-use Rattle.cs_session.specs.FirstImages.{FirstImage, AttachedTable, Notes, IsAttachedTable, IsNotes, HasAttached, first_at, net_entry, header_of, group_of, recorded_changes, rewound_state}
+use Rattle.cs_session.specs.FirstImages.{FirstImage, AttachedTable, Notes, IsAttachedTable, IsNotes, HasAttached, first_at, entry_since, header_of, group_of, recorded_changes, rewound_state}
 use Rattle.cs_session.proofs.FirstLaws.{put_all_at}
-use Rattle.cs_session.proofs.RewoundLaws.{PairsByRecursion, pairs_by_recursion, pairs_from_recursion, rewound_schemas, rewound_elsewhere, IsRewound, rewound_here}
+use Rattle.cs_session.proofs.RewoundLaws.{rewound_schemas, rewound_elsewhere, IsRewound, rewound_here}
 
 -- ---- the entry of a key
 
@@ -39,12 +40,8 @@ pub record LeadsBack (state before : State) (p : PlacedEntry) : Type 0 where
   pub no_conflict : placed_kind before p ≡ None
   pub leaves : row_after p.flags p.entry.change (current before p) ≡ current state p
 
-pub if_some : {X : Type 0} (P : X → Type 0) (o : Option X) → ((x : X) → o ≡ Some x → P x) → IfSome o P
-if_some P None h = tt
-if_some P (Some x) h = h x refl
-
 module _ (state before : State) (table : AttachedTable)
-    (held : (key : List ℕ) (row : List OwnedValue) → row_at state table.name key ≡ Some row → IsRowAt table.schema.flags key row)
+    (held : (key : List ℕ) → IfSome (row_at state table.name key) (IsRowAt table.schema.flags key))
     (rows : (q : List ℕ) → row_at before table.name q ≡ unwrap_or (first_at table.firsts q) (row_at state table.name q)) where
   abbrev flags : List ℕ
   flags = table.schema.flags
@@ -74,23 +71,23 @@ module _ (state before : State) (table : AttachedTable)
         };
       }
 
-  nets : (first : FirstImage) → IsFirst table first → Nets first (net_entry state table first)
+  nets : (first : FirstImage) → IsFirst table first → Nets first (entry_since state table first)
   nets first is =
       let now = row_at state table.name first.key in
       nets_change first is (net_row_change flags first.row now)
-      (net_leads flags first.key first.row now is.fits (if_some (IsRowAt flags first.key) now (λ row e. held first.key row e)))
+      (net_leads flags first.key first.row now is.fits (held first.key))
 
   -- ---- the entries of the table
 
   abbrev entries_of : List FirstImage → List Entry
-  entries_of firsts = filter_map (net_entry state table) firsts
+  entries_of firsts = filter_map (entry_since state table) firsts
 
   abbrev Leads : Entry → Type 0
   Leads entry = LeadsBack state before (placed_by (header_of table) entry)
 
   all_lead : (firsts : List FirstImage) → AllByRecursion (IsFirst table) firsts → AllByRecursion Leads (entries_of firsts)
   all_lead [] is = tt
-  all_lead (first ∷ firsts) is = at (net_entry state table first) (nets first is.0) (all_lead firsts is.1)
+  all_lead (first ∷ firsts) is = at (entry_since state table first) (nets first is.0) (all_lead firsts is.1)
     where
       at : (o : Option Entry) → Nets first o → AllByRecursion Leads (entries_of firsts) → AllByRecursion Leads (cons_option o (entries_of firsts))
       at None net others = others
@@ -101,7 +98,7 @@ module _ (state before : State) (table : AttachedTable)
       → unwrap_or (first_at firsts q) (row_at state table.name q) ≡ row_at state table.name q
   no_entry q [] is apart = refl
   no_entry q (first ∷ firsts) is apart =
-      by_key (same_bytes first.key q) refl (net_entry state table first) (nets first is.0) apart (no_entry q firsts is.1)
+      by_key (same_bytes first.key q) refl (entry_since state table first) (nets first is.0) apart (no_entry q firsts is.1)
     where
       here : first.key ≡ q → (o : Option Entry) → Nets first o → AllByRecursion (λ e. ¬ (key_of flags e.change ≡ q)) (cons_option o (entries_of firsts)) → first.row ≡ row_at state table.name q
       here same None net left = net ∙ ap (row_at state table.name) same
@@ -123,7 +120,7 @@ module _ (state before : State) (table : AttachedTable)
 pub record IsTracked (state before : State) (table : AttachedTable) : Type 0 where
   pub has : schema_at before table.name ≡ Some table.schema
   pub firsts : AllByRecursion (IsFirst table) table.firsts
-  pub held : (key : List ℕ) (row : List OwnedValue) → row_at state table.name key ≡ Some row → IsRowAt table.schema.flags key row
+  pub held : (key : List ℕ) → IfSome (row_at state table.name key) (IsRowAt table.schema.flags key)
   pub rows : (q : List ℕ) → row_at before table.name q ≡ unwrap_or (first_at table.firsts q) (row_at state table.name q)
 
 leads_itself : (flags : List ℕ) → leads flags flags ≡ true
@@ -148,7 +145,7 @@ module _ (state before : State) where
   -- the tables of the changes are there
   pub all_compatible : (notes : Notes) → AllByRecursion (HasAttached before) notes → AllByRecursion (λ g. judged before g ≡ Compatible) (recorded_changes notes state)
   all_compatible [] has = tt
-  all_compatible (table ∷ notes) has = at (filter_map (net_entry state table) table.firsts) (all_compatible notes has.1)
+  all_compatible (table ∷ notes) has = at (filter_map (entry_since state table) table.firsts) (all_compatible notes has.1)
     where
       at : (es : List Entry) → AllByRecursion (λ g. judged before g ≡ Compatible) (recorded_changes notes state)
           → AllByRecursion (λ g. judged before g ≡ Compatible) (cons_option (group_of (header_of table) es) (recorded_changes notes state))
@@ -163,7 +160,7 @@ module _ (state before : State) where
   pub all_lead_back : (notes : Notes) → AllByRecursion (IsTracked state before) notes → AllByRecursion (LeadsBack state before) (placed (recorded_changes notes state))
   all_lead_back [] tracked = tt
   all_lead_back (table ∷ notes) tracked =
-      at (filter_map (net_entry state table) table.firsts) (all_lead state before table tracked.0.held tracked.0.rows table.firsts tracked.0.firsts) (all_lead_back notes tracked.1)
+      at (filter_map (entry_since state table) table.firsts) (all_lead state before table tracked.0.held tracked.0.rows table.firsts tracked.0.firsts) (all_lead_back notes tracked.1)
     where
       at : (es : List Entry) → AllByRecursion (λ e. LeadsBack state before (placed_by (header_of table) e)) es → AllByRecursion (LeadsBack state before) (placed (recorded_changes notes state))
           → AllByRecursion (LeadsBack state before) (placed (cons_option (group_of (header_of table) es) (recorded_changes notes state)))
@@ -194,16 +191,16 @@ module _ (state before : State) where
         → AllByRecursion (λ t. ¬ (t.name ≡ name)) notes ⊎ (row_at state name q ≡ row_at before name q)
     by_table [] tracked apart = inl tt
     by_table (table ∷ notes) tracked apart =
-        let parts = group_parts (header_of table) (filter_map (net_entry state table) table.firsts) (recorded_changes notes state) apart in
+        let parts = group_parts (header_of table) (filter_map (entry_since state table) table.firsts) (recorded_changes notes state) apart in
         at (same_bytes table.name name) refl parts.0 (by_table notes tracked.1 parts.1)
       where
-        here : table.name ≡ name → AllByRecursion (λ e. Elsewhere (placed_by (header_of table) e)) (filter_map (net_entry state table) table.firsts)
+        here : table.name ≡ name → AllByRecursion (λ e. Elsewhere (placed_by (header_of table) e)) (filter_map (entry_since state table) table.firsts)
             → row_at state name q ≡ row_at before name q
         here is apart =
-            let none = no_entry state before table tracked.0.held tracked.0.rows q table.firsts tracked.0.firsts (other_key table is (filter_map (net_entry state table) table.firsts) apart) in
+            let none = no_entry state before table tracked.0.held tracked.0.rows q table.firsts tracked.0.firsts (other_key table is (filter_map (entry_since state table) table.firsts) apart) in
             subst (λ (n : List ℕ). row_at state n q ≡ row_at before n q) is (sym (tracked.0.rows q ∙ none))
 
-        at : (b : Bool) → same_bytes table.name name ≡ b → AllByRecursion (λ e. Elsewhere (placed_by (header_of table) e)) (filter_map (net_entry state table) table.firsts)
+        at : (b : Bool) → same_bytes table.name name ≡ b → AllByRecursion (λ e. Elsewhere (placed_by (header_of table) e)) (filter_map (entry_since state table) table.firsts)
             → AllByRecursion (λ t. ¬ (t.name ≡ name)) notes ⊎ (row_at state name q ≡ row_at before name q)
             → AllByRecursion (λ t. ¬ (t.name ≡ name)) (table ∷ notes) ⊎ (row_at state name q ≡ row_at before name q)
         at true same apart others = inr (here (same_text table.name name (sym same)) apart)
@@ -233,14 +230,6 @@ all_first : (table : AttachedTable) (firsts : List FirstImage) → AllByRecursio
 all_first table [] fits found = tt
 all_first table (first ∷ firsts) fits found = (record { fits = fits.0; found = found.0 }, all_first table firsts fits.1 found.1)
 
--- the rows of a state are those of its schema
-pub held_row : (state : State) (name : List ℕ) (schema : SchemaData) (is : IsState state) (o : Option TableData) → get state name ≡ o → option_map (λ (t : TableData). t.schema) o ≡ Some schema
-    → (key : List ℕ) (row : List OwnedValue) → get (unwrap_or (option_map (λ (t : TableData). t.rows) o) empty) key ≡ Some row → IsRowAt schema.flags key row
-held_row state name schema is None e has key row found = absurd (none-some schema has)
-held_row state name schema is (Some table) e has key row found =
-    let same : table.schema ≡ schema = cc in
-    subst (λ (s : SchemaData). IsRowAt s.flags key row) same ((is name table e).is_table.rows key row found)
-
 filter_all : (before : State) (groups : List GroupData) → AllByRecursion (λ g. judged before g ≡ Compatible) groups → compatible_groups before groups ≡ groups
 filter_all before [] h = refl
 filter_all before (g ∷ groups) h = rw (h.0) (ap (λ (gs : List GroupData). g ∷ gs) (filter_all before groups h.1))
@@ -258,8 +247,8 @@ module _ (state : State) (notes : Notes) (is_state : IsState state) (are_notes :
     record {
       has = rewound_schemas state notes has table.name ∙ there.0;
       firsts = all_first table table.firsts (recursion_from_All (λ (f : FirstImage). IfSome f.row (IsRowAt table.schema.flags f.key)) table.firsts each.0.rows)
-          (all_found table.firsts (pairs_by_recursion (λ (f g : FirstImage). f.key ≢ g.key) table.firsts each.0.once));
-      held = held_row state table.name table.schema is_state (get state table.name) refl there.0;
+          (all_found table.firsts (recursion_from_AllPairs (λ (f g : FirstImage). f.key ≢ g.key) table.firsts each.0.once));
+      held = row_at_fits state table.name table.schema is_state there.0;
       rows = λ q. ap (λ m. get m q) rewinds.0 ∙ put_all_at table.firsts (rows_at state table.name) q;
     },
     tracked ts each.1 there.1 rewinds.1,
@@ -268,7 +257,7 @@ module _ (state : State) (notes : Notes) (is_state : IsState state) (are_notes :
   all_tracked : AllByRecursion (IsTracked state before) notes
   all_tracked =
       tracked notes (recursion_from_All IsAttachedTable notes are_notes.each) has
-      (rewound_here state notes has (pairs_by_recursion (λ (s t : AttachedTable). s.name ≢ t.name) notes are_notes.once))
+      (rewound_here state notes has (recursion_from_AllPairs (λ (s t : AttachedTable). s.name ≢ t.name) notes are_notes.once))
 
   all_apply : applicable before changes ≡ placed changes
   all_apply = ap placed (filter_all before changes (all_compatible state before notes (tracked_has state before notes all_tracked)))
@@ -314,40 +303,40 @@ module _ (state : State) (notes : Notes) (is_state : IsState state) (are_notes :
   Keys table d e = key_of table.schema.flags d.change ≢ key_of table.schema.flags e.change
 
   module _ (table : AttachedTable) (is : IsTracked state before table) where
-    all_fit : (firsts : List FirstImage) → AllByRecursion (IsFirst table) firsts → AllByRecursion (IsEntry table.schema.flags) (filter_map (net_entry state table) firsts)
+    all_fit : (firsts : List FirstImage) → AllByRecursion (IsFirst table) firsts → AllByRecursion (IsEntry table.schema.flags) (filter_map (entry_since state table) firsts)
     all_fit [] first = tt
-    all_fit (f ∷ firsts) first = at (net_entry state table f) (nets state before table is.held is.rows f first.0) (all_fit firsts first.1)
+    all_fit (f ∷ firsts) first = at (entry_since state table f) (nets state before table is.held is.rows f first.0) (all_fit firsts first.1)
       where
-        at : (o : Option Entry) → Nets state before table is.held is.rows f o → AllByRecursion (IsEntry table.schema.flags) (filter_map (net_entry state table) firsts)
-            → AllByRecursion (IsEntry table.schema.flags) (cons_option o (filter_map (net_entry state table) firsts))
+        at : (o : Option Entry) → Nets state before table is.held is.rows f o → AllByRecursion (IsEntry table.schema.flags) (filter_map (entry_since state table) firsts)
+            → AllByRecursion (IsEntry table.schema.flags) (cons_option o (filter_map (entry_since state table) firsts))
         at None net others = others
         at (Some entry) net others = (net.fits, others)
 
     -- none of the others has its key
     other_keys : (key : List ℕ) (firsts : List FirstImage) → AllByRecursion (IsFirst table) firsts → AllByRecursion (λ f. key ≢ f.key) firsts
-        → AllByRecursion (λ e. key ≢ key_of table.schema.flags e.change) (filter_map (net_entry state table) firsts)
+        → AllByRecursion (λ e. key ≢ key_of table.schema.flags e.change) (filter_map (entry_since state table) firsts)
     other_keys key [] first apart = tt
-    other_keys key (f ∷ firsts) first apart = at (net_entry state table f) (nets state before table is.held is.rows f first.0) (other_keys key firsts first.1 apart.1)
+    other_keys key (f ∷ firsts) first apart = at (entry_since state table f) (nets state before table is.held is.rows f first.0) (other_keys key firsts first.1 apart.1)
       where
-        at : (o : Option Entry) → Nets state before table is.held is.rows f o → AllByRecursion (λ e. key ≢ key_of table.schema.flags e.change) (filter_map (net_entry state table) firsts)
-            → AllByRecursion (λ e. key ≢ key_of table.schema.flags e.change) (cons_option o (filter_map (net_entry state table) firsts))
+        at : (o : Option Entry) → Nets state before table is.held is.rows f o → AllByRecursion (λ e. key ≢ key_of table.schema.flags e.change) (filter_map (entry_since state table) firsts)
+            → AllByRecursion (λ e. key ≢ key_of table.schema.flags e.change) (cons_option o (filter_map (entry_since state table) firsts))
         at None net others = others
         at (Some entry) net others = ((λ same. apart.0 (same ∙ net.same)), others)
 
     keys_apart : (firsts : List FirstImage) → AllByRecursion (IsFirst table) firsts → PairsByRecursion (λ f g. f.key ≢ g.key) firsts
-        → PairsByRecursion (Keys table) (filter_map (net_entry state table) firsts)
+        → PairsByRecursion (Keys table) (filter_map (entry_since state table) firsts)
     keys_apart [] first apart = tt
     keys_apart (f ∷ firsts) first apart =
-        at (net_entry state table f) (nets state before table is.held is.rows f first.0) (other_keys f.key firsts first.1 apart.0) (keys_apart firsts first.1 apart.1)
+        at (entry_since state table f) (nets state before table is.held is.rows f first.0) (other_keys f.key firsts first.1 apart.0) (keys_apart firsts first.1 apart.1)
       where
         moved : (key : List ℕ) (es : List Entry) → key ≡ f.key → AllByRecursion (λ e. f.key ≢ key_of table.schema.flags e.change) es
             → AllByRecursion (λ e. key ≢ key_of table.schema.flags e.change) es
         moved key es same others = subst (λ (k : List ℕ). AllByRecursion (λ e. k ≢ key_of table.schema.flags e.change) es) (sym same) others
 
-        at : (o : Option Entry) → Nets state before table is.held is.rows f o → AllByRecursion (λ e. f.key ≢ key_of table.schema.flags e.change) (filter_map (net_entry state table) firsts)
-            → PairsByRecursion (Keys table) (filter_map (net_entry state table) firsts) → PairsByRecursion (Keys table) (cons_option o (filter_map (net_entry state table) firsts))
+        at : (o : Option Entry) → Nets state before table is.held is.rows f o → AllByRecursion (λ e. f.key ≢ key_of table.schema.flags e.change) (filter_map (entry_since state table) firsts)
+            → PairsByRecursion (Keys table) (filter_map (entry_since state table) firsts) → PairsByRecursion (Keys table) (cons_option o (filter_map (entry_since state table) firsts))
         at None net others rest = rest
-        at (Some entry) net others rest = (moved (key_of table.schema.flags entry.change) (filter_map (net_entry state table) firsts) net.same others, rest)
+        at (Some entry) net others rest = (moved (key_of table.schema.flags entry.change) (filter_map (entry_since state table) firsts) net.same others, rest)
 
     group_is : IsAttachedTable table → (entries : List Entry) → AllByRecursion (IsEntry table.schema.flags) entries → PairsByRecursion (Keys table) entries
         → IfSome (group_of (header_of table) entries) IsGroup
@@ -356,25 +345,23 @@ module _ (state : State) (notes : Notes) (is_state : IsState state) (are_notes :
       header = record { name = attached.named; flags = attached.schema.flags };
       some = omega arith;
       each = All-from_recursion (IsEntry table.schema.flags) (entry ∷ entries) fit;
-      once = pairs_from_recursion (Keys table) (entry ∷ entries) apart;
+      once = AllPairs-from_recursion (Keys table) (entry ∷ entries) apart;
     }
 
-    pub table_group : IsAttachedTable table → IfSome (group_of (header_of table) (filter_map (net_entry state table) table.firsts)) IsGroup
+    pub table_group : IsAttachedTable table → IfSome (group_of (header_of table) (filter_map (entry_since state table) table.firsts)) IsGroup
     table_group attached =
-        group_is attached (filter_map (net_entry state table) table.firsts) (all_fit table.firsts is.firsts)
-        (keys_apart table.firsts is.firsts (pairs_by_recursion (λ (f g : FirstImage). f.key ≢ g.key) table.firsts attached.once))
+        group_is attached (filter_map (entry_since state table) table.firsts) (all_fit table.firsts is.firsts)
+        (keys_apart table.firsts is.firsts (recursion_from_AllPairs (λ (f g : FirstImage). f.key ≢ g.key) table.firsts attached.once))
 
   all_groups : (ts : Notes) → AllByRecursion IsAttachedTable ts → AllByRecursion (IsTracked state before) ts → AllByRecursion IsGroup (recorded_changes ts state)
   all_groups [] each is = tt
-  all_groups (table ∷ ts) each is = at (group_of (header_of table) (filter_map (net_entry state table) table.firsts)) (table_group table is.0 each.0) (all_groups ts each.1 is.1)
-    where
-      at : (o : Option GroupData) → IfSome o IsGroup → AllByRecursion IsGroup (recorded_changes ts state) → AllByRecursion IsGroup (cons_option o (recorded_changes ts state))
-      at None one others = others
-      at (Some group) one others = (one, others)
+  all_groups (table ∷ ts) each is =
+      AllByRecursion-cons_option IsGroup (group_of (header_of table) (filter_map (entry_since state table) table.firsts)) (recorded_changes ts state)
+      (table_group table is.0 each.0) (all_groups ts each.1 is.1)
 
   other_names : (name : List ℕ) (ts : Notes) → AllByRecursion (λ t. name ≢ t.name) ts → AllByRecursion (λ g. name ≢ g.header.name) (recorded_changes ts state)
   other_names name [] apart = tt
-  other_names name (table ∷ ts) apart = at (filter_map (net_entry state table) table.firsts) (other_names name ts apart.1)
+  other_names name (table ∷ ts) apart = at (filter_map (entry_since state table) table.firsts) (other_names name ts apart.1)
     where
       at : (es : List Entry) → AllByRecursion (λ g. name ≢ g.header.name) (recorded_changes ts state)
           → AllByRecursion (λ g. name ≢ g.header.name) (cons_option (group_of (header_of table) es) (recorded_changes ts state))
@@ -383,7 +370,7 @@ module _ (state : State) (notes : Notes) (is_state : IsState state) (are_notes :
 
   names_apart : (ts : Notes) → PairsByRecursion (λ s t. s.name ≢ t.name) ts → PairsByRecursion (λ g h. g.header.name ≢ h.header.name) (recorded_changes ts state)
   names_apart [] apart = tt
-  names_apart (table ∷ ts) apart = at (filter_map (net_entry state table) table.firsts) (other_names table.name ts apart.0) (names_apart ts apart.1)
+  names_apart (table ∷ ts) apart = at (filter_map (entry_since state table) table.firsts) (other_names table.name ts apart.0) (names_apart ts apart.1)
     where
       at : (es : List Entry) → AllByRecursion (λ g. table.name ≢ g.header.name) (recorded_changes ts state) → PairsByRecursion (λ g h. g.header.name ≢ h.header.name) (recorded_changes ts state)
           → PairsByRecursion (λ g h. g.header.name ≢ h.header.name) (cons_option (group_of (header_of table) es) (recorded_changes ts state))
@@ -394,8 +381,8 @@ module _ (state : State) (notes : Notes) (is_state : IsState state) (are_notes :
   pub changes_are : IsChangeset changes
   changes_are = record {
     each = All-from_recursion IsGroup changes (all_groups notes (recursion_from_All IsAttachedTable notes are_notes.each) all_tracked);
-    once = pairs_from_recursion (λ (g h : GroupData). g.header.name ≢ h.header.name) changes
-        (names_apart notes (pairs_by_recursion (λ (s t : AttachedTable). s.name ≢ t.name) notes are_notes.once));
+    once = AllPairs-from_recursion (λ (g h : GroupData). g.header.name ≢ h.header.name) changes
+        (names_apart notes (recursion_from_AllPairs (λ (s t : AttachedTable). s.name ≢ t.name) notes are_notes.once));
   }
 
   -- ---- its inverse

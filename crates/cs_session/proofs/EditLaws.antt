@@ -8,6 +8,7 @@ use Rattle.std.proofs.lemmas.List.Elements.{recursion_from_All, All-from_recursi
 use Rattle.cs_value.specs.declared.value.OwnedValue.{OwnedValue}
 use Rattle.cs_value.specs.Key.{row_key}
 use Rattle.cs_value.specs.State.{TableData, State, WrittenData, IsState, schema_at, row_at, written_at, with_row, without_row}
+use Rattle.cs_value.proofs.StateLaws.{table_of_schema}
 use Rattle.cs_store.specs.declared.edit.Edit.{Edit}
 use Rattle.cs_store.specs.declared.edit.Edit.TheVariants.{Insert, Update, Delete}
 use Rattle.cs_store.specs.declared.fault.StoreError.{StoreError}
@@ -25,7 +26,6 @@ use Rattle.cs_session.specs.Changes.{HasNamed}
 use Rattle.cs_session.specs.Recording.{Records, RefusesEdit, table_of}
 use Rattle.cs_session.proofs.NotesLaws.{only_writes, tells_formers, recorded_are}
 use Rattle.cs_session.proofs.FirstLaws.{rewound_recorded}
-use Rattle.cs_session.proofs.RewoundLaws.{there_is}
 
 -- the tables stay, and what is told of the writes, all of one table, says which rows stood there
 pub record Tells (old : State) (name : List ℕ) (done : Edited) : Type 0 where
@@ -59,7 +59,7 @@ module _ (state : State) (name : List ℕ) (found : TableData) (is : get state n
       → Tells state name (record { state = with_row (without_row state name key) name next row; written = written_at state name key ∷ written_at state name next ∷ [] })
   two key next row =
       let mid = without_row state name key in
-      let mid_found = there_is (get mid name) found.schema (result_schemas state name found key None is name ∙ ap (option_map (λ (t : TableData). t.schema)) is) in
+      let mid_found = table_of_schema (get mid name) found.schema (result_schemas state name found key None is name ∙ ap (option_map (λ (t : TableData). t.schema)) is) in
       record {
         of_table = (refl, (refl, tt));
         schemas = λ table. result_schemas mid name mid_found.0 next (Some row) mid_found.1 table ∙ result_schemas state name found key None is table;

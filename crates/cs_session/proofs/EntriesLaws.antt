@@ -1,9 +1,9 @@
 -- The tables and first images of a session, one after another, and the changes that are made of them.
-use Rattle.std.proofs.Common.{◌≡◌, ◌≢◌, inl, inr, ℕ, false, List, [], ◌∷◌, ◌++◌, length, All, AllPairs, Option, Some, None, option_map, option_to_list}
+use Rattle.std.proofs.Common.{◌≡◌, ◌≢◌, inl, inr, ℕ, false, List, [], ◌∷◌, ◌++◌, length, All, AllPairs, Option, Some, None, option_map, option_to_list, refl, sym, ◌∙◌}
 use Rattle.std.specs.Prelude.{IfSome}
 use Rattle.std.specs.Borrow.{Bor}
 use Rattle.std.proofs.lemmas.List.{append-nil}
-use Rattle.std.proofs.lemmas.List.Elements.{All-push}
+use Rattle.std.proofs.lemmas.List.Elements.{All-push, All-pop}
 use Rattle.std.proofs.lemmas.List.Quantifiers.{all_pairs_push}
 use Rattle.cs_value.specs.declared.value.OwnedValue.{OwnedValue}
 use Rattle.cs_value.specs.State.{State, IsRowAt}
@@ -15,7 +15,6 @@ use Rattle.cs_group.specs.Net.{net_row_change}
 use Rattle.cs_group.proofs.NetLaws.{NetLeads, net_leads}
 use Rattle.cs_session.specs.declared.fault.SessionFault.{SessionFault}
 use Rattle.cs_session.specs.FirstImages.{FirstImage, AttachedTable, Notes, HasAttached}
-use Rattle.cs_session.proofs.ListLaws.{HasNoOther, no_other_more}
 use Rattle.cs_session.specs.Changes.{LacksTable, LacksNamed, RefusesTable, RefusesNamed, RefusesChanges}
 
 -- ---- a refusal
@@ -59,6 +58,19 @@ change_fits flags key before after b a = at (net_row_change flags before after) 
 
 abbrev pub entry_of : Change → Entry
 entry_of change = record { indirect = false; change = change }
+
+-- a key that none of the first has, none of the second has
+abbrev pub HasNoOther : {X Y : Type 0} → (X → List ℕ) → (Y → List ℕ) → List X → List Y → Type 0
+HasNoOther x_key y_key xs ys = (key : List ℕ) → All (λ x. x_key x ≢ key) xs → All (λ y. y_key y ≢ key) ys
+
+module _ {X Y : Type 0} (x_key : X → List ℕ) (y_key : Y → List ℕ) (xs : List X) (ys : List Y) (so : HasNoOther x_key y_key xs ys) (x : X) where
+  others : (key : List ℕ) → All (λ z. x_key z ≢ key) (xs ++ x ∷ []) → All (λ z. x_key z ≢ key) xs × (x_key x ≢ key)
+  others key apart = All-pop (λ z. x_key z ≢ key) (xs ++ x ∷ []) xs (Some x) refl apart
+
+  -- one more of the first, and what is made of it
+  pub no_other_more : (o : Option Y) → IfSome o (λ y. y_key y ≡ x_key x) → HasNoOther x_key y_key (xs ++ x ∷ []) (ys ++ option_to_list o)
+  no_other_more None same key apart = rw (append-nil ys) (so key (others key apart).0)
+  no_other_more (Some y) same key apart = All-push (λ z. y_key z ≢ key) ys y (so key (others key apart).0) (λ is. (others key apart).1 (sym same ∙ is))
 
 -- the entries are of keys of these first images, and no two of one key
 pub record AreOfKeys (flags : List ℕ) (firsts : List FirstImage) (entries : List Entry) : Type 0 where

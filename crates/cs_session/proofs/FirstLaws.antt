@@ -6,6 +6,7 @@ use Rattle.std.specs.Ordering.{nat_cmp, is_eq}
 use Rattle.std.specs.Cmp.Lexicographic.{slice_cmp, nat_list_cmp_total, same_text, other_text}
 use Rattle.std.specs.FinMap.{get, insert, remove, get-insert, get-remove}
 use Rattle.std.proofs.lemmas.List.Elements.{recursion_from_All, All-from_recursion}
+use Rattle.std.proofs.lemmas.Option.{none-some}
 use Rattle.cs_value.specs.declared.value.OwnedValue.{OwnedValue}
 use Rattle.cs_value.specs.State.{RowMap, State, WrittenData, row_at, rows_at}
 use Rattle.cs_value.proofs.ByteMaps.{same_maps, tied_bytes, self_tied}
@@ -45,13 +46,10 @@ put_all_at (first ∷ firsts) rows q =
 
 -- ---- one key more
 
-some_none : {X : Type 0} (x : X) → None ≡ Some x → ⊥
-some_none x e = cc
-
 -- what was there stays
 append_kept : (firsts : List FirstImage) (first : FirstImage) (q : List ℕ) (row : Option (List OwnedValue)) → first_at firsts q ≡ Some row
     → first_at (firsts ++ first ∷ []) q ≡ Some row
-append_kept [] first q row e = absurd (some_none row e)
+append_kept [] first q row e = absurd (none-some row e)
 append_kept (f ∷ firsts) first q row e = at (same_bytes f.key q) e (append_kept firsts first q row)
   where
     at : (b : Bool) → cond b (Some f.row) (first_at firsts q) ≡ Some row → (first_at firsts q ≡ Some row → first_at (firsts ++ first ∷ []) q ≡ Some row)
@@ -68,7 +66,7 @@ append_new (f ∷ firsts) first q e = at (same_bytes f.key q) e (append_new firs
     at : (b : Bool) → cond b (Some f.row) (first_at firsts q) ≡ None
         → (first_at firsts q ≡ None → first_at (firsts ++ first ∷ []) q ≡ cond (same_bytes first.key q) (Some first.row) None)
         → cond b (Some f.row) (first_at (firsts ++ first ∷ []) q) ≡ cond (same_bytes first.key q) (Some first.row) None
-    at true e next = absurd (some_none f.row (sym e))
+    at true e next = absurd (none-some f.row (sym e))
     at false e next = next e
 
 -- ---- what is noted

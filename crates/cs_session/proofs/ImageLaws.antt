@@ -1,5 +1,5 @@
 -- First images, kept and noted since.
-use Rattle.std.proofs.Common.{◌≡◌, ℕ, zero, suc, Bool, true, false, ◌||◌, List, [], ◌∷◌, ◌++◌, map, take, drop, Some, refl, sym, ap, ◌∙◌}
+use Rattle.std.proofs.Common.{◌≡◌, ℕ, Bool, true, false, ◌||◌, List, [], ◌∷◌, ◌++◌, map, take, drop, Some, refl, sym, ap, ◌∙◌}
 use Rattle.std.proofs.lemmas.List.{take-append-drop, map-append}
 use Rattle.std.specs.Prelude.{is_some, cond}
 use Rattle.std.specs.List.{list_any}
@@ -18,18 +18,6 @@ found_key (f ∷ firsts) key = at (same_bytes f.key key) (found_key firsts key)
         → (b || list_any (λ g. same_bytes g.key key) firsts) ≡ is_some (cond b (Some f.row) (first_at (map first_of firsts) key))
     at true e = refl
     at false e = e
-
--- the first of a list, cut off there
-pub cut_kept : {X Y : Type 0} (f : X → Y) (n : ℕ) (xs : List X) → take n (map f (take n xs)) ≡ take n (map f xs)
-cut_kept f zero xs = refl
-cut_kept f (suc n) [] = refl
-cut_kept f (suc n) (x ∷ xs) = ap (λ (l : List _). f x ∷ l) (cut_kept f n xs)
-
--- nothing is behind them
-pub cut_pending : {X Y : Type 0} (f : X → Y) (n : ℕ) (xs : List X) → drop n (map f (take n xs)) ≡ []
-cut_pending f zero xs = refl
-cut_pending f (suc n) [] = refl
-cut_pending f (suc n) (x ∷ xs) = cut_pending f n xs
 
 module _ (n : ℕ) (firsts : List First) (w : WrittenData) where
   abbrev all : List FirstImage

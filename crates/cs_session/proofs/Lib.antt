@@ -5,7 +5,6 @@ pub mod ChangesLaws
 pub mod NotesLaws
 pub mod Examples
 pub mod AttachLaws
-pub mod ListLaws
 pub mod ImageLaws
 pub mod NotingLaws
 pub mod EntriesLaws

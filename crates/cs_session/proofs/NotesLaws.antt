@@ -2,19 +2,18 @@
 use Rattle.std.proofs.Common.{◌≡◌, ◌≢◌, ◌⊎◌, inl, inr, ℕ, zero, suc, ◌<◌, Bool, true, false, cond, List, [], ◌∷◌, ◌++◌, length, get_or, Option, Some, refl, sym, ap, ◌∙◌, subst, arith}
 use Rattle.std.specs.Prelude.{IfSome, is_some}
 use Rattle.std.specs.List.{AllByRecursion}
-use Rattle.std.specs.FinMap.{get}
 use Rattle.std.specs.Cmp.Lexicographic.{other_text}
 use Rattle.std.proofs.lemmas.List.{append-nil}
 use Rattle.std.proofs.lemmas.List.Elements.{recursion_from_All, All-from_recursion, filter-append}
 use Rattle.cs_value.specs.declared.value.OwnedValue.{OwnedValue}
 use Rattle.cs_value.specs.State.{State, WrittenData, IsState, IsRowAt, row_at}
+use Rattle.cs_value.proofs.ListLemmas.{AllByRecursion-map, AllByRecursion-push, AllByRecursion-weaker, PairsByRecursion, recursion_from_AllPairs, AllPairs-from_recursion}
+use Rattle.cs_value.proofs.StateLaws.{row_at_fits}
 use Rattle.cs_store.specs.Records.{same_bytes}
 use Rattle.cs_group.specs.Laws.{TellsFormer}
 use Rattle.cs_session.specs.FirstImages.{FirstImage, AttachedTable, Notes, IsAttachedTable, IsNotes, HasAttached, first_at, noted, writes_of, noted_in, recorded}
 use Rattle.cs_session.specs.Noting.{HasFormers, AreFormers}
 use Rattle.cs_session.proofs.FirstLaws.{told_of}
-use Rattle.cs_session.proofs.RewoundLaws.{PairsByRecursion, pairs_by_recursion, pairs_from_recursion}
-use Rattle.cs_session.proofs.ChangesLaws.{if_some, held_row}
 
 -- ---- keys
 
@@ -31,13 +30,9 @@ absent (f ∷ firsts) q e = at (same_bytes f.key q) refl e (absent firsts q)
 abbrev ApartKeys : List FirstImage → Type 0
 ApartKeys firsts = PairsByRecursion (λ f g. f.key ≢ g.key) firsts
 
-one_behind : (P : FirstImage → Type 0) (firsts : List FirstImage) (new : FirstImage) → AllByRecursion P firsts → P new → AllByRecursion P (firsts ++ new ∷ [])
-one_behind P [] new each last = (last, tt)
-one_behind P (f ∷ firsts) new each last = (each.0, one_behind P firsts new each.1 last)
-
 key_behind : (firsts : List FirstImage) (new : FirstImage) → ApartKeys firsts → AllByRecursion (λ f. f.key ≢ new.key) firsts → ApartKeys (firsts ++ new ∷ [])
 key_behind [] new apart fresh = (tt, tt)
-key_behind (f ∷ firsts) new apart fresh = (one_behind (λ g. f.key ≢ g.key) firsts new apart.0 fresh.0, key_behind firsts new apart.1 fresh.1)
+key_behind (f ∷ firsts) new apart fresh = (AllByRecursion-push (λ g. f.key ≢ g.key) firsts new apart.0 fresh.0, key_behind firsts new apart.1 fresh.1)
 
 noted_apart : (firsts : List FirstImage) (written : List WrittenData) → ApartKeys firsts → ApartKeys (noted firsts written)
 noted_apart firsts [] apart = apart
@@ -62,7 +57,7 @@ module _ (flags : List ℕ) where
   noted_fits firsts [] each fit = each
   noted_fits firsts (w ∷ written) each fit =
       at (is_some (first_at firsts w.key)) (noted_fits firsts written each fit.1)
-      (noted_fits (firsts ++ record { key = w.key; row = w.former } ∷ []) written (one_behind Fits firsts (record { key = w.key; row = w.former }) each fit.0) fit.1)
+      (noted_fits (firsts ++ record { key = w.key; row = w.former } ∷ []) written (AllByRecursion-push Fits firsts (record { key = w.key; row = w.former }) each fit.0) fit.1)
     where
       at : (b : Bool) → AllByRecursion Fits (noted firsts written) → AllByRecursion Fits (noted (firsts ++ record { key = w.key; row = w.former } ∷ []) written)
           → AllByRecursion Fits (cond b (noted firsts written) (noted (firsts ++ record { key = w.key; row = w.former } ∷ []) written))
@@ -80,28 +75,24 @@ module _ (written : List WrittenData) where
         schema = is.schema;
         rows = All-from_recursion (Fits table.schema.flags) (noted table.firsts writes)
             (noted_fits table.schema.flags table.firsts writes (recursion_from_All (Fits table.schema.flags) table.firsts is.rows) formers);
-        once = pairs_from_recursion (λ (f g : FirstImage). f.key ≢ g.key) (noted table.firsts writes)
-            (noted_apart table.firsts writes (pairs_by_recursion (λ (f g : FirstImage). f.key ≢ g.key) table.firsts is.once));
+        once = AllPairs-from_recursion (λ (f g : FirstImage). f.key ≢ g.key) (noted table.firsts writes)
+            (noted_apart table.firsts writes (recursion_from_AllPairs (λ (f g : FirstImage). f.key ≢ g.key) table.firsts is.once));
       }
 
   each_noted : (notes : Notes) → AreFormers notes written → AllByRecursion IsAttachedTable notes → AllByRecursion IsAttachedTable (recorded notes written)
   each_noted [] formers each = tt
   each_noted (table ∷ notes) formers each = (noted_table table formers.0 each.0, each_noted notes formers.1 each.1)
 
-  names_of : (name : List ℕ) (notes : Notes) → AllByRecursion (λ t. name ≢ t.name) notes → AllByRecursion (λ t. name ≢ t.name) (recorded notes written)
-  names_of name [] apart = tt
-  names_of name (table ∷ notes) apart = (apart.0, names_of name notes apart.1)
-
   pub names_stay : (notes : Notes) → PairsByRecursion (λ s t. s.name ≢ t.name) notes → PairsByRecursion (λ s t. s.name ≢ t.name) (recorded notes written)
   names_stay [] apart = tt
-  names_stay (table ∷ notes) apart = (names_of table.name notes apart.0, names_stay notes apart.1)
+  names_stay (table ∷ notes) apart = (AllByRecursion-map (λ t. table.name ≢ t.name) (noted_in written) notes apart.0, names_stay notes apart.1)
 
   -- what is noted is well formed where the former rows could stand in the tables
   pub recorded_are : (notes : Notes) → IsNotes notes → AreFormers notes written → IsNotes (recorded notes written)
   recorded_are notes is formers = record {
     each = All-from_recursion IsAttachedTable (recorded notes written) (each_noted notes formers (recursion_from_All IsAttachedTable notes is.each));
-    once = pairs_from_recursion (λ (s t : AttachedTable). s.name ≢ t.name) (recorded notes written)
-        (names_stay notes (pairs_by_recursion (λ (s t : AttachedTable). s.name ≢ t.name) notes is.once));
+    once = AllPairs-from_recursion (λ (s t : AttachedTable). s.name ≢ t.name) (recorded notes written)
+        (names_stay notes (recursion_from_AllPairs (λ (s t : AttachedTable). s.name ≢ t.name) notes is.once));
   }
 
 -- ---- the former rows
@@ -109,12 +100,9 @@ module _ (written : List WrittenData) where
 module _ (old : State) (is_state : IsState old) where
   former_fits : (table : AttachedTable) → HasAttached old table → (writes : List WrittenData) → AllByRecursion (λ w. row_at old table.name w.key ≡ w.former) writes
       → AllByRecursion (λ w. IfSome w.former (IsRowAt table.schema.flags w.key)) writes
-  former_fits table has [] told = tt
-  former_fits table has (w ∷ writes) told = (
-    subst (λ (o : Option (List OwnedValue)). IfSome o (IsRowAt table.schema.flags w.key)) told.0
-        (if_some (IsRowAt table.schema.flags w.key) (row_at old table.name w.key) (λ row e. held_row old table.name table.schema is_state (get old table.name) refl has w.key row e)),
-    former_fits table has writes told.1,
-  )
+  former_fits table has =
+      AllByRecursion-weaker (λ w. row_at old table.name w.key ≡ w.former) (λ w. IfSome w.former (IsRowAt table.schema.flags w.key)) (λ w told.
+      subst (λ (o : Option (List OwnedValue)). IfSome o (IsRowAt table.schema.flags w.key)) told (row_at_fits old table.name table.schema is_state has w.key))
 
   -- the rows that stood in a state could stand in its tables
   pub tells_formers : (new : State) (written : List WrittenData) → TellsFormer old new written → (notes : Notes)
@@ -166,16 +154,12 @@ module _ (table : AttachedTable) (xs : List WrittenData) (w : WrittenData) where
   abbrev Fit : WrittenData → Type 0
   Fit v = IfSome v.former (IsRowAt table.schema.flags v.key)
 
-  fit_behind : (vs : List WrittenData) → AllByRecursion Fit vs → Fit w → AllByRecursion Fit (vs ++ w ∷ [])
-  fit_behind [] each last = (last, tt)
-  fit_behind (v ∷ vs) each last = (each.0, fit_behind vs each.1 last)
-
   pub formers_more : (t : AttachedTable) → t ≡ noted_in xs table → HasFormers xs table → same_bytes w.table t.name ≡ true → IfSome w.former (IsRowAt t.schema.flags w.key)
       → HasFormers (xs ++ w ∷ []) table
   formers_more t is formers same fits =
       let here : same_bytes w.table table.name ≡ true = ap (λ (a : AttachedTable). same_bytes w.table a.name) (sym is) ∙ same in
       rw (writes_then true here)
-      (fit_behind (writes_of table.name xs) formers (subst (λ (a : AttachedTable). IfSome w.former (IsRowAt a.schema.flags w.key)) is fits))
+      (AllByRecursion-push Fit (writes_of table.name xs) w formers (subst (λ (a : AttachedTable). IfSome w.former (IsRowAt a.schema.flags w.key)) is fits))
 
   pub formers_else : (t : AttachedTable) → t ≡ noted_in xs table → HasFormers xs table → same_bytes w.table t.name ≡ false → HasFormers (xs ++ w ∷ []) table
   formers_else t is formers other =

@@ -1,7 +1,8 @@
 -- What a session answers of its net changeset, and of an undo.
-use Rattle.std.proofs.Common.{◌≡◌, ◌≢◌, map, inl, inr, ℕ, List, [], ◌∷◌, Result, Ok, Err, refl, sym, ap, subst, ◌∙◌}
+use Rattle.std.proofs.Common.{◌≡◌, ◌≢◌, map, inl, inr, ℕ, List, [], ◌∷◌, length, Result, Ok, Err, refl, sym, ap, subst, ◌∙◌}
 use Rattle.std.specs.Prelude.{string_bytes, option_map, IsTrue, OnOk, IfOk}
 use Rattle.std.specs.List.{AllByRecursion, AllZip}
+use Rattle.std.proofs.lemmas.List.{nil_from_length, length-map}
 use Rattle.std.proofs.lemmas.List.Elements.{recursion_from_All}
 use Rattle.sqlite.specs.Effect.{Database}
 use Rattle.sqlite.specs.State as store
@@ -17,18 +18,19 @@ use Rattle.cs_group.specs.declared.conflict.Choice.{Choice}
 use Rattle.cs_group.specs.declared.judging.Judgement.TheVariants.{Compatible}
 use Rattle.cs_group.specs.Judging.{judgement, judged}
 use Rattle.cs_group.specs.Applying.{omit_all, skipped}
+use Rattle.cs_value.proofs.ListLemmas.{recursion_from_AllPairs}
 use Rattle.cs_apply.specs.declared.conflict.Conflict.{Conflict}
 use Rattle.cs_apply.specs.declared.fault.ApplyFault.{ApplyFault}
 use Rattle.cs_apply.specs.declared.report.Report.{Report}
 use Rattle.cs_apply.specs.declared.running.Direction.TheVariants.{Inverse}
 use Rattle.cs_apply.specs.Running as applying
 use Rattle.cs_apply.specs.Running.{Handler, AlwaysAborts, Applies, Refuses, Leads}
-use Rattle.cs_apply.proofs.RevertLaws.{none_mapped, reverts_ok, reverts_err, applies_weaker, refuses_weaker}
+use Rattle.cs_apply.proofs.RevertLaws.{reverts_ok, reverts_err, applies_weaker, refuses_weaker}
 use Rattle.cs_session.specs.Faults.{apply_fault_of}
 use Rattle.cs_session.specs.FirstImages.{AttachedTable, Notes, IsNotes, HasAttached, rewound, rewound_state, recorded_changes}
 use Rattle.cs_session.specs.Changes.{HasTables, RefusesChanges}
 use Rattle.cs_session.specs.Undoing.{LeadsBackTo, Undoes}
-use Rattle.cs_session.proofs.RewoundLaws.{pairs_by_recursion, rewound_here, all_rewound}
+use Rattle.cs_session.proofs.RewoundLaws.{rewound_here, all_rewound}
 use Rattle.cs_session.proofs.ChangesLaws.{changes_are, changes_clean, changes_applied, all_compatible}
 
 -- a batch that began on a store has the tables of a state
@@ -85,14 +87,15 @@ module _ (law : ChangesetFiles) (state : State) (notes : Notes) (is_state : IsSt
   }
 
   given_back : map (λ t. rows_at (rewound_state notes state) t.name) notes ≡ rewound notes state
-  given_back = all_rewound state (rewound_state notes state) notes (rewound_here state notes each (pairs_by_recursion (λ (s t : AttachedTable). s.name ≢ t.name) notes are.once))
+  given_back = all_rewound state (rewound_state notes state) notes (rewound_here state notes each (recursion_from_AllPairs (λ (s t : AttachedTable). s.name ≢ t.name) notes are.once))
 
   skips_none : (report : Report) (new : State) → Applies AlwaysAborts (file_bytes changes) Inverse state report new → report.skipped.items ≡ []
   skips_none report new applies =
       let read = applies.read in
       let one : read.0 ≡ changes = law read.0 changes read.1 leads.is_changeset (sym read.2) in
       let zip = subst (λ (c : List GroupData). AllZip IsInverseGroup c applies.changeset) one read.3 in
-      none_mapped string_bytes report.skipped.items (applies.skipped ∙ inverse_skips state changes applies.changeset (all_compatible state state notes each) zip)
+      let none = applies.skipped ∙ inverse_skips state changes applies.changeset (all_compatible state state notes each) zip in
+      nil_from_length report.skipped.items (sym (length-map report.skipped.items string_bytes) ∙ ap length none)
 
   -- its inverse undoes
   pub undoes : (chooses : Handler) → ((k : Conflict) (c : Choice) → chooses k c → AlwaysAborts k c) → (file : List ℕ) → file ≡ file_bytes changes → (mid : State) → mid ≡ state

@@ -1,38 +1,15 @@
 -- A state with the first images put back.
-use Rattle.std.proofs.Common.{◌≡◌, ◌≢◌, ℕ, suc, zero, Bool, true, false, List, [], ◌∷◌, map, Option, Some, None, option_map, refl, sym, ◌∙◌, arith}
-use Rattle.std.specs.Prelude.{AllPairs}
+use Rattle.std.proofs.Common.{◌≡◌, ◌≢◌, ℕ, Bool, true, false, List, [], ◌∷◌, map, Some, refl, sym, ◌∙◌}
 use Rattle.std.specs.List.{AllByRecursion}
 use Rattle.std.specs.FinMap.{get}
 use Rattle.std.specs.Ordering.{nat_cmp, is_eq}
 use Rattle.std.specs.Cmp.Lexicographic.{slice_cmp}
-use Rattle.std.proofs.lemmas.List.Elements.{recursion_from_All, All-from_recursion}
-use Rattle.std.proofs.lemmas.List.Kept.{AllPairs-cons}
-use Rattle.std.proofs.lemmas.Option.{none-some}
-use Rattle.cs_value.specs.State.{SchemaData, TableData, State, schema_at, rows_at, with_rows}
+use Rattle.cs_value.specs.State.{TableData, State, schema_at, rows_at, with_rows}
 use Rattle.cs_value.proofs.ByteMaps.{tied_bytes}
+use Rattle.cs_value.proofs.ListLemmas.{PairsByRecursion}
+use Rattle.cs_value.proofs.StateLaws.{table_of_schema}
 use Rattle.cs_apply.proofs.WriteLaws.{same_schemas, rows_here, rows_other}
 use Rattle.cs_session.specs.FirstImages.{AttachedTable, Notes, HasAttached, rewound_rows, rewound, rewound_state}
-
--- each two of a list, one after another
-abbrev pub PairsByRecursion : {X : Type 0} → (X → X → Type 0) → List X → Type 0
-PairsByRecursion R [] = Unit {0}
-PairsByRecursion R (x ∷ xs) = AllByRecursion (R x) xs × PairsByRecursion R xs
-
-pub pairs_by_recursion : {X : Type 0} (R : X → X → Type 0) (xs : List X) → AllPairs R xs → PairsByRecursion R xs
-pairs_by_recursion R [] once = tt
-pairs_by_recursion R (x ∷ xs) once = (
-  recursion_from_All (R x) xs (λ k d lt. once zero (suc k) d (omega arith) (omega arith)),
-  pairs_by_recursion R xs (λ i j d lt within. once (suc i) (suc j) d (omega arith) (omega arith)),
-)
-
-pub pairs_from_recursion : {X : Type 0} (R : X → X → Type 0) (xs : List X) → PairsByRecursion R xs → AllPairs R xs
-pairs_from_recursion R [] apart = λ i j d lt within. absurd (omega arith)
-pairs_from_recursion R (x ∷ xs) apart = AllPairs-cons R x xs (All-from_recursion (R x) xs apart.0) (pairs_from_recursion R xs apart.1)
-
--- a table is there where a schema is
-pub there_is : (o : Option TableData) (schema : SchemaData) → option_map (λ (t : TableData). t.schema) o ≡ Some schema → (found : TableData) × (o ≡ Some found)
-there_is None schema e = absurd (none-some schema e)
-there_is (Some found) schema e = (found, refl)
 
 -- no name twice
 abbrev pub AreApart : Notes → Type 0
@@ -50,7 +27,7 @@ module _ (state : State) where
   pub rewound_schemas : (notes : Notes) → AllByRecursion (HasAttached state) notes → (name : List ℕ) → schema_at (rewound_state notes state) name ≡ schema_at state name
   rewound_schemas [] has name = refl
   rewound_schemas (table ∷ notes) has name =
-      let found = there_is (get (rewound_state notes state) table.name) table.schema (rewound_schemas notes has.1 table.name ∙ has.0) in
+      let found = table_of_schema (get (rewound_state notes state) table.name) table.schema (rewound_schemas notes has.1 table.name ∙ has.0) in
       same_schemas (rewound_state notes state) table.name found.0 (rewound_rows state table) found.1 name ∙ rewound_schemas notes has.1 name
 
   -- the rows of a table that is not attached stay
@@ -58,7 +35,7 @@ module _ (state : State) where
       → rows_at (rewound_state notes state) name ≡ rows_at state name
   rewound_elsewhere [] has name apart = refl
   rewound_elsewhere (table ∷ notes) has name apart =
-      let found = there_is (get (rewound_state notes state) table.name) table.schema (rewound_schemas notes has.1 table.name ∙ has.0) in
+      let found = table_of_schema (get (rewound_state notes state) table.name) table.schema (rewound_schemas notes has.1 table.name ∙ has.0) in
       rows_other (rewound_state notes state) table.name found.0 (rewound_rows state table) found.1 name (other_name name table.name apart.0)
       ∙ rewound_elsewhere notes has.1 name apart.1
 
@@ -78,7 +55,7 @@ module _ (state : State) where
   pub rewound_here : (notes : Notes) → AllByRecursion (HasAttached state) notes → AreApart notes → AllByRecursion (IsRewound (rewound_state notes state)) notes
   rewound_here [] has apart = tt
   rewound_here (table ∷ notes) has apart =
-      let found = there_is (get (rewound_state notes state) table.name) table.schema (rewound_schemas notes has.1 table.name ∙ has.0) in (
+      let found = table_of_schema (get (rewound_state notes state) table.name) table.schema (rewound_schemas notes has.1 table.name ∙ has.0) in (
         rows_here (rewound_state notes state) table.name found.0 (rewound_rows state table) found.1,
         others_rewound table (rewound_state notes state) found.0 found.1 notes apart.0 (rewound_here notes has.1 apart.1),
       )

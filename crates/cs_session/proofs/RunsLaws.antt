@@ -5,11 +5,13 @@ use Rattle.std.specs.List.{AllByRecursion}
 use Rattle.std.specs.FinMap.{get, empty, get-insert}
 use Rattle.std.specs.Cmp.Lexicographic.{nat_list_cmp_total}
 use Rattle.std.proofs.lemmas.List.{append-nil, append_assoc, map-append}
-use Rattle.std.proofs.lemmas.List.Elements.{recursion_from_All, All-from_recursion}
+use Rattle.std.proofs.lemmas.List.Elements.{recursion_from_All, All-from_recursion, All-map, All-push, All-weaker}
+use Rattle.std.proofs.lemmas.List.Quantifiers.{all_pairs_push}
 use Rattle.std.proofs.lemmas.Option.{none-some}
 use Rattle.cs_value.specs.declared.value.OwnedValue.{OwnedValue}
 use Rattle.cs_value.specs.State.{SchemaData, TableData, RowMap, State, WrittenData, schema_at, rows_at, with_table}
 use Rattle.cs_value.proofs.ByteMaps.{same_maps}
+use Rattle.cs_value.proofs.ListLemmas.{AllByRecursion-weaker, recursion_from_AllPairs, AllPairs-from_recursion}
 use Rattle.cs_store.specs.declared.edit.Edit.{Edit}
 use Rattle.sqlite.specs.Effect.{Database}
 use Rattle.sqlite.specs.State.{State as Connection}
@@ -21,16 +23,15 @@ use Rattle.cs_group.specs.Applying.{written}
 use Rattle.cs_group.proofs.ApplyLaws.{written_tells}
 use Rattle.cs_apply.specs.declared.report.Report.{Report}
 use Rattle.cs_apply.specs.Running.{Handler}
-use Rattle.cs_session.specs.FirstImages.{FirstImage, AttachedTable, Notes, HasAttached, first_at, put_all_back, rewound_rows, rewound, rewound_state, recorded}
+use Rattle.cs_session.specs.FirstImages.{FirstImage, AttachedTable, Notes, HasAttached, first_at, put_all_back, rewound_rows, rewound, rewound_state, noted_in, recorded}
 use Rattle.cs_session.specs.Attaching.{Attaches}
 use Rattle.cs_session.specs.Recording.{Records, RecordsApply, table_of}
 use Rattle.cs_session.specs.Undoing.{Undoes}
 use Rattle.cs_session.specs.Runs.{Moment, IsMoment, DeclaresTable, AttachesTable, EditsRow, AppliesChangeset, UndoesAll, Refused, Step, Run, ending, rows_attached, all_attached, RowsFromBefore}
 use Rattle.cs_session.proofs.FirstLaws.{put_all_at, rewound_recorded}
-use Rattle.cs_session.proofs.RewoundLaws.{pairs_by_recursion, pairs_from_recursion, other_name, rewound_schemas, IsRewound, rewound_here, all_rewound}
+use Rattle.cs_session.proofs.RewoundLaws.{other_name, rewound_schemas, IsRewound, rewound_here, all_rewound}
 use Rattle.cs_session.proofs.NotesLaws.{names_stay}
 use Rattle.cs_session.proofs.EditLaws.{Tells, IfDone, edited_tells}
-use Rattle.cs_session.proofs.AttachLaws.{table_behind, name_behind}
 
 -- ---- the tables of a session
 
@@ -42,24 +43,15 @@ pub record Keeps (m n : Moment) (more : List RowMap) : Type 0 where
   pub is_moment : IsMoment n
   pub before : rewound n.notes n.state ≡ rewound m.notes m.state ++ more
 
--- the tables are there where their schemas stay
-still_has : (old new : State) → ((name : List ℕ) → schema_at new name ≡ schema_at old name) → (notes : Notes) → AllByRecursion (HasAttached old) notes → AllByRecursion (HasAttached new) notes
-still_has old new schemas [] has = tt
-still_has old new schemas (table ∷ notes) has = (schemas table.name ∙ has.0, still_has old new schemas notes has.1)
-
-recorded_has : (old new : State) → ((name : List ℕ) → schema_at new name ≡ schema_at old name) → (notes : Notes) (w : List WrittenData) → AllByRecursion (HasAttached old) notes
-    → AllByRecursion (HasAttached new) (recorded notes w)
-recorded_has old new schemas [] w has = tt
-recorded_has old new schemas (table ∷ notes) w has = (schemas table.name ∙ has.0, recorded_has old new schemas notes w has.1)
-
 -- ---- a write that is noted
 
 writes_keep : (m n : Moment) → IsMoment m → (w : List WrittenData) → ((name : List ℕ) → schema_at n.state name ≡ schema_at m.state name) → TellsFormer m.state n.state w → n.notes ≡ recorded m.notes w
     → Keeps m n []
 writes_keep m n is w schemas tells noted = record {
   is_moment = rw noted (record {
-    has = All-from_recursion (HasAttached n.state) (recorded m.notes w) (recorded_has m.state n.state schemas m.notes w (recursion_from_All (HasAttached m.state) m.notes is.has));
-    apart = pairs_from_recursion Apart (recorded m.notes w) (names_stay w m.notes (pairs_by_recursion Apart m.notes is.apart));
+    has = All-map (HasAttached n.state) (noted_in w) m.notes
+        (All-weaker (HasAttached m.state) (λ (t : AttachedTable). HasAttached n.state (noted_in w t)) (λ t has. schemas t.name ∙ has) m.notes is.has);
+    apart = AllPairs-from_recursion Apart (recorded m.notes w) (names_stay w m.notes (recursion_from_AllPairs Apart m.notes is.apart));
   });
   before = ap (λ (ns : Notes). rewound ns n.state) noted ∙ rewound_recorded m.state n.state w tells m.notes ∙ sym (append-nil (rewound m.notes m.state));
 }
@@ -90,9 +82,8 @@ attaches_keep m n is step =
     let same : n ≡ record { state = m.state; notes = all } = λ i. record { state = step.state i; notes = step.attached.is i } in
     subst (λ (o : Moment). Keeps m o (rows_at m.state step.name ∷ [])) (sym same) (record {
       is_moment = record {
-        has = All-from_recursion (HasAttached m.state) all (table_behind (HasAttached m.state) m.notes new (recursion_from_All (HasAttached m.state) m.notes is.has) step.attached.found);
-        apart = pairs_from_recursion Apart all (name_behind m.notes new (pairs_by_recursion Apart m.notes is.apart)
-            (recursion_from_All (λ (t : AttachedTable). t.name ≢ step.name) m.notes step.attached.fresh));
+        has = All-push (HasAttached m.state) m.notes new is.has step.attached.found;
+        apart = all_pairs_push Apart m.notes new is.apart step.attached.fresh;
       };
       before = map-append (rewound_rows m.state) m.notes (new ∷ []);
     })
@@ -153,10 +144,10 @@ undoes_keep m n is step =
     let same : n ≡ record { state = before; notes = m.notes } = λ i. record { state = step.rewound i; notes = step.notes i } in
     subst (λ (o : Moment). Keeps m o []) (sym same) (record {
       is_moment = record {
-        has = All-from_recursion (HasAttached before) m.notes (still_has m.state before (rewound_schemas m.state m.notes has) m.notes has);
+        has = All-from_recursion (HasAttached before) m.notes (AllByRecursion-weaker (HasAttached m.state) (HasAttached before) (λ t there. rewound_schemas m.state m.notes has t.name ∙ there) m.notes has);
         apart = is.apart;
       };
-      before = rewound_again m.state before m.notes (rewound_here m.state m.notes has (pairs_by_recursion Apart m.notes is.apart)) ∙ sym (append-nil (rewound m.notes m.state));
+      before = rewound_again m.state before m.notes (rewound_here m.state m.notes has (recursion_from_AllPairs Apart m.notes is.apart)) ∙ sym (append-nil (rewound m.notes m.state));
     })
 
 -- ---- a run
@@ -189,7 +180,7 @@ rows_from_before m later is run =
     record {
       is_moment = keeps.is_moment;
       before = keeps.before;
-      undone = all_rewound last.state (rewound_state last.notes last.state) last.notes (rewound_here last.state last.notes has (pairs_by_recursion Apart last.notes keeps.is_moment.apart))
+      undone = all_rewound last.state (rewound_state last.notes last.state) last.notes (rewound_here last.state last.notes has (recursion_from_AllPairs Apart last.notes keeps.is_moment.apart))
           ∙ keeps.before;
     }
 

@@ -2,7 +2,7 @@
 -- "changesets and patchsets", and its interface, under "sqlite3session_changeset". For each row that was written since
 -- its table was attached, the row that stood there first is kept, or that none did; the changes are from these rows to
 -- those that stand there now.
-use Rattle.std.specs.Prelude.{◌≡◌, ◌≢◌, ℕ, false, if◌then◌else◌, List, [], ◌∷◌, ◌++◌, map, filter, filter_map}
+use Rattle.std.specs.Prelude.{◌≡◌, ◌≢◌, ℕ, if◌then◌else◌, List, [], ◌∷◌, ◌++◌, map, filter, filter_map}
 use Rattle.std.specs.Prelude.{All, AllPairs, Option, None, Some, option_map, is_some, unwrap_or, IfSome}
 use Rattle.std.specs.FinMap as map
 use Rattle.cs_value.specs.declared.value.OwnedValue.{OwnedValue}
@@ -11,7 +11,7 @@ use Rattle.cs_value.specs.State.{SchemaData, IsSchema, IsRowAt, RowMap, State, W
 use Rattle.cs_wire.specs.declared.entry.Entry.{Entry}
 use Rattle.cs_wire.specs.Changeset.{HeaderData, GroupData}
 use Rattle.cs_store.specs.Records.{same_bytes}
-use Rattle.cs_group.specs.Net.{net_row_change}
+use Rattle.cs_group.specs.JoinLaw.{net_entry}
 
 -- ---- what is remembered
 
@@ -100,9 +100,8 @@ recorded notes written = map (noted_in written) notes
 -- ---- the changes
 
 -- the net change from the first image of a key to the row that stands there, if these differ
-abbrev pub net_entry : State → AttachedTable → FirstImage → Option Entry
-net_entry state table first = option_map (λ change. let e : Entry = record { indirect = false; change = change } in e)
-    (net_row_change table.schema.flags first.row (row_at state table.name first.key))
+abbrev pub entry_since : State → AttachedTable → FirstImage → Option Entry
+entry_since state table first = net_entry table.schema.flags first.row (row_at state table.name first.key)
 
 abbrev pub header_of : AttachedTable → HeaderData
 header_of table = record { name = table.name; flags = table.schema.flags }
@@ -113,7 +112,7 @@ group_of header [] = None
 group_of header (entry ∷ entries) = Some (record { header = header; entries = entry ∷ entries })
 
 abbrev pub net_group : State → AttachedTable → Option GroupData
-net_group state table = group_of (header_of table) (filter_map (net_entry state table) table.firsts)
+net_group state table = group_of (header_of table) (filter_map (entry_since state table) table.firsts)
 
 -- the net changeset: the tables in the order in which they were attached, and the keys in that of their first write
 abbrev pub recorded_changes : Notes → State → List GroupData

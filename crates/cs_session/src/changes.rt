@@ -4,7 +4,7 @@ ghost use Rattle.cs_value.specs.State.{IsRowAt, row_at};
 ghost use Rattle.cs_wire.specs.Entry.{IsChange, IsEntry, key_of};
 ghost use Rattle.cs_group.specs.Net.{net_row_change as change_between};
 ghost use Rattle.cs_session.specs.FirstImages.{IsNotes, IsAttachedTable, HasAttached};
-ghost use Rattle.cs_session.specs.FirstImages.{net_entry, net_group, recorded_changes};
+ghost use Rattle.cs_session.specs.FirstImages.{entry_since, net_group, recorded_changes};
 ghost use Rattle.cs_session.specs.Changes.{HasTables, RefusesChanges, IsNamed, IsResource};
 ghost use Rattle.cs_session.specs.Views.{attached_of};
 
@@ -32,7 +32,8 @@ pub(crate) fn net_changeset<B: Rows>(
         → IfOk result (λ c. c ≡ recorded_changes (map attached_of tables.now) (B.state rows.old)) }
     ensures attached { B.is_honest rows.new → OnOk result (HasTables (B.state rows.old) (map attached_of tables.now)) }
     ensures same { B.is_honest rows.new → OnOk result (B.state rows.new ≡ B.state rows.old) }
-    ensures refused { B.is_honest rows.new → IfErr result (RefusesChanges (B.state rows.old) (map attached_of tables.now)) }
+    ensures refused { B.is_honest rows.new
+        → IfErr result (RefusesChanges (B.state rows.old) (map attached_of tables.now)) }
     ensures named { IfErr result IsNamed }
     ensures was_honest { B.is_honest rows.new → B.is_honest rows.old }
     ensures kept { B.keeps rows.old rows.new }
@@ -82,7 +83,7 @@ fn table_entries<B: Rows>(
     requires table { IsAttachedTable (attached_of table.now) }
     requires attached { B.is_honest rows.old → HasAttached (B.state rows.old) (attached_of table.now) }
     ensures made { B.is_honest rows.new → IfOk result (λ entries. entries.items
-        ≡ filter_map (net_entry (B.state rows.old) (attached_of table.now)) (attached_of table.now).firsts) }
+        ≡ filter_map (entry_since (B.state rows.old) (attached_of table.now)) (attached_of table.now).firsts) }
     ensures each { IfOk result (λ entries. All (IsEntry table.now.schema.flags) entries.items) }
     ensures once { IfOk result (λ entries. AllPairs (λ d e. key_of table.now.schema.flags d.change
         ≢ key_of table.now.schema.flags e.change) entries.items) }

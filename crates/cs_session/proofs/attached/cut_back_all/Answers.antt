@@ -1,7 +1,7 @@
 use Rattle.std.proofs.Common.{get_or, ap, arith}
 use Rattle.std.proofs.lemmas.List.Edits.{map_over_more}
 use Rattle.cs_session.specs.declared.attached.Attached.{Attached}
-use Rattle.cs_session.proofs.ListLaws.{all_done}
+use Rattle.cs_value.proofs.ListLemmas.{map_over_all}
 use Rattle.cs_session.proofs.NotingLaws.{cutting, all_cut, cutting_settles}
 use Rattle.cs_session.proofs.attached.cut_back_all.Goals as goal
 
@@ -14,7 +14,7 @@ loop-table-preserved c =
     (ap (λ (t : Attached). get_or tables i t) c.table-item.is))
 
 pub returns-clause-kept : goal.returns-clause-kept
-returns-clause-kept c = rw (all_done cutting c.args.tables.now c.loop-table.tables c.loop-table.table-index (omega (arith, c.loop-table-test.false)) c.loop-table.invariant) (all_cut c.args.tables.now)
+returns-clause-kept c = rw (map_over_all cutting c.args.tables.now c.loop-table.tables c.loop-table.table-index c.loop-table.invariant (omega (arith, c.loop-table-test.false))) (all_cut c.args.tables.now)
 
 pub returns-clause-settled : goal.returns-clause-settled
-returns-clause-settled c = rw (all_done cutting c.args.tables.now c.loop-table.tables c.loop-table.table-index (omega (arith, c.loop-table-test.false)) c.loop-table.invariant) (cutting_settles c.args.tables.now)
+returns-clause-settled c = rw (map_over_all cutting c.args.tables.now c.loop-table.tables c.loop-table.table-index c.loop-table.invariant (omega (arith, c.loop-table-test.false))) (cutting_settles c.args.tables.now)

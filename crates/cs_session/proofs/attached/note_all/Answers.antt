@@ -9,7 +9,7 @@ use Rattle.cs_session.specs.declared.fault.SessionFault.TheVariants.{NoMemory as
 use Rattle.cs_session.specs.FirstImages.{noted_in}
 use Rattle.cs_session.specs.Noting.{HasFormers, IsDamage}
 use Rattle.cs_session.specs.Views.{attached_of, kept_of}
-use Rattle.cs_session.proofs.ListLaws.{of_each, one_more_of, one_of, still_there}
+use Rattle.cs_value.proofs.ListLemmas.{AllByRecursion-at, AllByRecursion-more, get_or_map_at, map_over_at}
 use Rattle.cs_session.proofs.NotingLaws.{still_fails}
 use Rattle.cs_session.proofs.attached.note_all.Goals as goal
 
@@ -26,8 +26,8 @@ returns-in_err-note_writes-clause-refused c =
     let written = map written_of c.args.written.now in
     let within : i < length notes = rw (length-map c.args.tables.now attached_of) c.loop-table-test.true in
     let inside : i < length tables = rw c.loop-table.auto.tables c.loop-table-test.true in
-    let is = still_there (noted_in written) notes (map attached_of tables) i (attached_of item) within c.loop-table.invariant.0 (sym (one_of attached_of tables i item inside c.table-item.is)) in
-    rw (p.1, p.2) (still_fails (of_each (HasFormers written) notes i (attached_of item) within is)
+    let is = map_over_at (noted_in written) notes (map attached_of tables) i c.loop-table.invariant.0 (attached_of item) within (sym (get_or_map_at tables i item inside c.table-item.is attached_of)) in
+    rw (p.1, p.2) (still_fails (AllByRecursion-at (HasFormers written) notes i (attached_of item) within is)
     (subst (λ (t : Attached). (c.in_err-note_writes.field-0.0 ≡ OutOfMemory) ⊎ (IsDamage c.in_err-note_writes.field-0.0 × ¬ HasFormers written (attached_of t))) (sym c.table-item.is)
     c.in_err-note_writes.ensures.refused))
 
@@ -40,12 +40,12 @@ loop-table-preserved c =
     let written = map written_of c.args.written.now in
     let within : i < length notes = rw (length-map c.args.tables.now attached_of) c.loop-table-test.true in
     let inside : i < length tables = rw c.loop-table.auto.tables c.loop-table-test.true in
-    let there = sym (one_of attached_of tables i item inside c.table-item.is) in
-    let is = still_there (noted_in written) notes (map attached_of tables) i (attached_of item) within c.loop-table.invariant.0 there in
+    let there = sym (get_or_map_at tables i item inside c.table-item.is attached_of) in
+    let is = map_over_at (noted_in written) notes (map attached_of tables) i c.loop-table.invariant.0 (attached_of item) within there in
     let noted = c.in_ok-note_writes.ensures.noted ∙ ap (λ (t : Attached). noted_in written (attached_of t)) (sym c.table-item.is) in (
       map-set attached_of tables i c.note_writes.new.table ∙ ap (set (map attached_of tables) i) noted
           ∙ map_over_more (noted_in written) notes (map attached_of tables) i (attached_of item) within c.loop-table.invariant.0 there,
       map-set_same kept_of tables i c.note_writes.new.table item c.note_writes.ensures.kept ∙ c.loop-table.invariant.1,
-      one_more_of (HasFormers written) notes i (attached_of item) within is c.loop-table.invariant.2
+      AllByRecursion-more notes i (attached_of item) within is (HasFormers written) c.loop-table.invariant.2
           (subst (λ (t : Attached). HasFormers written (attached_of t)) (sym c.table-item.is) c.in_ok-note_writes.ensures.formers),
     )

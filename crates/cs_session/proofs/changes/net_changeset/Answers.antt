@@ -3,23 +3,24 @@ use Rattle.std.proofs.lemmas.List.{append-nil}
 use Rattle.cs_wire.specs.Changeset.{GroupData}
 use Rattle.cs_session.specs.FirstImages.{AttachedTable, IsAttachedTable, HasAttached, net_group}
 use Rattle.cs_session.specs.Views.{attached_of}
-use Rattle.cs_session.proofs.ListLaws.{all_at, apart_before, made_more, no_other_more, taken_more}
+use Rattle.cs_value.proofs.ListLemmas.{All-map_at, AllPairs-map_before, filter_map-map_more, map_more_at}
+use Rattle.cs_session.proofs.EntriesLaws.{no_other_more}
 use Rattle.cs_session.proofs.changes.net_changeset.Goals.{in-Some+in_ok-push, in_default}
 use Rattle.cs_session.proofs.changes.net_changeset.Goals as goal
 
 pub table_changes-requires-clause-table : goal.table_changes-requires-clause-table
 table_changes-requires-clause-table g c =
-    all_at attached_of c.args.tables.now c.loop-table.table-index c.table-item.result c.loop-table-test.true c.table-item.is IsAttachedTable c.requires.each
+    All-map_at c.args.tables.now c.loop-table.table-index c.table-item.result c.loop-table-test.true c.table-item.is attached_of IsAttachedTable c.requires.each
 
 pub table_changes-requires-clause-attached : goal.table_changes-requires-clause-attached
 table_changes-requires-clause-attached g c = λ honest.
     let state = g.B.Rows.state c.args.rows.now in
     let so = c.loop-table.invariant.2 honest in
-    rw so.1 (all_at attached_of c.args.tables.now c.loop-table.table-index c.table-item.result c.loop-table-test.true c.table-item.is (HasAttached state) so.3)
+    rw so.1 (All-map_at c.args.tables.now c.loop-table.table-index c.table-item.result c.loop-table-test.true c.table-item.is attached_of (HasAttached state) so.3)
 
 pub push-requires : goal.push-requires
 push-requires g c =
-    let apart = apart_before attached_of c.args.tables.now c.loop-table.table-index c.table-item.result c.loop-table-test.true c.table-item.is
+    let apart = AllPairs-map_before c.args.tables.now c.loop-table.table-index c.table-item.result c.loop-table-test.true c.table-item.is attached_of
     (λ (s t : AttachedTable). s.name ≢ t.name) c.requires.once in
     let named = rw c.in-Some.is at c.in_ok-group.ensures.of_table in
     rw named (c.loop-table.invariant.1 _ apart)
@@ -42,7 +43,7 @@ loop-table-preserved g c =
       | in_default w ↦ rw (w.changeset-is, w.in_default.is) (sym (append-nil before))
     ] in (
       g.B.Rows.keeps_then _ _ _ c.loop-table.invariant.0 c.table_changes.ensures.kept,
-      rw (grown, taken_more attached_of tables i table lt is)
+      rw (grown, map_more_at tables i table lt is attached_of)
           (no_other_more (λ (t : AttachedTable). t.name) (λ (g : GroupData). g.header.name) _ before c.loop-table.invariant.1 (attached_of table) group c.in_ok-group.ensures.of_table),
       λ honest.
           let so = c.loop-table.invariant.2 (c.table_changes.ensures.was_honest honest) in
@@ -50,7 +51,7 @@ loop-table-preserved g c =
           let groups = net_group (g.B.Rows.state c.args.rows.now) in (
             so.0,
             c.in_ok-group.ensures.same honest ∙ so.1,
-            grown ∙ made_more attached_of tables i table lt is groups group before made so.2,
+            grown ∙ filter_map-map_more tables i table lt is attached_of groups group before made so.2,
             so.3,
           ),
     )

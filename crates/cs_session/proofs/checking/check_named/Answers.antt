@@ -4,7 +4,7 @@ use Rattle.std.proofs.lemmas.List.{take_all}
 use Rattle.std.proofs.lemmas.Result.{err_from_is_err_and}
 use Rattle.cs_session.specs.FirstImages.{AttachedTable, HasAttached}
 use Rattle.cs_session.specs.Views.{attached_of}
-use Rattle.cs_session.proofs.ListLaws.{all_more, any_at}
+use Rattle.cs_value.proofs.ListLemmas.{All-map_more_at, Any-map_at}
 use Rattle.cs_session.proofs.EntriesLaws.{refuses_named}
 use Rattle.cs_session.proofs.checking.check_named.Goals.{then-eq+in_ok-check_table, else-eq}
 use Rattle.cs_session.proofs.checking.check_named.Goals as goal
@@ -19,7 +19,7 @@ returns-in_err-check_table-clause-refused g c = λ honest.
     let refused = rw so.1 at (c.in_err-check_table.ensures.refused honest) in
     let tested = rw c.as_str.ensures.value at c.eq.ensures in
     let same = same_text (attached_of table).name name (sym c.if-eq.true ∙ tested) in
-    let lacks = any_at attached_of c.args.tables.now c.loop-table.table-index table c.loop-table-test.true c.table-item.is (λ (t : AttachedTable). (t.name ≡ name) × (¬ HasAttached state t)) in
+    let lacks = Any-map_at c.args.tables.now c.loop-table.table-index table c.loop-table-test.true c.table-item.is attached_of (λ (t : AttachedTable). (t.name ≡ name) × (¬ HasAttached state t)) in
     rw (p.1, p.2) (refuses_named state name _ (attached_of table) _ (λ fails. lacks (same, fails)) refused)
 
 pub loop-table-preserved : goal.loop-table-preserved
@@ -28,7 +28,7 @@ loop-table-preserved g c =
     let name = c.args.name.now in
     let table = c.table-item.result in
     let tested = rw c.as_str.ensures.value at c.eq.ensures in
-    let more = all_more attached_of c.args.tables.now c.loop-table.table-index table c.loop-table-test.true c.table-item.is (λ (t : AttachedTable). t.name ≡ name → HasAttached state t) in
+    let more = All-map_more_at c.args.tables.now c.loop-table.table-index table c.loop-table-test.true c.table-item.is attached_of (λ (t : AttachedTable). t.name ≡ name → HasAttached state t) in
     elim c.if-eq.branch [
       | then-eq+in_ok-check_table w ↦
           rw w.rows-is (

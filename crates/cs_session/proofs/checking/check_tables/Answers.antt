@@ -3,7 +3,7 @@ use Rattle.std.proofs.lemmas.List.{take_all}
 use Rattle.std.proofs.lemmas.Result.{err_from_is_err_and}
 use Rattle.cs_session.specs.FirstImages.{AttachedTable, HasAttached}
 use Rattle.cs_session.specs.Views.{attached_of}
-use Rattle.cs_session.proofs.ListLaws.{all_more, any_at}
+use Rattle.cs_value.proofs.ListLemmas.{All-map_more_at, Any-map_at}
 use Rattle.cs_session.proofs.EntriesLaws.{refuses_one}
 use Rattle.cs_session.proofs.checking.check_tables.Goals as goal
 
@@ -14,7 +14,7 @@ returns-in_err-check_table-clause-refused g c = λ honest.
     let table = c.table-item.result in
     let so = c.loop-table.invariant.1 (c.check_table.ensures.was_honest honest) in
     let refused = rw so.1 at (c.in_err-check_table.ensures.refused honest) in
-    let lacks = any_at attached_of c.args.tables.now c.loop-table.table-index table c.loop-table-test.true c.table-item.is (λ (t : AttachedTable). ¬ HasAttached state t) in
+    let lacks = Any-map_at c.args.tables.now c.loop-table.table-index table c.loop-table-test.true c.table-item.is attached_of (λ (t : AttachedTable). ¬ HasAttached state t) in
     rw (p.1, p.2) (refuses_one state _ (attached_of table) _ lacks refused)
 
 pub loop-table-preserved : goal.loop-table-preserved
@@ -25,7 +25,7 @@ loop-table-preserved g c = (
       let has = rw so.1 at (c.in_ok-check_table.ensures.attached honest) in (
         so.0,
         c.in_ok-check_table.ensures.same honest ∙ so.1,
-        all_more attached_of c.args.tables.now c.loop-table.table-index c.table-item.result c.loop-table-test.true c.table-item.is (HasAttached (g.B.Rows.state c.args.rows.now)) so.2 has,
+        All-map_more_at c.args.tables.now c.loop-table.table-index c.table-item.result c.loop-table-test.true c.table-item.is attached_of (HasAttached (g.B.Rows.state c.args.rows.now)) so.2 has,
       ),
 )
 

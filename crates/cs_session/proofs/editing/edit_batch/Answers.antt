@@ -1,6 +1,5 @@
-use Rattle.std.proofs.Common.{◌≡◌, map, rules}
+use Rattle.std.proofs.Common.{◌≡◌, rules}
 use Rattle.sqlite.specs.Held.{state}
-use Rattle.cs_session.specs.Views.{attached_of}
 use Rattle.cs_store.specs.Editing.{EditsInto}
 use Rattle.cs_store.proofs.CrashLemmas.{made_survives}
 use Rattle.cs_session.proofs.OutcomeLaws.{begun_state}

@@ -1,5 +1,5 @@
 use Rattle.std.proofs.Common.{map}
-use Rattle.cs_apply.proofs.RevertLaws.{if_err_by}
+use Rattle.std.proofs.lemmas.Result.{IfErr-weaker}
 use Rattle.cs_session.specs.Views.{attached_of}
 use Rattle.cs_session.proofs.EditLaws.{edited_formers, refuses_noting, noted_are}
 use Rattle.cs_session.proofs.editing.edit_rows.Goals as goal
@@ -19,4 +19,4 @@ returns-clause-refused g c = λ honest.
     let has = rw c.edited_table.ensures at (c.in_ok-check_named.ensures.attached before) in
     let done = rw same at (c.in_ok-written.ensures.edited honest) in
     let formers = edited_formers state edit _ done (c.requires.state was) notes has in
-    if_err_by _ _ c.note_all.result (λ e refused. refuses_noting state edit notes _ e formers refused) (rw c.deref.ensures.value at c.note_all.ensures.refused)
+    IfErr-weaker c.note_all.result _ _ (λ e refused. refuses_noting state edit notes _ e formers refused) (rw c.deref.ensures.value at c.note_all.ensures.refused)

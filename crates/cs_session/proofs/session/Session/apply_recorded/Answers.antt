@@ -2,7 +2,7 @@ use Rattle.std.proofs.Common.{List, length, map, ap, ◌∙◌}
 use Rattle.std.specs.Fn.{FnReturnsAt}
 use Rattle.cs_session.specs.declared.attached.Attached.{Attached}
 use Rattle.cs_session.specs.Views.{attached_of}
-use Rattle.cs_session.proofs.ListLaws.{written_whole}
+use Rattle.cs_value.proofs.ListLemmas.{written_whole}
 use Rattle.cs_session.proofs.RecordLaws.{applied_rewound}
 use Rattle.cs_session.proofs.session.Session.apply_recorded.Goals as goal
 
