@@ -1,9 +1,6 @@
 -- Lemmas on text that is gathered before it is written.
-use Rattle.std.proofs.Common.{◌≡◌, ℕ, List, [], ◌++◌, Option, Result, Ok, Err, IsErr, sym, ap, subst, ◌∙◌, append_assoc, append-nil, true≢false, ◌+◌, ◌<◌, ◌≤◌, ◌∷◌, length, take, drop, get_or}
-use Rattle.std.specs.List.{flat_map}
-use Rattle.std.proofs.lemmas.List.{take_all, take_more}
-use Rattle.std.proofs.lemmas.Grind.{flat_map-append}
-use Rattle.cs_files.proofs.WriteLemmas.{AppendsFront-after, flat_map_at}
+use Rattle.std.proofs.Common.{◌≡◌, ℕ, List, [], ◌++◌, Option, Result, Ok, Err, IsErr, sym, ap, subst, ◌∙◌, append_assoc, append-nil, true≢false}
+use Rattle.cs_files.proofs.WriteLemmas.{AppendsFront-after}
 use Rattle.std.specs.Io.KnownBytes.{Appends}
 use Rattle.std.proofs.KnownBytes.{Appends-nil, Appends-trans}
 use Rattle.cs_files.specs.declared.told.Told.{Told}
@@ -98,23 +95,3 @@ module _ {W : Type 0} {contents : W → Option (List ℕ)} where
     wrote = AppendsFront-after _ _ _ one.front q [] text (is ∙ whole p t one.front q none one.split ∙ ap (λ l. one.front ++ l) (sym (append-nil q))) one.appended two.wrote;
     flagged = two.flagged;
   }
-
--- one element more of those that are gone through
-pub flat_map_more : {X : Type 0} (f : X → List ℕ) (xs : List X) (i : ℕ) (d : X) → i < length xs
-    → flat_map f (take (i + 1) xs) ≡ flat_map f (take i xs) ++ f (get_or xs i d)
-flat_map_more f xs i d within =
-    ap (flat_map f) (take_more xs i d within) ∙ flat_map-append f (take i xs) (get_or xs i d ∷ []) ∙ ap (λ l. flat_map f (take i xs) ++ l) (append-nil (f (get_or xs i d)))
-
--- the same of an element that is known to stand there
-pub flat_map_step : {X : Type 0} (f : X → List ℕ) (xs : List X) (i : ℕ) (e : X) → i < length xs → e ≡ get_or xs i e
-    → flat_map f (take (i + 1) xs) ≡ flat_map f (take i xs) ++ f e
-flat_map_step f xs i e within is = flat_map_more f xs i e within ∙ ap (λ d. flat_map f (take i xs) ++ f d) (sym is)
-
-pub flat_map_rest : {X : Type 0} (f : X → List ℕ) (xs : List X) (i : ℕ) (e : X) → i < length xs → e ≡ get_or xs i e
-    → flat_map f xs ≡ flat_map f (take i xs) ++ (f e ++ flat_map f (drop (i + 1) xs))
-flat_map_rest f xs i e within is =
-    flat_map_at f xs i e within ∙ ap (λ d. flat_map f (take i xs) ++ (f d ++ flat_map f (drop (i + 1) xs))) (sym is)
-
--- all elements are gone through
-pub take_whole : {X : Type 0} (f : X → List ℕ) (xs : List X) (i : ℕ) → length xs ≤ i → flat_map f (take i xs) ≡ flat_map f xs
-take_whole f xs i all = ap (flat_map f) (take_all i xs all)

@@ -1,6 +1,6 @@
 pub mod Examples
 pub mod GatherLemmas
-pub mod ListLemmas
+pub mod SeparatedLemmas
 pub mod TermLemmas
 pub mod TextExamples
 pub mod TextLemmas

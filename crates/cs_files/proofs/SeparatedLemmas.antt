@@ -1,8 +1,9 @@
 -- Lemmas on lists of texts with something between each two.
-use Rattle.std.proofs.Common.{◌≡◌, ℕ, List, [], ◌∷◌, ◌++◌, refl, sym, ap, ◌∙◌, append_assoc, append-nil, map, take, drop, ◌+◌, ◌<◌, length, get_or, take-append-drop}
+use Rattle.std.proofs.Common.{◌≡◌, ℕ, List, [], ◌∷◌, ◌++◌, refl, sym, ap, ◌∙◌, append_assoc, append-nil, map, take, drop, ◌+◌, ◌<◌, length, get_or}
 use Rattle.std.specs.List.{flat_map}
-use Rattle.std.proofs.lemmas.List.{drop_more, take_more, map-append}
+use Rattle.std.proofs.lemmas.List.{map_more}
 use Rattle.std.proofs.lemmas.Grind.{flat_map-append}
+use Rattle.cs_value.proofs.ListLemmas.{map_split}
 use Rattle.cs_files.specs.Texts.{separated}
 
 -- what stands before a piece behind these
@@ -36,13 +37,6 @@ pub separated-more : (between : List ℕ) (before : List (List ℕ)) (piece : Li
     → separated between (before ++ piece ∷ []) ≡ separated between before ++ (lead_of between before ++ piece)
 separated-more between before piece = separated-at between before piece [] ∙ ap (λ l. separated between before ++ l) (append-nil (lead_of between before ++ piece))
 
-pub map_more : {X Y : Type 0} (f : X → Y) (xs : List X) (i : ℕ) (d : X) → i < length xs → map f (take (i + 1) xs) ≡ map f (take i xs) ++ f (get_or xs i d) ∷ []
-map_more f xs i d within = ap (map f) (take_more xs i d within) ∙ map-append f (take i xs) (get_or xs i d ∷ [])
-
-pub map_at : {X Y : Type 0} (f : X → Y) (xs : List X) (i : ℕ) (d : X) → i < length xs → map f xs ≡ map f (take i xs) ++ f (get_or xs i d) ∷ map f (drop (i + 1) xs)
-map_at f xs i d within =
-    ap (map f) (sym (take-append-drop i xs)) ∙ map-append f (take i xs) (drop i xs) ∙ ap (λ l. map f (take i xs) ++ map f l) (drop_more xs i d within)
-
 -- a piece behind others leaves between for the next
 pub lead_of-more : (between : List ℕ) (before : List (List ℕ)) (piece : List ℕ) → lead_of between (before ++ piece ∷ []) ≡ between
 lead_of-more between [] piece = refl
@@ -63,7 +57,7 @@ pub separated_rest : {X : Type 0} (between : List ℕ) (f : X → List ℕ) (xs 
 separated_rest between f xs i e lead within is leads =
     let before = map f (take i xs) in
     let after = behind between (map f (drop (i + 1) xs)) in
-    ap (separated between) (map_at f xs i e within) ∙ separated-at between before (f (get_or xs i e)) (map f (drop (i + 1) xs))
+    ap (separated between) (map_split xs i e within f) ∙ separated-at between before (f (get_or xs i e)) (map f (drop (i + 1) xs))
     ∙ ap (λ d. separated between before ++ ((lead_of between before ++ f d) ++ after)) (sym is)
     ∙ ap (λ l. separated between before ++ ((l ++ f e) ++ after)) (sym leads)
 

@@ -1,14 +1,15 @@
 -- Lemmas on what is said of the columns that have a value.
 use Rattle.std.proofs.Common.{◌≡◌, ℕ, ◌+◌, ◌<◌, true, false, List, [], ◌∷◌, ◌++◌, length, map, take, drop, get_or, codes, refl, sym, ap, ◌∙◌, append-nil, add-zero, arith}
 use Rattle.std.specs.List.{list_any}
-use Rattle.std.proofs.lemmas.List.{length-map, length-take-le, map-id}
+use Rattle.std.proofs.lemmas.List.{length-map, length-take-le, map-id, map_more}
+use Rattle.cs_value.proofs.ListLemmas.{map_split}
 use Rattle.cs_value.specs.declared.value.OwnedValue.{OwnedValue}
 use Rattle.cs_value.specs.declared.value.OwnedField.{OwnedField}
 use Rattle.cs_value.specs.declared.value.OwnedField.TheVariants.{Undefined, Defined}
 use Rattle.cs_files.specs.Texts.{separated, by_place, assignment, assignments}
 use Rattle.cs_files.specs.Pieces.{is_defined, terms_text}
 use Rattle.cs_files.specs.declared.texts.sql.Terms.TheVariants.{Assignments}
-use Rattle.cs_files.proofs.ListLemmas.{lead_of, behind, separated-at, separated-more, lead_of-more, map_more, map_at}
+use Rattle.cs_files.proofs.SeparatedLemmas.{lead_of, behind, separated-at, separated-more, lead_of-more}
 
 -- what is made of fields, and of those behind them
 by_place-append : (f : ℕ → OwnedValue → List ℕ) (p : ℕ) (xs ys : List OwnedField) → by_place f p (xs ++ ys) ≡ by_place f p xs ++ by_place f (p + length xs) ys
@@ -51,7 +52,7 @@ module _ {X : Type 0} (f : ℕ → OwnedValue → List ℕ) (field : X → Owned
       → by_place f 0 (map field xs) ≡ by_place f 0 (map field (take i xs)) ++ f i v ∷ by_place f (i + 1) (map field (drop (i + 1) xs))
   rest v some =
       let after = map field (drop (i + 1) xs) in
-      ap (by_place f 0) (map_at field xs i e within) ∙ by_place-at f i (map field (take i xs)) (field (get_or xs i e) ∷ after) counted
+      ap (by_place f 0) (map_split xs i e within field) ∙ by_place-at f i (map field (take i xs)) (field (get_or xs i e) ∷ after) counted
       ∙ ap (λ d. by_place f 0 (map field (take i xs)) ++ by_place f i (d ∷ after)) (ap field (sym is) ∙ some)
 
   -- the text with it, and with all that follows

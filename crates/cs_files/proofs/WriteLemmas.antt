@@ -1,8 +1,6 @@
 -- Lemmas on text that is written in pieces.
-use Rattle.std.proofs.Common.{◌≡◌, ℕ, ◌+◌, ◌-◌, ◌<◌, List, [], ◌++◌, length, take, drop, get_or, Option, Result, Ok, Err, sym, ap, ◌∙◌, append_assoc, append-nil, take-append-drop}
-use Rattle.std.specs.List.{flat_map}
-use Rattle.std.proofs.lemmas.List.{take_rest, drop_more}
-use Rattle.std.proofs.lemmas.Grind.{flat_map-append}
+use Rattle.std.proofs.Common.{◌≡◌, ℕ, ◌-◌, List, [], ◌++◌, length, take, drop, Option, Result, Ok, Err, sym, ap, ◌∙◌, append_assoc, append-nil, take-append-drop}
+use Rattle.std.proofs.lemmas.List.{take_rest}
 use Rattle.std.specs.Io.KnownBytes.{Appends}
 use Rattle.std.proofs.KnownBytes.{Appends-trans}
 use Rattle.cs_files.specs.declared.told.Told.{Told}
@@ -13,12 +11,6 @@ use Rattle.cs_files.specs.Calls.{AppendsFront, Writes}
 pub front_more : (bytes front rest : List ℕ) (n : ℕ) → bytes ≡ front ++ rest → bytes ≡ (front ++ take n rest) ++ take (length rest - n) (drop n rest)
 front_more bytes front rest n is =
     is ∙ ap (λ l. front ++ l) (sym (take-append-drop n rest) ∙ ap (λ l. take n rest ++ l) (sym (take_rest rest n))) ∙ sym (append_assoc front (take n rest) _)
-
--- the pieces before an index, the one there and those after it
-pub flat_map_at : {X : Type 0} (f : X → List ℕ) (xs : List X) (i : ℕ) (d : X) → i < length xs → flat_map f xs ≡ flat_map f (take i xs) ++ (f (get_or xs i d) ++ flat_map f (drop (i + 1) xs))
-flat_map_at f xs i d within =
-    ap (flat_map f) (sym (take-append-drop i xs)) ∙ flat_map-append f (take i xs) (drop i xs)
-    ∙ ap (λ l. flat_map f (take i xs) ++ l) (ap (flat_map f) (drop_more xs i d within))
 
 -- a piece of which a front is written, behind pieces that are written
 pub AppendsFront-after : (old mid new : Option (List ℕ)) (done piece rest text : List ℕ) → text ≡ done ++ (piece ++ rest) → Appends old mid done → AppendsFront mid new piece → AppendsFront old new text

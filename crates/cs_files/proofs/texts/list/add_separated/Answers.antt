@@ -1,7 +1,7 @@
 use Rattle.std.proofs.Common.{arith, refl}
 use Rattle.cs_files.specs.Texts.{separated}
 use Rattle.cs_files.proofs.GatherLemmas.{Gathered-nil, Gathered-more, Gathers-stopped}
-use Rattle.cs_files.proofs.ListLemmas.{separated_step, separated_rest, lead_step}
+use Rattle.cs_files.proofs.SeparatedLemmas.{separated_step, separated_rest, lead_step}
 use Rattle.cs_files.proofs.texts.list.add_separated.Goals as goal
 
 pub loop-item-init : goal.loop-item-init

@@ -1,7 +1,7 @@
 use Rattle.std.proofs.Common.{◌≡◌, map, take}
 use Rattle.cs_files.specs.Texts.{separated}
 use Rattle.cs_files.specs.Gathering.{Gathered}
-use Rattle.cs_files.proofs.ListLemmas.{lead_of}
+use Rattle.cs_files.proofs.SeparatedLemmas.{lead_of}
 use Rattle.cs_files.proofs.texts.list.add_separated.Given as goal
 
 abbrev pub invariant-loop-item : goal.invariant-loop-item

@@ -2,7 +2,7 @@ use Rattle.std.proofs.Common.{◌≡◌, map, take}
 use Rattle.cs_files.specs.Texts.{by_place}
 use Rattle.cs_files.specs.Pieces.{between_of, term_text, terms_text}
 use Rattle.cs_files.specs.Gathering.{Gathered}
-use Rattle.cs_files.proofs.ListLemmas.{lead_of}
+use Rattle.cs_files.proofs.SeparatedLemmas.{lead_of}
 use Rattle.cs_files.proofs.texts.sql.add_terms.Given as goal
 
 abbrev pub invariant-loop-place : goal.invariant-loop-place
