@@ -2,12 +2,12 @@
 use Rattle.std.proofs.Common.{◌≡◌, ◌≢◌, ℕ, ◌+◌, ◌<◌, ◌≤◌, ◌||◌, ◌==◌, vec_len, Bool, true, false, List, [], ◌∷◌, ◌++◌, length, take, get_or, Option, Result, Ok, Err, OnOk, refl, sym, ap, subst, ◌∙◌, append_assoc, append-nil, arith, length-append}
 use Rattle.std.specs.List.{flat_map, list_any}
 use Rattle.std.proofs.lemmas.Bool.{both_ways, eqb-true, eqb-false}
-use Rattle.std.proofs.lemmas.Grind.{flat_map-append}
-use Rattle.std.proofs.lemmas.List.{take_more, take_all, nil_from_length}
+use Rattle.std.proofs.lemmas.List.{take_more, take_all, nil_from_length, flat_map_more}
+use Rattle.std.proofs.lemmas.List.Recursion.{or_push}
 use Rattle.std.specs.FinMap.{empty}
 use Rattle.std.specs.Io.KnownBytes.{Appends}
 use Rattle.std.proofs.KnownBytes.{Appends-nil, Appends-trans}
-use Rattle.cs_value.proofs.Lists.{AllByRecursion-push}
+use Rattle.cs_value.proofs.ListLemmas.{AllByRecursion-push}
 use Rattle.cs_shell.specs.declared.script.Script.{Script}
 use Rattle.cs_files.specs.declared.told.Told.{Told}
 use Rattle.cs_files.specs.Told.{known}
@@ -16,11 +16,7 @@ use Rattle.cs_shell.specs.Script.{SlotMap, Reply, LineGives, LinesGive, reply_te
 use Rattle.cs_shell.specs.Progress.{HoldsLine, AddsByte, EndsLine, Progress, Advances, Finishes}
 
 list_any-push : {X : Type 0} (p : X → Bool) (xs : List X) (x : X) → list_any p (xs ++ x ∷ []) ≡ (list_any p xs || p x)
-list_any-push p [] x = elim (p x) as (λ b. (b || false) ≡ (false || b)) [ true ↦ refl | false ↦ refl ]
-list_any-push p (y ∷ xs) x = elim (p y) as (λ b. (b || list_any p (xs ++ x ∷ [])) ≡ ((b || list_any p xs) || p x)) [ true ↦ refl | false ↦ list_any-push p xs x ]
-
-flat_map-push : {X : Type 0} (f : X → List ℕ) (xs : List X) (x : X) → flat_map f (xs ++ x ∷ []) ≡ flat_map f xs ++ f x
-flat_map-push f xs x = flat_map-append f xs (x ∷ []) ∙ ap (λ l. flat_map f xs ++ l) (append-nil (f x))
+list_any-push p xs x = or_push (list_any p) p refl (λ y ys. refl) xs x
 
 -- the text is no line more, and a byte longer
 pub Splits-byte : (text : List ℕ) (lines : List (List ℕ)) (last : List ℕ) (b : ℕ) → b ≢ 10 → Splits text lines last → Splits (text ++ b ∷ []) lines (last ++ b ∷ [])
@@ -34,7 +30,7 @@ Splits-byte text lines last b apart s = record {
 pub Splits-feed : (text : List ℕ) (lines : List (List ℕ)) (last : List ℕ) → Splits text lines last → Splits (text ++ 10 ∷ []) (lines ++ last ∷ []) []
 Splits-feed text lines last s = record {
   spelled =
-      ap (λ l. l ++ 10 ∷ []) s.spelled ∙ append_assoc (flat_map ended lines) last (10 ∷ []) ∙ sym (flat_map-push ended lines last)
+      ap (λ l. l ++ 10 ∷ []) s.spelled ∙ append_assoc (flat_map ended lines) last (10 ∷ []) ∙ flat_map_more ended [] lines last
       ∙ sym (append-nil (flat_map ended (lines ++ last ∷ [])));
   no_feed = AllByRecursion-push HasNoFeed lines last s.no_feed s.no_feed_last;
   no_feed_last = tt;
@@ -107,7 +103,7 @@ Advances-byte contents old new out b apart adds = record {
 
 -- the replies with one more, where a line is ended
 replies_text-push : (replies : List Reply) (reply : Reply) → replies_text (replies ++ reply ∷ []) ≡ replies_text replies ++ reply_text reply
-replies_text-push replies reply = flat_map-push reply_text replies reply
+replies_text-push replies reply = sym (flat_map_more reply_text [] replies reply)
 
 written_more : (first before after : Option (List ℕ)) (replies : List Reply) (reply : Reply) → Appends first before (replies_text replies) → Appends before after (reply_text reply)
     → Appends first after (replies_text (replies ++ reply ∷ []))

@@ -4,6 +4,7 @@ use Rattle.std.specs.FinMap.{empty}
 use Rattle.std.specs.Io.KnownBytes.{Appends, Consumes}
 use Rattle.std.proofs.KnownBytes.{Appends-trans, Consumes-trans}
 use Rattle.std.proofs.lemmas.List.{append_assoc, length-drop, length-take-le, take-append-drop}
+use Rattle.std.proofs.lemmas.Option.{IfSome_then}
 use Rattle.cs_shell.specs.declared.script.Script.{Script}
 use Rattle.cs_shell.specs.declared.script.Status.TheVariants.{TooLong, InputFault}
 use Rattle.cs_shell.specs.declared.script.Stop.{Stop}
@@ -40,10 +41,6 @@ read_whole (Some text) (Some more) (Some rest) front piece left p q = (
       ∙ sym (append_assoc front (take left piece) (drop left piece ++ rest)),
 )
 
-IfSome-weaker : {X : Type 0} (o : Option X) (P Q : X → Type 0) → ((x : X) → P x → Q x) → IfSome o P → IfSome o Q
-IfSome-weaker None P Q f h = tt
-IfSome-weaker (Some x) P Q f h = f x h
-
 -- a byte too many is read: the bytes in front of it are run, and the error line is written
 pub HasRead-overrun : {R W : Type 0} (remaining : R → Option (List ℕ)) (contents : W → Option (List ℕ)) (a b c : Told R) (old mid new : Script) (x y z w : Told W) (count : ℕ) (piece : List ℕ)
     → HasRead remaining contents a b old mid x y count → Consumes (known remaining b) (known remaining c) piece → Advances contents mid new y z (take (SCRIPT_LIMIT - count) piece)
@@ -55,7 +52,7 @@ HasRead-overrun remaining contents a b c old mid new x y z w count piece r consu
     let within = r.within in
     let taken = length-take-le left piece (omega arith) in
     let passed = length-drop left piece in
-    IfSome-weaker (known remaining a) _ _ (λ text whole. record {
+    IfSome_then (known remaining a) (read_whole (known remaining a) (known remaining b) (known remaining c) r.front piece left r.consumed consumed) (λ text whole. record {
       middle = z;
       runs = record {
         new = new;
@@ -67,7 +64,7 @@ HasRead-overrun remaining contents a b c old mid new x y z w count piece r consu
       full = length-append r.front (take left piece) ∙ omega arith;
       more = λ none. let count_is = sym (length-append (drop left piece) whole.0) ∙ ap length none in absurd (omega arith);
       error_written = written;
-    }) (read_whole (known remaining a) (known remaining b) (known remaining c) r.front piece left r.consumed consumed)
+    })
 
 -- what is left of the text that was read
 read_front : (a b : Option (List ℕ)) (front : List ℕ) → Consumes a b front → IfSome a (λ text. (rest : List ℕ) × (text ≡ front ++ rest))
@@ -79,13 +76,13 @@ read_front (Some text) (Some more) front p = (more, p)
 pub HasRead-front : {R W : Type 0} (remaining : R → Option (List ℕ)) (contents : W → Option (List ℕ)) (a b : Told R) (old new : Script) (x y : Told W) (count : ℕ)
     → HasRead remaining contents a b old new x y count → IfSome (known remaining a) (RunsFront contents old x y)
 HasRead-front remaining contents a b old new x y count r =
-    IfSome-weaker (known remaining a) _ _ (λ text whole. record {
+    IfSome_then (known remaining a) (read_front (known remaining a) (known remaining b) r.front r.consumed) (λ text whole. record {
       new = new;
       front = r.front;
       rest = whole.0;
       whole = whole.1;
       advances = r.advances;
-    }) (read_front (known remaining a) (known remaining b) r.front r.consumed)
+    })
 
 -- a text that is run, and whose last line is run
 pub text_finished : {W : Type 0} (contents : W → Option (List ℕ)) (text : Option (List ℕ)) (old mid new : Script) (x y z : Told W) → IfSome text (RunsText contents old mid x y)
@@ -157,6 +154,6 @@ overrun_written contents bytes script x y slots line held fine h =
 -- a text whose run stopped
 pub stop_written : {W : Type 0} (contents : W → Option (List ℕ)) (text : Option (List ℕ)) (script : Script) (stop : Stop) (x y : Told W) → script.slots ≡ empty → script.line.items ≡ []
     → script.is_lost ≡ false → script.has_refused ≡ false → IfSome text (StopsAt contents stop script x y) → IfSome text (Ends contents (status_of stop) x y)
-stop_written contents text script stop.TooLong x y slots line held fine h = IfSome-weaker text _ _ (λ bytes. overrun_written contents bytes script x y slots line held fine) h
-stop_written contents text script stop.Input x y slots line held fine h = IfSome-weaker text _ _ (λ bytes. front_written contents bytes script x y slots line held fine) h
+stop_written contents text script stop.TooLong x y slots line held fine h = IfSome_then text h (λ bytes. overrun_written contents bytes script x y slots line held fine)
+stop_written contents text script stop.Input x y slots line held fine h = IfSome_then text h (λ bytes. front_written contents bytes script x y slots line held fine)
 stop_written contents text script stop.Output x y slots line held fine h = nothing_said text
