@@ -1,6 +1,7 @@
 //! What a call answers to C.
 ghost use Rattle.std.specs.Prelude.{◌≡◌, ◌≢◌};
-ghost use Rattle.vollikash.specs.Answers.{IsMade, IsWhy, Gives, Lacks, Tells, IsMadeCode, IsRefusal, no_fault, report_of};
+ghost use Rattle.vollikash.specs.Answers.{IsMade, IsWhy, Gives, Lacks, Tells, IsMadeCode, IsRefusal};
+ghost use Rattle.vollikash.specs.Answers.{no_fault, report_of};
 
 use cs_files::{FileFault, ToolFault};
 use cs_value::Fault;
