@@ -30,10 +30,9 @@ fn texts(rt: HostRuntime) {
     let changeset = read(rt.alloc(), DELETE).expect(&rt, "a changeset");
     let mut out = Told::new(Vec::new(rt.alloc()));
     assert!(rt; dump_text(&changeset, &mut out).is_ok() && sql_text(&changeset, &mut out).is_ok());
-    assert!(rt;
-        out.into_inner().as_slice()
-            == b"table 't' columns 2 flags 1,0\ndelete 0 old 1,'x'\nDELETE FROM \"t\" WHERE c1=1 AND c2='x';\n".as_slice()
-    );
+    let printed =
+        b"table 't' columns 2 flags 1,0\ndelete 0 old 1,'x'\nDELETE FROM \"t\" WHERE c1=1 AND c2='x';\n";
+    assert!(rt; out.into_inner().as_slice() == printed.as_slice());
 }
 
 /// A reader of some bytes, a few at once, that ends or fails behind them.
