@@ -8,7 +8,7 @@ use Rattle.cs_value.specs.declared.TheConstants.{MAX_CONTENT_LEN}
 use Rattle.cs_value.specs.State.{SchemaData, IsSchema, IsColumnName}
 use Rattle.cs_value.specs.Varint.{varint}
 use Rattle.cs_value.specs.Spelling.{counted}
-use Rattle.cs_value.proofs.Lists.{AllByRecursion-push}
+use Rattle.cs_value.proofs.ListLemmas.{AllByRecursion-push}
 use Rattle.cs_value.proofs.Spellings.{varint_spellings}
 use Rattle.cs_store.specs.declared.fault.StoreError.{StoreError}
 use Rattle.cs_store.specs.Declaration.{columns_bytes, declaration_bytes, BeginsWithColumn, AreColumns}

@@ -26,7 +26,7 @@ use Rattle.cs_store.specs.declared.fault.StoreError.{StoreError}
 use Rattle.cs_store.specs.declared.fault.StoreError.TheVariants.{DamagedStore}
 use Rattle.cs_store.specs.Faults.{IsResource, IsReadRefusal}
 use Rattle.cs_store.specs.Store.{AreNamed, AreStored, RecoversList}
-use Rattle.cs_value.proofs.Lists.{AllByRecursion-push}
+use Rattle.cs_value.proofs.ListLemmas.{AllByRecursion-push}
 use Rattle.std.proofs.lemmas.List.{map-append}
 use Rattle.cs_store.proofs.MemoryLaws.{rows_at_found}
 use Rattle.cs_store.proofs.StoredLaws.{row_stored}
