@@ -26,7 +26,7 @@ use Rattle.cs_group.specs.Joining.{merged}
 use Rattle.cs_group.specs.Judging.{judgement, judged, is_skipped, is_compatible}
 use Rattle.cs_group.specs.Conflicts.{has_values, conflict_kind, row_after, is_carried_out, entry_result}
 use Rattle.cs_group.specs.Applying.{PlacedEntry, placed_by, placed, placed_result, current, IsElsewhere, skipped, FirstWider, applicable, conflict_with, conflict_at, conflicts, NoneWider, IsClean, Choices, written_for, written, AreApplied, IsApplied, omit_all}
-use Rattle.cs_group.proofs.ApplyLaws.{applied_reverts}
+use Rattle.cs_group.proofs.ApplyLemmas.{applied_reverts}
 use Rattle.cs_group.proofs.Examples.{update_and_back}
 
 -- the rows (1, 'y') and (1, 'z')

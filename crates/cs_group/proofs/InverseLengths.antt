@@ -11,7 +11,7 @@ use Rattle.cs_wire.specs.Changeset.{HeaderData, GroupData, IsGroup, IsChangeset,
 use Rattle.cs_wire.specs.Inverse.{IsInverseEntry, IsInverseGroup}
 use Rattle.cs_wire.specs.Views.{inverse_change, inverse_entry}
 use Rattle.cs_wire.proofs.EntryInverses.{entry_inverses}
-use Rattle.cs_wire.proofs.InverseLaws.{IsEntry-inverse, inverse_entry_is, each_entry}
+use Rattle.cs_wire.proofs.InverseLemmas.{IsEntry-inverse, inverse_entry_is, each_entry}
 use Rattle.cs_group.specs.Inverse.{IsInverse}
 use Rattle.cs_group.proofs.EntryLengths.{record_length, record_more, change_length, update_length, entry_length_is}
 use Rattle.cs_group.proofs.JoinLengths.{group_length}

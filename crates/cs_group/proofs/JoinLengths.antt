@@ -10,7 +10,7 @@ use Rattle.cs_wire.specs.Entry.{key_of, entry_bytes}
 use Rattle.cs_wire.specs.Changeset.{HeaderData, GroupData, IsGroup, IsChangeset, header_bytes, entries_bytes, group_bytes, file_bytes}
 use Rattle.cs_value.proofs.ListLemmas.{AllPairs-head, AllPairs-tail}
 use Rattle.cs_group.specs.Joining.{table_name, with_text, is_new, outcome, joined_by, joined_entry, joined_entries, some_group, joined_group, IsJoined}
-use Rattle.cs_group.proofs.TextLaws.{Once, not_same, with_text-none}
+use Rattle.cs_group.proofs.TextLemmas.{Once, not_same, with_text-none}
 use Rattle.cs_group.proofs.EntryLengths.{joined_entry_length}
 
 -- ---- two lists of things that are written in turn

@@ -10,7 +10,7 @@ use Rattle.cs_store.specs.Stored.{state_of}
 use Rattle.cs_store.specs.Store.{HoldsState, IsSound, KeepsStore, Begins, tables_in}
 use Rattle.cs_store.specs.Crash.{MayLeave}
 use Rattle.cs_store.specs.Laws.{was_clean, keeps_itself}
-use Rattle.cs_store.proofs.WriteLaws.{shows_state}
+use Rattle.cs_store.proofs.WriteLemmas.{shows_state}
 
 -- ---- nothing is done
 

@@ -22,8 +22,8 @@ use Rattle.cs_store.specs.declared.fault.StoreError.{StoreError}
 use Rattle.cs_store.specs.declared.fault.StoreError.TheVariants.{TableExists, NoTable, BadSchema, KeyTaken, NoRow, RowWidth, NullInKey}
 use Rattle.cs_store.specs.Editing.{Declares, Edited, unless, when, inserted_in, moved, updated_in, deleted_in, found_table, in_table, edited}
 use Rattle.cs_store.proofs.Examples.{two_columns, two_columns_is_schema}
-use Rattle.cs_store.proofs.MemoryLaws.{with_rows_found, rows_at_found, row_at_found}
-use Rattle.cs_store.proofs.StoredLaws.{get_put, get_taken}
+use Rattle.cs_store.proofs.MemoryLemmas.{with_rows_found, rows_at_found, row_at_found}
+use Rattle.cs_store.proofs.StoredLemmas.{get_put, get_taken}
 use Rattle.cs_store.proofs.StoreExamples.{one_column, one_column_is_schema, table_t, tables, row, key, held, state, t_is_name, tables_at}
 
 -- ---- declaring

@@ -17,9 +17,9 @@ use Rattle.sqlite_rules.proofs.ListLemmas.{all_has, all_from, has_filtered, has_
 use Rattle.sqlite.specs.State.{State, Shown}
 use Rattle.sqlite.proofs.Callers.{one_permutation}
 use Rattle.cs_store.specs.Records.{HoldsRecords, is_under, same_bytes, content, records_in}
-use Rattle.cs_store.proofs.RowLaws.{IsRecordRow, AreRecords, HaveOneKey, IsUnder, equal_texts, equal_blobs, are_records, records_filtered, under_is, records_under}
+use Rattle.cs_store.proofs.RowLemmas.{IsRecordRow, AreRecords, HaveOneKey, IsUnder, equal_texts, equal_blobs, are_records, records_filtered, under_is, records_under}
 use Rattle.cs_store.proofs.QueryTexts.{find_text, find_asks, at_key}
-use Rattle.cs_store.proofs.AnswerLaws.{shows_chosen}
+use Rattle.cs_store.proofs.AnswerLemmas.{shows_chosen}
 
 -- the rows that show a value that may be there
 abbrev pub found_rows : Option (List ℕ) → List Row

@@ -22,10 +22,10 @@ use Rattle.sqlite_rules.specs.Lists.{Has}
 use Rattle.sqlite_rules.proofs.ListLemmas.{all_has, all_from, has_filtered}
 use Rattle.sqlite.specs.State.{State, Shown}
 use Rattle.cs_store.specs.Records.{RecordData, HoldsRecords, ListsTable, ListsAll, is_under, same_bytes, content, record_cmp, records_of, records_in, shown_keyed, shown_record}
-use Rattle.cs_store.proofs.RowLaws.{IsRecordRow, AreRecords, HaveOneKey, same_is, are_records, records_filtered, records_permuted, records_of-permutation, records_of-filter, ascending_of_members, pairs_from_ascending, has_permuted}
-use Rattle.cs_store.proofs.OrderLaws.{tied_bytes, both_tied, below_from, ascending_both}
+use Rattle.cs_store.proofs.RowLemmas.{IsRecordRow, AreRecords, HaveOneKey, same_is, are_records, records_filtered, records_permuted, records_of-permutation, records_of-filter, ascending_of_members, pairs_from_ascending, has_permuted}
+use Rattle.cs_store.proofs.OrderLemmas.{tied_bytes, both_tied, below_from, ascending_both}
 use Rattle.cs_store.proofs.QueryTexts.{list_text, list_query, list_asks, all_text, all_query, all_asks}
-use Rattle.cs_store.proofs.AnswerLaws.{passes_where, sorts, shows_chosen}
+use Rattle.cs_store.proofs.AnswerLemmas.{passes_where, sorts, shows_chosen}
 use Rattle.cs_store.proofs.FoundRows.{name_passes}
 
 -- rows of records that are in order rise, where rows that tie in that order have one key

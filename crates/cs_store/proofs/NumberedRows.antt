@@ -20,10 +20,10 @@ use Rattle.sqlite_rules.proofs.ListLemmas.{all_has, has_either, has_right}
 use Rattle.sqlite_catalog.proofs.ListFacts.{ascending_push}
 use Rattle.sqlite.specs.State.{State, Shown}
 use Rattle.cs_store.specs.Records.{record_schema, AreNumbered, AreRisingNumbers}
-use Rattle.cs_store.proofs.RowLaws.{ascending_from_pairs, pairs_from_ascending, ascending-permutation, ascending_of_members}
-use Rattle.cs_store.proofs.OrderLaws.{below_from, ascending_both}
+use Rattle.cs_store.proofs.RowLemmas.{ascending_from_pairs, pairs_from_ascending, ascending-permutation, ascending_of_members}
+use Rattle.cs_store.proofs.OrderLemmas.{below_from, ascending_both}
 use Rattle.cs_store.proofs.QueryTexts.{number_text, number_query, number_asks}
-use Rattle.cs_store.proofs.AnswerLaws.{passes_where, sorts, ShowsChosen, shows_chosen}
+use Rattle.cs_store.proofs.AnswerLemmas.{passes_where, sorts, ShowsChosen, shows_chosen}
 
 -- ---- numbers
 

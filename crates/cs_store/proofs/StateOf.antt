@@ -16,8 +16,8 @@ use Rattle.cs_value.proofs.KeyedRows.{length-IsKeyedRow}
 use Rattle.cs_store.specs.Records.{Records, content, same_bytes, is_under, records_of}
 use Rattle.cs_store.specs.Declaration.{declaration_bytes}
 use Rattle.cs_store.specs.Stored.{Stores, values_at, entries_under, table_in, state_of}
-use Rattle.cs_store.proofs.MemoryLaws.{row_at_found}
-use Rattle.cs_store.proofs.RowLaws.{same_is}
+use Rattle.cs_store.proofs.MemoryLemmas.{row_at_found}
+use Rattle.cs_store.proofs.RowLemmas.{same_is}
 use Rattle.cs_store.proofs.StoredReading.{values_again, schema_again, one_schema}
 
 -- the first of the rows is found, or what the others hold

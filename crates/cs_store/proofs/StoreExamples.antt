@@ -18,16 +18,16 @@ use Rattle.cs_value.specs.Spelling.{counted, value_bytes, row_bytes}
 use Rattle.cs_value.specs.Table.{IsName}
 use Rattle.cs_value.specs.Reading.{number_from, number_at, integer_at, counted_at, text_at, blob_at, field_at}
 use Rattle.cs_value.specs.State.{SchemaData, IsColumnName, IsSchema, TableData, RowMap, IsRowAt, IsTable, State, IsState, rows_at}
-use Rattle.cs_value.proofs.StateLaws.{empty_table, table_insert, empty_state, state_insert}
+use Rattle.cs_value.proofs.StateLemmas.{empty_table, table_insert, empty_state, state_insert}
 use Rattle.cs_store.specs.Records.{Records, same_bytes, records_of}
 use Rattle.cs_store.specs.Declaration.{declaration_bytes}
 use Rattle.cs_store.specs.Stored.{version, stored_under, Stores, values_at, columns_at, schema_in, state_of}
 use Rattle.cs_store.specs.Valid.{AreValid}
 use Rattle.cs_store.proofs.Examples.{two_columns, two_columns_is_schema}
 use Rattle.cs_store.proofs.StateOf.{records_first, fitting_read, state_is}
-use Rattle.cs_store.proofs.StoredLaws.{get_put}
+use Rattle.cs_store.proofs.StoredLemmas.{get_put}
 use Rattle.cs_store.proofs.StoredReading.{schema_again}
-use Rattle.cs_store.proofs.ValidLaws.{stores_valid}
+use Rattle.cs_store.proofs.ValidLemmas.{stores_valid}
 
 -- texts, and spelling and reading, compute
 texts : Unit {0}

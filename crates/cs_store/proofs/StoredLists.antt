@@ -28,8 +28,8 @@ use Rattle.cs_store.specs.Faults.{IsResource, IsReadRefusal}
 use Rattle.cs_store.specs.Store.{AreNamed, AreStored, RecoversList}
 use Rattle.cs_value.proofs.ListLemmas.{AllByRecursion-push}
 use Rattle.std.proofs.lemmas.List.{map-append}
-use Rattle.cs_store.proofs.MemoryLaws.{rows_at_found}
-use Rattle.cs_store.proofs.StoredLaws.{row_stored}
+use Rattle.cs_store.proofs.MemoryLemmas.{rows_at_found}
+use Rattle.cs_store.proofs.StoredLemmas.{row_stored}
 
 -- entries by lists of bytes, and whether their keys rise
 abbrev Entries : Type 0 → Type 0

@@ -10,7 +10,7 @@ use Rattle.cs_value.specs.Varint.{varint}
 use Rattle.cs_value.specs.Spelling.{counted, value_bytes, field_bytes, row_bytes}
 use Rattle.cs_value.specs.Reading.{field_at}
 use Rattle.cs_value.specs.State.{SchemaData, IsColumnName, IsSchema}
-use Rattle.cs_value.proofs.VarintLaws.{number_again}
+use Rattle.cs_value.proofs.VarintLemmas.{number_again}
 use Rattle.cs_value.proofs.FieldAgain.{field_again}
 use Rattle.cs_store.specs.Declaration.{columns_bytes, declaration_bytes}
 use Rattle.cs_store.specs.Stored.{value_before, values_at, columns_at, counted_columns, schema_in}

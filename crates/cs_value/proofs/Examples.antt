@@ -16,7 +16,7 @@ use Rattle.cs_value.specs.Spelling.{counted, value_bytes, field_bytes, row_bytes
 use Rattle.cs_value.specs.FieldFaults.{IsCutVarint, HasContent, VarintFails, FieldFails}
 use Rattle.cs_value.specs.ImageFaults.{RecordFails}
 use Rattle.cs_value.specs.Reading.{fault, number_from, number_at}
-use Rattle.cs_value.proofs.VarintLaws.{number_faults}
+use Rattle.cs_value.proofs.VarintLemmas.{number_faults}
 
 computing : Unit {0}
 unfolding leading_digits varint counted value_bytes field_bytes encode_utf8 chars is_utf8

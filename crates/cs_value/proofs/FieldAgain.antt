@@ -15,7 +15,7 @@ use Rattle.cs_value.specs.Varint.{varint}
 use Rattle.cs_value.specs.Spelling.{counted, value_bytes, field_bytes}
 use Rattle.cs_value.specs.Reading.{integer_at, counted_at, text_at, blob_at, field_at}
 use Rattle.cs_value.proofs.Integers.{integer_bytes, integer_of, integer_of-integer_bytes}
-use Rattle.cs_value.proofs.VarintLaws.{number_again}
+use Rattle.cs_value.proofs.VarintLemmas.{number_again}
 
 -- counted bytes are read
 counted_again : (text rest : List ℕ) → length text ≤ MAX_CONTENT_LEN → counted_at (counted text ++ rest) ≡ Ok (text, suc (length (counted text)))

@@ -16,7 +16,7 @@ use Rattle.cs_value.specs.FieldFaults.{VarintFails, HasContent, IsCutContent, Fi
 use Rattle.cs_value.specs.Reading.{fault, behind_type, number_at, integer_at, counted_at, text_at, blob_at, field_at}
 use Rattle.cs_value.proofs.Steps.{err_is, not_both, bind_err, guard_err, behind_ok, behind_err}
 use Rattle.cs_value.proofs.Integers.{integer_of}
-use Rattle.cs_value.proofs.VarintLaws.{number_takes, number_faults}
+use Rattle.cs_value.proofs.VarintLemmas.{number_takes, number_faults}
 use Rattle.cs_value.proofs.FieldKinds.{kind_cases, field_at-nil, field_at-undefined, field_at-integer, field_at-real, field_at-text, field_at-blob, field_at-null, field_at-other}
 use Rattle.cs_value.proofs.FieldTakes.{counted_takes}
 

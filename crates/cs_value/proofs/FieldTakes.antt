@@ -17,7 +17,7 @@ use Rattle.cs_value.proofs.Steps.{ok_is, not_both, bind_ok, guard_ok, behind_ok}
 use Rattle.cs_value.proofs.ByteLists.{AreBytes-take, AreBytes-drop}
 use Rattle.cs_value.proofs.Integers.{integer_bytes, integer_of, integer_of-fits, integer_bytes-integer_of}
 use Rattle.cs_value.proofs.FieldKinds.{kind_cases, field_at-nil, field_at-undefined, field_at-integer, field_at-real, field_at-text, field_at-blob, field_at-null, field_at-other}
-use Rattle.cs_value.proofs.VarintLaws.{number_takes, BeginsWith-from_append}
+use Rattle.cs_value.proofs.VarintLemmas.{number_takes, BeginsWith-from_append}
 
 -- behind a type byte a reader took this text, which ends there, the type byte included
 pub record Takes (content text : List ℕ) (end : ℕ) : Type 0 where

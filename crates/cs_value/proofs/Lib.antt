@@ -2,7 +2,7 @@ pub mod ListLemmas
 pub mod ByteLists
 pub mod ByteMaps
 pub mod Digits
-pub mod VarintLaws
+pub mod VarintLemmas
 pub mod VarintLoops
 pub mod Integers
 pub mod Steps
@@ -15,7 +15,7 @@ pub mod FieldReading
 pub mod Spellings
 pub mod KeyColumns
 pub mod ImageReading
-pub mod RefusalLaws
-pub mod StateLaws
+pub mod RefusalLemmas
+pub mod StateLemmas
 pub mod KeyedRows
 pub mod RowImages

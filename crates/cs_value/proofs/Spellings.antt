@@ -10,7 +10,7 @@ use Rattle.cs_value.specs.Varint.{varint}
 use Rattle.cs_value.specs.Spelling.{value_bytes, field_bytes, record_bytes, row_bytes}
 use Rattle.cs_value.specs.Reading.{number_at, field_at}
 use Rattle.cs_value.proofs.Steps.{ok_is}
-use Rattle.cs_value.proofs.VarintLaws.{number_again}
+use Rattle.cs_value.proofs.VarintLemmas.{number_again}
 use Rattle.cs_value.proofs.FieldAgain.{field_again}
 
 -- bytes that begin with two varints begin with one

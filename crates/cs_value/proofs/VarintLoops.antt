@@ -6,7 +6,7 @@ use Rattle.cs_value.specs.declared.fault.FieldFaultKind.TheVariants.{Truncated, 
 use Rattle.cs_value.specs.Varint.{leading_digits, varint}
 use Rattle.cs_value.specs.Reading.{fault, number_from, number_at}
 use Rattle.cs_value.proofs.Digits.{pow_quotient, leading_digits-suc, leading_digits-zero}
-use Rattle.cs_value.proofs.VarintLaws.{number_from-nil, number_from-last, number_from-large, number_from-more, number_from-fifth, number_at-from}
+use Rattle.cs_value.proofs.VarintLemmas.{number_from-nil, number_from-last, number_from-large, number_from-more, number_from-fifth, number_at-from}
 
 -- ---- reading
 

@@ -20,11 +20,11 @@ use Rattle.cs_wire.specs.Entry.{IsChange, operation, fields_of}
 use Rattle.cs_wire.specs.Changeset.{HeaderData}
 use Rattle.cs_wire.specs.ReadFaults.{kind_of, Stands, EntryStart, FieldStart, HasNoField, IsWhole, IsKeyColumn, IsAlike, StandsBefore, StandsUnpaired, ReadCase}
 use Rattle.cs_wire.specs.Reading.{Want, KeyValue, AnyValue, AnyField, NewValue, Nothing, refusal, is_key_flag, in_row, in_old, in_new, is_modified, row_wants, old_wants, new_wants, wants_of, Meets, NoField, OtherField, ChangeRefused}
-use Rattle.cs_wire.proofs.ReadingLaws.{Stands-then}
+use Rattle.cs_wire.proofs.ReadingLemmas.{Stands-then}
 use Rattle.cs_value.proofs.KeyedRows.{length-IsKeyedRow}
-use Rattle.cs_wire.proofs.EntryLaws.{length-IsKeyedUpdate}
-use Rattle.cs_wire.proofs.FieldsLaws.{want_at, length-new_wants}
-use Rattle.cs_wire.proofs.ChangeLaws.{key_flag, new_met}
+use Rattle.cs_wire.proofs.EntryLemmas.{length-IsKeyedUpdate}
+use Rattle.cs_wire.proofs.FieldsLemmas.{want_at, length-new_wants}
+use Rattle.cs_wire.proofs.ChangeLemmas.{key_flag, new_met}
 
 -- no field stands where one is to begin
 no_field_case : (file : List ℕ) (place : ℕ) (why : FieldFaultKind) → HasNoField file why place → ReadCase file (kind_of why) place

@@ -9,7 +9,7 @@ use Rattle.cs_wire.specs.declared.entry.Change.TheVariants.{Insert, Delete, Upda
 use Rattle.cs_wire.specs.Entry.{IsKeyedUpdate, IsChange, with_key, before_image, after_image}
 use Rattle.cs_wire.specs.Changeset.{ImageData, image_of}
 use Rattle.cs_wire.specs.Laws.{EntryInverses}
-use Rattle.cs_wire.proofs.EntryLaws.{same_entry}
+use Rattle.cs_wire.proofs.EntryLemmas.{same_entry}
 
 abbrev Image : Type 0
 Image = Option (List OwnedField)

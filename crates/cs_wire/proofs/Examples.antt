@@ -24,7 +24,7 @@ use Rattle.cs_value.specs.Table.{IsName, IsFlags, IsKeyedRow}
 use Rattle.cs_wire.specs.Entry.{IsKeyedUpdate, IsEntry, IsChange, entry_bytes}
 use Rattle.cs_wire.specs.Changeset.{HeaderData, IsHeader, GroupData, IsGroup, IsChangeset, flags_bytes, header_bytes, group_bytes, file_bytes, IsAccepted}
 use Rattle.cs_wire.specs.ReadFaults.{Stands, TableStart, HeaderPart, EntryStart, FieldStart, IsOperation, HasNoField, ReadCase, ReadFails}
-use Rattle.cs_wire.proofs.GroupsLaws.{EntryStart-none}
+use Rattle.cs_wire.proofs.GroupsLemmas.{EntryStart-none}
 
 computing : Unit {0}
 unfolding leading_digits varint counted value_bytes field_bytes entry_bytes flags_bytes header_bytes group_bytes encode_utf8 chars is_utf8

@@ -22,7 +22,7 @@ use Rattle.cs_wire.specs.declared.fault.ReadFaultKind.TheVariants.{Truncated, No
 use Rattle.cs_wire.specs.Entry.{key_of, entry_bytes}
 use Rattle.cs_wire.specs.Changeset.{HeaderData, GroupData, IsHeader, IsNewKey, IsNewName, flags_bytes, header_bytes, entries_bytes, group_bytes, file_bytes}
 use Rattle.cs_wire.specs.ReadFaults.{Stands, TableStart, HeaderPart, EntryStart, FieldStart, ReadCase}
-use Rattle.cs_wire.proofs.GroupsLaws.{group_bytes_some}
+use Rattle.cs_wire.proofs.GroupsLemmas.{group_bytes_some}
 use Rattle.cs_wire.proofs.Examples.{header_file, one_field, insert_file}
 
 -- files that begin with another byte than 54

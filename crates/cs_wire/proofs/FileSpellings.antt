@@ -15,12 +15,12 @@ use Rattle.cs_value.specs.Table.{IsFlags}
 use Rattle.cs_wire.specs.Entry.{IsChange, IsEntry, operation, fields_of, entry_bytes}
 use Rattle.cs_wire.specs.Changeset.{HeaderData, GroupData, IsHeader, IsGroup, IsChangeset, flags_bytes, header_bytes, entries_bytes, group_bytes, file_bytes}
 use Rattle.cs_wire.specs.Reading.{EndsGroup}
-use Rattle.cs_wire.proofs.ReadingLaws.{flags_bytes-append, header_bytes-append, same_header}
+use Rattle.cs_wire.proofs.ReadingLemmas.{flags_bytes-append, header_bytes-append, same_header}
 use Rattle.cs_value.proofs.KeyedRows.{length-IsKeyedRow}
-use Rattle.cs_wire.proofs.EntryLaws.{length-IsKeyedUpdate, entry_bytes-append, same_entry}
+use Rattle.cs_wire.proofs.EntryLemmas.{length-IsKeyedUpdate, entry_bytes-append, same_entry}
 use Rattle.cs_value.proofs.RowImages.{IsRecord-map, same_from_fields}
-use Rattle.cs_wire.proofs.EntriesLaws.{operation_no_header}
-use Rattle.cs_wire.proofs.GroupsLaws.{group_bytes-append, group_bytes_some, same_group, ends_group}
+use Rattle.cs_wire.proofs.EntriesLemmas.{operation_no_header}
+use Rattle.cs_wire.proofs.GroupsLemmas.{group_bytes-append, group_bytes_some, same_group, ends_group}
 use Rattle.cs_value.specs.Laws.{RecordSpellings}
 use Rattle.cs_value.proofs.ListLemmas.{same_from_append, AllByRecursion-append}
 

@@ -2,11 +2,11 @@ use Rattle.std.proofs.Common.{◌≡◌, ℕ, List, refl, ap, ◌∙◌}
 use Rattle.std.specs.Fn.{FnReturnsAt}
 use Rattle.std.specs.FinMap.{get}
 use Rattle.cs_value.specs.State.{State}
-use Rattle.cs_value.proofs.StateLaws.{table_of_schema}
+use Rattle.cs_value.proofs.StateLemmas.{table_of_schema}
 use Rattle.cs_group.specs.Conflicts.{row_after}
 use Rattle.cs_group.specs.Applying.{placed_by, current}
 use Rattle.cs_apply.specs.Steps.{with_result}
-use Rattle.cs_apply.proofs.CarryLaws.{carries_written, carries_passed, refuses_here, on_both}
+use Rattle.cs_apply.proofs.CarryLemmas.{carries_written, carries_passed, refuses_here, on_both}
 use Rattle.cs_apply.proofs.entry.apply_entry.Goals as goal
 
 pub returns-in-Err-clause-refused : goal.returns-in-Err-clause-refused

@@ -3,7 +3,7 @@ use Rattle.std.specs.Fn.{FnReturnsAt}
 use Rattle.std.proofs.lemmas.Fn.{says_at}
 use Rattle.cs_group.specs.Conflicts.{conflict_kind, ends}
 use Rattle.cs_group.specs.Applying.{ConflictData, placed_by}
-use Rattle.cs_apply.proofs.EntryLaws.{conflict_is, unsettled, settled, replaced_by}
+use Rattle.cs_apply.proofs.EntryLemmas.{conflict_is, unsettled, settled, replaced_by}
 use Rattle.cs_apply.proofs.entry.settle.Goals as goal
 
 pub returns-then-ends_run-clause-refused : goal.returns-then-ends_run-clause-refused

@@ -1,6 +1,6 @@
 use Rattle.std.proofs.Common.{sym, ◌∙◌, rules}
 use Rattle.cs_value.specs.Value.{IsRow}
-use Rattle.cs_apply.proofs.EntryLaws.{keyed_here, fits_here}
+use Rattle.cs_apply.proofs.EntryLemmas.{keyed_here, fits_here}
 use Rattle.cs_apply.proofs.entry.write.Goals as goal
 
 pub put-requires : goal.put-requires

@@ -1,6 +1,6 @@
 -- The groups so far are judged.
 use Rattle.std.proofs.Common.{◌≡◌, length}
-use Rattle.cs_apply.proofs.RunLaws.{JudgedTo}
+use Rattle.cs_apply.proofs.RunLemmas.{JudgedTo}
 use Rattle.cs_apply.proofs.judging.judge_groups.Given as goal
 
 abbrev pub invariant-loop-place : goal.invariant-loop-place

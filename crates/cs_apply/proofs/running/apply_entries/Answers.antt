@@ -2,8 +2,8 @@ use Rattle.std.proofs.Common.{◌≡◌, ◌<◌, List, length, get_or, refl, ap
 use Rattle.std.specs.Fn.{FnReturnsAt}
 use Rattle.std.proofs.lemmas.Result.{err_from_is_err_and}
 use Rattle.cs_wire.specs.declared.entry.Entry.{Entry}
-use Rattle.cs_apply.proofs.StepLaws.{carries_none}
-use Rattle.cs_apply.proofs.ProgressLaws.{entry_carried, entry_refused}
+use Rattle.cs_apply.proofs.StepLemmas.{carries_none}
+use Rattle.cs_apply.proofs.ProgressLemmas.{entry_carried, entry_refused}
 use Rattle.cs_apply.proofs.running.apply_entries.Goals as goal
 
 pub loop-entry-init : goal.loop-entry-init

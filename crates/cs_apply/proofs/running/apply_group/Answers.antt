@@ -5,8 +5,8 @@ use Rattle.std.proofs.lemmas.List.{map-append}
 use Rattle.cs_wire.specs.Changeset.{HeaderData}
 use Rattle.cs_group.specs.declared.judging.Judgement.TheVariants.{Skipped}
 use Rattle.cs_group.specs.Judging.{judged}
-use Rattle.cs_apply.proofs.RunLaws.{has_table}
-use Rattle.cs_apply.proofs.ProgressLaws.{is_passed, passed_carried, passed_told}
+use Rattle.cs_apply.proofs.RunLemmas.{has_table}
+use Rattle.cs_apply.proofs.ProgressLemmas.{is_passed, passed_carried, passed_told}
 use Rattle.cs_apply.proofs.running.apply_group.Goals as goal
 
 pub apply_entries-requires-clause-table : goal.apply_entries-requires-clause-table

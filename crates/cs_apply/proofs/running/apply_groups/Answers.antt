@@ -3,8 +3,8 @@ use Rattle.std.specs.Fn.{FnReturnsAt}
 use Rattle.std.proofs.lemmas.List.{append-nil}
 use Rattle.std.proofs.lemmas.Result.{err_from_is_err_and}
 use Rattle.cs_wire.specs.Changeset.{GroupData}
-use Rattle.cs_apply.proofs.StepLaws.{carries_none}
-use Rattle.cs_apply.proofs.ProgressLaws.{group_carried, group_refused, group_skipped}
+use Rattle.cs_apply.proofs.StepLemmas.{carries_none}
+use Rattle.cs_apply.proofs.ProgressLemmas.{group_carried, group_refused, group_skipped}
 use Rattle.cs_apply.proofs.running.apply_groups.Goals as goal
 
 pub loop-place-init : goal.loop-place-init

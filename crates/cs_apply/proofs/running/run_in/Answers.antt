@@ -1,6 +1,6 @@
 use Rattle.std.specs.Fn.{FnReturnsAt}
 use Rattle.std.proofs.lemmas.Result.{err_from_is_err_and}
-use Rattle.cs_apply.proofs.OutcomeLaws.{IsEmpty, applies_from, refuses_from}
+use Rattle.cs_apply.proofs.OutcomeLemmas.{IsEmpty, applies_from, refuses_from}
 use Rattle.cs_apply.proofs.running.run_in.Goals as goal
 
 pub returns-in_err-apply_groups-clause-refused : goal.returns-in_err-apply_groups-clause-refused

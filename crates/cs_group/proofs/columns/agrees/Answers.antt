@@ -1,7 +1,7 @@
 use Rattle.std.proofs.Common.{refl, ap, ◌∙◌}
 use Rattle.cs_wire.specs.Changeset.{HeaderData, GroupData}
 use Rattle.cs_group.specs.Joining.{with_text}
-use Rattle.cs_group.proofs.JoinLaws.{agrees_unfound, agrees_found, found_agrees}
+use Rattle.cs_group.proofs.JoinLemmas.{agrees_unfound, agrees_found, found_agrees}
 use Rattle.cs_group.proofs.columns.agrees.Goals as goal
 
 pub returns-in-None : goal.returns-in-None

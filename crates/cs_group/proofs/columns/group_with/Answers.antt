@@ -1,6 +1,6 @@
 use Rattle.std.proofs.Common.{List, sym, ap, get_or, ◌∙◌, rules}
 use Rattle.cs_wire.specs.Changeset.{GroupData, IsNewName}
-use Rattle.cs_group.proofs.TextLaws.{with_text-none, with_text-place}
+use Rattle.cs_group.proofs.TextLemmas.{with_text-none, with_text-place}
 use Rattle.cs_group.proofs.columns.group_with.Goals as goal
 
 pub returns-in-None-clause-found : goal.returns-in-None-clause-found

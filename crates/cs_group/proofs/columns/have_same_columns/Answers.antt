@@ -1,5 +1,5 @@
 use Rattle.std.proofs.Common.{true≢false, sym, ◌∙◌, arith}
-use Rattle.cs_group.proofs.KeyPlaceLaws.{key_place_at, differ}
+use Rattle.cs_group.proofs.KeyPlaceLemmas.{key_place_at, differ}
 use Rattle.cs_group.proofs.columns.have_same_columns.Goals as goal
 
 pub returns-then-is_of_key : goal.returns-then-is_of_key

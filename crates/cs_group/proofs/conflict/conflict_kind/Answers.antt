@@ -1,6 +1,6 @@
 use Rattle.std.proofs.Common.{Bool, Some, None, if◌then◌else◌, ap, ◌∙◌}
 use Rattle.cs_group.specs.declared.conflict.Kind.TheVariants.{Data}
-use Rattle.cs_group.proofs.ConflictLaws.{same_rows}
+use Rattle.cs_group.proofs.ConflictLemmas.{same_rows}
 use Rattle.cs_group.proofs.conflict.conflict_kind.Goals as goal
 
 pub returns-in-Delete-Some : goal.returns-in-Delete-Some

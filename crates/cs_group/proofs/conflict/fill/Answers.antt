@@ -1,7 +1,7 @@
 use Rattle.std.proofs.Common.{◌≡◌, suc, ◌+◌, ◌++◌, ◌∷◌, [], List, sym, ap, ◌∙◌, arith}
 use Rattle.std.proofs.lemmas.List.{append-nil}
 use Rattle.cs_value.specs.declared.value.OwnedValue.{OwnedValue}
-use Rattle.cs_group.proofs.ConflictLaws.{stands, filled_more}
+use Rattle.cs_group.proofs.ConflictLemmas.{stands, filled_more}
 use Rattle.cs_group.proofs.conflict.fill.Goals.{in-Some+in_ok-push, in_default}
 use Rattle.cs_group.proofs.conflict.fill.Goals as goal
 

@@ -3,7 +3,7 @@ use Rattle.std.proofs.lemmas.List.{drop_all}
 use Rattle.cs_value.specs.declared.value.OwnedValue.{OwnedValue}
 use Rattle.cs_value.specs.declared.value.OwnedField.{OwnedField}
 use Rattle.cs_group.specs.Conflicts.{has_values}
-use Rattle.cs_group.proofs.ConflictLaws.{other_width, has_values_next}
+use Rattle.cs_group.proofs.ConflictLemmas.{other_width, has_values_next}
 use Rattle.cs_group.proofs.conflict.has_values.Goals.{After-has_value}
 use Rattle.cs_group.proofs.conflict.has_values.Goals as goal
 

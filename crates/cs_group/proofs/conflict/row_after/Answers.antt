@@ -1,6 +1,6 @@
 use Rattle.std.proofs.Common.{◌≡◌, Some, option_map, rules}
 use Rattle.cs_group.specs.Conflicts.{row_after}
-use Rattle.cs_group.proofs.ConflictLaws.{left_fits, keyed_now}
+use Rattle.cs_group.proofs.ConflictLemmas.{left_fits, keyed_now}
 use Rattle.cs_group.proofs.conflict.row_after.Goals as goal
 
 pub returns-in_ok-fill-in-Some-2-clause-fits : goal.returns-in_ok-fill-in-Some-2-clause-fits

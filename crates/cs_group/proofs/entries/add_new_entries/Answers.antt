@@ -2,7 +2,7 @@ use Rattle.std.proofs.Common.{List, get_or, ap, ◌∙◌}
 use Rattle.cs_wire.specs.declared.entry.Entry.{Entry}
 use Rattle.cs_wire.specs.Entry.{IsEntry, key_of}
 use Rattle.cs_group.specs.Joining.{is_new}
-use Rattle.cs_group.proofs.KeyPlaceLaws.{fits_same}
+use Rattle.cs_group.proofs.KeyPlaceLemmas.{fits_same}
 use Rattle.cs_value.proofs.ListLemmas.{filter_more_behind}
 use Rattle.cs_group.proofs.entries.add_new_entries.Goals as goal
 

@@ -2,8 +2,8 @@ use Rattle.std.proofs.Common.{List, sym, ap, get_or, ◌∙◌, rules}
 use Rattle.cs_wire.specs.declared.entry.Entry.{Entry}
 use Rattle.cs_wire.specs.Entry.{IsEntry, key_of}
 use Rattle.cs_wire.specs.Changeset.{IsNewKey}
-use Rattle.cs_group.proofs.KeyPlaceLaws.{key_of_same, fits_same}
-use Rattle.cs_group.proofs.TextLaws.{with_text-none, with_text-place, with_text-same}
+use Rattle.cs_group.proofs.KeyPlaceLemmas.{key_of_same, fits_same}
+use Rattle.cs_group.proofs.TextLemmas.{with_text-none, with_text-place, with_text-same}
 use Rattle.cs_group.proofs.entries.entry_with.Goals as goal
 
 pub returns-in-None-clause-found : goal.returns-in-None-clause-found

@@ -1,6 +1,6 @@
 use Rattle.std.proofs.Common.{◌≡◌, Some, sym, ap, ◌∙◌}
 use Rattle.cs_group.specs.Joining.{merged, left_of}
-use Rattle.cs_group.proofs.JoinLaws.{outcome_found, outcome_merged}
+use Rattle.cs_group.proofs.JoinLemmas.{outcome_found, outcome_merged}
 use Rattle.cs_group.proofs.entries.join_entry.Goals as goal
 
 pub returns-in-None : goal.returns-in-None

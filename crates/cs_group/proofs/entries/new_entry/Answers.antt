@@ -1,5 +1,5 @@
 use Rattle.std.proofs.Common.{Some, refl, ap, ◌∙◌}
-use Rattle.cs_group.proofs.JoinLaws.{is_new_found}
+use Rattle.cs_group.proofs.JoinLemmas.{is_new_found}
 use Rattle.cs_group.proofs.entries.new_entry.Goals as goal
 
 pub returns-in-None : goal.returns-in-None

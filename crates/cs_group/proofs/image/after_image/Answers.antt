@@ -3,8 +3,8 @@ use Rattle.std.proofs.lemmas.List.{length-map}
 use Rattle.cs_value.specs.declared.value.OwnedField.TheVariants.{Defined}
 use Rattle.cs_wire.specs.Entry.{with_key}
 use Rattle.cs_value.proofs.KeyedRows.{length-IsKeyedRow}
-use Rattle.cs_wire.proofs.EntryLaws.{length-IsKeyedUpdate}
-use Rattle.cs_group.proofs.ImageLaws.{IsImage-shown, length-with_key}
+use Rattle.cs_wire.proofs.EntryLemmas.{length-IsKeyedUpdate}
+use Rattle.cs_group.proofs.ImageLemmas.{IsImage-shown, length-with_key}
 use Rattle.cs_group.proofs.image.after_image.Goals as goal
 
 pub updated_fields-requires-clause-old : goal.updated_fields-requires-clause-old

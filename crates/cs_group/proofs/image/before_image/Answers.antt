@@ -2,8 +2,8 @@ use Rattle.std.proofs.Common.{map, sym, ◌∙◌}
 use Rattle.std.proofs.lemmas.List.{length-map}
 use Rattle.cs_value.specs.declared.value.OwnedField.TheVariants.{Defined}
 use Rattle.cs_value.proofs.KeyedRows.{length-IsKeyedRow}
-use Rattle.cs_wire.proofs.EntryLaws.{length-IsKeyedUpdate}
-use Rattle.cs_group.proofs.ImageLaws.{IsImage-shown}
+use Rattle.cs_wire.proofs.EntryLemmas.{length-IsKeyedUpdate}
+use Rattle.cs_group.proofs.ImageLemmas.{IsImage-shown}
 use Rattle.cs_group.proofs.image.before_image.Goals as goal
 
 pub returns-in_ok-row_fields-in-Delete-clause-well_formed : goal.returns-in_ok-row_fields-in-Delete-clause-well_formed

@@ -1,5 +1,5 @@
 use Rattle.std.proofs.Common.{◌≡◌, length}
-use Rattle.cs_group.proofs.ImageLaws.{length-laid_fields}
+use Rattle.cs_group.proofs.ImageLemmas.{length-laid_fields}
 use Rattle.cs_group.proofs.image.known.Goals as goal
 
 pub returns-clause-width : goal.returns-clause-width

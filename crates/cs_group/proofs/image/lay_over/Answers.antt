@@ -1,5 +1,5 @@
 use Rattle.std.proofs.Common.{sym, ◌∙◌, arith}
-use Rattle.cs_group.proofs.ImageLaws.{laid_over_more, pushed}
+use Rattle.cs_group.proofs.ImageLemmas.{laid_over_more, pushed}
 use Rattle.cs_group.proofs.image.lay_over.Goals as goal
 
 pub loop-column-preserved : goal.loop-column-preserved

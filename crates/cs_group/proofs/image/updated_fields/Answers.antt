@@ -1,6 +1,6 @@
 use Rattle.std.proofs.Common.{ap, ◌∙◌, arith, get_or, List}
 use Rattle.cs_value.specs.declared.value.OwnedField.{OwnedField}
-use Rattle.cs_group.proofs.ImageLaws.{with_key_more, pushed}
+use Rattle.cs_group.proofs.ImageLemmas.{with_key_more, pushed}
 use Rattle.cs_group.proofs.image.updated_fields.Goals as goal
 
 pub loop-column-preserved : goal.loop-column-preserved

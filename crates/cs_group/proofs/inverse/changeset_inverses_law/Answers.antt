@@ -1,4 +1,4 @@
-use Rattle.cs_group.proofs.InverseLaws.{changeset_inverses}
+use Rattle.cs_group.proofs.InverseLemmas.{changeset_inverses}
 use Rattle.cs_group.proofs.inverse.changeset_inverses_law.Goals as goal
 
 pub returns : goal.returns

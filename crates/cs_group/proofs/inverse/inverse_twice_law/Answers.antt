@@ -1,4 +1,4 @@
-use Rattle.cs_group.proofs.InverseLaws.{inverse_twice}
+use Rattle.cs_group.proofs.InverseLemmas.{inverse_twice}
 use Rattle.cs_group.proofs.inverse.inverse_twice_law.Goals as goal
 
 pub returns : goal.returns

@@ -1,5 +1,5 @@
 use Rattle.std.proofs.Common.{◌∙◌, arith}
-use Rattle.cs_group.proofs.InverseLaws.{InversesSoFar-none, InversesSoFar-push, InversesSoFar-all, next_table}
+use Rattle.cs_group.proofs.InverseLemmas.{InversesSoFar-none, InversesSoFar-push, InversesSoFar-all, next_table}
 use Rattle.cs_group.proofs.InverseLengths.{inverse_length}
 use Rattle.cs_group.proofs.inverse.invert.Goals as goal
 

@@ -1,5 +1,5 @@
 -- The groups that were taken have their inverse.
-use Rattle.cs_group.proofs.InverseLaws.{InversesSoFar}
+use Rattle.cs_group.proofs.InverseLemmas.{InversesSoFar}
 use Rattle.cs_group.proofs.inverse.invert.Given as goal
 
 abbrev pub invariant-loop-group : goal.invariant-loop-group

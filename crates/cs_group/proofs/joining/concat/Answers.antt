@@ -1,10 +1,10 @@
 use Rattle.std.proofs.Common.{◌≡◌, rules, ◌∙◌}
 use Rattle.cs_group.specs.Joining.{joined, AreJoinable}
-use Rattle.cs_group.proofs.InverseJoinLaws.{inverse_joins}
-use Rattle.cs_group.proofs.JoinApplyLaws.{join_applies}
-use Rattle.cs_group.proofs.JoinNetLaws.{join_nets}
+use Rattle.cs_group.proofs.InverseJoinLemmas.{inverse_joins}
+use Rattle.cs_group.proofs.JoinApplyLemmas.{join_applies}
+use Rattle.cs_group.proofs.JoinNetLemmas.{join_nets}
 use Rattle.cs_group.proofs.JoinLengths.{join_length}
-use Rattle.cs_group.proofs.JoinLaws.{joined_is_changeset}
+use Rattle.cs_group.proofs.JoinLemmas.{joined_is_changeset}
 use Rattle.cs_group.proofs.joining.concat.Goals as goal
 
 pub from_groups-requires : goal.from_groups-requires

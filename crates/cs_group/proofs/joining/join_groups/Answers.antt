@@ -1,6 +1,6 @@
 use Rattle.std.proofs.Common.{◌<◌, length, ◌∙◌, rules}
 use Rattle.cs_group.specs.Joining.{joined_entries}
-use Rattle.cs_group.proofs.JoinLaws.{joined_is_group}
+use Rattle.cs_group.proofs.JoinLemmas.{joined_is_group}
 use Rattle.cs_group.proofs.joining.join_groups.Goals as goal
 
 pub from_entries-requires : goal.from_entries-requires

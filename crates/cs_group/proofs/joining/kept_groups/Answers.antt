@@ -1,7 +1,7 @@
 use Rattle.std.proofs.Common.{List, get_or, ap, ◌∙◌}
 use Rattle.cs_wire.specs.Changeset.{GroupData}
 use Rattle.cs_group.specs.Joining.{outcome, joined_group}
-use Rattle.cs_group.proofs.JoinLaws.{agree_found}
+use Rattle.cs_group.proofs.JoinLemmas.{agree_found}
 use Rattle.cs_value.proofs.ListLemmas.{filter_map_more}
 use Rattle.cs_group.proofs.joining.kept_groups.Goals as goal
 

@@ -1,5 +1,5 @@
 use Rattle.std.proofs.Common.{◌≡◌, ◌+◌, ◌<◌, length, suc, sym, ◌∙◌, arith}
-use Rattle.cs_group.proofs.JudgingLaws.{too_few, leads_all, leads_by}
+use Rattle.cs_group.proofs.JudgingLemmas.{too_few, leads_all, leads_by}
 use Rattle.cs_group.proofs.judging.leads.Goals as goal
 
 pub returns-then-table-flags : goal.returns-then-table-flags

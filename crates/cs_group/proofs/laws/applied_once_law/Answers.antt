@@ -1,4 +1,4 @@
-use Rattle.cs_group.proofs.ApplyLaws.{applied_once}
+use Rattle.cs_group.proofs.ApplyLemmas.{applied_once}
 use Rattle.cs_group.proofs.laws.applied_once_law.Goals as goal
 
 pub returns : goal.returns

@@ -1,4 +1,4 @@
-use Rattle.cs_group.proofs.ApplyLaws.{applied_reverts}
+use Rattle.cs_group.proofs.ApplyLemmas.{applied_reverts}
 use Rattle.cs_group.proofs.laws.applied_reverts_law.Goals as goal
 
 pub returns : goal.returns

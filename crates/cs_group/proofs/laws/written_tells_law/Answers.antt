@@ -1,4 +1,4 @@
-use Rattle.cs_group.proofs.ApplyLaws.{written_tells}
+use Rattle.cs_group.proofs.ApplyLemmas.{written_tells}
 use Rattle.cs_group.proofs.laws.written_tells_law.Goals as goal
 
 pub returns : goal.returns

@@ -1,6 +1,6 @@
 use Rattle.std.proofs.Common.{◌≡◌, rules}
 use Rattle.cs_group.specs.Joining.{merged}
-use Rattle.cs_group.proofs.MergeLaws.{merged_fits}
+use Rattle.cs_group.proofs.MergeLemmas.{merged_fits}
 use Rattle.cs_group.proofs.merging.merge.Goals as goal
 
 pub returns-clause-fits : goal.returns-clause-fits

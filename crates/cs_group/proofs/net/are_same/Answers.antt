@@ -1,5 +1,5 @@
 use Rattle.std.proofs.Common.{◌∙◌}
-use Rattle.cs_group.proofs.ImageLaws.{same_images}
+use Rattle.cs_group.proofs.ImageLemmas.{same_images}
 use Rattle.cs_group.proofs.net.are_same.Goals as goal
 
 pub returns : goal.returns

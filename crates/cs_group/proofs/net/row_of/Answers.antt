@@ -1,4 +1,4 @@
-use Rattle.cs_group.proofs.ImageLaws.{values_kept, values_grown}
+use Rattle.cs_group.proofs.ImageLemmas.{values_kept, values_grown}
 use Rattle.cs_group.proofs.net.row_of.Goals.{in-Defined+in_ok-to_owned-in-Defined+in_ok-push-in-Defined, in-Undefined}
 use Rattle.cs_group.proofs.net.row_of.Goals as goal
 

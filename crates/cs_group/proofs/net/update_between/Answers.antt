@@ -4,7 +4,7 @@ use Rattle.cs_value.specs.declared.value.OwnedField.{OwnedField}
 use Rattle.cs_value.specs.declared.value.OwnedField.TheVariants.{Undefined}
 use Rattle.cs_value.specs.Value.{field_of}
 use Rattle.cs_group.specs.Net.{by_flag, unless_same}
-use Rattle.cs_group.proofs.ImageLaws.{by_column_fields}
+use Rattle.cs_group.proofs.ImageLemmas.{by_column_fields}
 use Rattle.cs_group.proofs.net.update_between.Goals as goal
 
 pub loop-column-preserved : goal.loop-column-preserved

@@ -4,7 +4,7 @@ use Rattle.sqlite.specs.Held.{state}
 use Rattle.cs_apply.specs.declared.running.Direction.TheVariants.{Forward}
 use Rattle.cs_store.proofs.CrashLemmas.{made_survives}
 use Rattle.cs_apply.specs.Crash.{AppliesInto}
-use Rattle.cs_session.proofs.OutcomeLaws.{begun_state}
+use Rattle.cs_session.proofs.OutcomeLemmas.{begun_state}
 use Rattle.cs_session.proofs.applying.apply_batch.Goals as goal
 
 pub apply_rows-requires-clause-state : goal.apply_rows-requires-clause-state

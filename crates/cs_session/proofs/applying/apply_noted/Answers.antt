@@ -1,5 +1,5 @@
 use Rattle.std.proofs.Common.{sym, ◌∙◌}
-use Rattle.cs_session.proofs.NotingLaws.{settled_kept}
+use Rattle.cs_session.proofs.NotingLemmas.{settled_kept}
 use Rattle.cs_session.proofs.applying.apply_noted.Goals as goal
 
 pub returns-in-Err-clause-same : goal.returns-in-Err-clause-same

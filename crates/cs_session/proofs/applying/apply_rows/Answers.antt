@@ -2,8 +2,8 @@ use Rattle.std.proofs.Common.{map}
 use Rattle.std.specs.Fn.{FnReturnsAt}
 use Rattle.std.proofs.lemmas.Result.{err_from_is_err_and}
 use Rattle.cs_session.specs.Views.{attached_of}
-use Rattle.cs_session.proofs.NotesLaws.{recorded_are}
-use Rattle.cs_session.proofs.RecordLaws.{refuses_applying, refuses_noting, applies_formers}
+use Rattle.cs_session.proofs.NotesLemmas.{recorded_are}
+use Rattle.cs_session.proofs.RecordLemmas.{refuses_applying, refuses_noting, applies_formers}
 use Rattle.cs_session.proofs.applying.apply_rows.Goals as goal
 
 pub returns-in_err-report-clause-refused : goal.returns-in_err-report-clause-refused

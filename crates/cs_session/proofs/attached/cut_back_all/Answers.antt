@@ -2,7 +2,7 @@ use Rattle.std.proofs.Common.{get_or, ap, arith}
 use Rattle.std.proofs.lemmas.List.Edits.{map_over_more}
 use Rattle.cs_session.specs.declared.attached.Attached.{Attached}
 use Rattle.cs_value.proofs.ListLemmas.{map_over_all}
-use Rattle.cs_session.proofs.NotingLaws.{cutting, all_cut, cutting_settles}
+use Rattle.cs_session.proofs.NotingLemmas.{cutting, all_cut, cutting_settles}
 use Rattle.cs_session.proofs.attached.cut_back_all.Goals as goal
 
 pub loop-table-preserved : goal.loop-table-preserved

@@ -1,5 +1,5 @@
 use Rattle.std.proofs.Common.{◌≡◌, ◌++◌, map, take, drop}
-use Rattle.cs_session.proofs.NotingLaws.{cutting}
+use Rattle.cs_session.proofs.NotingLemmas.{cutting}
 use Rattle.cs_session.proofs.attached.cut_back_all.Given as goal
 
 -- the tables so far, and the others as they were

@@ -1,5 +1,5 @@
 use Rattle.std.proofs.Common.{◌≡◌, ◌++◌, map, take, drop}
-use Rattle.cs_session.proofs.NotingLaws.{keeping}
+use Rattle.cs_session.proofs.NotingLemmas.{keeping}
 use Rattle.cs_session.proofs.attached.keep_all.Given as goal
 
 -- the tables so far, and the others as they were

@@ -10,7 +10,7 @@ use Rattle.cs_session.specs.FirstImages.{noted_in}
 use Rattle.cs_session.specs.Noting.{HasFormers, IsDamage}
 use Rattle.cs_session.specs.Views.{attached_of, kept_of}
 use Rattle.cs_value.proofs.ListLemmas.{AllByRecursion-at, AllByRecursion-more, get_or_map_at, map_over_at}
-use Rattle.cs_session.proofs.NotingLaws.{still_fails}
+use Rattle.cs_session.proofs.NotingLemmas.{still_fails}
 use Rattle.cs_session.proofs.attached.note_all.Goals as goal
 
 pub returns-in_err-note_writes-clause-kept : goal.returns-in_err-note_writes-clause-kept

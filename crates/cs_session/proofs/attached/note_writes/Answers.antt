@@ -6,8 +6,8 @@ use Rattle.cs_store.specs.Editing.{written_of}
 use Rattle.cs_session.specs.FirstImages.{FirstImage, AttachedTable}
 use Rattle.cs_session.specs.Views.{attached_of}
 use Rattle.cs_value.proofs.ListLemmas.{IfSome-mapped, IfSome-from_mapped, get_or_map_at, take_map_more_at}
-use Rattle.cs_session.proofs.NotesLaws.{noted_more, noted_else, formers_more, formers_else, former_here}
-use Rattle.cs_session.proofs.NotingLaws.{still_fails}
+use Rattle.cs_session.proofs.NotesLemmas.{noted_more, noted_else, formers_more, formers_else, former_here}
+use Rattle.cs_session.proofs.NotingLemmas.{still_fails}
 use Rattle.cs_session.proofs.attached.note_writes.Goals.{then-eq+in_ok-check_row+in_ok-note, else-eq}
 use Rattle.cs_session.proofs.attached.note_writes.Goals as goal
 

@@ -4,7 +4,7 @@ use Rattle.cs_wire.specs.Changeset.{GroupData}
 use Rattle.cs_session.specs.FirstImages.{AttachedTable, IsAttachedTable, HasAttached, net_group}
 use Rattle.cs_session.specs.Views.{attached_of}
 use Rattle.cs_value.proofs.ListLemmas.{All-map_at, AllPairs-map_before, filter_map-map_more, map_more_at}
-use Rattle.cs_session.proofs.EntriesLaws.{no_other_more}
+use Rattle.cs_session.proofs.EntriesLemmas.{no_other_more}
 use Rattle.cs_session.proofs.changes.net_changeset.Goals.{in-Some+in_ok-push, in_default}
 use Rattle.cs_session.proofs.changes.net_changeset.Goals as goal
 

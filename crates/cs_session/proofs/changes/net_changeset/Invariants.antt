@@ -4,7 +4,7 @@ use Rattle.cs_wire.specs.Changeset.{GroupData}
 use Rattle.cs_session.specs.FirstImages.{AttachedTable, recorded_changes}
 use Rattle.cs_session.specs.Changes.{HasTables}
 use Rattle.cs_session.specs.Views.{attached_of}
-use Rattle.cs_session.proofs.EntriesLaws.{HasNoOther}
+use Rattle.cs_session.proofs.EntriesLemmas.{HasNoOther}
 use Rattle.cs_session.proofs.changes.net_changeset.Given as goal
 
 abbrev pub invariant-loop-table : goal.invariant-loop-table

@@ -1,5 +1,5 @@
 use Rattle.cs_value.specs.State.{IsRowAt}
-use Rattle.cs_session.proofs.EntriesLaws.{widths, change_fits}
+use Rattle.cs_session.proofs.EntriesLemmas.{widths, change_fits}
 use Rattle.cs_value.proofs.ListLemmas.{IfSome-mapped}
 use Rattle.cs_session.proofs.changes.row_change.Goals as goal
 

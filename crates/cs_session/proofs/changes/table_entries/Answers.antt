@@ -6,7 +6,7 @@ use Rattle.cs_session.specs.FirstImages.{FirstImage, entry_since}
 use Rattle.cs_session.specs.Images.{first_of}
 use Rattle.cs_session.specs.Views.{attached_of}
 use Rattle.cs_value.proofs.ListLemmas.{All-map_at, AllPairs-map_before, filter_map-map_more, map_more_at}
-use Rattle.cs_session.proofs.EntriesLaws.{entry_of, key_more}
+use Rattle.cs_session.proofs.EntriesLemmas.{entry_of, key_more}
 use Rattle.cs_session.proofs.changes.table_entries.Goals.{in-Some+in_ok-push, in_default}
 use Rattle.cs_session.proofs.changes.table_entries.Goals as goal
 

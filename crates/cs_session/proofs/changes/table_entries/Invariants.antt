@@ -4,7 +4,7 @@ use Rattle.std.specs.Prelude.{filter_map}
 use Rattle.cs_session.specs.FirstImages.{entry_since}
 use Rattle.cs_session.specs.Images.{first_of}
 use Rattle.cs_session.specs.Views.{attached_of}
-use Rattle.cs_session.proofs.EntriesLaws.{AreOfKeys}
+use Rattle.cs_session.proofs.EntriesLemmas.{AreOfKeys}
 use Rattle.cs_session.proofs.changes.table_entries.Given as goal
 
 abbrev pub invariant-loop-first : goal.invariant-loop-first

@@ -5,7 +5,7 @@ use Rattle.std.proofs.lemmas.Result.{err_from_is_err_and}
 use Rattle.cs_session.specs.FirstImages.{AttachedTable, HasAttached}
 use Rattle.cs_session.specs.Views.{attached_of}
 use Rattle.cs_value.proofs.ListLemmas.{All-map_more_at, Any-map_at}
-use Rattle.cs_session.proofs.EntriesLaws.{refuses_named}
+use Rattle.cs_session.proofs.EntriesLemmas.{refuses_named}
 use Rattle.cs_session.proofs.checking.check_named.Goals.{then-eq+in_ok-check_table, else-eq}
 use Rattle.cs_session.proofs.checking.check_named.Goals as goal
 

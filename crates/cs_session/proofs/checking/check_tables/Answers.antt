@@ -4,7 +4,7 @@ use Rattle.std.proofs.lemmas.Result.{err_from_is_err_and}
 use Rattle.cs_session.specs.FirstImages.{AttachedTable, HasAttached}
 use Rattle.cs_session.specs.Views.{attached_of}
 use Rattle.cs_value.proofs.ListLemmas.{All-map_more_at, Any-map_at}
-use Rattle.cs_session.proofs.EntriesLaws.{refuses_one}
+use Rattle.cs_session.proofs.EntriesLemmas.{refuses_one}
 use Rattle.cs_session.proofs.checking.check_tables.Goals as goal
 
 pub returns-in_err-check_table-clause-refused : goal.returns-in_err-check_table-clause-refused

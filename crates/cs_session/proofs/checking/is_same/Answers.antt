@@ -1,5 +1,5 @@
 use Rattle.std.proofs.Common.{sym, ◌∙◌}
-use Rattle.cs_session.proofs.SchemaLaws.{same_schema, other_schema}
+use Rattle.cs_session.proofs.SchemaLemmas.{same_schema, other_schema}
 use Rattle.cs_session.proofs.checking.is_same.Goals as goal
 
 pub returns-then-eq : goal.returns-then-eq

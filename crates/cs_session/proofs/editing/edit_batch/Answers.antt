@@ -2,7 +2,7 @@ use Rattle.std.proofs.Common.{◌≡◌, rules}
 use Rattle.sqlite.specs.Held.{state}
 use Rattle.cs_store.specs.Editing.{EditsInto}
 use Rattle.cs_store.proofs.CrashLemmas.{made_survives}
-use Rattle.cs_session.proofs.OutcomeLaws.{begun_state}
+use Rattle.cs_session.proofs.OutcomeLemmas.{begun_state}
 use Rattle.cs_session.proofs.editing.edit_batch.Goals as goal
 
 pub edit_rows-requires-clause-state : goal.edit_rows-requires-clause-state

@@ -1,7 +1,7 @@
 use Rattle.std.proofs.Common.{map}
 use Rattle.std.proofs.lemmas.Result.{IfErr-weaker}
 use Rattle.cs_session.specs.Views.{attached_of}
-use Rattle.cs_session.proofs.EditLaws.{edited_formers, refuses_noting, noted_are}
+use Rattle.cs_session.proofs.EditLemmas.{edited_formers, refuses_noting, noted_are}
 use Rattle.cs_session.proofs.editing.edit_rows.Goals as goal
 
 pub returns-clause-well_formed : goal.returns-clause-well_formed

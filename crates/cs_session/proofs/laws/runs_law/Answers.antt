@@ -1,4 +1,4 @@
-use Rattle.cs_session.proofs.RunsLaws.{rows_from_before}
+use Rattle.cs_session.proofs.RunsLemmas.{rows_from_before}
 use Rattle.cs_session.proofs.laws.runs_law.Goals as goal
 
 pub returns : goal.returns

@@ -2,7 +2,7 @@ use Rattle.std.proofs.Common.{map, rules, ap, ◌∙◌}
 use Rattle.std.proofs.lemmas.Result.{err_from_is_err_and}
 use Rattle.cs_wire.specs.Changeset.{file_bytes}
 use Rattle.cs_session.specs.Views.{attached_of}
-use Rattle.cs_session.proofs.OutcomeLaws.{undoes, refuses_undo}
+use Rattle.cs_session.proofs.OutcomeLemmas.{undoes, refuses_undo}
 use Rattle.cs_session.proofs.undoing.undo_rows.Goals as goal
 
 pub returns-in_err-run_in-clause-refused : goal.returns-in_err-run_in-clause-refused

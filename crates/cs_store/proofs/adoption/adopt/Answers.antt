@@ -1,7 +1,7 @@
 use Rattle.std.proofs.Common.{◌≡◌, Err, subst}
 use Rattle.sqlite.specs.Held.{state}
 use Rattle.cs_store.specs.Laws.{was_clean}
-use Rattle.cs_store.proofs.AdoptionLaws.{same_damage}
+use Rattle.cs_store.proofs.AdoptionLemmas.{same_damage}
 use Rattle.cs_store.proofs.adoption.adopt.Goals as goal
 
 pub returns-in-Err-clause-refused : goal.returns-in-Err-clause-refused

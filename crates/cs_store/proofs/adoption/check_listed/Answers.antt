@@ -6,8 +6,8 @@ use Rattle.sqlite.specs.State.{HasCleanDisk}
 use Rattle.cs_store.specs.Laws.{was_clean}
 use Rattle.cs_store.specs.Records.{records_in}
 use Rattle.cs_store.specs.Stored.{version}
-use Rattle.cs_store.proofs.WriteLaws.{on_ok_then}
-use Rattle.cs_store.proofs.AdoptionLaws.{refused_memory}
+use Rattle.cs_store.proofs.WriteLemmas.{on_ok_then}
+use Rattle.cs_store.proofs.AdoptionLemmas.{refused_memory}
 use Rattle.cs_store.proofs.adoption.check_listed.Goals as goal
 
 -- the disk was clean before the query

@@ -4,9 +4,9 @@ use Rattle.sqlite.specs.Effect.{Database}
 use Rattle.cs_store.specs.Laws.{was_clean}
 use Rattle.cs_store.specs.Records.{RecordData, HoldsRecords, ListsAll, records_in}
 use Rattle.cs_store.specs.Valid.{AreValid}
-use Rattle.cs_store.proofs.WriteLaws.{on_ok_both}
-use Rattle.cs_store.proofs.ReadLaws.{no_elements}
-use Rattle.cs_store.proofs.AdoptionLaws.{none_listed, none_held, valid_holds, read_then, damaged_by}
+use Rattle.cs_store.proofs.WriteLemmas.{on_ok_both}
+use Rattle.cs_store.proofs.ReadLemmas.{no_elements}
+use Rattle.cs_store.proofs.AdoptionLemmas.{none_listed, none_held, valid_holds, read_then, damaged_by}
 use Rattle.cs_store.proofs.adoption.check_numbered.Goals as goal
 
 pub write_version-requires-clause-empty : goal.write_version-requires-clause-empty

@@ -1,6 +1,6 @@
 use Rattle.sqlite.specs.Held.{state}
 use Rattle.cs_store.specs.Laws.{was_clean}
-use Rattle.cs_store.proofs.AdoptionLaws.{same_damage}
+use Rattle.cs_store.proofs.AdoptionLemmas.{same_damage}
 use Rattle.cs_store.proofs.adoption.check_store.Goals as goal
 
 pub returns-in-Ok-true-clause-refused : goal.returns-in-Ok-true-clause-refused

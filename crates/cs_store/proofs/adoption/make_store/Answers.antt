@@ -1,7 +1,7 @@
 use Rattle.sqlite.specs.Held.{state}
 use Rattle.cs_store.specs.Laws.{was_clean}
-use Rattle.cs_store.proofs.AdoptionLaws.{made_then}
-use Rattle.cs_store.proofs.WriteLaws.{on_ok_then}
+use Rattle.cs_store.proofs.AdoptionLemmas.{made_then}
+use Rattle.cs_store.proofs.WriteLemmas.{on_ok_then}
 use Rattle.cs_store.proofs.adoption.make_store.Goals as goal
 
 pub returns-clause-set_up : goal.returns-clause-set_up

@@ -1,6 +1,6 @@
 use Rattle.sqlite.specs.Held.{state}
-use Rattle.cs_store.proofs.AdoptionLaws.{sets_version}
-use Rattle.cs_store.proofs.WriteLaws.{on_ok_both}
+use Rattle.cs_store.proofs.AdoptionLemmas.{sets_version}
+use Rattle.cs_store.proofs.WriteLemmas.{on_ok_both}
 use Rattle.cs_store.proofs.adoption.write_version.Goals as goal
 
 pub returns-clause-set_up : goal.returns-clause-set_up

@@ -1,5 +1,5 @@
 use Rattle.std.specs.String.{string_bytes}
-use Rattle.cs_store.proofs.CheckLaws.{declared_other, declared_table}
+use Rattle.cs_store.proofs.CheckLemmas.{declared_other, declared_table}
 use Rattle.cs_store.proofs.check.add_table.Goals as goal
 
 pub returns-in-Ok-None-clause-added : goal.returns-in-Ok-None-clause-added

@@ -1,6 +1,6 @@
 use Rattle.std.proofs.Common.{inl, inr, Ok, Err}
 use Rattle.cs_store.specs.Valid.{AreValid, IsGoodRow}
-use Rattle.cs_store.proofs.CheckLaws.{refused_rows, valid_tables, checked_all}
+use Rattle.cs_store.proofs.CheckLemmas.{refused_rows, valid_tables, checked_all}
 use Rattle.cs_store.proofs.check.check_records.Goals as goal
 
 pub returns-in-Err-clause-refused : goal.returns-in-Err-clause-refused

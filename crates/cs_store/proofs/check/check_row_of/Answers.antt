@@ -4,7 +4,7 @@ use Rattle.cs_value.specs.Key.{row_key}
 use Rattle.cs_value.proofs.KeyedRows.{length-IsKeyedRow}
 use Rattle.cs_value.proofs.Spellings.{row_bytes_same}
 use Rattle.cs_store.specs.Records.{same_bytes}
-use Rattle.cs_store.proofs.RowLaws.{same_itself}
+use Rattle.cs_store.proofs.RowLemmas.{same_itself}
 use Rattle.cs_store.proofs.check.check_row_of.Goals as goal
 
 pub of_row-requires : goal.of_row-requires

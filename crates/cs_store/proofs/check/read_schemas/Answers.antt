@@ -2,7 +2,7 @@ use Rattle.std.proofs.Common.{List, ap, sym, subst, ◌∙◌, ◌++◌, ◌∷�
 use Rattle.std.proofs.lemmas.List.{take_more}
 use Rattle.cs_store.specs.Records.{RecordData}
 use Rattle.cs_store.specs.Valid.{AreDeclared}
-use Rattle.cs_store.proofs.CheckLaws.{declared_none}
+use Rattle.cs_store.proofs.CheckLemmas.{declared_none}
 use Rattle.cs_store.proofs.check.read_schemas.Goals as goal
 
 pub loop-record-init : goal.loop-record-init

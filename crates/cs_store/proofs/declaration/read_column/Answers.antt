@@ -1,6 +1,6 @@
 use Rattle.std.proofs.Common.{refl, sym, ◌∙◌, inl, arith}
 use Rattle.std.proofs.lemmas.List.{take_rest}
-use Rattle.cs_store.proofs.DeclarationLaws.{no_column}
+use Rattle.cs_store.proofs.DeclarationLemmas.{no_column}
 use Rattle.cs_store.proofs.declaration.read_column.Goals as goal
 
 pub returns-in-Err-clause-refused : goal.returns-in-Err-clause-refused

@@ -2,7 +2,7 @@ use Rattle.std.proofs.Common.{◌≡◌, [], List, ℕ, ◌==◌, length, true�
 use Rattle.std.proofs.lemmas.Result.{err_from_is_err_and}
 use Rattle.std.proofs.lemmas.List.{map-append}
 use Rattle.std.proofs.lemmas.Str.{IsUtf8-string_bytes}
-use Rattle.cs_store.proofs.DeclarationLaws.{ColumnsSoFar-more, has_column, no_rest}
+use Rattle.cs_store.proofs.DeclarationLemmas.{ColumnsSoFar-more, has_column, no_rest}
 use Rattle.cs_store.proofs.declaration.read_columns.Goals as goal
 
 pub returns-in_err-flag-clause-refused : goal.returns-in_err-flag-clause-refused

@@ -1,5 +1,5 @@
 use Rattle.std.proofs.Common.{map, string_bytes}
-use Rattle.cs_store.proofs.DeclarationLaws.{ColumnsSoFar}
+use Rattle.cs_store.proofs.DeclarationLemmas.{ColumnsSoFar}
 use Rattle.cs_store.proofs.declaration.read_columns.Given as goal
 
 -- the columns so far are those that the bytes begin with

@@ -1,6 +1,6 @@
 use Rattle.std.proofs.Common.{◌++◌, length, refl, ◌∙◌}
 use Rattle.std.proofs.lemmas.Result.{err_from_is_err_and}
-use Rattle.cs_store.proofs.DeclarationLaws.{counted_count, counted_cut}
+use Rattle.cs_store.proofs.DeclarationLemmas.{counted_count, counted_cut}
 use Rattle.cs_store.proofs.declaration.read_counted.Goals as goal
 
 pub returns-in_err-count-clause-refused : goal.returns-in_err-count-clause-refused

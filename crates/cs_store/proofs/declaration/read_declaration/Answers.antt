@@ -2,7 +2,7 @@ use Rattle.std.proofs.Common.{map, string_bytes, length, refl, sym, subst, â—Œâˆ
 use Rattle.std.proofs.lemmas.Result.{err_from_is_err_and}
 use Rattle.cs_value.specs.State.{SchemaData, IsSchema}
 use Rattle.cs_store.specs.Declaration.{columns_bytes}
-use Rattle.cs_store.proofs.DeclarationLaws.{declared_count, declared_columns, declaration_is, same_columns, found_declared}
+use Rattle.cs_store.proofs.DeclarationLemmas.{declared_count, declared_columns, declaration_is, same_columns, found_declared}
 use Rattle.cs_store.proofs.declaration.read_declaration.Goals as goal
 
 pub returns-in_err-count-clause-refused : goal.returns-in_err-count-clause-refused

@@ -1,6 +1,6 @@
 use Rattle.std.proofs.Common.{◌∙◌, ap}
 use Rattle.cs_value.specs.State.{State, schema_at}
-use Rattle.cs_store.proofs.EditingLaws.{fits_in}
+use Rattle.cs_store.proofs.EditingLemmas.{fits_in}
 use Rattle.cs_store.proofs.editing.insert_row.Goals as goal
 
 pub put-requires : goal.put-requires

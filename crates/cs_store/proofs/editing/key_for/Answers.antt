@@ -1,6 +1,6 @@
 use Rattle.std.proofs.Common.{inl, refl, true≢false, sym, ap, ◌∙◌, length, List, ℕ}
 use Rattle.cs_value.specs.declared.value.OwnedValue.{OwnedValue}
-use Rattle.cs_store.proofs.EditingLaws.{no_fault, null_fault}
+use Rattle.cs_store.proofs.EditingLemmas.{no_fault, null_fault}
 use Rattle.cs_store.proofs.editing.key_for.Goals as goal
 
 pub returns-then-not-is_keyed-clause-refused : goal.returns-then-not-is_keyed-clause-refused

@@ -1,7 +1,7 @@
 use Rattle.std.proofs.Common.{sym, subst, ◌∙◌, ap}
 use Rattle.cs_value.specs.State.{State, without_row}
 use Rattle.cs_store.specs.Rows.{Fits}
-use Rattle.cs_store.proofs.EditingLaws.{fits_without}
+use Rattle.cs_store.proofs.EditingLemmas.{fits_without}
 use Rattle.cs_store.proofs.editing.move_row.Goals as goal
 
 pub put-requires : goal.put-requires

@@ -1,7 +1,7 @@
 use Rattle.std.proofs.Common.{sym, subst, ◌∙◌, ap, ℕ, List}
 use Rattle.std.specs.Cmp.Lexicographic.{same_text}
 use Rattle.cs_value.specs.State.{State, schema_at, IsRowAt}
-use Rattle.cs_store.proofs.EditingLaws.{fits_in}
+use Rattle.cs_store.proofs.EditingLemmas.{fits_in}
 use Rattle.cs_store.proofs.editing.update_row.Goals as goal
 
 pub replace_row-requires : goal.replace_row-requires

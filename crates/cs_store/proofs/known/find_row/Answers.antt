@@ -1,6 +1,6 @@
 use Rattle.std.proofs.Common.{ap, sym, ◌∙◌}
 use Rattle.std.specs.Option.{option_map}
-use Rattle.cs_store.proofs.ReadLaws.{no_row}
+use Rattle.cs_store.proofs.ReadLemmas.{no_row}
 use Rattle.cs_store.specs.Laws.{keeps_then}
 use Rattle.cs_store.proofs.known.find_row.Goals as goal
 

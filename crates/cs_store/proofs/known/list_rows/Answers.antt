@@ -3,8 +3,8 @@ use Rattle.std.specs.FinMap as map
 use Rattle.std.specs.Option.{option_map}
 use Rattle.cs_value.specs.State.{RowMap}
 use Rattle.cs_store.specs.Laws.{keeps_then}
-use Rattle.cs_store.proofs.MemoryLaws.{no_values}
-use Rattle.cs_store.proofs.ReadLaws.{no_rows_at}
+use Rattle.cs_store.proofs.MemoryLemmas.{no_values}
+use Rattle.cs_store.proofs.ReadLemmas.{no_rows_at}
 use Rattle.cs_store.proofs.known.list_rows.Goals as goal
 
 pub returns-in-Ok-clause-kept : goal.returns-in-Ok-clause-kept

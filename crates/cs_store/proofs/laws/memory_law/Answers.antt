@@ -1,4 +1,4 @@
-use Rattle.cs_store.proofs.AdoptionLaws.{memory_honest}
+use Rattle.cs_store.proofs.AdoptionLemmas.{memory_honest}
 use Rattle.cs_store.proofs.laws.memory_law.Goals as goal
 
 pub returns : goal.returns

@@ -1,7 +1,7 @@
 use Rattle.std.proofs.Common.{map, sym, ap, subst, ◌∙◌}
 use Rattle.sqlite.specs.Held.{state}
 use Rattle.cs_store.specs.Records.{ListsAll, shown_record, records_in}
-use Rattle.cs_store.proofs.QueryLaws.{if_ok}
+use Rattle.cs_store.proofs.QueryLemmas.{if_ok}
 use Rattle.cs_store.proofs.QueryTexts.{all_text, all_query, all_asks, asks_query}
 use Rattle.cs_store.proofs.ListedRows.{lists_all}
 use Rattle.cs_store.proofs.records.all_records.Goals as goal

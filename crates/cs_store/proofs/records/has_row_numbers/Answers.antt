@@ -1,7 +1,7 @@
 use Rattle.std.proofs.Common.{sym, subst}
 use Rattle.sqlite.specs.Held.{state}
 use Rattle.cs_store.specs.Records.{AreRisingNumbers}
-use Rattle.cs_store.proofs.QueryLaws.{if_ok}
+use Rattle.cs_store.proofs.QueryLemmas.{if_ok}
 use Rattle.cs_store.proofs.QueryTexts.{number_text, number_query, number_asks, asks_query}
 use Rattle.cs_store.proofs.NumberedRows.{numbered, rising_if_numbered}
 use Rattle.cs_store.proofs.records.has_row_numbers.Goals as goal

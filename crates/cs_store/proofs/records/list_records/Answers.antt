@@ -1,7 +1,7 @@
 use Rattle.std.proofs.Common.{map, sym, ap, subst, ◌∙◌}
 use Rattle.sqlite.specs.Held.{state}
 use Rattle.cs_store.specs.Records.{ListsTable, shown_keyed, records_in}
-use Rattle.cs_store.proofs.QueryLaws.{if_ok}
+use Rattle.cs_store.proofs.QueryLemmas.{if_ok}
 use Rattle.cs_store.proofs.QueryTexts.{list_text, list_query, list_asks, asks_query}
 use Rattle.cs_store.proofs.ListedRows.{lists_table}
 use Rattle.cs_store.proofs.records.list_records.Goals as goal

@@ -1,6 +1,6 @@
 use Rattle.sqlite.specs.Held.{state}
 use Rattle.sqlite.specs.Values.{bound}
-use Rattle.cs_store.proofs.QueryLaws.{shows_unchanged, keeps_crash, fails_rests, on_err}
+use Rattle.cs_store.proofs.QueryLemmas.{shows_unchanged, keeps_crash, fails_rests, on_err}
 use Rattle.cs_store.proofs.records.query_rows.Goals as goal
 
 pub returns-in_err-query_all-clause-rests : goal.returns-in_err-query_all-clause-rests

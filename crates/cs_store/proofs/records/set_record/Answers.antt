@@ -1,6 +1,6 @@
-use Rattle.cs_store.proofs.QueryLaws.{on_err}
-use Rattle.cs_store.proofs.StatementLaws.{refusal_rests}
-use Rattle.cs_store.proofs.SetLaws.{sets, set_goes_on, set_keeps_crash}
+use Rattle.cs_store.proofs.QueryLemmas.{on_err}
+use Rattle.cs_store.proofs.StatementLemmas.{refusal_rests}
+use Rattle.cs_store.proofs.SetLemmas.{sets, set_goes_on, set_keeps_crash}
 use Rattle.cs_store.proofs.records.set_record.Goals as goal
 
 pub returns-in_err-execute-clause-rests : goal.returns-in_err-execute-clause-rests

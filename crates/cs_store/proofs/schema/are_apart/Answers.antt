@@ -2,7 +2,7 @@ use Rattle.std.proofs.Common.{◌≡◌, ◌<◌, length, map, take, string_byte
 use Rattle.std.specs.List.{AllPairs}
 use Rattle.std.specs.Prelude.{◌≢◌}
 use Rattle.std.proofs.lemmas.List.{length-map, take_all}
-use Rattle.cs_store.proofs.SchemaLaws.{NamesSoFar-none, NamesSoFar-more, repeated, name_here, not_false, not_true}
+use Rattle.cs_store.proofs.SchemaLemmas.{NamesSoFar-none, NamesSoFar-more, repeated, name_here, not_false, not_true}
 use Rattle.cs_store.proofs.schema.are_apart.Goals as goal
 
 pub loop-column-init : goal.loop-column-init

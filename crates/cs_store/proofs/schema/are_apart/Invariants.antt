@@ -1,5 +1,5 @@
 use Rattle.std.proofs.Common.{map, string_bytes}
-use Rattle.cs_store.proofs.SchemaLaws.{NamesSoFar}
+use Rattle.cs_store.proofs.SchemaLemmas.{NamesSoFar}
 use Rattle.cs_store.proofs.schema.are_apart.Given as goal
 
 -- the names so far are apart, and the set has these

@@ -2,7 +2,7 @@ use Rattle.std.proofs.Common.{◌≡◌, ◌<◌, length, map, take, string_byte
 use Rattle.std.specs.List.{AllByRecursion}
 use Rattle.std.proofs.lemmas.List.{length-map, take_all}
 use Rattle.cs_value.specs.State.{IsColumnName}
-use Rattle.cs_store.proofs.SchemaLaws.{name_all, names_more, name_here}
+use Rattle.cs_store.proofs.SchemaLemmas.{name_all, names_more, name_here}
 use Rattle.cs_store.proofs.schema.are_names.Goals as goal
 
 pub returns-then-not-is_name : goal.returns-then-not-is_name

@@ -2,7 +2,7 @@ use Rattle.std.proofs.Common.{◌≡◌, ◌++◌, ◌∷◌, [], List, map, len
 use Rattle.std.proofs.lemmas.List.{append-nil, map-append, nil_from_length}
 use Rattle.cs_value.specs.declared.value.OwnedField.{OwnedField}
 use Rattle.cs_value.specs.declared.value.OwnedField.TheVariants.{Undefined, Defined}
-use Rattle.cs_store.proofs.StoredRowLaws.{no_row_image}
+use Rattle.cs_store.proofs.StoredRowLemmas.{no_row_image}
 use Rattle.cs_store.proofs.stored_row.defined_row.Goals as goal
 
 pub returns-in-Undefined-clause-refused : goal.returns-in-Undefined-clause-refused

@@ -2,7 +2,7 @@ use Rattle.std.proofs.Common.{[], map, length, refl, sym, ap, subst, ◌∙◌, 
 use Rattle.std.proofs.lemmas.Result.{err_from_is_err_and}
 use Rattle.cs_value.specs.declared.value.OwnedField.TheVariants.{Defined}
 use Rattle.cs_value.specs.Table.{IsKeyedRow}
-use Rattle.cs_store.proofs.StoredRowLaws.{row_image, row_image_same, row_whole, no_fault_answered}
+use Rattle.cs_store.proofs.StoredRowLemmas.{row_image, row_image_same, row_whole, no_fault_answered}
 use Rattle.cs_store.proofs.stored_row.read_row.Goals as goal
 
 pub returns-in-Err-Fault-clause-refused : goal.returns-in-Err-Fault-clause-refused

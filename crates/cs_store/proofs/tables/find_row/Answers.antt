@@ -6,9 +6,9 @@ use Rattle.cs_value.specs.Table.{IsKeyedRow}
 use Rattle.cs_value.specs.State.{row_at}
 use Rattle.cs_store.specs.Records.{records_in}
 use Rattle.cs_store.specs.Store.{tables_in}
-use Rattle.cs_store.proofs.StoredLaws.{row_stored}
-use Rattle.cs_store.proofs.StoreLaws.{rests_keeps}
-use Rattle.cs_store.proofs.ReadLaws.{shows_read, row_is, declared_named, read_fits}
+use Rattle.cs_store.proofs.StoredLemmas.{row_stored}
+use Rattle.cs_store.proofs.StoreLemmas.{rests_keeps}
+use Rattle.cs_store.proofs.ReadLemmas.{shows_read, row_is, declared_named, read_fits}
 use Rattle.cs_store.proofs.tables.find_row.Goals as goal
 
 pub returns-in-Err-clause-kept : goal.returns-in-Err-clause-kept

@@ -4,7 +4,7 @@ use Rattle.sqlite.specs.State.{HasCleanDisk}
 use Rattle.cs_value.specs.State.{schema_at}
 use Rattle.cs_store.specs.Records.{records_in}
 use Rattle.cs_store.specs.Store.{IsSound, Recovers, tables_in}
-use Rattle.cs_store.proofs.ReadLaws.{shows_read, recovers_ok, recovers_err, unnamed, no_elements, some_elements, schema_is, schema_stored}
+use Rattle.cs_store.proofs.ReadLemmas.{shows_read, recovers_ok, recovers_err, unnamed, no_elements, some_elements, schema_is, schema_stored}
 use Rattle.cs_store.proofs.tables.find_schema.Goals as goal
 
 pub returns-then-is_empty-clause-found : goal.returns-then-is_empty-clause-found

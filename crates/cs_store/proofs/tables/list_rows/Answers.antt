@@ -2,9 +2,9 @@ use Rattle.std.proofs.Common.{inl, map}
 use Rattle.sqlite.specs.Held.{state}
 use Rattle.cs_store.specs.Records.{records_in}
 use Rattle.cs_store.specs.Store.{tables_in}
-use Rattle.cs_store.proofs.StoreLaws.{rests_keeps}
+use Rattle.cs_store.proofs.StoreLemmas.{rests_keeps}
 use Rattle.cs_store.proofs.StoredLists.{refused_named, rows_recovered, rows_are_stored}
-use Rattle.cs_store.proofs.ReadLaws.{shows_read, declared_named}
+use Rattle.cs_store.proofs.ReadLemmas.{shows_read, declared_named}
 use Rattle.cs_store.proofs.tables.list_rows.Goals as goal
 
 pub returns-in-Err-clause-kept : goal.returns-in-Err-clause-kept

@@ -3,7 +3,7 @@ use Rattle.sqlite.specs.State.{HasCleanDisk}
 use Rattle.std.specs.FinMap as map
 use Rattle.cs_store.specs.Records.{records_in}
 use Rattle.cs_store.specs.Store.{IsSound, AreNamed, tables_in}
-use Rattle.cs_store.proofs.ReadLaws.{shows_read}
+use Rattle.cs_store.proofs.ReadLemmas.{shows_read}
 use Rattle.cs_store.proofs.StoredLists.{names_listed, names_are, named_ok, named_err}
 use Rattle.cs_store.proofs.tables.list_tables.Goals as goal
 

@@ -1,7 +1,7 @@
 use Rattle.std.proofs.Common.{◌≡◌, Some, rules}
 use Rattle.sqlite.specs.Held.{state}
 use Rattle.cs_value.specs.Spelling.{row_bytes}
-use Rattle.cs_store.proofs.WriteLaws.{row_put, written_is, written_keeps}
+use Rattle.cs_store.proofs.WriteLemmas.{row_put, written_is, written_keeps}
 use Rattle.cs_store.proofs.tables.put_row.Goals as goal
 
 pub returns-clause-put : goal.returns-clause-put

@@ -1,6 +1,6 @@
 use Rattle.std.proofs.Common.{None}
 use Rattle.sqlite.specs.Held.{state}
-use Rattle.cs_store.proofs.WriteLaws.{row_removed, written_is, written_keeps}
+use Rattle.cs_store.proofs.WriteLemmas.{row_removed, written_is, written_keeps}
 use Rattle.cs_store.proofs.tables.remove_row.Goals as goal
 
 pub returns-clause-removed : goal.returns-clause-removed

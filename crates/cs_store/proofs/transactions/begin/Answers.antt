@@ -1,8 +1,8 @@
 use Rattle.std.proofs.Common.{not, ap, ◌∙◌, refl}
-use Rattle.cs_store.proofs.QueryLaws.{on_err}
-use Rattle.cs_store.proofs.StatementLaws.{refusal_rests}
-use Rattle.cs_store.proofs.StoreLaws.{rests_keeps_content, in_autocommit}
-use Rattle.cs_store.proofs.TransactionLaws.{begins, begin_keeps_crash}
+use Rattle.cs_store.proofs.QueryLemmas.{on_err}
+use Rattle.cs_store.proofs.StatementLemmas.{refusal_rests}
+use Rattle.cs_store.proofs.StoreLemmas.{rests_keeps_content, in_autocommit}
+use Rattle.cs_store.proofs.TransactionLemmas.{begins, begin_keeps_crash}
 use Rattle.cs_store.proofs.transactions.begin.Goals as goal
 
 pub returns-in_err-execute-clause-kept : goal.returns-in_err-execute-clause-kept

@@ -1,9 +1,9 @@
 use Rattle.std.proofs.Common.{refl}
 use Rattle.sqlite.specs.Held.{state}
 use Rattle.cs_store.proofs.CrashLemmas.{idle_undone, idle_survives}
-use Rattle.cs_store.proofs.QueryLaws.{on_err}
-use Rattle.cs_store.proofs.StoreLaws.{in_autocommit, in_transaction}
-use Rattle.cs_store.proofs.TransactionLaws.{commits, commit_undone, commit_survives}
+use Rattle.cs_store.proofs.QueryLemmas.{on_err}
+use Rattle.cs_store.proofs.StoreLemmas.{in_autocommit, in_transaction}
+use Rattle.cs_store.proofs.TransactionLemmas.{commits, commit_undone, commit_survives}
 use Rattle.cs_store.proofs.transactions.commit.Goals as goal
 
 pub returns-then-is_autocommit-clause-undone : goal.returns-then-is_autocommit-clause-undone

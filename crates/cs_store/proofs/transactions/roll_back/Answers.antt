@@ -1,5 +1,5 @@
 use Rattle.std.proofs.Common.{rules}
-use Rattle.cs_store.proofs.TransactionLaws.{roll_back_undone, roll_back_keeps_crash}
+use Rattle.cs_store.proofs.TransactionLemmas.{roll_back_undone, roll_back_keeps_crash}
 use Rattle.cs_store.proofs.transactions.roll_back.Goals as goal
 
 pub returns-then-not-is_autocommit-clause-undone : goal.returns-then-not-is_autocommit-clause-undone

@@ -15,8 +15,8 @@ use Rattle.cs_session.specs.Attaching.{Attaches}
 use Rattle.cs_session.specs.Recording.{Records, RecordsApply}
 use Rattle.cs_session.specs.Undoing.{Undoes}
 use Rattle.cs_session.specs.Runs.{Moment, Run, KeepsBefore, RowsFromBefore}
-use Rattle.cs_session.proofs.RewoundLaws.{pairs_from_recursion}
-use Rattle.cs_session.proofs.RunsLaws.{attached_step, edited_step, applied_step}
+use Rattle.cs_session.proofs.RewoundLemmas.{pairs_from_recursion}
+use Rattle.cs_session.proofs.RunsLemmas.{attached_step, edited_step, applied_step}
 use Rattle.cs_tests.proofs.calling.rehearse.Goals as goal
 
 module _ (chooses : Handler) (file name : List ℕ) (edit : Edit) (s0 s1 s2 s3 s4 : State) (n1 n2 n3 : Notes) (report undone : Report) where

@@ -1,7 +1,7 @@
 use Rattle.std.proofs.Common.{arith}
 use Rattle.std.proofs.lemmas.Result.{err_from_is_err_and}
 use Rattle.cs_value.proofs.ImageReading.{no_field, has_field, all_fields}
-use Rattle.cs_value.proofs.RefusalLaws.{Answers-err}
+use Rattle.cs_value.proofs.RefusalLemmas.{Answers-err}
 use Rattle.cs_value.proofs.image.image_read.Goals as goal
 
 pub returns-in_err-field-clause-only : goal.returns-in_err-field-clause-only

@@ -1,6 +1,6 @@
 use Rattle.std.proofs.Common.{sym, arith}
 use Rattle.std.proofs.lemmas.Grind.{pow_more}
-use Rattle.cs_value.proofs.VarintLaws.{number_at-first}
+use Rattle.cs_value.proofs.VarintLemmas.{number_at-first}
 use Rattle.cs_value.proofs.VarintLoops.{ends_with, ends_large, ends_long, ends_cut, goes_on}
 use Rattle.cs_value.proofs.varint.read_number.Goals as goal
 

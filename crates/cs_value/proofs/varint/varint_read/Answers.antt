@@ -1,7 +1,7 @@
 use Rattle.std.proofs.Common.{ap, ◌∙◌, arith}
 use Rattle.cs_value.specs.Reading.{number_at}
 use Rattle.cs_value.proofs.ByteLists.{AreBytes-from_each}
-use Rattle.cs_value.proofs.VarintLaws.{number_again, is_found, is_faulty}
+use Rattle.cs_value.proofs.VarintLemmas.{number_again, is_found, is_faulty}
 use Rattle.cs_value.proofs.varint.varint_read.Goals as goal
 
 pub returns-clause-found : goal.returns-clause-found

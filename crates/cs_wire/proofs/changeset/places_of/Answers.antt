@@ -1,7 +1,7 @@
 use Rattle.std.proofs.Common.{ap, ◌∙◌}
 use Rattle.std.specs.FinMap.{insert}
 use Rattle.cs_wire.specs.Changeset.{HeaderData, GroupData}
-use Rattle.cs_wire.proofs.IndexLaws.{IsIndex-none, IsIndex-more}
+use Rattle.cs_wire.proofs.IndexLemmas.{IsIndex-none, IsIndex-more}
 use Rattle.cs_wire.proofs.changeset.places_of.Goals as goal
 
 pub loop-place-init : goal.loop-place-init

@@ -2,7 +2,7 @@ use Rattle.std.proofs.Common.{ap, ◌∙◌}
 use Rattle.std.specs.FinMap.{insert}
 use Rattle.cs_wire.specs.declared.entry.Entry.{Entry}
 use Rattle.cs_wire.specs.Entry.{key_of}
-use Rattle.cs_wire.proofs.IndexLaws.{IsIndex-none, IsIndex-more}
+use Rattle.cs_wire.proofs.IndexLemmas.{IsIndex-none, IsIndex-more}
 use Rattle.cs_wire.proofs.group.places_of.Goals as goal
 
 pub loop-place-init : goal.loop-place-init

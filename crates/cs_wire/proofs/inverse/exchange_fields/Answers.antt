@@ -1,6 +1,6 @@
 use Rattle.std.proofs.Common.{set, sym, ap, ◌∙◌, arith}
 use Rattle.std.proofs.Math.ListN.{length-set}
-use Rattle.cs_wire.proofs.InverseLaws.{ExchangedSoFar-none, ExchangedSoFar-key, ExchangedSoFar-field, ExchangedSoFar-all}
+use Rattle.cs_wire.proofs.InverseLemmas.{ExchangedSoFar-none, ExchangedSoFar-key, ExchangedSoFar-field, ExchangedSoFar-all}
 use Rattle.cs_wire.proofs.inverse.exchange_fields.Goals as goal
 use Rattle.cs_wire.proofs.inverse.exchange_fields.Goals.{then-flag-eq0, else-flag-eq0}
 

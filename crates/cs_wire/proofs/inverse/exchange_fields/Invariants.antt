@@ -1,5 +1,5 @@
 -- The fields of the columns so far are exchanged.
-use Rattle.cs_wire.proofs.InverseLaws.{Exchanging}
+use Rattle.cs_wire.proofs.InverseLemmas.{Exchanging}
 use Rattle.cs_wire.proofs.inverse.exchange_fields.Given as goal
 
 abbrev pub invariant-loop-column : goal.invariant-loop-column

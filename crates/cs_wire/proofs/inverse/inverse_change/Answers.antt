@@ -1,4 +1,4 @@
-use Rattle.cs_wire.proofs.EntryLaws.{length-IsKeyedUpdate}
+use Rattle.cs_wire.proofs.EntryLemmas.{length-IsKeyedUpdate}
 use Rattle.cs_wire.proofs.inverse.inverse_change.Goals as goal
 
 pub exchange-old-requires-clause-old : goal.exchange-old-requires-clause-old

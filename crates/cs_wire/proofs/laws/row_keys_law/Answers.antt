@@ -1,4 +1,4 @@
-use Rattle.cs_wire.proofs.KeyLaws.{row_keys}
+use Rattle.cs_wire.proofs.KeyLemmas.{row_keys}
 use Rattle.cs_wire.proofs.laws.row_keys_law.Goals as goal
 
 pub returns : goal.returns

@@ -1,10 +1,10 @@
 use Rattle.std.proofs.Common.{◌∷◌, [], ◌++◌, ap, sym, ◌∙◌}
 use Rattle.std.proofs.lemmas.Result.{err_from_is_err_and}
 use Rattle.cs_wire.specs.Changeset.{HeaderData, GroupData, header_bytes}
-use Rattle.cs_value.proofs.RefusalLaws.{Answers-err}
-use Rattle.cs_wire.proofs.ReadingLaws.{rest_is}
-use Rattle.cs_wire.proofs.GroupsLaws.{group_bytes-append, Stands-group, same_group, under_header}
-use Rattle.cs_wire.proofs.IndexLaws.{found_or_new}
+use Rattle.cs_value.proofs.RefusalLemmas.{Answers-err}
+use Rattle.cs_wire.proofs.ReadingLemmas.{rest_is}
+use Rattle.cs_wire.proofs.GroupsLemmas.{group_bytes-append, Stands-group, same_group, under_header}
+use Rattle.cs_wire.proofs.IndexLemmas.{found_or_new}
 use Rattle.cs_wire.proofs.reader.push_group.Goals as goal
 
 pub returns-in_err-header-clause-only : goal.returns-in_err-header-clause-only

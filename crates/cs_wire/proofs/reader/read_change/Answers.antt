@@ -7,10 +7,10 @@ use Rattle.cs_value.specs.declared.value.OwnedField.TheVariants.{Defined}
 use Rattle.cs_value.specs.Spelling.{field_bytes, record_bytes}
 use Rattle.cs_wire.specs.declared.entry.Change.TheVariants.{Insert, Delete, Update}
 use Rattle.cs_wire.specs.Views.{byte_of}
-use Rattle.cs_value.proofs.RefusalLaws.{Answers-err}
-use Rattle.cs_wire.proofs.ReadingLaws.{because, Stands-then}
+use Rattle.cs_value.proofs.RefusalLemmas.{Answers-err}
+use Rattle.cs_wire.proofs.ReadingLemmas.{because, Stands-then}
 use Rattle.cs_value.proofs.RowImages.{IsRecord-map, IsRow-map, same_from_fields}
-use Rattle.cs_wire.proofs.ChangeLaws.{row_met, keyed_row, old_met, new_met, keyed_update, row_refused, old_refused, new_refused, inserted, deleted, updated, spelled_update, behind_old, length-old}
+use Rattle.cs_wire.proofs.ChangeLemmas.{row_met, keyed_row, old_met, new_met, keyed_update, row_refused, old_refused, new_refused, inserted, deleted, updated, spelled_update, behind_old, length-old}
 use Rattle.cs_wire.proofs.reader.read_change.Goals as goal
 
 pub returns-in_err-row-in-Insert-clause-only : goal.returns-in_err-row-in-Insert-clause-only

@@ -1,8 +1,8 @@
 use Rattle.std.proofs.Common.{Bool, cond, ap, sym, ◌∙◌}
 use Rattle.std.proofs.lemmas.Result.{err_from_is_err_and}
-use Rattle.cs_value.proofs.RefusalLaws.{Answers-err}
-use Rattle.cs_wire.proofs.ReadingLaws.{because, Stands-then, behind_byte}
-use Rattle.cs_wire.proofs.EntryLaws.{entry_bytes-append, Stands-entry, same_entry}
+use Rattle.cs_value.proofs.RefusalLemmas.{Answers-err}
+use Rattle.cs_wire.proofs.ReadingLemmas.{because, Stands-then, behind_byte}
+use Rattle.cs_wire.proofs.EntryLemmas.{entry_bytes-append, Stands-entry, same_entry}
 use Rattle.cs_wire.proofs.EntryFaults.{change_case}
 use Rattle.cs_wire.proofs.reader.read_entry.Goals as goal
 

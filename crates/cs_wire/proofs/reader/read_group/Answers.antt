@@ -1,10 +1,10 @@
 use Rattle.std.proofs.Common.{[], arith}
 use Rattle.std.proofs.lemmas.Result.{err_from_is_err_and}
 use Rattle.std.proofs.lemmas.Bool.{iff_false}
-use Rattle.cs_value.proofs.RefusalLaws.{Answers-err}
-use Rattle.cs_wire.proofs.ReadingLaws.{Stands-moves}
-use Rattle.cs_wire.proofs.EntryLaws.{entry_bytes_some}
-use Rattle.cs_wire.proofs.EntriesLaws.{has_first, first_entry, next_of_entries, all_entries, EntriesSoFar-one, EntriesSoFar-push, EntryStart-more}
+use Rattle.cs_value.proofs.RefusalLemmas.{Answers-err}
+use Rattle.cs_wire.proofs.ReadingLemmas.{Stands-moves}
+use Rattle.cs_wire.proofs.EntryLemmas.{entry_bytes_some}
+use Rattle.cs_wire.proofs.EntriesLemmas.{has_first, first_entry, next_of_entries, all_entries, EntriesSoFar-one, EntriesSoFar-push, EntryStart-more}
 use Rattle.cs_wire.proofs.reader.read_group.Goals as goal
 
 pub returns-then-not-has_entry-clause-only : goal.returns-then-not-has_entry-clause-only

@@ -1,5 +1,5 @@
 use Rattle.std.proofs.Common.{◌-◌, length}
-use Rattle.cs_wire.proofs.EntriesLaws.{EntriesSoFar}
+use Rattle.cs_wire.proofs.EntriesLemmas.{EntriesSoFar}
 use Rattle.cs_wire.proofs.reader.read_group.Given as goal
 
 abbrev pub invariant-entries : goal.invariant-entries

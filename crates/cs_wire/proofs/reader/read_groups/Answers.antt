@@ -1,8 +1,8 @@
 use Rattle.std.proofs.Common.{arith}
 use Rattle.std.proofs.lemmas.Result.{err_from_is_err_and}
-use Rattle.cs_value.proofs.RefusalLaws.{Answers-err}
-use Rattle.cs_wire.proofs.ReadingLaws.{Stands-moves}
-use Rattle.cs_wire.proofs.GroupsLaws.{GroupsSoFar-none, GroupsSoFar-push, next_of_groups, all_groups, is_file, group_bytes_some}
+use Rattle.cs_value.proofs.RefusalLemmas.{Answers-err}
+use Rattle.cs_wire.proofs.ReadingLemmas.{Stands-moves}
+use Rattle.cs_wire.proofs.GroupsLemmas.{GroupsSoFar-none, GroupsSoFar-push, next_of_groups, all_groups, is_file, group_bytes_some}
 use Rattle.cs_wire.proofs.reader.read_groups.Goals as goal
 
 pub groups-init : goal.groups-init

@@ -1,5 +1,5 @@
 use Rattle.std.proofs.Common.{◌-◌, length}
-use Rattle.cs_wire.proofs.GroupsLaws.{GroupsSoFar}
+use Rattle.cs_wire.proofs.GroupsLemmas.{GroupsSoFar}
 use Rattle.cs_wire.proofs.reader.read_groups.Given as goal
 
 abbrev pub invariant-groups : goal.invariant-groups

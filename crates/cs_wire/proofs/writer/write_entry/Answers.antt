@@ -1,6 +1,6 @@
 use Rattle.std.proofs.Common.{◌++◌, append_assoc, ap, ◌∙◌, ℕ, List}
 use Rattle.std.proofs.lemmas.Result.{on_ok_weaker}
-use Rattle.cs_wire.proofs.EntryLaws.{entry_bytes-Insert, entry_bytes-Delete}
+use Rattle.cs_wire.proofs.EntryLemmas.{entry_bytes-Insert, entry_bytes-Delete}
 use Rattle.cs_value.specs.Spelling.{row_bytes}
 use Rattle.cs_wire.proofs.writer.write_entry.Goals as goal
 

@@ -1,6 +1,6 @@
 use Rattle.std.proofs.Common.{sym, ◌∙◌}
 use Rattle.cs_store.specs.Editing.{written_of}
-use Rattle.cs_session.proofs.ImageLaws.{noted_there, noted_behind}
+use Rattle.cs_session.proofs.ImageLemmas.{noted_there, noted_behind}
 use Rattle.cs_session.proofs.first_images.FirstImages.note.Goals as goal
 
 pub returns-then-has_key-clause-noted : goal.returns-then-has_key-clause-noted

@@ -3,7 +3,7 @@ use Rattle.std.specs.Fn.{FnReturnsAt}
 use Rattle.cs_session.specs.declared.attached.Attached.{Attached}
 use Rattle.cs_session.specs.Views.{attached_of}
 use Rattle.cs_value.proofs.ListLemmas.{written_whole}
-use Rattle.cs_session.proofs.RecordLaws.{applied_rewound}
+use Rattle.cs_session.proofs.RecordLemmas.{applied_rewound}
 use Rattle.cs_session.proofs.session.Session.apply_recorded.Goals as goal
 
 pub returns-clause-rewound : goal.returns-clause-rewound

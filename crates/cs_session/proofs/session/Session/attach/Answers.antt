@@ -1,6 +1,6 @@
 use Rattle.std.proofs.Common.{inl, refl, sym, ◌∙◌}
 use Rattle.cs_session.specs.Attaching.{IsNewTable}
-use Rattle.cs_session.proofs.AttachLaws.{is_new, is_attached, attaches, attached_rewound}
+use Rattle.cs_session.proofs.AttachLemmas.{is_new, is_attached, attaches, attached_rewound}
 use Rattle.cs_session.proofs.session.Session.attach.Goals as goal
 
 pub returns-then-has_name-clause-refused : goal.returns-then-has_name-clause-refused

@@ -2,7 +2,7 @@ use Rattle.std.proofs.Common.{◌≡◌, map, rules}
 use Rattle.sqlite.specs.Held.{state}
 use Rattle.cs_store.specs.Laws.{was_clean}
 use Rattle.cs_session.specs.Views.{attached_of}
-use Rattle.cs_session.proofs.OutcomeLaws.{begun_state, read_attached, read_leads}
+use Rattle.cs_session.proofs.OutcomeLemmas.{begun_state, read_attached, read_leads}
 use Rattle.cs_session.proofs.session.Session.changeset.Goals as goal
 
 pub returns-clause-attached : goal.returns-clause-attached

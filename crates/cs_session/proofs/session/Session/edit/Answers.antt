@@ -2,7 +2,7 @@ use Rattle.std.proofs.Common.{List, length, map, ap, ◌∙◌}
 use Rattle.cs_session.specs.declared.attached.Attached.{Attached}
 use Rattle.cs_session.specs.Views.{attached_of}
 use Rattle.cs_value.proofs.ListLemmas.{written_whole}
-use Rattle.cs_session.proofs.EditLaws.{records_rewound}
+use Rattle.cs_session.proofs.EditLemmas.{records_rewound}
 use Rattle.cs_session.proofs.session.Session.edit.Goals as goal
 
 pub returns-clause-rewound : goal.returns-clause-rewound

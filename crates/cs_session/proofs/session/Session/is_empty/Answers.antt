@@ -1,4 +1,4 @@
-use Rattle.cs_session.proofs.AttachLaws.{unwritten}
+use Rattle.cs_session.proofs.AttachLemmas.{unwritten}
 use Rattle.cs_session.proofs.session.Session.is_empty.Goals as goal
 
 pub returns : goal.returns

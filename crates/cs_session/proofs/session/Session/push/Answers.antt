@@ -1,5 +1,5 @@
 use Rattle.std.proofs.Common.{refl}
-use Rattle.cs_session.proofs.AttachLaws.{push_keeps}
+use Rattle.cs_session.proofs.AttachLemmas.{push_keeps}
 use Rattle.cs_session.proofs.session.Session.push.Goals as goal
 
 pub invariant_of-self-2 : goal.invariant_of-self-2

@@ -3,7 +3,7 @@ use Rattle.sqlite.specs.Held.{state}
 use Rattle.cs_store.proofs.CrashLemmas.{made_survives}
 use Rattle.cs_session.specs.FirstImages.{rewound_state}
 use Rattle.cs_session.specs.Views.{attached_of}
-use Rattle.cs_session.proofs.OutcomeLaws.{begun_state}
+use Rattle.cs_session.proofs.OutcomeLemmas.{begun_state}
 use Rattle.cs_session.proofs.session.Session.undo.Goals as goal
 
 pub undo_rows-requires-clause-state : goal.undo_rows-requires-clause-state

@@ -2,9 +2,9 @@ use Rattle.std.proofs.Common.{◌≡◌, ◌∙◌, ap}
 use Rattle.std.specs.FinMap as map
 use Rattle.std.specs.String.{string_bytes}
 use Rattle.cs_value.proofs.ByteMaps.{seen_insert}
-use Rattle.cs_value.proofs.StateLaws.{state_insert}
+use Rattle.cs_value.proofs.StateLemmas.{state_insert}
 use Rattle.cs_store.specs.contracts.memory.MemRows.{the_view}
-use Rattle.cs_store.proofs.MemoryLaws.{seen_tables}
+use Rattle.cs_store.proofs.MemoryLemmas.{seen_tables}
 use Rattle.cs_store.proofs.memory.MemRows.insert_table.Goals as goal
 
 -- the tables with one more

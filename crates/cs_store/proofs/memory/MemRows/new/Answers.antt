@@ -1,4 +1,4 @@
-use Rattle.cs_value.proofs.StateLaws.{empty_state}
+use Rattle.cs_value.proofs.StateLemmas.{empty_state}
 use Rattle.cs_store.proofs.memory.MemRows.new.Goals as goal
 
 pub invariant_of-result : goal.invariant_of-result

@@ -1,9 +1,9 @@
 use Rattle.std.proofs.Common.{◌∙◌, sym, refl}
 use Rattle.std.specs.FinMap as map
 use Rattle.cs_value.specs.State.{RowMap}
-use Rattle.cs_value.proofs.StateLaws.{table_insert}
+use Rattle.cs_value.proofs.StateLemmas.{table_insert}
 use Rattle.cs_store.specs.contracts.memory.MemRows.{the_view}
-use Rattle.cs_store.proofs.MemoryLaws.{stands, with_rows_absent, fits_there, on_ok, on_err, still_table, replaced_is_state}
+use Rattle.cs_store.proofs.MemoryLemmas.{stands, with_rows_absent, fits_there, on_ok, on_err, still_table, replaced_is_state}
 use Rattle.cs_store.proofs.memory.MemRows.put_row.Goals as goal
 use Rattle.cs_store.proofs.memory.MemRows.put_row.Goals.{in-Some, in-None}
 

@@ -1,9 +1,9 @@
 use Rattle.std.proofs.Common.{◌∙◌, sym, subst, refl}
 use Rattle.std.specs.FinMap as map
 use Rattle.cs_value.specs.State.{IsTable}
-use Rattle.cs_value.proofs.StateLaws.{table_remove}
+use Rattle.cs_value.proofs.StateLemmas.{table_remove}
 use Rattle.cs_store.specs.contracts.memory.MemRows.{the_view}
-use Rattle.cs_store.proofs.MemoryLaws.{stands, with_rows_absent, rows_replaced, replaced_is_state}
+use Rattle.cs_store.proofs.MemoryLemmas.{stands, with_rows_absent, rows_replaced, replaced_is_state}
 use Rattle.cs_store.proofs.memory.MemRows.remove_row.Goals as goal
 use Rattle.cs_store.proofs.memory.MemRows.remove_row.Goals.{in-Some, in_default}
 

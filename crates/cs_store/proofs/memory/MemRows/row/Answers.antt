@@ -1,7 +1,7 @@
 use Rattle.std.proofs.Common.{◌∙◌, ap, sym}
 use Rattle.std.specs.Option.{option_copied}
 use Rattle.std.proofs.lemmas.Option.{IfSome_then}
-use Rattle.cs_store.proofs.MemoryLaws.{row_at_absent}
+use Rattle.cs_store.proofs.MemoryLemmas.{row_at_absent}
 use Rattle.cs_store.proofs.memory.MemRows.row.Goals as goal
 
 pub returns-in_err-table-clause-found : goal.returns-in_err-table-clause-found

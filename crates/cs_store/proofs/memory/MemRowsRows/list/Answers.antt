@@ -1,6 +1,6 @@
 use Rattle.std.proofs.Common.{◌∙◌, ap, sym}
 use Rattle.std.specs.FinMap as map
-use Rattle.cs_store.proofs.MemoryLaws.{rows_at_absent, no_values}
+use Rattle.cs_store.proofs.MemoryLemmas.{rows_at_absent, no_values}
 use Rattle.cs_store.proofs.memory.MemRowsRows.list.Goals as goal
 
 pub returns-in-None-clause-listed : goal.returns-in-None-clause-listed

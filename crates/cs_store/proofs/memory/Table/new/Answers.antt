@@ -1,4 +1,4 @@
-use Rattle.cs_value.proofs.StateLaws.{empty_table}
+use Rattle.cs_value.proofs.StateLemmas.{empty_table}
 use Rattle.cs_store.proofs.memory.Table.new.Goals as goal
 
 pub invariant_of-result : goal.invariant_of-result

@@ -2,7 +2,7 @@ use Rattle.std.proofs.Common.{◌≡◌, ◌∙◌, ap, sym, subst}
 use Rattle.std.specs.FinMap as map
 use Rattle.cs_value.specs.State.{TableData, RowMap, IsRowAt}
 use Rattle.cs_value.proofs.ByteMaps.{seen_insert, seen_map}
-use Rattle.cs_value.proofs.StateLaws.{table_insert}
+use Rattle.cs_value.proofs.StateLemmas.{table_insert}
 use Rattle.cs_store.specs.contracts.memory.Table.{the_view}
 use Rattle.cs_store.proofs.memory.Table.put.Goals as goal
 

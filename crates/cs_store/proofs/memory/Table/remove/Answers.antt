@@ -2,7 +2,7 @@ use Rattle.std.proofs.Common.{◌≡◌, ◌∙◌, ap}
 use Rattle.std.specs.FinMap as map
 use Rattle.cs_value.specs.State.{TableData, RowMap}
 use Rattle.cs_value.proofs.ByteMaps.{seen_remove, seen_map}
-use Rattle.cs_value.proofs.StateLaws.{table_remove}
+use Rattle.cs_value.proofs.StateLemmas.{table_remove}
 use Rattle.cs_store.specs.contracts.memory.Table.{the_view}
 use Rattle.cs_store.proofs.memory.Table.remove.Goals as goal
 

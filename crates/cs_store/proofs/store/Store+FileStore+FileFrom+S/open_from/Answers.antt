@@ -1,4 +1,4 @@
-use Rattle.cs_store.proofs.AdoptionLaws.{opens_files}
+use Rattle.cs_store.proofs.AdoptionLemmas.{opens_files}
 use Rattle.cs_store.proofs.store.Store+FileStore+FileFrom+S.open_from.Goals as goal
 
 pub returns-in-Ok-adopt-clause-opened : goal.returns-in-Ok-adopt-clause-opened

@@ -1,4 +1,4 @@
-use Rattle.cs_store.proofs.AdoptionLaws.{memory_honest, nothing_held, nothing_damaged}
+use Rattle.cs_store.proofs.AdoptionLemmas.{memory_honest, nothing_held, nothing_damaged}
 use Rattle.cs_store.proofs.store.Store+MemStore.new_memory.Goals as goal
 
 pub returns-in-Ok-clause-empty : goal.returns-in-Ok-clause-empty

@@ -1,6 +1,6 @@
 use Rattle.std.proofs.Common.{inr}
 use Rattle.cs_store.specs.Laws.{keeps_then}
-use Rattle.cs_store.proofs.WriteLaws.{on_refusal}
+use Rattle.cs_store.proofs.WriteLemmas.{on_refusal}
 use Rattle.cs_store.proofs.store.Store.add_table.Goals as goal
 
 pub returns-in-Ok-None-clause-named : goal.returns-in-Ok-None-clause-named

@@ -5,14 +5,14 @@ use Rattle.cs_value.specs.State.{SchemaData, IsSchema}
 use Rattle.cs_store.specs.Editing.{Declares, schema_of}
 use Rattle.cs_store.specs.Store.{AddsTable, tables_in}
 use Rattle.cs_store.proofs.CrashLemmas.{made_survives}
-use Rattle.cs_store.proofs.DeclareLaws.{added_declares, committed_declares, taken_declares}
-use Rattle.cs_store.proofs.WriteLaws.{on_err_then}
+use Rattle.cs_store.proofs.DeclareLemmas.{added_declares, committed_declares, taken_declares}
+use Rattle.cs_store.proofs.WriteLemmas.{on_err_then}
 use Rattle.sqlite.specs.Held.{state, Held}
 use Rattle.sqlite.specs.State.{HasCleanDisk}
 use Rattle.cs_store.specs.Laws.{was_clean}
 use Rattle.cs_store.specs.Records.{KeepsContent}
-use Rattle.cs_store.proofs.StoreLaws.{undone_batch}
-use Rattle.cs_store.proofs.QueryLaws.{on_err}
+use Rattle.cs_store.proofs.StoreLemmas.{undone_batch}
+use Rattle.cs_store.proofs.QueryLemmas.{on_err}
 use Rattle.cs_store.proofs.store.Store.declare.Goals as goal
 
 pub returns-in_err-declare-clause-refused : goal.returns-in_err-declare-clause-refused

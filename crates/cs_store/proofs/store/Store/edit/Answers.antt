@@ -6,8 +6,8 @@ use Rattle.sqlite.specs.State.{HasCleanDisk}
 use Rattle.cs_store.specs.Laws.{was_clean}
 use Rattle.cs_store.specs.Records.{KeepsContent}
 use Rattle.cs_store.proofs.CrashLemmas.{made_survives}
-use Rattle.cs_store.proofs.StoreLaws.{undone_batch}
-use Rattle.cs_store.proofs.QueryLaws.{on_err}
+use Rattle.cs_store.proofs.StoreLemmas.{undone_batch}
+use Rattle.cs_store.proofs.QueryLemmas.{on_err}
 use Rattle.cs_store.proofs.store.Store.edit.Goals as goal
 
 pub returns-in_err-written-clause-kept : goal.returns-in_err-written-clause-kept

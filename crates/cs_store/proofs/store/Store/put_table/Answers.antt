@@ -1,4 +1,4 @@
-use Rattle.cs_store.proofs.StoreLaws.{in_transaction}
+use Rattle.cs_store.proofs.StoreLemmas.{in_transaction}
 use Rattle.cs_store.proofs.store.Store.put_table.Goals as goal
 
 pub invariant_of-self : goal.invariant_of-self

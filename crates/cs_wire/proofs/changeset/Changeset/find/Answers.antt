@@ -1,7 +1,7 @@
 use Rattle.std.proofs.Common.{ap, ◌∙◌}
 use Rattle.std.specs.FinMap.{get}
 use Rattle.cs_wire.specs.Changeset.{GroupData}
-use Rattle.cs_wire.proofs.IndexLaws.{is_found, is_new}
+use Rattle.cs_wire.proofs.IndexLemmas.{is_found, is_new}
 use Rattle.cs_wire.proofs.changeset.Changeset.find.Goals as goal
 
 pub returns-clause-found : goal.returns-clause-found

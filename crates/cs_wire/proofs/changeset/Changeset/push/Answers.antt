@@ -1,7 +1,7 @@
 use Rattle.std.proofs.Common.{◌≡◌, arith, rules}
 use Rattle.cs_wire.specs.Changeset.{GroupData, IsGroup}
-use Rattle.cs_wire.proofs.GroupLaws.{IsChangeset-push}
-use Rattle.cs_wire.proofs.IndexLaws.{IsIndex-grown}
+use Rattle.cs_wire.proofs.GroupLemmas.{IsChangeset-push}
+use Rattle.cs_wire.proofs.IndexLemmas.{IsIndex-grown}
 use Rattle.cs_wire.proofs.changeset.Changeset.push.Goals as goal
 
 pub invariant_of-self-in-Ok : goal.invariant_of-self-in-Ok

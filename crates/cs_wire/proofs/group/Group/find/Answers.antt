@@ -2,7 +2,7 @@ use Rattle.std.proofs.Common.{ap, ◌∙◌}
 use Rattle.std.specs.FinMap.{get}
 use Rattle.cs_wire.specs.declared.entry.Entry.{Entry}
 use Rattle.cs_wire.specs.Entry.{key_of}
-use Rattle.cs_wire.proofs.IndexLaws.{is_found, is_new}
+use Rattle.cs_wire.proofs.IndexLemmas.{is_found, is_new}
 use Rattle.cs_wire.proofs.group.Group.find.Goals as goal
 
 pub returns-clause-found : goal.returns-clause-found

@@ -1,6 +1,6 @@
 use Rattle.std.proofs.Common.{rules}
 use Rattle.cs_wire.specs.Changeset.{IsHeader}
-use Rattle.cs_wire.proofs.GroupLaws.{IsGroup-one}
+use Rattle.cs_wire.proofs.GroupLemmas.{IsGroup-one}
 use Rattle.cs_wire.proofs.group.Group.new.Goals as goal
 
 pub from_entries-requires : goal.from_entries-requires

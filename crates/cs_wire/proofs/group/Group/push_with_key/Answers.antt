@@ -2,8 +2,8 @@ use Rattle.std.proofs.Common.{ℕ, List, ap, ◌∙◌, sym, arith}
 use Rattle.std.specs.FinMap.{insert}
 use Rattle.cs_wire.specs.declared.entry.Entry.{Entry}
 use Rattle.cs_wire.specs.Entry.{key_of}
-use Rattle.cs_wire.proofs.GroupLaws.{IsGroup-push}
-use Rattle.cs_wire.proofs.IndexLaws.{IsIndex-grown}
+use Rattle.cs_wire.proofs.GroupLemmas.{IsGroup-push}
+use Rattle.cs_wire.proofs.IndexLemmas.{IsIndex-grown}
 use Rattle.cs_wire.proofs.group.Group.push_with_key.Goals as goal
 
 pub invariant_of-self-in-Ok : goal.invariant_of-self-in-Ok

@@ -3,8 +3,8 @@ use Rattle.std.proofs.lemmas.Result.{err_from_is_err_and}
 use Rattle.cs_wire.specs.Changeset.{flags_bytes}
 use Rattle.cs_wire.specs.ReadFaults.{Stands}
 use Rattle.cs_wire.proofs.HeaderFaults.{HeaderPart-more, HeaderPart-first}
-use Rattle.cs_value.proofs.RefusalLaws.{Answers-err}
-use Rattle.cs_wire.proofs.ReadingLaws.{behind_byte, rest_is, first_byte, Stands-byte, header_bytes-append, Stands-header, same_header}
+use Rattle.cs_value.proofs.RefusalLemmas.{Answers-err}
+use Rattle.cs_wire.proofs.ReadingLemmas.{behind_byte, rest_is, first_byte, Stands-byte, header_bytes-append, Stands-header, same_header}
 use Rattle.cs_wire.proofs.reader.header.read_header.Goals as goal
 
 pub returns-then-file-at-eq-PATCHSET-clause-only : goal.returns-then-file-at-eq-PATCHSET-clause-only

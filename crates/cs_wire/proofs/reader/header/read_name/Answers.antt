@@ -2,7 +2,7 @@ use Rattle.std.proofs.Common.{◌≡◌, ◌<◌, length, take, drop, sym, ◌�
 use Rattle.std.proofs.lemmas.Bool.{eqb-false, eqb-true}
 use Rattle.std.specs.Prelude.{string_bytes}
 use Rattle.cs_wire.proofs.HeaderFaults.{empty_name, bad_name}
-use Rattle.cs_wire.proofs.ReadingLaws.{name_has_end, IsName-read, name_taken, Stands-ended}
+use Rattle.cs_wire.proofs.ReadingLemmas.{name_has_end, IsName-read, name_taken, Stands-ended}
 use Rattle.cs_wire.proofs.reader.header.read_name.Goals as goal
 
 pub returns-in_default-clause-only : goal.returns-in_default-clause-only

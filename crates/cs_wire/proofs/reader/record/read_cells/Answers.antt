@@ -2,9 +2,9 @@ use Rattle.std.proofs.Common.{◌≤◌, length}
 use Rattle.std.proofs.lemmas.Result.{err_from_is_err_and}
 use Rattle.std.proofs.lemmas.List.{map_push}
 use Rattle.cs_wire.specs.Reading.{wants_in}
-use Rattle.cs_value.proofs.RefusalLaws.{Answers-err}
-use Rattle.cs_wire.proofs.ReadingLaws.{because}
-use Rattle.cs_wire.proofs.FieldsLaws.{Wants-in, FieldsSoFar-none, FieldsSoFar-push, FieldsSoFar-all, FieldsSoFar-refused, has_next}
+use Rattle.cs_value.proofs.RefusalLemmas.{Answers-err}
+use Rattle.cs_wire.proofs.ReadingLemmas.{because}
+use Rattle.cs_wire.proofs.FieldsLemmas.{Wants-in, FieldsSoFar-none, FieldsSoFar-push, FieldsSoFar-all, FieldsSoFar-refused, has_next}
 use Rattle.cs_wire.proofs.reader.record.read_cells.Goals as goal
 
 pub loop-column-init : goal.loop-column-init

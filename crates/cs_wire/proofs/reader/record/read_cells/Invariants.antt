@@ -1,6 +1,6 @@
 use Rattle.std.proofs.Common.{map}
 use Rattle.cs_wire.specs.Reading.{wants_in}
-use Rattle.cs_wire.proofs.FieldsLaws.{FieldsSoFar}
+use Rattle.cs_wire.proofs.FieldsLemmas.{FieldsSoFar}
 use Rattle.cs_wire.proofs.reader.record.read_cells.Given as goal
 
 abbrev pub invariant-loop-column : goal.invariant-loop-column

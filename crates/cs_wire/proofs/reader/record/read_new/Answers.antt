@@ -1,6 +1,6 @@
 use Rattle.std.proofs.Common.{List, length, sym, ap, ◌∙◌}
 use Rattle.cs_value.specs.declared.value.OwnedField.{OwnedField}
-use Rattle.cs_wire.proofs.FieldsLaws.{length-new_wants}
+use Rattle.cs_wire.proofs.FieldsLemmas.{length-new_wants}
 use Rattle.cs_wire.proofs.reader.record.read_new.Goals as goal
 
 pub read_cells-requires-clause-width : goal.read_cells-requires-clause-width

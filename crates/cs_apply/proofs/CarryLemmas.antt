@@ -1,0 +1,99 @@
+-- One entry, applied.
+use Rattle.std.proofs.Common.{◌≡◌, Bool, true, false, List, [], ◌∷◌, ◌++◌, map, filter_map, Option, Some, option_map, refl, sym, ap, ◌∙◌}
+use Rattle.std.specs.Prelude.{option_to_list, Result, Ok, Err, OnOk}
+use Rattle.std.specs.FinMap.{get}
+use Rattle.std.proofs.lemmas.List.{append-nil}
+use Rattle.std.proofs.lemmas.List.Elements.{All-nil, All-cons, All-head}
+use Rattle.cs_value.specs.declared.value.OwnedValue.{OwnedValue}
+use Rattle.cs_value.specs.State.{TableData, State, schema_at, row_at}
+use Rattle.cs_value.proofs.ListLemmas.{cons_option-nil}
+use Rattle.cs_store.specs.Editing.{written_of}
+use Rattle.cs_group.specs.declared.conflict.Choice.{Choice}
+use Rattle.cs_group.specs.Conflicts.{conflict_kind, row_after, ends, is_carried_out}
+use Rattle.cs_group.specs.Applying.{PlacedEntry, placed_key, current, IsElsewhere, MetData, Choices, conflict_with, conflict_at, met_at, placed_result}
+use Rattle.cs_apply.specs.declared.conflict.Conflict.{Conflict}
+use Rattle.cs_apply.specs.declared.fault.ApplyFault.{ApplyFault}
+use Rattle.cs_apply.specs.declared.fault.ApplyFault.TheVariants as fault
+use Rattle.cs_apply.specs.declared.report.Report.{Report}
+use Rattle.cs_apply.specs.Report.{conflict_of, met_of}
+use Rattle.cs_apply.specs.Running.{Handler}
+use Rattle.cs_apply.specs.Steps.{Settles, Unsettled, EndsRun, Carries, Stops, RefusesEntries, with_result}
+use Rattle.cs_apply.proofs.WriteLemmas.{result_schemas, result_here, result_elsewhere}
+
+-- a choice for this entry alone
+abbrev always : Choice → Choices
+always choice p = choice
+
+module _ (chooses : Handler) (s : State) (p : PlacedEntry) (row : Option (List OwnedValue)) (r t : Report) (is : row ≡ current s p) where
+  told_so : (carried : Bool) (settles : Settles chooses p row r.conflicts.items t.conflicts.items carried)
+      → map met_of t.conflicts.items ≡ map met_of r.conflicts.items ++ filter_map (met_at s (always settles.choice)) (p ∷ [])
+  told_so carried settles =
+      settles.told ∙ ap (λ (l : List MetData). map met_of r.conflicts.items ++ l)
+      (sym (cons_option-nil (met_at s (always settles.choice) p) ∙ ap (λ (o : Option (List OwnedValue)). option_to_list (option_map (λ k. record { conflict = k; choice = settles.choice }) (conflict_with p o))) (sym is)))
+
+  -- an entry that is carried out
+  pub carries_written : (found : TableData) (next : State) → get s p.table ≡ Some found → Settles chooses p row r.conflicts.items t.conflicts.items true
+      → next ≡ with_result s p.table (placed_key p) (row_after p.flags p.entry.change row)
+      → map written_of t.written.items ≡ map written_of r.written.items ++ record { table = p.table; key = placed_key p; former = row } ∷ []
+      → Carries chooses (p ∷ []) s r next t
+  carries_written found next there settles left written =
+      let choice = settles.choice in
+      let after = row_after p.flags p.entry.change row in
+      let goes_on : ends (conflict_kind p.entry.change (current s p)) choice ≡ false = rw (← is) settles.goes_on in
+      let carried : is_carried_out (conflict_kind p.entry.change (current s p)) choice ≡ true = rw (← is) (sym settles.carried) in
+      let stands : current next p ≡ after = ap (λ (n : State). row_at n p.table (placed_key p)) left ∙ result_here s p.table found (placed_key p) after there in
+      record {
+        choose = always choice;
+        applied = record {
+          schemas = λ table. ap (λ (n : State). schema_at n table) left ∙ result_schemas s p.table found (placed_key p) after there table;
+          results = All-cons (λ q. placed_result s (always choice) q ≡ Some (current next q)) p [] (rw (goes_on, carried) (ap Some (ap (row_after p.flags p.entry.change) (sym is) ∙ sym stands))) (All-nil (λ q. placed_result s (always choice) q ≡ Some (current next q)));
+          others = λ table key away.
+              ap (λ (n : State). row_at n table key) left ∙ result_elsewhere s p.table found (placed_key p) after there table key (All-head (λ q. IsElsewhere q table key) p [] away);
+        };
+        conflicts = told_so true settles;
+        chosen = settles.chosen;
+        written = written ∙ rw carried (ap (λ (o : Option (List OwnedValue)). map written_of r.written.items ++ record { table = p.table; key = placed_key p; former = o } ∷ []) is);
+      }
+
+  -- an entry that is passed over
+  pub carries_passed : (next : State) → Settles chooses p row r.conflicts.items t.conflicts.items false → next ≡ s → t.written.items ≡ r.written.items → Carries chooses (p ∷ []) s r next t
+  carries_passed next settles same written =
+      let choice = settles.choice in
+      let goes_on : ends (conflict_kind p.entry.change (current s p)) choice ≡ false = rw (← is) settles.goes_on in
+      let passed : is_carried_out (conflict_kind p.entry.change (current s p)) choice ≡ false = rw (← is) (sym settles.carried) in
+      record {
+        choose = always choice;
+        applied = record {
+          schemas = λ table. ap (λ (n : State). schema_at n table) same;
+          results = All-cons (λ q. placed_result s (always choice) q ≡ Some (current next q)) p [] (rw (goes_on, passed) (ap Some (ap (λ (n : State). current n p) (sym same)))) (All-nil (λ q. placed_result s (always choice) q ≡ Some (current next q)));
+          others = λ table key away. ap (λ (n : State). row_at n table key) same;
+        };
+        conflicts = told_so false settles;
+        chosen = settles.chosen;
+        written = ap (map written_of) written ∙ rw passed (sym (append-nil (map written_of r.written.items)));
+      }
+
+  stops_here : (conflict : Conflict) → EndsRun p row r.conflicts.items t.conflicts.items conflict → Stops chooses (p ∷ []) s r t conflict
+  stops_here conflict ended = record {
+    later = [];
+    chosen = λ all. rw ended.same all;
+    listed =
+        let met : conflict_at s p ≡ Some (conflict_of conflict) = ap (conflict_with p) (sym is) ∙ ended.is in
+        rw (ended.same, met) refl;
+  }
+
+  -- an entry that ends the run
+  pub refuses_here : (e : ApplyFault) → Unsettled chooses p row r.conflicts.items t.conflicts.items e → RefusesEntries chooses (p ∷ []) s r t e
+  refuses_here (fault.Abort conflict) h = (stops_here conflict h.0, h.1)
+  refuses_here (fault.Misuse conflict) h = (stops_here conflict h.0, h.1, h.2)
+  refuses_here (fault.Store e) h = absurd h
+  refuses_here fault.NoMemory h = tt
+  refuses_here (fault.Read f) h = absurd h
+  refuses_here (fault.Wider place) h = absurd h
+
+-- ---- from what calls say
+
+-- what two clauses say of success
+pub on_both : {A E : Type 0} {P Q R : Type 0} (r : Result A E) → OnOk r P → OnOk r Q → (P → Q → R) → OnOk r R
+on_both (Ok x) p q f = f p q
+on_both (Err e) p q f = tt

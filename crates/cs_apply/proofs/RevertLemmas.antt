@@ -1,0 +1,104 @@
+-- What reverting gives back.
+use Rattle.std.proofs.Common.{◌≡◌, inl, inr, ℕ, List, [], ◌∷◌, ◌++◌, length, All, Option, Some, None, filter_map, refl, sym, ap, subst, ◌∙◌}
+use Rattle.std.proofs.lemmas.List.{nil_from_length, length-map}
+use Rattle.cs_value.specs.State.{State}
+use Rattle.cs_wire.specs.Changeset.{GroupData}
+use Rattle.cs_wire.specs.Laws.{ChangesetFiles}
+use Rattle.cs_group.specs.declared.conflict.Choice.{Choice}
+use Rattle.cs_group.specs.declared.conflict.Choice.TheVariants as choice
+use Rattle.cs_group.specs.Inverse.{IsInverse}
+use Rattle.cs_group.specs.Applying.{PlacedEntry, ConflictData, Choices, applicable, conflict_at, met_at, IsClean, IsApplied, omit_all}
+use Rattle.cs_group.proofs.ApplyLemmas.{applied_once, applied_reverts}
+use Rattle.cs_apply.specs.declared.conflict.Conflict.{Conflict}
+use Rattle.cs_apply.specs.declared.conflict.Met.{Met}
+use Rattle.cs_apply.specs.declared.report.Report.{Report}
+use Rattle.cs_apply.specs.declared.running.Direction.{Direction}
+use Rattle.cs_apply.specs.declared.running.Direction.TheVariants.{Inverse}
+use Rattle.cs_apply.specs.declared.fault.ApplyFault.{ApplyFault}
+use Rattle.cs_apply.specs.declared.fault.ApplyFault.TheVariants as fault
+use Rattle.cs_apply.specs.Report.{conflict_of, met_of}
+use Rattle.cs_apply.specs.Running.{Handler, IsReadAs, GoesOn, Applies, EndsAt, Refuses, AlwaysAborts, Leads, IsResource}
+
+-- ---- lists
+
+none_met : (s : State) (choose : Choices) (ps : List PlacedEntry) → filter_map (conflict_at s) ps ≡ [] → filter_map (met_at s choose) ps ≡ []
+none_met s choose [] e = refl
+none_met s choose (p ∷ ps) e = at (conflict_at s p) refl (none_met s choose ps)
+  where
+    at : (o : Option ConflictData) → conflict_at s p ≡ o → (filter_map (conflict_at s) ps ≡ [] → filter_map (met_at s choose) ps ≡ []) → filter_map (met_at s choose) (p ∷ ps) ≡ []
+    at None is others = rw is (others (rw is at e))
+    at (Some k) is others = absurd (let some = rw is at e in cc)
+
+none_last : {X : Type 0} (xs ys : List X) (x : X) → xs ++ x ∷ ys ≡ [] → ⊥
+none_last [] ys x e = cc
+none_last (y ∷ xs) ys x e = cc
+
+-- ---- the inverse, on what was left
+
+module _ (law : ChangesetFiles) (file : List ℕ) (before old : State) (leads : Leads file before old) (inverse : List GroupData) (read : IsReadAs file Inverse inverse) where
+  undoes : IsInverse leads.changeset inverse
+  undoes =
+      let one : read.0 ≡ leads.changeset = law read.0 leads.changeset read.1 leads.is_changeset (sym read.2 ∙ leads.is_file) in
+      subst (λ (c : List GroupData). IsInverse c inverse) one read.3
+
+  back : (again : Choices) → IsClean old inverse × IsApplied old inverse again before
+  back again = applied_reverts before leads.changeset inverse leads.choose again old leads.is_changeset undoes leads.clean leads.applied
+
+pub reverts_ok : (chooses : Handler) (law : ChangesetFiles) (file : List ℕ) (before old new : State) (report : Report) → Leads file before old → Applies chooses file Inverse old report new
+    → (report.conflicts.items ≡ []) × (new ≡ before)
+reverts_ok chooses law file before old new report leads applies =
+    let given = back law file before old leads applies.changeset applies.read applies.choose in
+    let none = none_met old applies.choose (applicable old applies.changeset) given.0.no_conflict in
+    (nil_from_length report.conflicts.items (sym (length-map report.conflicts.items met_of) ∙ ap length (applies.conflicts ∙ none)), applied_once old applies.changeset applies.choose new before applies.applied given.1)
+
+no_group : GroupData
+no_group = record { header = record { name = []; flags = [] }; entries = [] }
+
+-- a handler that chooses less
+goes_weaker : (P Q : Handler) → ((k : Conflict) (c : Choice) → P k c → Q k c) → (ms : List Met) → All (GoesOn P) ms → All (GoesOn Q) ms
+goes_weaker P Q f ms all = λ k d lt. record { chosen = f _ _ (all k d lt).chosen; goes_on = (all k d lt).goes_on }
+
+ends_weaker : (P Q : Handler) → ((k : Conflict) (c : Choice) → P k c → Q k c) → (file : List ℕ) (direction : Direction) (old : State) (k : Conflict) (c : Choice)
+    → EndsAt P file direction old k c → EndsAt Q file direction old k c
+ends_weaker P Q f file direction old k c ended = record {
+  changeset = ended.changeset;
+  read = ended.read;
+  none_wider = ended.none_wider;
+  reached = record { earlier = ended.reached.earlier; later = ended.reached.later; chosen = goes_weaker P Q f ended.reached.earlier ended.reached.chosen; listed = ended.reached.listed };
+  chosen = f k c ended.chosen;
+}
+
+pub refuses_weaker : (P Q : Handler) → ((k : Conflict) (c : Choice) → P k c → Q k c) → (file : List ℕ) (direction : Direction) (old : State) (e : ApplyFault)
+    → Refuses P file direction old e → Refuses Q file direction old e
+refuses_weaker P Q f file direction old (fault.Read x) h = h
+refuses_weaker P Q f file direction old (fault.Wider place) h = h
+refuses_weaker P Q f file direction old (fault.Abort k) h = ends_weaker P Q f file direction old k choice.Abort h
+refuses_weaker P Q f file direction old (fault.Misuse k) h = (ends_weaker P Q f file direction old k choice.Replace h.0, h.1)
+refuses_weaker P Q f file direction old (fault.Store x) h = h
+refuses_weaker P Q f file direction old fault.NoMemory h = h
+
+pub applies_weaker : (P Q : Handler) → ((k : Conflict) (c : Choice) → P k c → Q k c) → (file : List ℕ) (direction : Direction) (old : State) (report : Report) (new : State)
+    → Applies P file direction old report new → Applies Q file direction old report new
+applies_weaker P Q f file direction old report new applies = record {
+  changeset = applies.changeset;
+  read = applies.read;
+  none_wider = applies.none_wider;
+  choose = applies.choose;
+  applied = applies.applied;
+  conflicts = applies.conflicts;
+  chosen = goes_weaker P Q f report.conflicts.items applies.chosen;
+  skipped = applies.skipped;
+  written = applies.written;
+}
+
+pub reverts_err : (law : ChangesetFiles) (file : List ℕ) (before old : State) (e : ApplyFault) → Leads file before old → Refuses AlwaysAborts file Inverse old e → IsResource e
+reverts_err law file before old (fault.Read f) leads refuses = absurd (refuses.refused (leads.changeset, leads.is_changeset, leads.is_file))
+reverts_err law file before old (fault.Wider place) leads refuses =
+    let given = back law file before old leads refuses.changeset refuses.read omit_all in
+    absurd (given.0.none_wider place no_group refuses.first.within (refuses.first.wider no_group))
+reverts_err law file before old (fault.Abort k) leads refuses =
+    let given = back law file before old leads refuses.changeset refuses.read omit_all in
+    absurd (none_last _ refuses.reached.later (conflict_of k) (sym refuses.reached.listed ∙ given.0.no_conflict))
+reverts_err law file before old (fault.Misuse k) leads refuses = absurd (let e = refuses.0.chosen in cc)
+reverts_err law file before old (fault.Store e) leads refuses = inr (ap fault.Store refuses)
+reverts_err law file before old fault.NoMemory leads refuses = inl refl

@@ -1,0 +1,66 @@
+-- A state with the first images put back.
+use Rattle.std.proofs.Common.{◌≡◌, ◌≢◌, ℕ, Bool, true, false, List, [], ◌∷◌, map, Some, refl, sym, ◌∙◌}
+use Rattle.std.specs.List.{AllByRecursion}
+use Rattle.std.specs.FinMap.{get}
+use Rattle.std.specs.Ordering.{nat_cmp, is_eq}
+use Rattle.std.specs.Cmp.Lexicographic.{slice_cmp}
+use Rattle.cs_value.specs.State.{TableData, State, schema_at, rows_at, with_rows}
+use Rattle.cs_value.proofs.ByteMaps.{tied_bytes}
+use Rattle.cs_value.proofs.ListLemmas.{PairsByRecursion}
+use Rattle.cs_value.proofs.StateLemmas.{table_of_schema}
+use Rattle.cs_apply.proofs.WriteLemmas.{same_schemas, rows_here, rows_other}
+use Rattle.cs_session.specs.FirstImages.{AttachedTable, Notes, HasAttached, rewound_rows, rewound, rewound_state}
+
+-- no name twice
+abbrev pub AreApart : Notes → Type 0
+AreApart notes = PairsByRecursion (λ s t. s.name ≢ t.name) notes
+
+pub other_name : (name table : List ℕ) → ¬ (table ≡ name) → is_eq (slice_cmp nat_cmp name table) ≡ false
+other_name name table apart = at (is_eq (slice_cmp nat_cmp name table)) refl
+  where
+    at : (b : Bool) → is_eq (slice_cmp nat_cmp name table) ≡ b → b ≡ false
+    at true tied = absurd (apart (sym (tied_bytes name table tied)))
+    at false tied = refl
+
+module _ (state : State) where
+  -- the tables stay
+  pub rewound_schemas : (notes : Notes) → AllByRecursion (HasAttached state) notes → (name : List ℕ) → schema_at (rewound_state notes state) name ≡ schema_at state name
+  rewound_schemas [] has name = refl
+  rewound_schemas (table ∷ notes) has name =
+      let found = table_of_schema (get (rewound_state notes state) table.name) table.schema (rewound_schemas notes has.1 table.name ∙ has.0) in
+      same_schemas (rewound_state notes state) table.name found.0 (rewound_rows state table) found.1 name ∙ rewound_schemas notes has.1 name
+
+  -- the rows of a table that is not attached stay
+  pub rewound_elsewhere : (notes : Notes) → AllByRecursion (HasAttached state) notes → (name : List ℕ) → AllByRecursion (λ t. ¬ (t.name ≡ name)) notes
+      → rows_at (rewound_state notes state) name ≡ rows_at state name
+  rewound_elsewhere [] has name apart = refl
+  rewound_elsewhere (table ∷ notes) has name apart =
+      let found = table_of_schema (get (rewound_state notes state) table.name) table.schema (rewound_schemas notes has.1 table.name ∙ has.0) in
+      rows_other (rewound_state notes state) table.name found.0 (rewound_rows state table) found.1 name (other_name name table.name apart.0)
+      ∙ rewound_elsewhere notes has.1 name apart.1
+
+  -- those of one that is attached are those from before
+  abbrev pub IsRewound : State → AttachedTable → Type 0
+  IsRewound before table = rows_at before table.name ≡ rewound_rows state table
+
+  others_rewound : (table : AttachedTable) (before : State) (found : TableData) (is : get before table.name ≡ Some found) (notes : Notes)
+      → AllByRecursion (λ t. table.name ≢ t.name) notes → AllByRecursion (IsRewound before) notes
+      → AllByRecursion (IsRewound (with_rows before table.name (rewound_rows state table))) notes
+  others_rewound table before found is [] apart rows = tt
+  others_rewound table before found is (t ∷ notes) apart rows = (
+    rows_other before table.name found (rewound_rows state table) is t.name (other_name t.name table.name apart.0) ∙ rows.0,
+    others_rewound table before found is notes apart.1 rows.1,
+  )
+
+  pub rewound_here : (notes : Notes) → AllByRecursion (HasAttached state) notes → AreApart notes → AllByRecursion (IsRewound (rewound_state notes state)) notes
+  rewound_here [] has apart = tt
+  rewound_here (table ∷ notes) has apart =
+      let found = table_of_schema (get (rewound_state notes state) table.name) table.schema (rewound_schemas notes has.1 table.name ∙ has.0) in (
+        rows_here (rewound_state notes state) table.name found.0 (rewound_rows state table) found.1,
+        others_rewound table (rewound_state notes state) found.0 found.1 notes apart.0 (rewound_here notes has.1 apart.1),
+      )
+
+  -- one after another
+  pub all_rewound : (before : State) (notes : Notes) → AllByRecursion (IsRewound before) notes → map (λ t. rows_at before t.name) notes ≡ rewound notes state
+  all_rewound before [] rows = refl
+  all_rewound before (table ∷ notes) rows = let first = rows.0 in let others = all_rewound before notes rows.1 in cc (first, others)
