@@ -1,3 +1,4 @@
+-- `entry::apply_entry`: the clauses `refused` and `carried`.
 use Rattle.std.proofs.Common.{◌≡◌, ℕ, List, refl, ap, ◌∙◌}
 use Rattle.std.specs.Fn.{FnReturnsAt}
 use Rattle.std.specs.FinMap.{get}

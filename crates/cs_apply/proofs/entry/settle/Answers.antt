@@ -1,3 +1,4 @@
+-- `entry::settle`: the clauses `refused` and `settled`.
 use Rattle.std.proofs.Common.{◌≡◌, true, false, Some, option_map, refl, sym, ap, ◌∙◌}
 use Rattle.std.specs.Fn.{FnReturnsAt}
 use Rattle.std.proofs.lemmas.Fn.{says_at}

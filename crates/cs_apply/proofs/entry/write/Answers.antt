@@ -1,3 +1,4 @@
+-- `entry::write`: what `put` asks for.
 use Rattle.std.proofs.Common.{sym, ◌∙◌, rules}
 use Rattle.cs_value.specs.Value.{IsRow}
 use Rattle.cs_apply.proofs.EntryLemmas.{keyed_here, fits_here}

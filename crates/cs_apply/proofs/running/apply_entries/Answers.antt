@@ -1,3 +1,4 @@
+-- `running::apply_entries`: the invariant of the loop at `entry`, the clause `refused`.
 use Rattle.std.proofs.Common.{◌≡◌, ◌<◌, List, length, get_or, refl, ap, ◌∙◌}
 use Rattle.std.specs.Fn.{FnReturnsAt}
 use Rattle.std.proofs.lemmas.Result.{err_from_is_err_and}

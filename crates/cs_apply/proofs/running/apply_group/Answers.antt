@@ -1,3 +1,4 @@
+-- `running::apply_group`: what `apply_entries` asks for, the clauses `carried` and `skipped`.
 use Rattle.std.proofs.Common.{◌≡◌, ◌++◌, ◌∷◌, [], List, ℕ, map, refl, sym, ap, ◌∙◌}
 use Rattle.std.specs.Prelude.{string_bytes}
 use Rattle.std.specs.Fn.{FnReturnsAt}

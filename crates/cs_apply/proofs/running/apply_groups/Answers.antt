@@ -1,3 +1,4 @@
+-- `running::apply_groups`: the invariant of the loop at `place`, the clause `refused`.
 use Rattle.std.proofs.Common.{◌≡◌, ◌<◌, List, length, get_or, sym, ap, ◌∙◌}
 use Rattle.std.specs.Fn.{FnReturnsAt}
 use Rattle.std.proofs.lemmas.List.{append-nil}

@@ -1,3 +1,4 @@
+-- `running::run_in`: the clauses `refused` and `applied`.
 use Rattle.std.specs.Fn.{FnReturnsAt}
 use Rattle.std.proofs.lemmas.Result.{err_from_is_err_and}
 use Rattle.cs_apply.proofs.OutcomeLemmas.{IsEmpty, applies_from, refuses_from}

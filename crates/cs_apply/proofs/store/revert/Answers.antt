@@ -1,3 +1,4 @@
+-- `store::revert`: the clauses `refused`, `reverts` and `survives`.
 use Rattle.std.proofs.Common.{rules}
 use Rattle.std.proofs.lemmas.Result.{IfOk-weaker, IfErr-weaker, MatchResult-from_both}
 use Rattle.cs_apply.specs.declared.running.Direction.TheVariants.{Inverse}

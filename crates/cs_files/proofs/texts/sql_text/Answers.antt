@@ -1,3 +1,4 @@
+-- `texts::sql_text`: what it ensures.
 use Rattle.std.proofs.Common.{ap, sym}
 use Rattle.std.specs.List.{flat_map}
 use Rattle.cs_files.specs.Texts.{group_statements}

@@ -1,3 +1,4 @@
+-- `told::write_whole`: the invariant of the loop at `rest`.
 use Rattle.std.proofs.Common.{◌++◌, take}
 use Rattle.std.proofs.KnownBytes.{Appends-trans}
 use Rattle.cs_files.proofs.WriteLemmas.{front_more}

@@ -1,3 +1,4 @@
+-- `columns::agrees`: what it ensures.
 use Rattle.std.proofs.Common.{refl, ap, ◌∙◌}
 use Rattle.cs_wire.specs.Changeset.{HeaderData, GroupData}
 use Rattle.cs_group.specs.Joining.{with_text}

@@ -1,3 +1,4 @@
+-- `columns::group_with`: the clause `found`.
 use Rattle.std.proofs.Common.{List, sym, ap, get_or, ◌∙◌, rules}
 use Rattle.cs_wire.specs.Changeset.{GroupData, IsNewName}
 use Rattle.cs_group.proofs.TextLemmas.{with_text-none, with_text-place}

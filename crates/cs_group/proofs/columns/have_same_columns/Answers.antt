@@ -1,3 +1,4 @@
+-- `columns::have_same_columns`: what it ensures.
 use Rattle.std.proofs.Common.{true≢false, sym, ◌∙◌, arith}
 use Rattle.cs_group.proofs.KeyPlaceLemmas.{key_place_at, differ}
 use Rattle.cs_group.proofs.columns.have_same_columns.Goals as goal

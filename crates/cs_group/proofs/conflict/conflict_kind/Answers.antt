@@ -1,3 +1,4 @@
+-- `conflict::conflict_kind`: what it ensures.
 use Rattle.std.proofs.Common.{Bool, Some, None, if◌then◌else◌, ap, ◌∙◌}
 use Rattle.cs_group.specs.declared.conflict.Kind.TheVariants.{Data}
 use Rattle.cs_group.proofs.ConflictLemmas.{same_rows}

@@ -1,3 +1,4 @@
+-- `conflict::fill`: the invariant of the loop at `column`.
 use Rattle.std.proofs.Common.{◌≡◌, suc, ◌+◌, ◌++◌, ◌∷◌, [], List, sym, ap, ◌∙◌, arith}
 use Rattle.std.proofs.lemmas.List.{append-nil}
 use Rattle.cs_value.specs.declared.value.OwnedValue.{OwnedValue}

@@ -1,3 +1,4 @@
+-- `conflict::has_values`: the invariant of the loop at `column`, what it ensures.
 use Rattle.std.proofs.Common.{◌≡◌, ◌<◌, ◌≤◌, suc, ◌+◌, Bool, ◌&&◌, List, [], length, get_or, drop, sym, ap, ◌∙◌, arith}
 use Rattle.std.proofs.lemmas.List.{drop_all}
 use Rattle.cs_value.specs.declared.value.OwnedValue.{OwnedValue}

@@ -1,3 +1,4 @@
+-- `conflict::row_after`: the clause `fits`.
 use Rattle.std.proofs.Common.{◌≡◌, Some, option_map, rules}
 use Rattle.cs_group.specs.Conflicts.{row_after}
 use Rattle.cs_group.proofs.ConflictLemmas.{left_fits, keyed_now}

@@ -1,3 +1,4 @@
+-- `entries::add_new_entries`: what `new_entry` asks for, the invariant of the loop at `entry`.
 use Rattle.std.proofs.Common.{List, get_or, ap, ◌∙◌}
 use Rattle.cs_wire.specs.declared.entry.Entry.{Entry}
 use Rattle.cs_wire.specs.Entry.{IsEntry, key_of}

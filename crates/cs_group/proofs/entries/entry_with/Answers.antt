@@ -1,3 +1,4 @@
+-- `entries::entry_with`: the clauses `found` and `fits`.
 use Rattle.std.proofs.Common.{List, sym, ap, get_or, ◌∙◌, rules}
 use Rattle.cs_wire.specs.declared.entry.Entry.{Entry}
 use Rattle.cs_wire.specs.Entry.{IsEntry, key_of}

@@ -1,3 +1,4 @@
+-- `entries::join_entry`: what `merge` asks for, what it ensures.
 use Rattle.std.proofs.Common.{◌≡◌, Some, sym, ap, ◌∙◌}
 use Rattle.cs_group.specs.Joining.{merged, left_of}
 use Rattle.cs_group.proofs.JoinLemmas.{outcome_found, outcome_merged}

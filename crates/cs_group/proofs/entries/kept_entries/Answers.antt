@@ -1,3 +1,4 @@
+-- `entries::kept_entries`: the invariant of the loop at `entry`.
 use Rattle.cs_wire.specs.declared.entry.Entry.{Entry}
 use Rattle.cs_wire.specs.Entry.{key_of}
 use Rattle.cs_group.specs.Joining.{outcome, joined_entry}

@@ -1,3 +1,4 @@
+-- `entries::new_entry`: what it ensures.
 use Rattle.std.proofs.Common.{Some, refl, ap, ◌∙◌}
 use Rattle.cs_group.proofs.JoinLemmas.{is_new_found}
 use Rattle.cs_group.proofs.entries.new_entry.Goals as goal

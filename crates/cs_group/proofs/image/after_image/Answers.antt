@@ -1,3 +1,4 @@
+-- `image::after_image`: what `updated_fields` asks for, the clause `well_formed`.
 use Rattle.std.proofs.Common.{map, sym, ◌∙◌}
 use Rattle.std.proofs.lemmas.List.{length-map}
 use Rattle.cs_value.specs.declared.value.OwnedField.TheVariants.{Defined}

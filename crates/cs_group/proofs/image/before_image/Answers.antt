@@ -1,3 +1,4 @@
+-- `image::before_image`: the clause `well_formed`.
 use Rattle.std.proofs.Common.{map, sym, ◌∙◌}
 use Rattle.std.proofs.lemmas.List.{length-map}
 use Rattle.cs_value.specs.declared.value.OwnedField.TheVariants.{Defined}

@@ -1,3 +1,4 @@
+-- `image::known`: the clause `width`.
 use Rattle.std.proofs.Common.{◌≡◌, length}
 use Rattle.cs_group.proofs.ImageLemmas.{length-laid_fields}
 use Rattle.cs_group.proofs.image.known.Goals as goal

@@ -1,3 +1,4 @@
+-- `image::lay_over`: the invariant of the loop at `column`.
 use Rattle.std.proofs.Common.{sym, ◌∙◌, arith}
 use Rattle.cs_group.proofs.ImageLemmas.{laid_over_more, pushed}
 use Rattle.cs_group.proofs.image.lay_over.Goals as goal

@@ -1,3 +1,4 @@
+-- `image::updated_fields`: the invariant of the loop at `column`.
 use Rattle.std.proofs.Common.{ap, ◌∙◌, arith, get_or, List}
 use Rattle.cs_value.specs.declared.value.OwnedField.{OwnedField}
 use Rattle.cs_group.proofs.ImageLemmas.{with_key_more, pushed}

@@ -1,3 +1,4 @@
+-- `inverse::invert`: what `push` asks for, the invariant of the loop at `group`, the clauses `inverse` and `length`.
 use Rattle.std.proofs.Common.{◌∙◌, arith}
 use Rattle.cs_group.proofs.InverseLemmas.{InversesSoFar-none, InversesSoFar-push, InversesSoFar-all, next_table}
 use Rattle.cs_group.proofs.InverseLengths.{inverse_length}

@@ -1,3 +1,4 @@
+-- `joining::add_new_groups`: the invariant of the loop at `group`.
 use Rattle.cs_wire.specs.Changeset.{GroupData}
 use Rattle.cs_group.specs.Joining.{is_new}
 use Rattle.cs_value.proofs.ListLemmas.{filter_more_behind}

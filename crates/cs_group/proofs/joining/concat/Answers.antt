@@ -1,3 +1,4 @@
+-- `joining::concat`: what `from_groups` asks for, the clauses `applies`, `nets`, `length` and `undone`.
 use Rattle.std.proofs.Common.{◌≡◌, rules, ◌∙◌}
 use Rattle.cs_group.specs.Joining.{joined, AreJoinable}
 use Rattle.cs_group.proofs.InverseJoinLemmas.{inverse_joins}

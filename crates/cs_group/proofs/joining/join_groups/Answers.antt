@@ -1,3 +1,4 @@
+-- `joining::join_groups`: what `from_entries` asks for.
 use Rattle.std.proofs.Common.{◌<◌, length, ◌∙◌, rules}
 use Rattle.cs_group.specs.Joining.{joined_entries}
 use Rattle.cs_group.proofs.JoinLemmas.{joined_is_group}

@@ -1,3 +1,4 @@
+-- `joining::kept_groups`: what `join_group` asks for, the invariant of the loop at `group`.
 use Rattle.std.proofs.Common.{List, get_or, ap, ◌∙◌}
 use Rattle.cs_wire.specs.Changeset.{GroupData}
 use Rattle.cs_group.specs.Joining.{outcome, joined_group}

@@ -1,3 +1,4 @@
+-- `judging::leads`: the invariant of the loop at `column`, what it ensures.
 use Rattle.std.proofs.Common.{◌≡◌, ◌+◌, ◌<◌, length, suc, sym, ◌∙◌, arith}
 use Rattle.cs_group.proofs.JudgingLemmas.{too_few, leads_all, leads_by}
 use Rattle.cs_group.proofs.judging.leads.Goals as goal

@@ -1,3 +1,4 @@
+-- `laws::applied_once_law`: what it ensures.
 use Rattle.cs_group.proofs.ApplyLemmas.{applied_once}
 use Rattle.cs_group.proofs.laws.applied_once_law.Goals as goal
 

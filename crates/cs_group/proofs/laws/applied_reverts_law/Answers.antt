@@ -1,3 +1,4 @@
+-- `laws::applied_reverts_law`: what it ensures.
 use Rattle.cs_group.proofs.ApplyLemmas.{applied_reverts}
 use Rattle.cs_group.proofs.laws.applied_reverts_law.Goals as goal
 

@@ -1,3 +1,4 @@
+-- `laws::written_tells_law`: what it ensures.
 use Rattle.cs_group.proofs.ApplyLemmas.{written_tells}
 use Rattle.cs_group.proofs.laws.written_tells_law.Goals as goal
 

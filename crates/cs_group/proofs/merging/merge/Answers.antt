@@ -1,3 +1,4 @@
+-- `merging::merge`: the clause `fits`.
 use Rattle.std.proofs.Common.{◌≡◌, rules}
 use Rattle.cs_group.specs.Joining.{merged}
 use Rattle.cs_group.proofs.MergeLemmas.{merged_fits}

@@ -1,3 +1,4 @@
+-- `net::row_of`: the invariant of the loop at `field`.
 use Rattle.cs_group.proofs.ImageLemmas.{values_kept, values_grown}
 use Rattle.cs_group.proofs.net.row_of.Goals.{in-Defined+in_ok-to_owned-in-Defined+in_ok-push-in-Defined, in-Undefined}
 use Rattle.cs_group.proofs.net.row_of.Goals as goal

@@ -1,3 +1,4 @@
+-- `net::update_between`: the invariant of the loop at `column`.
 use Rattle.std.proofs.Common.{◌≡◌, ◌++◌, ◌∷◌, [], ℕ, ◌<◌, length, get_or, arith}
 use Rattle.cs_value.specs.declared.value.Field.TheVariants.{Undefined as nothing}
 use Rattle.cs_value.specs.declared.value.OwnedField.{OwnedField}

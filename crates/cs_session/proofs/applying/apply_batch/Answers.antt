@@ -1,3 +1,4 @@
+-- `applying::apply_batch`: what `apply_rows` asks for, the clause `survives`.
 use Rattle.std.proofs.Common.{◌≡◌, rules}
 use Rattle.std.specs.Fn.{FnReturnsAt}
 use Rattle.sqlite.specs.Held.{state}

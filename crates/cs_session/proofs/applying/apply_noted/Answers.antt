@@ -1,3 +1,4 @@
+-- `applying::apply_noted`: the clauses `same` and `well_formed`.
 use Rattle.std.proofs.Common.{sym, ◌∙◌}
 use Rattle.cs_session.proofs.NotingLemmas.{settled_kept}
 use Rattle.cs_session.proofs.applying.apply_noted.Goals as goal

@@ -1,3 +1,4 @@
+-- `applying::apply_rows`: the clauses `refused` and `well_formed`.
 use Rattle.std.proofs.Common.{map}
 use Rattle.std.specs.Fn.{FnReturnsAt}
 use Rattle.std.proofs.lemmas.Result.{err_from_is_err_and}

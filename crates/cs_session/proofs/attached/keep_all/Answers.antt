@@ -1,3 +1,4 @@
+-- `attached::keep_all`: the invariant of the loop at `table`, the clauses `kept` and `settled`.
 use Rattle.std.proofs.Common.{get_or, ap, arith}
 use Rattle.std.proofs.lemmas.List.Edits.{map_over_more}
 use Rattle.cs_session.specs.declared.attached.Attached.{Attached}

@@ -1,3 +1,4 @@
+-- `attached::note_all`: the invariant of the loop at `table`, the clauses `kept` and `refused`.
 use Rattle.std.proofs.Common.{◌≡◌, ◌⊎◌, ◌<◌, length, map, set, ap, sym, ◌∙◌, subst}
 use Rattle.std.proofs.lemmas.List.{length-map, map-set}
 use Rattle.std.proofs.lemmas.List.Edits.{map_over_more}

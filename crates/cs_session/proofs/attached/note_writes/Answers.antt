@@ -1,3 +1,4 @@
+-- `attached::note_writes`: the invariant of the loop at `one`, the clause `refused`.
 use Rattle.std.proofs.Common.{◌<◌, List, length, map, sym, ap, ◌∙◌, take}
 use Rattle.std.proofs.lemmas.List.{length-map}
 use Rattle.std.proofs.lemmas.Result.{err_from_is_err_and}

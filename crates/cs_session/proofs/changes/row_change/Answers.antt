@@ -1,3 +1,4 @@
+-- `changes::row_change`: what `net_row_change` asks for, the clause `fits`.
 use Rattle.cs_value.specs.State.{IsRowAt}
 use Rattle.cs_session.proofs.EntriesLemmas.{widths, change_fits}
 use Rattle.cs_value.proofs.ListLemmas.{IfSome-mapped}

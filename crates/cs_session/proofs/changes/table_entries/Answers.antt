@@ -1,3 +1,4 @@
+-- `changes::table_entries`: what `row_change` asks for, the invariant of the loop at `first`.
 use Rattle.std.proofs.Common.{◌≡◌, ◌≢◌, ◌++◌, option_map, option_to_list, sym, ap, ◌∙◌}
 use Rattle.std.specs.Prelude.{IfSome}
 use Rattle.std.proofs.lemmas.List.{append-nil}

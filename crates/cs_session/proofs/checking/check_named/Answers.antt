@@ -1,3 +1,4 @@
+-- `checking::check_named`: the invariant of the loop at `table`, the clauses `refused` and `attached`.
 use Rattle.std.proofs.Common.{◌≡◌, sym, ◌∙◌, arith}
 use Rattle.std.specs.Cmp.Lexicographic.{same_text, other_text}
 use Rattle.std.proofs.lemmas.List.{take_all}

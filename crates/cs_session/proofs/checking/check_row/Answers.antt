@@ -1,3 +1,4 @@
+-- `checking::check_row`: what `of_row` asks for.
 use Rattle.cs_value.proofs.KeyedRows.{length-IsKeyedRow}
 use Rattle.cs_session.proofs.checking.check_row.Goals as goal
 

@@ -1,3 +1,4 @@
+-- `checking::check_tables`: the invariant of the loop at `table`, the clauses `refused` and `attached`.
 use Rattle.std.proofs.Common.{◌∙◌, arith}
 use Rattle.std.proofs.lemmas.List.{take_all}
 use Rattle.std.proofs.lemmas.Result.{err_from_is_err_and}

@@ -1,3 +1,4 @@
+-- `checking::is_same`: what it ensures.
 use Rattle.std.proofs.Common.{sym, ◌∙◌}
 use Rattle.cs_session.proofs.SchemaLemmas.{same_schema, other_schema}
 use Rattle.cs_session.proofs.checking.is_same.Goals as goal

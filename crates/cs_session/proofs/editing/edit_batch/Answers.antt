@@ -1,3 +1,4 @@
+-- `editing::edit_batch`: what `edit_rows` asks for, the clause `survives`.
 use Rattle.std.proofs.Common.{◌≡◌, rules}
 use Rattle.sqlite.specs.Held.{state}
 use Rattle.cs_store.specs.Editing.{EditsInto}

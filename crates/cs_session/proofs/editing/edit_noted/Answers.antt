@@ -1,3 +1,4 @@
+-- `editing::edit_noted`: the clauses `same` and `well_formed`.
 use Rattle.std.proofs.Common.{sym, ◌∙◌}
 use Rattle.cs_session.proofs.NotingLemmas.{settled_kept}
 use Rattle.cs_session.proofs.editing.edit_noted.Goals as goal

@@ -1,3 +1,4 @@
+-- `editing::edit_rows`: the clauses `well_formed` and `refused`.
 use Rattle.std.proofs.Common.{map}
 use Rattle.std.proofs.lemmas.Result.{IfErr-weaker}
 use Rattle.cs_session.specs.Views.{attached_of}

@@ -1,3 +1,4 @@
+-- `undoing::undo_rows`: the clauses `refused` and `undone`.
 use Rattle.std.proofs.Common.{map, rules, ap, ◌∙◌}
 use Rattle.std.proofs.lemmas.Result.{err_from_is_err_and}
 use Rattle.cs_wire.specs.Changeset.{file_bytes}

@@ -1,3 +1,4 @@
+-- `lines::skip_blanks`: the invariant of the loop at `byte`.
 use Rattle.std.proofs.Common.{ap, sym, ◌∙◌, arith}
 use Rattle.cs_shell.specs.Lines.{words_of}
 use Rattle.cs_shell.proofs.WordLemmas.{words_of-blank}

@@ -1,3 +1,4 @@
+-- `lines::words`: the invariant of the loop at `rest`, what it ensures.
 use Rattle.std.proofs.Common.{◌++◌, ap, ◌∙◌}
 use Rattle.std.proofs.lemmas.List.{map_push}
 use Rattle.cs_shell.specs.Lines.{words_of}

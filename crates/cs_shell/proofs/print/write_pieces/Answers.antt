@@ -1,3 +1,4 @@
+-- `print::write_pieces`: what it ensures.
 use Rattle.std.proofs.Common.{arith, rules}
 use Rattle.std.proofs.lemmas.Result.{MatchResult-from_err}
 use Rattle.cs_value.proofs.ListLemmas.{flat_map_split}

@@ -1,3 +1,4 @@
+-- `reply::answer`: what it ensures.
 use Rattle.cs_shell.proofs.ReplyLemmas.{gives_no_memory}
 use Rattle.cs_shell.proofs.reply.answer.Goals as goal
 

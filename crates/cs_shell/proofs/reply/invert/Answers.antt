@@ -1,3 +1,4 @@
+-- `reply::invert`: the clause `ok`.
 use Rattle.std.proofs.Common.{sym}
 use Rattle.std.proofs.lemmas.Result.{IfOk-weaker}
 use Rattle.cs_shell.specs.Lines.{Invert}

@@ -1,3 +1,4 @@
+-- `reply::join`: the clause `ok`.
 use Rattle.std.proofs.Common.{inl, inr, sym}
 use Rattle.std.proofs.lemmas.Result.{IfOk-weaker}
 use Rattle.cs_shell.specs.Replies.{reply_of}

@@ -1,3 +1,4 @@
+-- `reply::load`: the clause `ok`, what it ensures.
 use Rattle.cs_shell.specs.Script.{no_hex}
 use Rattle.cs_shell.proofs.ReplyLemmas.{gives_loaded, bad_digits}
 use Rattle.cs_shell.proofs.reply.load.Goals as goal

@@ -1,3 +1,4 @@
+-- `reply::show`: what it ensures.
 use Rattle.std.proofs.Common.{sym}
 use Rattle.cs_shell.specs.Script.{nothing_to_show}
 use Rattle.cs_shell.proofs.ReplyLemmas.{gives_shown}

@@ -1,3 +1,4 @@
+-- `reply::try_answer`: the clause `ok`.
 use Rattle.std.proofs.Common.{sym, ◌∙◌}
 use Rattle.cs_shell.specs.Script.{not_text, nothing, malformed}
 use Rattle.cs_shell.proofs.ReplyLemmas.{tested_ok, tested_err, gives_answered}

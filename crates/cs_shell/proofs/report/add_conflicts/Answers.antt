@@ -1,3 +1,4 @@
+-- `report::add_conflicts`: the invariant of the loop at `met`, what it ensures.
 use Rattle.std.proofs.Common.{arith}
 use Rattle.cs_value.proofs.ListLemmas.{flat_map_take_more_at, flat_map_split_at}
 use Rattle.cs_apply.specs.Report.{met_of}

@@ -1,3 +1,4 @@
+-- `report::add_report`: what it ensures.
 use Rattle.std.proofs.Common.{refl, ◌∙◌}
 use Rattle.cs_files.proofs.GatherLemmas.{Gathered-nil, Gathers-stopped, Gathers-then}
 use Rattle.cs_shell.proofs.report.add_report.Goals as goal

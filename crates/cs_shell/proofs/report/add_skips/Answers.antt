@@ -1,3 +1,4 @@
+-- `report::add_skips`: the invariant of the loop at `table`, what it ensures.
 use Rattle.std.proofs.Common.{arith, ◌+◌, ◌++◌, ap, sym, ◌∙◌, take, drop}
 use Rattle.std.specs.Prelude.{string_bytes}
 use Rattle.std.specs.List.{flat_map}

@@ -1,3 +1,4 @@
+-- `report::conflict_line`: what it ensures.
 use Rattle.std.proofs.Common.{refl}
 use Rattle.cs_files.proofs.GatherLemmas.{Writes-flushed}
 use Rattle.cs_shell.proofs.report.conflict_line.Goals as goal

@@ -1,3 +1,4 @@
+-- `report::report_text`: what it ensures.
 use Rattle.std.proofs.Common.{refl}
 use Rattle.cs_files.proofs.GatherLemmas.{Writes-flushed}
 use Rattle.cs_shell.proofs.report.report_text.Goals as goal

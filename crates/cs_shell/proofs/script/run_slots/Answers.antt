@@ -1,3 +1,4 @@
+-- `script::run_slots`: the clause `ended`.
 use Rattle.cs_shell.proofs.RunLemmas.{script_written, stop_written}
 use Rattle.cs_shell.proofs.script.run_slots.Goals as goal
 

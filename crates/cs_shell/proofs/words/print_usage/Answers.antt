@@ -1,3 +1,4 @@
+-- `words::print_usage`: the clause `front`.
 use Rattle.cs_files.proofs.WriteLemmas.{Writes-front}
 use Rattle.cs_shell.proofs.words.print_usage.Goals as goal
 

@@ -1,3 +1,4 @@
+-- `adoption::adopt`: the clause `refused`.
 use Rattle.std.proofs.Common.{◌≡◌, Err, subst}
 use Rattle.sqlite.specs.Held.{state}
 use Rattle.cs_store.specs.Laws.{was_clean}

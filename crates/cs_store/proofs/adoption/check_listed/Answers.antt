@@ -1,3 +1,4 @@
+-- `adoption::check_listed`: the clauses `valid` and `refused`.
 use Rattle.std.proofs.Common.{◌≡◌, Some, List, ℕ, ap, sym, ◌∙◌}
 use Rattle.std.specs.Option.{option_map}
 use Rattle.std.specs.Cmp.Lexicographic.{same_text}

@@ -1,3 +1,4 @@
+-- `adoption::check_numbered`: what `write_version` asks for, the clauses `set_up` and `refused`.
 use Rattle.std.proofs.Common.{◌≡◌, ◌≢◌, ◌==◌, [], List, inl, ap, sym, subst, ◌∙◌, rules}
 use Rattle.sqlite.specs.Held.{state}
 use Rattle.sqlite.specs.Effect.{Database}

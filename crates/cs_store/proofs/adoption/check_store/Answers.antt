@@ -1,3 +1,4 @@
+-- `adoption::check_store`: the clause `refused`.
 use Rattle.sqlite.specs.Held.{state}
 use Rattle.cs_store.specs.Laws.{was_clean}
 use Rattle.cs_store.proofs.AdoptionLemmas.{same_damage}

@@ -1,3 +1,4 @@
+-- `adoption::make_store`: the clause `set_up`.
 use Rattle.sqlite.specs.Held.{state}
 use Rattle.cs_store.specs.Laws.{was_clean}
 use Rattle.cs_store.proofs.AdoptionLemmas.{made_then}

@@ -1,3 +1,4 @@
+-- `adoption::write_version`: the clause `set_up`.
 use Rattle.sqlite.specs.Held.{state}
 use Rattle.cs_store.proofs.AdoptionLemmas.{sets_version}
 use Rattle.cs_store.proofs.WriteLemmas.{on_ok_both}

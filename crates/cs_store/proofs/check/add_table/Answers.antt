@@ -1,3 +1,4 @@
+-- `check::add_table`: the clause `added`.
 use Rattle.std.specs.String.{string_bytes}
 use Rattle.cs_store.proofs.CheckLemmas.{declared_other, declared_table}
 use Rattle.cs_store.proofs.check.add_table.Goals as goal

@@ -1,3 +1,4 @@
+-- `check::check_records`: the clauses `refused` and `valid`.
 use Rattle.std.proofs.Common.{inl, inr, Ok, Err}
 use Rattle.cs_store.specs.Valid.{AreValid, IsGoodRow}
 use Rattle.cs_store.proofs.CheckLemmas.{refused_rows, valid_tables, checked_all}

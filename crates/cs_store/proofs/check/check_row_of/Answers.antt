@@ -1,3 +1,4 @@
+-- `check::check_row_of`: what `of_row` asks for, the clause `refused`.
 use Rattle.std.proofs.Common.{◌≡◌, refl, inl, sym, ap, ◌∙◌, length, List, ℕ, true≢false}
 use Rattle.cs_value.specs.declared.value.OwnedValue.{OwnedValue}
 use Rattle.cs_value.specs.Key.{row_key}

@@ -1,3 +1,4 @@
+-- `declaration::read_column`: the clause `refused`.
 use Rattle.std.proofs.Common.{refl, sym, ◌∙◌, inl, arith}
 use Rattle.std.proofs.lemmas.List.{take_rest}
 use Rattle.cs_store.proofs.DeclarationLemmas.{no_column}

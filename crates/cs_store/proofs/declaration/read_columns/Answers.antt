@@ -1,3 +1,4 @@
+-- `declaration::read_columns`: the clause `refused`, what it ensures.
 use Rattle.std.proofs.Common.{◌≡◌, [], List, ℕ, ◌==◌, length, true≢false, map, string_bytes, refl, sym, ap, ◌∙◌, inl, inr, arith}
 use Rattle.std.proofs.lemmas.Result.{err_from_is_err_and}
 use Rattle.std.proofs.lemmas.List.{map-append}

@@ -1,3 +1,4 @@
+-- `declaration::read_counted`: the clause `refused`.
 use Rattle.std.proofs.Common.{◌++◌, length, refl, ◌∙◌}
 use Rattle.std.proofs.lemmas.Result.{err_from_is_err_and}
 use Rattle.cs_store.proofs.DeclarationLemmas.{counted_count, counted_cut}

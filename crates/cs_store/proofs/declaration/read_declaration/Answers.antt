@@ -1,3 +1,4 @@
+-- `declaration::read_declaration`: the clauses `refused` and `found`.
 use Rattle.std.proofs.Common.{map, string_bytes, length, refl, sym, subst, ◌∙◌, inl, inr}
 use Rattle.std.proofs.lemmas.Result.{err_from_is_err_and}
 use Rattle.cs_value.specs.State.{SchemaData, IsSchema}

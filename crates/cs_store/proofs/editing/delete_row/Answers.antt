@@ -1,3 +1,4 @@
+-- `editing::delete_row`: the clause `kept`.
 use Rattle.cs_store.proofs.editing.delete_row.Goals as goal
 
 pub returns-in_err-remove-clause-kept : goal.returns-in_err-remove-clause-kept

@@ -1,3 +1,4 @@
+-- `editing::edit_in`: the clause `refused`.
 use Rattle.cs_store.proofs.editing.edit_in.Goals as goal
 
 pub returns-in-Update-clause-refused : goal.returns-in-Update-clause-refused

@@ -1,3 +1,4 @@
+-- `editing::insert_row`: what `put` asks for, the clause `kept`.
 use Rattle.std.proofs.Common.{◌∙◌, ap}
 use Rattle.cs_value.specs.State.{State, schema_at}
 use Rattle.cs_store.proofs.EditingLemmas.{fits_in}

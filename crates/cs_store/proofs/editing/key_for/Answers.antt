@@ -1,3 +1,4 @@
+-- `editing::key_for`: the clauses `refused` and `fits`.
 use Rattle.std.proofs.Common.{inl, refl, true≢false, sym, ap, ◌∙◌, length, List, ℕ}
 use Rattle.cs_value.specs.declared.value.OwnedValue.{OwnedValue}
 use Rattle.cs_store.proofs.EditingLemmas.{no_fault, null_fault}

@@ -1,3 +1,4 @@
+-- `editing::move_row`: what `put` asks for, the clause `kept`.
 use Rattle.std.proofs.Common.{sym, subst, ◌∙◌, ap}
 use Rattle.cs_value.specs.State.{State, without_row}
 use Rattle.cs_store.specs.Rows.{Fits}

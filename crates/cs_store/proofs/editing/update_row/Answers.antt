@@ -1,3 +1,4 @@
+-- `editing::update_row`: what `replace_row` and `move_row` ask for, the clause `kept`.
 use Rattle.std.proofs.Common.{sym, subst, ◌∙◌, ap, ℕ, List}
 use Rattle.std.specs.Cmp.Lexicographic.{same_text}
 use Rattle.cs_value.specs.State.{State, schema_at, IsRowAt}

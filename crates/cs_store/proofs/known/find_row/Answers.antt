@@ -1,3 +1,4 @@
+-- `known::find_row`: the clauses `kept` and `found`.
 use Rattle.std.proofs.Common.{ap, sym, ◌∙◌}
 use Rattle.std.specs.Option.{option_map}
 use Rattle.cs_store.proofs.ReadLemmas.{no_row}

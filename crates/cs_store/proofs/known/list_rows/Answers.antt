@@ -1,3 +1,4 @@
+-- `known::list_rows`: the clauses `kept` and `listed`.
 use Rattle.std.proofs.Common.{◌∙◌, sym, ap}
 use Rattle.std.specs.FinMap as map
 use Rattle.std.specs.Option.{option_map}

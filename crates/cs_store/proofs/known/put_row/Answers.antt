@@ -1,3 +1,4 @@
+-- `known::put_row`: the clauses `knows` and `kept`.
 use Rattle.std.proofs.Common.{ap, Option}
 use Rattle.std.specs.Option.{is_some}
 use Rattle.std.specs.FinMap.{insert}

@@ -1,3 +1,4 @@
+-- `known::remove_row`: the clauses `knows` and `kept`.
 use Rattle.std.specs.FinMap.{remove}
 use Rattle.sqlite.specs.Held.{state}
 use Rattle.cs_value.specs.State.{rows_at}

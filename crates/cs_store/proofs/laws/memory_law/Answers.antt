@@ -1,3 +1,4 @@
+-- `laws::memory_law`: what it ensures.
 use Rattle.cs_store.proofs.AdoptionLemmas.{memory_honest}
 use Rattle.cs_store.proofs.laws.memory_law.Goals as goal
 

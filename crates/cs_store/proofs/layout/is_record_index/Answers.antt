@@ -1,3 +1,4 @@
+-- `layout::is_record_index`: what it ensures.
 use Rattle.std.proofs.Common.{rules}
 use Rattle.std.specs.Fmt.{digits}
 use Rattle.cs_store.proofs.layout.is_record_index.Goals as goal

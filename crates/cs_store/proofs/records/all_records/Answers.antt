@@ -1,3 +1,4 @@
+-- `records::all_records`: what `query_rows` asks for, the clause `listed`.
 use Rattle.std.proofs.Common.{map, sym, ap, subst, ◌∙◌}
 use Rattle.sqlite.specs.Held.{state}
 use Rattle.cs_store.specs.Records.{ListsAll, shown_record, records_in}

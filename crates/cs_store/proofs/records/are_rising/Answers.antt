@@ -1,3 +1,4 @@
+-- `records::are_rising`: the invariant of the loop at `row`, the clause `falls`.
 use Rattle.std.proofs.Common.{rules, ◌≡◌, w64, FitsSigned, to_z, of_z, refl}
 use Rattle.std.proofs.lemmas.Int.{to_z-of_z}
 use Rattle.cs_store.proofs.NumberedRows.{rise_at, ends_at}

@@ -1,3 +1,4 @@
+-- `records::find_record`: what `query_rows` asks for, the clause `found`.
 use Rattle.sqlite.specs.Held.{state}
 use Rattle.cs_store.proofs.FoundRows.{finds, first_found, none_found}
 use Rattle.cs_store.proofs.QueryTexts.{find_text, find_query, find_asks, asks_query}

@@ -1,3 +1,4 @@
+-- `records::has_row_numbers`: what `query_rows` asks for, the clauses `numbered` and `unnumbered`.
 use Rattle.std.proofs.Common.{sym, subst}
 use Rattle.sqlite.specs.Held.{state}
 use Rattle.cs_store.specs.Records.{AreRisingNumbers}

@@ -1,3 +1,4 @@
+-- `records::list_records`: what `query_rows` asks for, the clause `listed`.
 use Rattle.std.proofs.Common.{map, sym, ap, subst, ◌∙◌}
 use Rattle.sqlite.specs.Held.{state}
 use Rattle.cs_store.specs.Records.{ListsTable, shown_keyed, records_in}

@@ -1,3 +1,4 @@
+-- `records::make_table`: the clauses `rests`, `survives`, `made` and `goes_on`.
 use Rattle.cs_store.proofs.QueryLemmas.{on_err}
 use Rattle.cs_store.proofs.StatementLemmas.{refusal_rests}
 use Rattle.cs_store.proofs.TableLemmas.{makes, make_goes_on, make_keeps_crash}

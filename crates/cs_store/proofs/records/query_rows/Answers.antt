@@ -1,3 +1,4 @@
+-- `records::query_rows`: the clauses `rests`, `keeps_crash` and `reads`.
 use Rattle.sqlite.specs.Held.{state}
 use Rattle.sqlite.specs.Values.{bound}
 use Rattle.cs_store.proofs.QueryLemmas.{shows_unchanged, keeps_crash, fails_rests, on_err}

@@ -1,3 +1,4 @@
+-- `records::remove_record`: the clauses `rests`, `survives`, `removed` and `goes_on`.
 use Rattle.cs_store.proofs.QueryLemmas.{on_err}
 use Rattle.cs_store.proofs.StatementLemmas.{refusal_rests}
 use Rattle.cs_store.proofs.RemoveLemmas.{removes, remove_goes_on, remove_keeps_crash}

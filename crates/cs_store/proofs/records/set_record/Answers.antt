@@ -1,3 +1,4 @@
+-- `records::set_record`: the clauses `rests`, `survives`, `set` and `goes_on`.
 use Rattle.cs_store.proofs.QueryLemmas.{on_err}
 use Rattle.cs_store.proofs.StatementLemmas.{refusal_rests}
 use Rattle.cs_store.proofs.SetLemmas.{sets, set_goes_on, set_keeps_crash}

@@ -1,3 +1,4 @@
+-- `schema::are_apart`: the invariant of the loop at `column`, what it ensures.
 use Rattle.std.proofs.Common.{◌≡◌, ◌<◌, length, map, take, string_bytes, sym, subst, ◌∙◌, arith}
 use Rattle.std.specs.List.{AllPairs}
 use Rattle.std.specs.Prelude.{◌≢◌}

@@ -1,3 +1,4 @@
+-- `schema::are_names`: the invariant of the loop at `column`, what it ensures.
 use Rattle.std.proofs.Common.{◌≡◌, ◌<◌, length, map, take, string_bytes, sym, ap, subst, ◌∙◌, arith}
 use Rattle.std.specs.List.{AllByRecursion}
 use Rattle.std.proofs.lemmas.List.{length-map, take_all}

@@ -1,3 +1,4 @@
+-- `stored_row::defined_row`: the invariant of the loop at `field`, the clauses `refused` and `found`.
 use Rattle.std.proofs.Common.{◌≡◌, ◌++◌, ◌∷◌, [], List, map, length, refl, sym, ap, ◌∙◌, append_assoc, inl, arith}
 use Rattle.std.proofs.lemmas.List.{append-nil, map-append, nil_from_length}
 use Rattle.cs_value.specs.declared.value.OwnedField.{OwnedField}

@@ -1,3 +1,4 @@
+-- `stored_row::read_row`: the clauses `refused` and `found`.
 use Rattle.std.proofs.Common.{[], map, length, refl, sym, ap, subst, ◌∙◌, inl, inr, arith}
 use Rattle.std.proofs.lemmas.Result.{err_from_is_err_and}
 use Rattle.cs_value.specs.declared.value.OwnedField.TheVariants.{Defined}

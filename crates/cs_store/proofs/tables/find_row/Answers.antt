@@ -1,3 +1,4 @@
+-- `tables::find_row`: the clauses `kept`, `found` and `fits`.
 use Rattle.std.proofs.Common.{inl, ap, sym, subst, List, ℕ, ◌∙◌}
 use Rattle.std.specs.Option.{IfSome}
 use Rattle.sqlite.specs.Held.{state}

@@ -1,3 +1,4 @@
+-- `tables::find_schema`: the clauses `found` and `refused`.
 use Rattle.std.proofs.Common.{[], sym, ap, ◌∙◌}
 use Rattle.sqlite.specs.Held.{state}
 use Rattle.sqlite.specs.State.{HasCleanDisk}

@@ -1,3 +1,4 @@
+-- `tables::list_rows`: the clauses `kept`, `listed` and `named`.
 use Rattle.std.proofs.Common.{inl, map}
 use Rattle.sqlite.specs.Held.{state}
 use Rattle.cs_store.specs.Records.{records_in}

@@ -1,3 +1,4 @@
+-- `tables::list_tables`: the clauses `listed` and `refused`.
 use Rattle.sqlite.specs.Held.{state}
 use Rattle.sqlite.specs.State.{HasCleanDisk}
 use Rattle.std.specs.FinMap as map

@@ -1,3 +1,4 @@
+-- `tables::put_row`: the clauses `put` and `kept`.
 use Rattle.std.proofs.Common.{◌≡◌, Some, rules}
 use Rattle.sqlite.specs.Held.{state}
 use Rattle.cs_value.specs.Spelling.{row_bytes}

@@ -1,3 +1,4 @@
+-- `tables::put_table`: the clauses `declared` and `kept`.
 use Rattle.std.proofs.Common.{◌≡◌, Some, [], rules}
 use Rattle.sqlite.specs.Held.{state}
 use Rattle.cs_store.specs.Declaration.{declaration_bytes}

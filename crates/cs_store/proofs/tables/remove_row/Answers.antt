@@ -1,3 +1,4 @@
+-- `tables::remove_row`: the clauses `removed` and `kept`.
 use Rattle.std.proofs.Common.{None}
 use Rattle.sqlite.specs.Held.{state}
 use Rattle.cs_store.proofs.WriteLemmas.{row_removed, written_is, written_keeps}

@@ -1,3 +1,4 @@
+-- `tables::row_in`: the clause `found`.
 use Rattle.std.proofs.Common.{◌≡◌, Some, None, List, ap, sym, ◌∙◌}
 use Rattle.std.specs.Option.{option_map}
 use Rattle.cs_value.specs.declared.value.OwnedValue.{OwnedValue}

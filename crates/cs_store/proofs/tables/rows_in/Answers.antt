@@ -1,3 +1,4 @@
+-- `tables::rows_in`: the clause `refused`.
 use Rattle.std.proofs.Common.{◌≡◌, ◌<◌, [], map, inl, inr, length, get_or, sym, ap, ◌∙◌, arith}
 use Rattle.std.proofs.lemmas.List.{get_or_read, length-map, get_or-map}
 use Rattle.cs_store.proofs.StoredLists.{stored_at}

@@ -1,3 +1,4 @@
+-- `tables::schema_in`: the clause `found`.
 use Rattle.std.proofs.Common.{◌≡◌, Some, None, ap, sym, ◌∙◌}
 use Rattle.std.specs.Option.{option_map}
 use Rattle.cs_value.specs.State.{SchemaData}

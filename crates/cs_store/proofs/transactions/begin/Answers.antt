@@ -1,3 +1,4 @@
+-- `transactions::begin`: the clauses `kept`, `survives`, `begun` and `settled`.
 use Rattle.std.proofs.Common.{not, ap, ◌∙◌, refl}
 use Rattle.cs_store.proofs.QueryLemmas.{on_err}
 use Rattle.cs_store.proofs.StatementLemmas.{refusal_rests}

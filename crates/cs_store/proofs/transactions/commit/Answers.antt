@@ -1,3 +1,4 @@
+-- `transactions::commit`: the clauses `undone`, `survives` and `committed`.
 use Rattle.std.proofs.Common.{refl}
 use Rattle.sqlite.specs.Held.{state}
 use Rattle.cs_store.proofs.CrashLemmas.{idle_undone, idle_survives}

@@ -1,3 +1,4 @@
+-- `transactions::roll_back`: the clauses `undone` and `survives`.
 use Rattle.std.proofs.Common.{rules}
 use Rattle.cs_store.proofs.TransactionLemmas.{roll_back_undone, roll_back_keeps_crash}
 use Rattle.cs_store.proofs.transactions.roll_back.Goals as goal

@@ -1,3 +1,4 @@
+-- `field::field_read`: the clauses `found` and `fault`, what it ensures.
 use Rattle.std.proofs.Common.{arith}
 use Rattle.cs_value.proofs.ByteLists.{AreBytes-from_each}
 use Rattle.cs_value.proofs.FieldReading.{is_found, is_only, is_faulty}

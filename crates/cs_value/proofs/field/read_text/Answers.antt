@@ -1,3 +1,4 @@
+-- `field::read_text`: what it ensures.
 use Rattle.cs_value.proofs.FieldReading.{text_at-good, text_at-bad}
 use Rattle.cs_value.proofs.field.read_text.Goals as goal
 

@@ -1,3 +1,4 @@
+-- `image::image_read`: the clause `fault`, what it ensures.
 use Rattle.std.proofs.Common.{arith}
 use Rattle.std.proofs.lemmas.Result.{err_from_is_err_and}
 use Rattle.cs_value.proofs.ImageReading.{no_field, has_field, all_fields}

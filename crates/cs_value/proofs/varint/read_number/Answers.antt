@@ -1,3 +1,4 @@
+-- `varint::read_number`: the invariant of the loop at `used`, the clause `exact`.
 use Rattle.std.proofs.Common.{sym, arith}
 use Rattle.std.proofs.lemmas.Grind.{pow_more}
 use Rattle.cs_value.proofs.VarintLemmas.{number_at-first}

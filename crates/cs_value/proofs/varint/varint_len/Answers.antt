@@ -1,3 +1,4 @@
+-- `varint::varint_len`: what it ensures.
 use Rattle.std.proofs.Common.{arith}
 use Rattle.cs_value.proofs.Digits.{length-varint_1, length-varint_2, length-varint_3, length-varint_4, length-varint_5}
 use Rattle.cs_value.proofs.varint.varint_len.Goals as goal

@@ -1,3 +1,4 @@
+-- `varint::varint_read`: the clauses `found` and `fault`, what it ensures.
 use Rattle.std.proofs.Common.{ap, ◌∙◌, arith}
 use Rattle.cs_value.specs.Reading.{number_at}
 use Rattle.cs_value.proofs.ByteLists.{AreBytes-from_each}

@@ -1,3 +1,4 @@
+-- `varint::varint_write`: the invariant of the loop at `high`, the clause `ok`.
 use Rattle.std.proofs.Common.{◌+◌, ◌-◌, ◌%◌, ◌∙◌, arith}
 use Rattle.std.proofs.lemmas.Grind.{common_steps}
 use Rattle.std.proofs.lemmas.List.{length-set}

@@ -1,3 +1,4 @@
+-- `changeset::places_of`: the invariant of the loop at `place`.
 use Rattle.std.proofs.Common.{ap, ◌∙◌}
 use Rattle.std.specs.FinMap.{insert}
 use Rattle.cs_wire.specs.Changeset.{HeaderData, GroupData}

@@ -1,3 +1,4 @@
+-- `group::places_of`: the invariant of the loop at `place`.
 use Rattle.std.proofs.Common.{ap, ◌∙◌}
 use Rattle.std.specs.FinMap.{insert}
 use Rattle.cs_wire.specs.declared.entry.Entry.{Entry}

@@ -1,3 +1,4 @@
+-- `header::admits_update`: what it ensures.
 use Rattle.std.proofs.Common.{inl, inr, arith}
 use Rattle.std.proofs.lemmas.List.{get_or_read}
 use Rattle.cs_value.specs.declared.value.OwnedField.TheVariants.{Undefined}

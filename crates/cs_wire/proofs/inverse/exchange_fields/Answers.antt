@@ -1,3 +1,4 @@
+-- `inverse::exchange_fields`: the invariant of the loop at `column`, the clauses `old` and `new`.
 use Rattle.std.proofs.Common.{set, sym, ap, ◌∙◌, arith}
 use Rattle.std.proofs.Math.ListN.{length-set}
 use Rattle.cs_wire.proofs.InverseLemmas.{ExchangedSoFar-none, ExchangedSoFar-key, ExchangedSoFar-field, ExchangedSoFar-all}

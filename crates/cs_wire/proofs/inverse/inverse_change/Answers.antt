@@ -1,3 +1,4 @@
+-- `inverse::inverse_change`: what `exchange` asks for.
 use Rattle.cs_wire.proofs.EntryLemmas.{length-IsKeyedUpdate}
 use Rattle.cs_wire.proofs.inverse.inverse_change.Goals as goal
 

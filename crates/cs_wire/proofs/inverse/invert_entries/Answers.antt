@@ -1,3 +1,4 @@
+-- `inverse::invert_entries`: the invariant of the loop at `entry`.
 use Rattle.std.proofs.Common.{set, sym, ap, ◌∙◌}
 use Rattle.std.proofs.lemmas.List.Edits.{map_over_more}
 use Rattle.cs_wire.specs.Views.{inverse_entry}

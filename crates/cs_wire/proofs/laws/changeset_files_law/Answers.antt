@@ -1,3 +1,4 @@
+-- `laws::changeset_files_law`: what it ensures.
 use Rattle.cs_wire.proofs.FileSpellings.{changeset_files}
 use Rattle.cs_wire.proofs.laws.changeset_files_law.Goals as goal
 

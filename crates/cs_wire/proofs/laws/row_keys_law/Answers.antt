@@ -1,3 +1,4 @@
+-- `laws::row_keys_law`: what it ensures.
 use Rattle.cs_wire.proofs.KeyLemmas.{row_keys}
 use Rattle.cs_wire.proofs.laws.row_keys_law.Goals as goal
 

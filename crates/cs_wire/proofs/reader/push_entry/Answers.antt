@@ -1,3 +1,4 @@
+-- `reader::push_entry`: the clause `fault`.
 use Rattle.std.proofs.lemmas.Result.{err_from_is_err_and}
 use Rattle.cs_wire.proofs.reader.push_entry.Goals as goal
 

@@ -1,3 +1,4 @@
+-- `reader::push_group`: the clause `found`, what it ensures.
 use Rattle.std.proofs.Common.{◌∷◌, [], ◌++◌, ap, sym, ◌∙◌}
 use Rattle.std.proofs.lemmas.Result.{err_from_is_err_and}
 use Rattle.cs_wire.specs.Changeset.{HeaderData, GroupData, header_bytes}

@@ -1,3 +1,4 @@
+-- `reader::read_change`: what `read_new` asks for, the clauses `fault` and `found`, what it ensures.
 use Rattle.std.proofs.Common.{List, map, refl, ap, sym, ◌∙◌}
 use Rattle.std.proofs.lemmas.Result.{err_from_is_err_and}
 use Rattle.std.proofs.lemmas.List.Concat.{flat_map-append}

@@ -1,3 +1,4 @@
+-- `reader::read_entry`: the clauses `fault` and `found`, what it ensures.
 use Rattle.std.proofs.Common.{Bool, cond, ap, sym, ◌∙◌}
 use Rattle.std.proofs.lemmas.Result.{err_from_is_err_and}
 use Rattle.cs_value.proofs.RefusalLemmas.{Answers-err}

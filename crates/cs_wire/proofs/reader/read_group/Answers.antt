@@ -1,3 +1,4 @@
+-- `reader::read_group`: the clause `fault`, what it ensures.
 use Rattle.std.proofs.Common.{[], arith}
 use Rattle.std.proofs.lemmas.Result.{err_from_is_err_and}
 use Rattle.std.proofs.lemmas.Bool.{iff_false}

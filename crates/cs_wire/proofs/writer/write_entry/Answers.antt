@@ -1,3 +1,4 @@
+-- `writer::write_entry`: what it ensures.
 use Rattle.std.proofs.Common.{◌++◌, append_assoc, ap, ◌∙◌, ℕ, List}
 use Rattle.std.proofs.lemmas.Result.{on_ok_weaker}
 use Rattle.cs_wire.proofs.EntryLemmas.{entry_bytes-Insert, entry_bytes-Delete}

@@ -1,3 +1,4 @@
+-- `writer::write_group`: what it ensures.
 use Rattle.std.proofs.Common.{append_assoc}
 use Rattle.std.proofs.lemmas.List.{take_all}
 use Rattle.cs_wire.specs.Changeset.{group_bytes}

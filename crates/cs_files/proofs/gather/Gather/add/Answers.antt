@@ -1,3 +1,4 @@
+-- `gather::Gather::add`: what it ensures.
 use Rattle.std.proofs.Common.{refl}
 use Rattle.cs_files.proofs.GatherLemmas.{Gathered-nil, Gathers-stopped, Gathers-then, Gathers-written}
 use Rattle.cs_files.proofs.gather.Gather.add.Goals as goal

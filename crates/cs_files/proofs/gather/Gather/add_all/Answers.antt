@@ -1,3 +1,4 @@
+-- `gather::Gather::add_all`: the invariant of the loop at `piece`, what it ensures.
 use Rattle.std.proofs.Common.{arith}
 use Rattle.cs_value.proofs.ListLemmas.{flat_map_take_more, flat_map_split}
 use Rattle.cs_files.proofs.GatherLemmas.{Gathered-more, Gathers-stopped}

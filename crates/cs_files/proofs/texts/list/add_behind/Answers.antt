@@ -1,3 +1,4 @@
+-- `texts::list::add_behind`: what it ensures.
 use Rattle.std.proofs.Common.{refl}
 use Rattle.cs_files.proofs.GatherLemmas.{Gathered-nil, Gathers-stopped, Gathers-then}
 use Rattle.cs_files.proofs.texts.list.add_behind.Goals as goal

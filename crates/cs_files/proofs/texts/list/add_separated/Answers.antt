@@ -1,3 +1,4 @@
+-- `texts::list::add_separated`: the invariant of the loop at `item`, what it ensures.
 use Rattle.std.proofs.Common.{arith, refl}
 use Rattle.cs_files.specs.Texts.{separated}
 use Rattle.cs_files.proofs.GatherLemmas.{Gathered-nil, Gathered-more, Gathers-stopped}

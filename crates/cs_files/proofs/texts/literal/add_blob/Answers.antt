@@ -1,3 +1,4 @@
+-- `texts::literal::add_blob`: what it ensures.
 use Rattle.std.proofs.Common.{refl}
 use Rattle.cs_files.specs.Texts.{literal}
 use Rattle.cs_files.proofs.GatherLemmas.{Gathered-nil, Gathered-more, Gathers-stopped, Gathers-then}

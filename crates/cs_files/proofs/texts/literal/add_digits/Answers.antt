@@ -1,3 +1,4 @@
+-- `texts::literal::add_digits`: the invariant of the loop at `rest`, what it ensures.
 use Rattle.std.proofs.Common.{[], ◌++◌, refl}
 use Rattle.hex.specs.Hex.{encode_with}
 use Rattle.cs_files.proofs.GatherLemmas.{Gathered-nil, Gathered-more, Gathers-stopped}

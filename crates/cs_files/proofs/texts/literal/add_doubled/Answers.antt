@@ -1,3 +1,4 @@
+-- `texts::literal::add_doubled`: the invariant of the loop at `byte`, what it ensures.
 use Rattle.std.proofs.Common.{ap, ◌∷◌, [], sym, ◌∙◌, arith}
 use Rattle.std.specs.List.{flat_map}
 use Rattle.std.proofs.lemmas.List.{take_all}

@@ -1,3 +1,4 @@
+-- `texts::literal::add_quoted`: what it ensures.
 use Rattle.std.proofs.Common.{refl}
 use Rattle.cs_files.proofs.GatherLemmas.{Gathered-nil, Gathered-more, Gathers-stopped, Gathers-then}
 use Rattle.cs_files.proofs.texts.literal.add_quoted.Goals as goal

@@ -1,3 +1,4 @@
+-- `texts::sql::add_assignment`: what it ensures.
 use Rattle.std.proofs.Common.{refl}
 use Rattle.cs_files.specs.Texts.{assignment}
 use Rattle.cs_files.proofs.GatherLemmas.{Gathered-nil, Gathers-stopped, Gathers-then}

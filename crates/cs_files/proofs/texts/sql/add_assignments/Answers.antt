@@ -1,3 +1,4 @@
+-- `texts::sql::add_assignments`: what it ensures.
 use Rattle.std.proofs.Common.{sym, ◌∙◌}
 use Rattle.cs_files.proofs.GatherLemmas.{Gathers-is}
 use Rattle.cs_files.proofs.TermLemmas.{assignments_some, assignments_none}

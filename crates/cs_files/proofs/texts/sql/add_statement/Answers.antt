@@ -1,3 +1,4 @@
+-- `texts::sql::add_statement`: what it ensures.
 use Rattle.std.proofs.Common.{append_assoc}
 use Rattle.cs_files.specs.Texts.{statement}
 use Rattle.cs_files.proofs.GatherLemmas.{Gathers-is}

@@ -1,3 +1,4 @@
+-- `texts::sql::add_statements`: the invariant of the loop at `entry`, what it ensures.
 use Rattle.std.proofs.Common.{arith}
 use Rattle.cs_value.proofs.ListLemmas.{flat_map_take_more_at, flat_map_split_at}
 use Rattle.cs_files.specs.Texts.{statement}

@@ -1,3 +1,4 @@
+-- `texts::sql::add_term`: what it ensures.
 use Rattle.std.proofs.Common.{refl}
 use Rattle.cs_files.proofs.GatherLemmas.{Gathered-nil, Gathers-stopped, Gathers-then}
 use Rattle.cs_files.proofs.texts.sql.add_term.Goals as goal

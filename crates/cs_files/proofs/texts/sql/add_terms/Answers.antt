@@ -1,3 +1,4 @@
+-- `texts::sql::add_terms`: the invariant of the loop at `place`, what it ensures.
 use Rattle.std.proofs.Common.{refl, ◌∙◌}
 use Rattle.cs_files.specs.Texts.{separated}
 use Rattle.cs_files.specs.Pieces.{between_of, term_text}

@@ -1,3 +1,4 @@
+-- `first_images::FirstImages::cut_back`: what it ensures.
 use Rattle.std.proofs.Common.{map, take, refl, sym, ap, ◌∙◌, arith}
 use Rattle.std.proofs.lemmas.List.{drop_all, length-map, length-take, take-map, take-take}
 use Rattle.cs_session.specs.Images.{first_of}

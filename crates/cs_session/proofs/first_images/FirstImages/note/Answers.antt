@@ -1,3 +1,4 @@
+-- `first_images::FirstImages::note`: the clause `noted`.
 use Rattle.std.proofs.Common.{sym, ◌∙◌}
 use Rattle.cs_store.specs.Editing.{written_of}
 use Rattle.cs_session.proofs.ImageLemmas.{noted_there, noted_behind}

@@ -1,3 +1,4 @@
+-- `session::Session::apply_recorded`: the clause `rewound`.
 use Rattle.std.proofs.Common.{List, length, map, ap, ◌∙◌}
 use Rattle.std.specs.Fn.{FnReturnsAt}
 use Rattle.cs_session.specs.declared.attached.Attached.{Attached}

@@ -1,3 +1,4 @@
+-- `session::Session::attach`: what `push` asks for, the clauses `refused`, `attached` and `rewound`.
 use Rattle.std.proofs.Common.{inl, refl, sym, ◌∙◌}
 use Rattle.cs_session.specs.Attaching.{IsNewTable}
 use Rattle.cs_session.proofs.AttachLemmas.{is_new, is_attached, attaches, attached_rewound}

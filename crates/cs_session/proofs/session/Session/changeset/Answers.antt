@@ -1,3 +1,4 @@
+-- `session::Session::changeset`: the clauses `attached` and `leads`.
 use Rattle.std.proofs.Common.{◌≡◌, map, rules}
 use Rattle.sqlite.specs.Held.{state}
 use Rattle.cs_store.specs.Laws.{was_clean}

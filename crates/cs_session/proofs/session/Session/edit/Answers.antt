@@ -1,3 +1,4 @@
+-- `session::Session::edit`: the clause `rewound`.
 use Rattle.std.proofs.Common.{List, length, map, ap, ◌∙◌}
 use Rattle.cs_session.specs.declared.attached.Attached.{Attached}
 use Rattle.cs_session.specs.Views.{attached_of}

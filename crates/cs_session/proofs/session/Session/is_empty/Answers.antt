@@ -1,3 +1,4 @@
+-- `session::Session::is_empty`: what it ensures.
 use Rattle.cs_session.proofs.AttachLemmas.{unwritten}
 use Rattle.cs_session.proofs.session.Session.is_empty.Goals as goal
 

@@ -1,3 +1,4 @@
+-- `session::Session::push`: the invariant of `self`.
 use Rattle.std.proofs.Common.{refl}
 use Rattle.cs_session.proofs.AttachLemmas.{push_keeps}
 use Rattle.cs_session.proofs.session.Session.push.Goals as goal

@@ -1,3 +1,4 @@
+-- `session::Session::undo`: what `undo_rows` asks for, the clause `survives`.
 use Rattle.std.proofs.Common.{◌≡◌, map, rules}
 use Rattle.sqlite.specs.Held.{state}
 use Rattle.cs_store.proofs.CrashLemmas.{made_survives}

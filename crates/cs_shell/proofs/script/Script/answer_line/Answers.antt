@@ -1,3 +1,4 @@
+-- `script::Script::answer_line`: the clause `given`.
 use Rattle.cs_shell.specs.Script.{no_memory}
 use Rattle.cs_shell.proofs.script.Script.answer_line.Goals as goal
 

@@ -1,3 +1,4 @@
+-- `script::Script::end_line`: what it ensures.
 use Rattle.std.proofs.Common.{refl}
 use Rattle.cs_shell.specs.Replies.{reply_of}
 use Rattle.cs_shell.proofs.script.Script.end_line.Goals as goal

@@ -1,3 +1,4 @@
+-- `script::Script::finish`: the clause `ok`.
 use Rattle.std.proofs.lemmas.Bool.{both_ways}
 use Rattle.cs_shell.proofs.ProgressLemmas.{Finishes-ended, Finishes-at_once, empty_line, some_line}
 use Rattle.cs_shell.proofs.script.Script.finish.Goals as goal

@@ -1,3 +1,4 @@
+-- `script::Script::run`: the clause `ok`.
 use Rattle.cs_shell.proofs.RunLemmas.{text_finished}
 use Rattle.cs_shell.proofs.script.Script.run.Goals as goal
 

@@ -1,3 +1,4 @@
+-- `script::Script::take`: the clause `ok`.
 use Rattle.cs_shell.proofs.ProgressLemmas.{Advances-feed}
 use Rattle.cs_shell.proofs.script.Script.take.Goals as goal
 

@@ -1,3 +1,4 @@
+-- `script::Script::take_all`: the invariant of the loop at `byte`, the clause `ok`.
 use Rattle.std.proofs.Common.{arith}
 use Rattle.cs_shell.proofs.ProgressLemmas.{Advances-nil, Advances-more, Advances-all}
 use Rattle.cs_shell.proofs.script.Script.take_all.Goals as goal

@@ -1,3 +1,4 @@
+-- `script::Script::take_input`: the invariant of the loop at `piece`, the clause `stopped`.
 use Rattle.std.proofs.lemmas.Result.{err_from_is_err_and}
 use Rattle.cs_shell.proofs.RunLemmas.{HasRead-more, HasRead-overrun, HasRead-front}
 use Rattle.cs_shell.proofs.script.Script.take_input.Goals as goal

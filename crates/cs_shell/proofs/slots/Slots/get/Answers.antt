@@ -1,3 +1,4 @@
+-- `slots::Slots::get`: what it ensures.
 use Rattle.std.proofs.Common.{ℕ, Vec, Global, ap, ◌∙◌, Some, None}
 use Rattle.cs_value.proofs.ByteMaps.{got_seen}
 use Rattle.cs_shell.proofs.slots.Slots.get.Goals as goal

@@ -1,3 +1,4 @@
+-- `slots::Slots::insert`: the clause `ok`.
 use Rattle.std.proofs.Common.{ℕ, Vec, Global, ap, ◌∙◌}
 use Rattle.std.specs.FinMap as map
 use Rattle.cs_value.proofs.ByteMaps.{seen_insert}

@@ -1,3 +1,4 @@
+-- `check::Schemas::insert`: what it ensures.
 use Rattle.std.proofs.Common.{◌∙◌, ap}
 use Rattle.std.specs.FinMap as map
 use Rattle.std.specs.String.{string_bytes}

@@ -1,3 +1,4 @@
+-- `memory::MemRows::insert_table`: the invariant of `self`, the clause `ok`.
 use Rattle.std.proofs.Common.{◌≡◌, ◌∙◌, ap}
 use Rattle.std.specs.FinMap as map
 use Rattle.std.specs.String.{string_bytes}

@@ -1,3 +1,4 @@
+-- `memory::MemRows::new`: the invariant of `result`.
 use Rattle.cs_value.proofs.StateLemmas.{empty_state}
 use Rattle.cs_store.proofs.memory.MemRows.new.Goals as goal
 

@@ -1,3 +1,4 @@
+-- `memory::MemRows::put_row`: what `put` asks for, the invariant of `self`, the clauses `ok` and `err`.
 use Rattle.std.proofs.Common.{◌∙◌, sym, refl}
 use Rattle.std.specs.FinMap as map
 use Rattle.cs_value.specs.State.{RowMap}

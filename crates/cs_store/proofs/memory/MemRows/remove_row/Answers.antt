@@ -1,3 +1,4 @@
+-- `memory::MemRows::remove_row`: the invariant of `self`, what it ensures.
 use Rattle.std.proofs.Common.{◌∙◌, sym, subst, refl}
 use Rattle.std.specs.FinMap as map
 use Rattle.cs_value.specs.State.{IsTable}

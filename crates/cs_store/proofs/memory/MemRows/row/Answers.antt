@@ -1,3 +1,4 @@
+-- `memory::MemRows::row`: the clauses `found` and `fits`.
 use Rattle.std.proofs.Common.{◌∙◌, ap, sym}
 use Rattle.std.specs.Option.{option_copied}
 use Rattle.std.proofs.lemmas.Option.{IfSome_then}

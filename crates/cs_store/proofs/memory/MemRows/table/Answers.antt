@@ -1,3 +1,4 @@
+-- `memory::MemRows::table`: what it ensures.
 use Rattle.std.specs.String.{string_bytes}
 use Rattle.std.specs.Option.{option_copied}
 use Rattle.cs_value.proofs.ByteMaps.{got_seen}

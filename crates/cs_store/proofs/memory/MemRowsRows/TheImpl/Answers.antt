@@ -1,3 +1,4 @@
+-- `memory::MemRowsRows::TheImpl`: what it ensures.
 use Rattle.cs_store.proofs.memory.MemRowsRows.TheImpl.Goals as goal
 
 -- rows in memory are honest

@@ -1,3 +1,4 @@
+-- `memory::MemRowsRows::list`: the clause `listed`.
 use Rattle.std.proofs.Common.{◌∙◌, ap, sym}
 use Rattle.std.specs.FinMap as map
 use Rattle.cs_store.proofs.MemoryLemmas.{rows_at_absent, no_values}

@@ -1,3 +1,4 @@
+-- `memory::MemRowsRows::put`: what `put_row` asks for.
 use Rattle.cs_store.proofs.memory.MemRowsRows.put.Goals as goal
 
 pub put_row-requires : goal.put_row-requires

@@ -1,3 +1,4 @@
+-- `memory::Table::get`: the clauses `found` and `fits`.
 use Rattle.std.proofs.Common.{ap}
 use Rattle.std.specs.Option.{option_copied}
 use Rattle.cs_value.specs.State.{TableData, IsRowAt}

@@ -1,3 +1,4 @@
+-- `memory::Table::list`: what it ensures.
 use Rattle.std.proofs.Common.{◌≡◌, ◌∙◌, ap, sym, refl, List, [], ◌∷◌, ◌++◌, map as map_list, append-nil, Bor}
 use Rattle.std.specs.FinMap as map
 use Rattle.std.proofs.lemmas.Map.Iter.{rest_so_far}

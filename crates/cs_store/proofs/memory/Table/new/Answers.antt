@@ -1,3 +1,4 @@
+-- `memory::Table::new`: the invariant of `result`.
 use Rattle.cs_value.proofs.StateLemmas.{empty_table}
 use Rattle.cs_store.proofs.memory.Table.new.Goals as goal
 

@@ -1,3 +1,4 @@
+-- `memory::Table::put`: the invariant of `self`, the clause `ok`.
 use Rattle.std.proofs.Common.{◌≡◌, ◌∙◌, ap, sym, subst}
 use Rattle.std.specs.FinMap as map
 use Rattle.cs_value.specs.State.{TableData, RowMap, IsRowAt}

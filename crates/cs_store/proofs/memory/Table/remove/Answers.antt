@@ -1,3 +1,4 @@
+-- `memory::Table::remove`: the invariant of `self`, what it ensures.
 use Rattle.std.proofs.Common.{◌≡◌, ◌∙◌, ap}
 use Rattle.std.specs.FinMap as map
 use Rattle.cs_value.specs.State.{TableData, RowMap}

@@ -1,3 +1,4 @@
+-- `store::Store+FileStore+FileFrom+S::open_from`: the clause `opened`.
 use Rattle.cs_store.proofs.AdoptionLemmas.{opens_files}
 use Rattle.cs_store.proofs.store.Store+FileStore+FileFrom+S.open_from.Goals as goal
 

@@ -1,3 +1,4 @@
+-- `store::Store+MemStore::new_memory`: the clauses `empty`, `at_rest` and `named`.
 use Rattle.cs_store.proofs.AdoptionLemmas.{memory_honest, nothing_held, nothing_damaged}
 use Rattle.cs_store.proofs.store.Store+MemStore.new_memory.Goals as goal
 

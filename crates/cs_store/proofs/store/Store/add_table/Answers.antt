@@ -1,3 +1,4 @@
+-- `store::Store::add_table`: the clauses `named` and `kept`.
 use Rattle.std.proofs.Common.{inr}
 use Rattle.cs_store.specs.Laws.{keeps_then}
 use Rattle.cs_store.proofs.WriteLemmas.{on_refusal}

@@ -1,3 +1,4 @@
+-- `store::Store::declare`: the clauses `refused`, `kept`, `declared` and `survives`.
 use Rattle.std.proofs.Common.{◌≡◌, Ok, OnErr, sym, subst, ◌∙◌, rules}
 use Rattle.std.proofs.lemmas.Result.{err_from_is_err_and}
 use Rattle.cs_value.specs.Table.{IsName}

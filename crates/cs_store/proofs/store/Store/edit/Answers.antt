@@ -1,3 +1,4 @@
+-- `store::Store::edit`: the clauses `kept` and `survives`.
 use Rattle.std.proofs.Common.{◌≡◌, OnErr, sym, subst, rules}
 use Rattle.std.specs.Prelude.{map}
 use Rattle.sqlite.specs.Held.{state, Held}

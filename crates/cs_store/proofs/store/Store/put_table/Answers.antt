@@ -1,3 +1,4 @@
+-- `store::Store::put_table`: the invariant of `self`, the clause `kept`.
 use Rattle.cs_store.proofs.StoreLemmas.{in_transaction}
 use Rattle.cs_store.proofs.store.Store.put_table.Goals as goal
 

@@ -1,3 +1,4 @@
+-- `store::Store::tables_law`: what it ensures.
 use Rattle.cs_store.proofs.store.Store.tables_law.Goals as goal
 
 pub returns : goal.returns

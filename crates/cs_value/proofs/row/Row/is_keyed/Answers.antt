@@ -1,3 +1,4 @@
+-- `row::Row::is_keyed`: the clause `keyed`.
 use Rattle.std.proofs.Common.{◌<◌, List, length, ◌∙◌, ap, sym, arith}
 use Rattle.std.proofs.lemmas.List.{get_or_read}
 use Rattle.cs_value.specs.declared.value.OwnedValue.{OwnedValue}

@@ -1,3 +1,4 @@
+-- `value::OwnedValue::as_value`: the clause `is_value`.
 use Rattle.std.proofs.Common.{rules}
 use Rattle.cs_value.proofs.ByteLists.{AreBytes-from_each}
 use Rattle.cs_value.proofs.value.OwnedValue.as_value.Goals as goal

@@ -1,3 +1,4 @@
+-- `changeset::Changeset::find`: the clauses `found` and `absent`.
 use Rattle.std.proofs.Common.{ap, ◌∙◌}
 use Rattle.std.specs.FinMap.{get}
 use Rattle.cs_wire.specs.Changeset.{GroupData}

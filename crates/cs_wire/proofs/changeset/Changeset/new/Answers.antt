@@ -1,3 +1,4 @@
+-- `changeset::Changeset::new`: the invariant of `result`.
 use Rattle.std.proofs.Common.{arith}
 use Rattle.std.proofs.lemmas.List.Elements.{All-nil}
 use Rattle.cs_wire.specs.Changeset.{IsGroup}

@@ -1,3 +1,4 @@
+-- `changeset::Changeset::push`: the invariant of `self`, the clause `well_formed`.
 use Rattle.std.proofs.Common.{◌≡◌, arith, rules}
 use Rattle.cs_wire.specs.Changeset.{GroupData, IsGroup}
 use Rattle.cs_wire.proofs.GroupLemmas.{IsChangeset-push}

@@ -1,3 +1,4 @@
+-- `group::Group::find`: the clauses `found` and `absent`.
 use Rattle.std.proofs.Common.{ap, ◌∙◌}
 use Rattle.std.specs.FinMap.{get}
 use Rattle.cs_wire.specs.declared.entry.Entry.{Entry}

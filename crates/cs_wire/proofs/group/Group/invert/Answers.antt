@@ -1,3 +1,4 @@
+-- `group::Group::invert`: the invariant of `self`, the clauses `inverse` and `well_formed`.
 use Rattle.std.proofs.Common.{ℕ, List, length, map, ap, ◌∙◌, arith}
 use Rattle.std.proofs.lemmas.List.{length-map}
 use Rattle.cs_value.proofs.ListLemmas.{written_whole}

@@ -1,3 +1,4 @@
+-- `group::Group::new`: what `from_entries` asks for.
 use Rattle.std.proofs.Common.{rules}
 use Rattle.cs_wire.specs.Changeset.{IsHeader}
 use Rattle.cs_wire.proofs.GroupLemmas.{IsGroup-one}

@@ -1,3 +1,4 @@
+-- `group::Group::push_with_key`: the invariant of `self`.
 use Rattle.std.proofs.Common.{ℕ, List, ap, ◌∙◌, sym, arith}
 use Rattle.std.specs.FinMap.{insert}
 use Rattle.cs_wire.specs.declared.entry.Entry.{Entry}

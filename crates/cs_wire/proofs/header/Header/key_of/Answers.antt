@@ -1,3 +1,4 @@
+-- `header::Header::key_of`: what `of_image` and `of_row` ask for, what it ensures.
 use Rattle.std.proofs.Common.{◌∙◌, ap}
 use Rattle.std.proofs.lemmas.Result.{IfOk-weaker}
 use Rattle.std.proofs.Common.{ℕ, List}

@@ -1,3 +1,4 @@
+-- `places::Places::get`: what it ensures.
 use Rattle.std.proofs.Common.{◌≡◌, ◌∙◌, ℕ, Option, Some, None}
 use Rattle.std.specs.Option.{option_map, option_copied}
 use Rattle.cs_value.proofs.ByteMaps.{got_seen}

@@ -1,3 +1,4 @@
+-- `places::Places::insert`: the clause `ok`.
 use Rattle.std.proofs.Common.{◌∙◌, ap}
 use Rattle.std.specs.FinMap as map
 use Rattle.cs_value.proofs.ByteMaps.{seen_insert}

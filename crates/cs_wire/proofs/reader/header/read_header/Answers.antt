@@ -1,3 +1,4 @@
+-- `reader::header::read_header`: the clauses `found` and `fault`, what it ensures.
 use Rattle.std.proofs.Common.{◌+◌, [], ◌∷◌, ◌∙◌, arith}
 use Rattle.std.proofs.lemmas.Result.{err_from_is_err_and}
 use Rattle.cs_wire.specs.Changeset.{flags_bytes}

@@ -1,3 +1,4 @@
+-- `reader::header::read_name`: the clauses `found` and `fault`, what it ensures.
 use Rattle.std.proofs.Common.{◌≡◌, ◌<◌, length, take, drop, sym, ◌∙◌, arith}
 use Rattle.std.proofs.lemmas.Bool.{eqb-false, eqb-true}
 use Rattle.std.specs.Prelude.{string_bytes}

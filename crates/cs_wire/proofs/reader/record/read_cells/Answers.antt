@@ -1,3 +1,4 @@
+-- `reader::record::read_cells`: the invariant of the loop at `column`, the clause `fault`, what it ensures.
 use Rattle.std.proofs.Common.{◌≤◌, length}
 use Rattle.std.proofs.lemmas.Result.{err_from_is_err_and}
 use Rattle.std.proofs.lemmas.List.{map_push}

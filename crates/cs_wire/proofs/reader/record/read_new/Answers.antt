@@ -1,3 +1,4 @@
+-- `reader::record::read_new`: what `read_cells` asks for.
 use Rattle.std.proofs.Common.{List, length, sym, ap, ◌∙◌}
 use Rattle.cs_value.specs.declared.value.OwnedField.{OwnedField}
 use Rattle.cs_wire.proofs.FieldsLemmas.{length-new_wants}

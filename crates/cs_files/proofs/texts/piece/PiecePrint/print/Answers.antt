@@ -1,3 +1,4 @@
+-- `texts::piece::PiecePrint::print`: what it ensures.
 use Rattle.std.proofs.Common.{◌∷◌, [], ap, map, sym, ◌∙◌}
 use Rattle.cs_files.specs.Texts.{separated, literal}
 use Rattle.cs_files.proofs.GatherLemmas.{Gathers-is}
