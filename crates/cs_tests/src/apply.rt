@@ -191,7 +191,7 @@ fn holds_in_a_store(rt: &(impl Abort + AllocGlobal), case: &Case, by_batch: bool
 }
 
 #[test]
-fn files_applied(rt: HostRuntime) {
+fn applies_files_over_all_rows(rt: HostRuntime) {
     for (place, case) in CASES.iter().enumerate() {
         assert!(rt; holds_in_memory(&rt, case), "at {place}");
         assert!(rt; holds_in_a_store(&rt, case, true), "at {place}");
@@ -252,7 +252,7 @@ fn refusal(rt: &(impl Abort + AllocGlobal), choice: Choice) -> ApplyFault {
 }
 
 #[test]
-fn names_of_refusals(rt: HostRuntime) {
+fn names_refusals(rt: HostRuntime) {
     let fault = refusal(&rt, Choice::Abort);
     assert!(rt; fault.class() == 4 && fault.name() == "Abort");
     let fault = refusal(&rt, Choice::Replace);
@@ -260,7 +260,7 @@ fn names_of_refusals(rt: HostRuntime) {
 }
 
 #[test]
-fn texts_of_refusals(rt: HostRuntime) {
+fn prints_refusals(rt: HostRuntime) {
     for (choice, text) in [
         (
             Choice::Abort,

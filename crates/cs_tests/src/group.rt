@@ -47,7 +47,7 @@ fn merges_entries(rt: HostRuntime) {
 }
 
 #[test]
-fn changes_of_rows(rt: HostRuntime) {
+fn tells_a_change_where_rows_differ(rt: HostRuntime) {
     let row = [Field::Defined(Value::Int(1)), Field::Defined(Value::Null)];
     let other = [Field::Defined(Value::Int(1)), Field::Defined(Value::Int(2))];
     let alloc = rt.alloc();

@@ -85,7 +85,7 @@ pub(crate) fn expect_text(rt: &(impl Abort + AllocGlobal), fault: &impl Display,
 }
 
 #[test]
-fn texts_of_kinds(rt: HostRuntime) {
+fn prints_kinds(rt: HostRuntime) {
     for (kind, text) in FIELD_TEXTS {
         expect_text(&rt, kind, text);
     }
@@ -95,7 +95,7 @@ fn texts_of_kinds(rt: HostRuntime) {
 }
 
 #[test]
-fn texts_with_places(rt: HostRuntime) {
+fn prints_places(rt: HostRuntime) {
     let text = "a text is not UTF-8 at byte 9";
     expect_text(&rt, &FIELD_FAULT, text);
     expect_text(&rt, &ImageFault::Fault(FIELD_FAULT), text);
@@ -105,7 +105,7 @@ fn texts_with_places(rt: HostRuntime) {
 }
 
 #[test]
-fn texts_of_want_of_memory(rt: HostRuntime) {
+fn prints_want_of_memory(rt: HostRuntime) {
     expect_text(&rt, &NoMemory, "out of memory");
     expect_text(&rt, &ImageFault::NoMemory, "out of memory");
     expect_text(&rt, &ReadError::NoMemory, "out of memory");
@@ -120,7 +120,7 @@ fn expect_named(rt: &impl Abort, fault: &impl Fault, code: u8, class: u8, name: 
 }
 
 #[test]
-fn kinds_of_fields(rt: HostRuntime) {
+fn numbers_kinds(rt: HostRuntime) {
     for (kind, code, name) in [
         (FieldFaultKind::Truncated, 1, "Truncated"),
         (FieldFaultKind::BadVarint, 4, "BadVarint"),
@@ -135,7 +135,7 @@ fn kinds_of_fields(rt: HostRuntime) {
 }
 
 #[test]
-fn faults(rt: HostRuntime) {
+fn numbers_faults(rt: HostRuntime) {
     assert!(rt; FIELD_FAULT.behind(3).place == 12);
     expect_named(&rt, &FIELD_FAULT, 14, 11, "BadText");
     expect_named(&rt, &ImageFault::Fault(FIELD_FAULT), 14, 11, "BadText");
@@ -144,7 +144,7 @@ fn faults(rt: HostRuntime) {
 }
 
 #[test]
-fn faults_of_calls_on_files(rt: HostRuntime) {
+fn numbers_faults_of_files(rt: HostRuntime) {
     let schema = SchemaFault { place: 3 };
     expect_named(&rt, &schema, 43, 17, "Schema");
     expect_named(
@@ -165,14 +165,14 @@ fn faults_of_calls_on_files(rt: HostRuntime) {
 }
 
 #[test]
-fn want_of_memory(rt: HostRuntime) {
+fn numbers_want_of_memory(rt: HostRuntime) {
     expect_named(&rt, &NoMemory, 60, 7, "NoMemory");
     expect_named(&rt, &ImageFault::from(NoMemory), 60, 7, "NoMemory");
     expect_named(&rt, &ReadError::from(NoMemory), 60, 7, "NoMemory");
 }
 
 #[test]
-fn refusals_of_stores(rt: HostRuntime) {
+fn numbers_refusals_of_stores(rt: HostRuntime) {
     for (error, code, class, name) in [
         (StoreError::TableExists, 30, 1, "TableExists"),
         (StoreError::NoTable, 31, 1, "NoTable"),

@@ -37,7 +37,7 @@ fn attaches_a_table_once(rt: HostRuntime) {
 }
 
 #[test]
-fn names_of_session_faults(rt: HostRuntime) {
+fn numbers_session_faults(rt: HostRuntime) {
     let fault = SessionFault::AlreadyAttached;
     assert!(rt; fault.code() == 50 && fault.class() == 1 && fault.name() == "AlreadyAttached");
     let fault = SessionFault::WrongStore;
@@ -528,7 +528,7 @@ fn expect_ten<S: Alter>(rt: &(impl Abort + AllocGlobal), store: &mut Store<S>, i
 }
 
 #[test]
-fn undone_in_a_file(rt: HostRuntime) {
+fn undoes_in_a_file(rt: HostRuntime) {
     for is_new in [true, false] {
         let mut store = Store::open_from(&rt, FILE, true, Unknown).expect(&rt, "a store");
         expect_ten(&rt, &mut store, is_new);

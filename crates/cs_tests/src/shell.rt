@@ -26,7 +26,7 @@ fn says_which_file_is_refused(rt: HostRuntime) {
 }
 
 #[test]
-fn texts(rt: HostRuntime) {
+fn prints_readable_text_and_sql(rt: HostRuntime) {
     let changeset = read(rt.alloc(), DELETE).expect(&rt, "a changeset");
     let mut out = Told::new(Vec::new(rt.alloc()));
     assert!(rt; dump_text(&changeset, &mut out).is_ok() && sql_text(&changeset, &mut out).is_ok());

@@ -87,7 +87,7 @@ pub(crate) fn deletion(rt: &(impl Abort + AllocGlobal), table: &str, key: i64) -
 }
 
 #[test]
-fn schemas(rt: HostRuntime) {
+fn marks_the_key_columns(rt: HostRuntime) {
     let columns = names(&rt, "a", "b");
     let schema = Schema::new(rt.alloc(), &columns, &[false, true]).expect(&rt, "a schema");
     let copy = schema.copy(rt.alloc()).expect(&rt, "memory");

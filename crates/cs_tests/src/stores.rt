@@ -96,7 +96,7 @@ fn has_no_rows<S: Alter>(
 }
 
 #[test]
-fn tables_of_a_store(rt: HostRuntime) {
+fn has_the_declared_tables_alone(rt: HostRuntime) {
     let mut store = store_with_table(&rt);
     let again = declaration(&rt, &mut store, "t", &[true, false]);
     assert!(rt; again == Err(StoreError::TableExists));
@@ -289,7 +289,7 @@ fn expect_answers_of_store<S: Alter>(
 }
 
 #[test]
-fn edits(rt: HostRuntime) {
+fn answers_edits_over_all_rows(rt: HostRuntime) {
     expect_answers(&rt, &mut tables(&rt), CASES);
     let mut store = store_with_table(&rt);
     expect_answers_in_batch(&rt, &mut store, CASES);

@@ -11,7 +11,7 @@ const TWO: &[u8] = b"\x01\x00\x00\x00\x00\x00\x00\x00\x02";
 const IMAGE: &[u8] = b"\x01\x00\x00\x00\x00\x00\x00\x00\x02\x05\x03\x01x";
 
 #[test]
-fn numbers(rt: HostRuntime) {
+fn spells_numbers(rt: HostRuntime) {
     for (number, bytes) in [
         (0, b"\x00".as_slice()),
         (127, b"\x7f".as_slice()),
@@ -33,7 +33,7 @@ fn numbers(rt: HostRuntime) {
 }
 
 #[test]
-fn fields(rt: HostRuntime) {
+fn reads_and_writes_fields(rt: HostRuntime) {
     for (bytes, field) in [
         (b"\x00".as_slice(), Field::Undefined),
         (TWO, Field::Defined(Value::Int(2))),
@@ -53,7 +53,7 @@ fn fields(rt: HostRuntime) {
 }
 
 #[test]
-fn texts(rt: HostRuntime) {
+fn copies_texts(rt: HostRuntime) {
     let text = Text::new(String::from_str(rt.alloc(), "x").expect(&rt, "memory"));
     let copy = text.copy(rt.alloc()).expect(&rt, "memory");
     assert!(rt; copy == text && copy.as_str() == "x");
@@ -61,7 +61,7 @@ fn texts(rt: HostRuntime) {
 }
 
 #[test]
-fn blobs(rt: HostRuntime) {
+fn copies_blobs(rt: HostRuntime) {
     let blob = Bytes::new(Vec::from_slice(rt.alloc(), b"\xff").expect(&rt, "memory"));
     let copy = blob.copy(rt.alloc()).expect(&rt, "memory");
     assert!(rt; copy == blob && copy.as_slice() == b"\xff".as_slice());
@@ -69,7 +69,7 @@ fn blobs(rt: HostRuntime) {
 }
 
 #[test]
-fn values(rt: HostRuntime) {
+fn copies_values(rt: HostRuntime) {
     let text = Value::Text("1").to_owned(rt.alloc()).expect(&rt, "memory");
     let copy = text.copy(rt.alloc()).expect(&rt, "memory");
     assert!(rt; copy == text && copy.as_value() == Value::Text("1"));
@@ -77,7 +77,7 @@ fn values(rt: HostRuntime) {
 }
 
 #[test]
-fn owned_fields(rt: HostRuntime) {
+fn copies_fields(rt: HostRuntime) {
     let field = Field::Defined(Value::Blob(b"1"));
     let blob = field.to_owned(rt.alloc()).expect(&rt, "memory");
     let copy = blob.copy(rt.alloc()).expect(&rt, "memory");
@@ -86,7 +86,7 @@ fn owned_fields(rt: HostRuntime) {
 }
 
 #[test]
-fn rows(rt: HostRuntime) {
+fn copies_and_writes_rows(rt: HostRuntime) {
     let row = Row::new(vec![in rt.alloc(); OwnedValue::Int(2), OwnedValue::Null].expect(
         &rt, "memory",
     ));
@@ -99,7 +99,7 @@ fn rows(rt: HostRuntime) {
 }
 
 #[test]
-fn images(rt: HostRuntime) {
+fn reads_copies_and_writes_images(rt: HostRuntime) {
     let (image, count) = image_read(rt.alloc(), IMAGE, 2).expect(&rt, "an image");
     let copy = image.copy(rt.alloc()).expect(&rt, "memory");
     assert!(rt; count == 10 && copy == image && copy.fields().len() == 2);
@@ -110,7 +110,7 @@ fn images(rt: HostRuntime) {
 }
 
 #[test]
-fn keys_of_rows(rt: HostRuntime) {
+fn makes_a_key_of_a_row(rt: HostRuntime) {
     let row = Row::new(vec![in rt.alloc(); OwnedValue::Int(2), OwnedValue::Null].expect(
         &rt, "memory",
     ));
@@ -122,7 +122,7 @@ fn keys_of_rows(rt: HostRuntime) {
 }
 
 #[test]
-fn keys_of_values(rt: HostRuntime) {
+fn makes_a_key_of_values(rt: HostRuntime) {
     let key = Key::from_values(rt.alloc(), &[OwnedValue::Int(2)]).expect(&rt, "memory");
     assert!(rt; key.bytes() == TWO);
 }
@@ -134,7 +134,7 @@ fn key_of(rt: &(impl Abort + AllocGlobal), bytes: &[u8]) -> Key {
 }
 
 #[test]
-fn keys_in_order(rt: HostRuntime) {
+fn orders_keys_by_their_bytes(rt: HostRuntime) {
     for (low, high) in [
         (TWO, b"\x01\xff\xff\xff\xff\xff\xff\xff\xff".as_slice()),
         (TWO, b"\x03\x01b".as_slice()),

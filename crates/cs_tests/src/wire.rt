@@ -18,7 +18,7 @@ fn header_of(rt: &(impl Abort + AllocGlobal), name: &str) -> Header {
 }
 
 #[test]
-fn headers(rt: HostRuntime) {
+fn compares_headers(rt: HostRuntime) {
     let header = header_of(&rt, "t");
     let copy = header.copy(rt.alloc()).expect(&rt, "memory");
     assert!(rt; copy.name() == "t" && copy.flags() == [2, 0].as_slice());
@@ -43,7 +43,7 @@ fn group_of(rt: &(impl Abort + AllocGlobal), name: &str) -> Group {
 }
 
 #[test]
-fn groups(rt: HostRuntime) {
+fn finds_what_was_pushed(rt: HostRuntime) {
     let mut group = group_of(&rt, "t");
     let entry = insertion(&rt, OwnedValue::Int(2));
     assert!(rt; group.header().admits(&entry));
@@ -57,7 +57,7 @@ fn groups(rt: HostRuntime) {
 }
 
 #[test]
-fn inverses_of_groups(rt: HostRuntime) {
+fn inverts_a_group(rt: HostRuntime) {
     let mut group = group_of(&rt, "t");
     group.invert();
     assert!(rt; group.flags() == [2, 0].as_slice());
