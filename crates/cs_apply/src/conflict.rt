@@ -6,6 +6,7 @@ use cs_group::{Choice, Kind};
 use cs_value::{NoMemory, Row};
 use cs_wire::Entry;
 use std::alloc::Global;
+use std::fmt;
 
 /// A conflict: an entry that does not find what it says.
 #[derive(Debug, Drop)]
@@ -51,5 +52,17 @@ impl Conflict {
             entry: entry.copy(alloc)?,
             current,
         })
+    }
+}
+
+impl fmt::Display for Conflict {
+    fn fmt<W: fmt::Write>(&self, f: &mut fmt::Formatter<W>) -> fmt::Result {
+        let kind = match self.kind {
+            Kind::Data => "data",
+            Kind::NotFound => "notfound",
+            Kind::Conflict => "conflict",
+        };
+        let table = self.table.as_str();
+        write!(f, "a conflict of kind {kind} in table {table}")
     }
 }

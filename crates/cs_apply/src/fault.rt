@@ -18,10 +18,10 @@ pub enum ApplyFault {
     #[error("a table has more columns than group {0} says")]
     Wider(usize),
     /// The handler chose to abort at this conflict.
-    #[error("aborted at a conflict")]
+    #[error("aborted at {0}")]
     Abort(Conflict),
     /// The handler chose to replace a row that is not there.
-    #[error("no row to replace at a conflict")]
+    #[error("no row to replace at {0}")]
     Misuse(Conflict),
     /// The store refused, for another cause than memory.
     #[error("{0}")]

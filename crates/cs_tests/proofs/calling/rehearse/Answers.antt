@@ -15,7 +15,7 @@ use Rattle.cs_session.specs.Attaching.{Attaches}
 use Rattle.cs_session.specs.Recording.{Records, RecordsApply}
 use Rattle.cs_session.specs.Undoing.{Undoes}
 use Rattle.cs_session.specs.Runs.{Moment, Run, KeepsBefore, RowsFromBefore}
-use Rattle.cs_session.proofs.RewoundLemmas.{pairs_from_recursion}
+use Rattle.cs_value.proofs.ListLemmas.{AllPairs-from_recursion}
 use Rattle.cs_session.proofs.RunsLemmas.{attached_step, edited_step, applied_step}
 use Rattle.cs_tests.proofs.calling.rehearse.Goals as goal
 
@@ -32,7 +32,7 @@ module _ (chooses : Handler) (file name : List ℕ) (edit : Edit) (s0 s1 s2 s3 s
       (attached_step name m0 m1 attached same, (edited_step edit m1 m2 edited, (applied_step chooses file m2 m3 report applied, tt))) in
       let keeps : KeepsBefore m0 (m1 ∷ m2 ∷ m3 ∷ []) run = law m0 (m1 ∷ m2 ∷ m3 ∷ []) (record {
         has = All-from_recursion (HasAttached s0) [] tt;
-        apart = pairs_from_recursion (λ (s t : AttachedTable). s.name ≢ t.name) [] tt;
+        apart = AllPairs-from_recursion (λ (s t : AttachedTable). s.name ≢ t.name) [] tt;
       }) run in
       let new : AttachedTable = record { name = name; schema = attached.schema; firsts = [] } in
       let wrote : List WrittenData = map written_of report.written.items in
