@@ -8,7 +8,7 @@ use Rattle.cs_value.specs.State.{TableData, State, schema_at, rows_at, with_rows
 use Rattle.cs_value.proofs.ByteMaps.{tied_bytes}
 use Rattle.cs_value.proofs.ListLemmas.{PairsByRecursion}
 use Rattle.cs_value.proofs.StateLemmas.{table_of_schema}
-use Rattle.cs_apply.proofs.WriteLemmas.{same_schemas, rows_here, rows_other}
+use Rattle.cs_store.proofs.WrittenRows.{same_schemas, rows_here, rows_other}
 use Rattle.cs_session.specs.FirstImages.{AttachedTable, Notes, HasAttached, rewound_rows, rewound, rewound_state}
 
 -- no name twice
