@@ -8,28 +8,17 @@ use Rattle.cs_value.specs.declared.TheConstants.{MAX_CONTENT_LEN}
 use Rattle.cs_value.specs.State.{SchemaData, IsSchema, IsColumnName}
 use Rattle.cs_value.specs.Varint.{varint}
 use Rattle.cs_value.specs.Spelling.{counted}
-use Rattle.cs_value.proofs.ListLemmas.{AllByRecursion-push}
+use Rattle.cs_value.proofs.ListLemmas.{AllByRecursion-push, same_from_append}
 use Rattle.cs_value.proofs.Spellings.{varint_spellings}
 use Rattle.cs_store.specs.declared.fault.StoreError.{StoreError}
 use Rattle.cs_store.specs.Declaration.{columns_bytes, declaration_bytes, BeginsWithColumn, AreColumns}
-
--- lists that begin with texts of one length begin with one
-append_same : (s t x y : List ℕ) → length s ≡ length t → s ++ x ≡ t ++ y → (s ≡ t) × (x ≡ y)
-append_same [] [] x y len e = (refl, e)
-append_same [] (b ∷ t) x y len e = absurd (omega arith)
-append_same (a ∷ s) [] x y len e = absurd (omega arith)
-append_same (a ∷ s) (b ∷ t) x y len e =
-    let rest : s ++ x ≡ t ++ y = cc in
-    let both = append_same s t x y (omega arith) rest in
-    let head : a ≡ b = cc in
-    (cc (head, both.0), both.1)
 
 -- bytes that begin with two counted texts begin with one
 pub counted_same : (s t x y : List ℕ) → length s ≤ MAX_CONTENT_LEN → length t ≤ MAX_CONTENT_LEN → counted s ++ x ≡ counted t ++ y → (s ≡ t) × (x ≡ y)
 unfolding counted
 counted_same s t x y short_s short_t e =
     let both = varint_spellings (length s) (length t) (s ++ x) (t ++ y) short_s short_t (sym (append_assoc (varint (length s)) s x) ∙ e ∙ append_assoc (varint (length t)) t y) in
-    append_same s t x y both.0 both.1
+    same_from_append s t x y both.0 both.1
 
 -- counted bytes begin with their count
 pub counted_count : (text rest : List ℕ) → counted text ++ rest ≡ varint (length text) ++ (text ++ rest)

@@ -7,6 +7,7 @@ use Rattle.cs_value.specs.declared.value.OwnedValue.{OwnedValue}
 use Rattle.cs_value.specs.Value.{IsRow}
 use Rattle.cs_value.specs.Table.{IsKeyedRow}
 use Rattle.cs_value.specs.State as tables
+use Rattle.cs_value.proofs.StateLemmas.{row_at_fits}
 use Rattle.sqlite.specs.Effect.{Database}
 use Rattle.sqlite.specs.State.{State, HasCleanDisk, IsUnchanged}
 use Rattle.cs_store.specs.declared.fault.StoreError.{StoreError}
@@ -80,14 +81,11 @@ rows_fit state name key is (Some row) same = row_fits state name key row is (sym
 -- and is a row under the flags of the table's schema
 pub row_is : (state : tables.State) (name key : List ℕ) (schema : tables.SchemaData) → tables.IsState state → tables.schema_at state name ≡ Some schema
     → IfSome (tables.row_at state name key) (λ row. IsRow row × IsKeyedRow schema.flags row)
-row_is state name key schema is has = at (tables.row_at state name key) refl
+row_is state name key schema is has = at (tables.row_at state name key) (row_at_fits state name schema is has key)
   where
-    at : (o : Option (List OwnedValue)) → tables.row_at state name key ≡ o → IfSome o (λ row. IsRow row × IsKeyedRow schema.flags row)
-    at None none = tt
-    at (Some row) found =
-        let fits = row_fits state name key row is found in
-        let same : fits.table.schema ≡ schema = let e = ap (option_map (λ (t : tables.TableData). t.schema)) (sym fits.found) ∙ has in cc in
-        (fits.fit.values, subst (λ (s : tables.SchemaData). IsKeyedRow s.flags row) same fits.fit.keyed)
+    at : (o : Option (List OwnedValue)) → IfSome o (tables.IsRowAt schema.flags key) → IfSome o (λ row. IsRow row × IsKeyedRow schema.flags row)
+    at None fit = tt
+    at (Some row) fit = (fit.values, fit.keyed)
 
 -- a table that has a schema has a name
 pub declared_named : (db : Database) (name : List ℕ) (schema : tables.SchemaData) → tables.schema_at (tables_in db) name ≡ Some schema → name ≢ []

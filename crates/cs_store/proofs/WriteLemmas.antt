@@ -60,11 +60,6 @@ pub on_err_then : {X E : Type 0} (r : Result X E) (P Q : Type 0) → (P → Q) �
 on_err_then (Ok x) P Q f p = tt
 on_err_then (Err e) P Q f p = f p
 
--- what follows of a refusal
-pub on_refusal : {X : Type 0} (r : Result X StoreError) (P Q : StoreError → Type 0) → ((e : StoreError) → P e → Q e) → IfErr r P → IfErr r Q
-on_refusal (Ok x) P Q f h = tt
-on_refusal (Err e) P Q f h = f e h
-
 -- a table is declared
 pub table_put : (old new : Database) (name : List ℕ) (schema : tables.SchemaData) → HoldsState old → IsName name → tables.IsSchema schema → tables.schema_at (tables_in old) name ≡ None
     → Sets old new [] name (Some (declaration_bytes schema)) → HoldsState new × (tables_in new ≡ tables.with_table (tables_in old) name schema)

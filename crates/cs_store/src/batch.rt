@@ -42,7 +42,8 @@ impl<S: Alter> SqlBatch<'_, S> {
         ensures same_reference { self.new.store.ghost_name ≡ self.old.store.ghost_name }
         ensures kept { KeepsStore (state S.Store self.old.store.now) (state S.Store self.new.store.now) }
     {
-        self.store.add_table(alloc, name, schema)
+        let store = &mut *self.store;
+        known::add_table(&mut store.conn, &mut store.known, alloc, name, schema)
     }
 
     /// Commits the writes of the batch. Where it is refused, the store is as when the batch began.

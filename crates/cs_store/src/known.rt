@@ -1,11 +1,13 @@
 //! What is read and written through a store. The table that was looked up last is known: inside a transaction, where
 //! nobody else writes, its schema is not read again.
-ghost use Rattle.std.specs.Prelude.{◌≡◌, IsTrue, IfOk, IfErr, OnOk, IfSome, Some, option_map};
+ghost use Rattle.std.specs.Prelude.{◌≡◌, ◌⊎◌, IsTrue, IfOk, IfErr, OnOk, IfSome, None, Some, option_map};
 ghost use Rattle.std.specs.FinMap as map;
+ghost use Rattle.cs_value.specs.Table.{IsName};
 ghost use Rattle.cs_value.specs.State.{schema_at, row_at, rows_at, with_row, without_row};
+ghost use Rattle.cs_store.specs.declared.fault.StoreError.TheVariants.{TableExists as TakenName};
 ghost use Rattle.cs_store.specs.Faults.{IsResource, IsReadRefusal};
 ghost use Rattle.cs_store.specs.Rows.{IsDeclared, Fits};
-ghost use Rattle.cs_store.specs.Store.{IsSound, KeepsStore, Knows, tables_in};
+ghost use Rattle.cs_store.specs.Store.{AddsTable, IsSound, KeepsStore, Knows, tables_in};
 ghost use Rattle.sqlite.specs.State.{HasCleanDisk};
 ghost use Rattle.sqlite.specs.Held.{state};
 
@@ -188,6 +190,59 @@ pub(crate) fn remove_row<S: Alter>(
             Err(error)
         }
     }
+}
+
+/// Adds a table without rows, where none has the name. It is refused outside a transaction.
+pub(crate) fn add_table<S: Alter>(
+    conn: &mut Connection<S>,
+    known: &mut Option<KnownTable>,
+    alloc: Global,
+    name: &str,
+    schema: &Schema,
+) -> Result<(), StoreError>
+    requires sound { IsSound (state S.Store conn.old) }
+    requires knows { Knows (state S.Store conn.old) known.old }
+    requires named { IsName name.now }
+    ensures declared { HasCleanDisk (state S.Store conn.new)
+        → OnOk result (AddsTable (tables_in (state S.Store conn.old).now) name.now schema.now
+        (tables_in (state S.Store conn.new).now)) }
+    ensures refused { HasCleanDisk (state S.Store conn.new) → IfErr result (λ e. ((e ≡ TakenName)
+        × IsDeclared (tables_in (state S.Store conn.old).now) name.now) ⊎ IsResource e) }
+    ensures named { IfErr result (λ e. (e ≡ TakenName) ⊎ IsReadRefusal e) }
+    ensures knows { Knows (state S.Store conn.new) known.new }
+    ensures kept { KeepsStore (state S.Store conn.old) (state S.Store conn.new) }
+{
+    match find_schema(conn, known, alloc, name) {
+        Ok(Some(_)) => Err(StoreError::TableExists),
+        Ok(None) => put_table(conn, known, alloc, name, schema),
+        Err(error) => Err(error),
+    }
+}
+
+/// Puts a table without rows under a name that no table has. It is refused outside a transaction.
+fn put_table<S: Alter>(
+    conn: &mut Connection<S>,
+    known: &mut Option<KnownTable>,
+    alloc: Global,
+    name: &str,
+    schema: &Schema,
+) -> Result<(), StoreError>
+    requires sound { IsSound (state S.Store conn.old) }
+    requires named { IsName name.now }
+    requires free { HasCleanDisk (state S.Store conn.old)
+        → schema_at (tables_in (state S.Store conn.old).now) name.now ≡ None }
+    ensures declared { HasCleanDisk (state S.Store conn.new)
+        → OnOk result (AddsTable (tables_in (state S.Store conn.old).now) name.now schema.now
+        (tables_in (state S.Store conn.new).now)) }
+    ensures refused { IfErr result IsResource }
+    ensures knows { Knows (state S.Store conn.new) known.new }
+    ensures kept { KeepsStore (state S.Store conn.old) (state S.Store conn.new) }
+{
+    *known = None;
+    if conn.is_autocommit() {
+        return Err(StoreError::StoreFault);
+    }
+    tables::put_table(conn, alloc, name, schema)
 }
 
 /// Makes the table of this name the known one, and none where no table has the name.

@@ -3,10 +3,9 @@ ghost use Rattle.std.specs.Prelude.{◌≡◌, ◌⊎◌, IsTrue, IfOk, IfErr, O
 ghost use Rattle.std.specs.Prelude.{map as map_list, string_bytes};
 ghost use Rattle.std.specs.FinMap as map;
 ghost use Rattle.cs_value.specs.State as tables;
-ghost use Rattle.cs_value.specs.State.{schema_at, row_at, rows_at, with_row, without_row};
+ghost use Rattle.cs_value.specs.State.{schema_at, row_at, rows_at};
 ghost use Rattle.cs_store.specs.declared.fault.StoreError.TheVariants.{DamagedStore as Damaged, NoTable as NoSuchTable};
 ghost use Rattle.cs_store.specs.declared.fault.StoreError.TheVariants.{BadSchema as NoSchema, TableExists as TakenName};
-ghost use Rattle.cs_value.specs.Table.{IsName};
 ghost use Rattle.cs_store.specs.Faults.{IsResource, IsReadRefusal, IsEditRefusal};
 ghost use Rattle.cs_store.specs.Editing.{Declares, EditsInto, schema_of, edited, written_of};
 ghost use Rattle.cs_store.specs.Crash.{MayLeave};
@@ -17,7 +16,7 @@ ghost use Rattle.sqlite.specs.Held.{state};
 ghost use Rattle.sqlite.specs.Files.{file_state};
 ghost use Rattle.sqlite.specs.Steps.{over_memory};
 ghost use Rattle.sqlite_wal.specs.Files.{image_at};
-ghost use Rattle.cs_store.specs.Store.{AddsTable, Adopts, Begins, HoldsTables, IsAtRest, KeepsStore, OpensFiles};
+ghost use Rattle.cs_store.specs.Store.{Adopts, Begins, HoldsTables, IsAtRest, KeepsStore, OpensFiles};
 ghost use Rattle.cs_store.specs.Store.{tables_in};
 
 use crate::batch::SqlBatch;
@@ -300,46 +299,5 @@ impl<S: Alter> Store<S> {
         let written = edit_in(alloc, &mut batch, edit)?;
         batch.commit()?;
         Ok(written)
-    }
-
-    /// Adds a table without rows, in a batch.
-    pub(crate) fn add_table(
-        &mut self,
-        alloc: Global,
-        name: &str,
-        schema: &Schema,
-    ) -> Result<(), StoreError>
-        requires { IsName name.now }
-        ensures declared { HasCleanDisk (state S.Store self.new)
-            → OnOk result (AddsTable (tables_in (state S.Store self.old).now) name.now schema.now
-            (tables_in (state S.Store self.new).now)) }
-        ensures refused { HasCleanDisk (state S.Store self.new) → IfErr result (λ e. ((e ≡ TakenName)
-            × IsDeclared (tables_in (state S.Store self.old).now) name.now) ⊎ IsResource e) }
-        ensures named { IfErr result (λ e. (e ≡ TakenName) ⊎ IsReadRefusal e) }
-        ensures kept { KeepsStore (state S.Store self.old) (state S.Store self.new) }
-    {
-        match self.schema(alloc, name) {
-            Ok(Some(_)) => Err(StoreError::TableExists),
-            Ok(None) => self.put_table(alloc, name, schema),
-            Err(error) => Err(error),
-        }
-    }
-
-    /// Declares a table without rows under a name that no table has. It is refused outside a batch.
-    fn put_table(&mut self, alloc: Global, name: &str, schema: &Schema) -> Result<(), StoreError>
-        requires named { IsName name.now }
-        requires free { HasCleanDisk (state S.Store self.old)
-            → schema_at (tables_in (state S.Store self.old).now) name.now ≡ None }
-        ensures declared { HasCleanDisk (state S.Store self.new)
-            → OnOk result (AddsTable (tables_in (state S.Store self.old).now) name.now schema.now
-            (tables_in (state S.Store self.new).now)) }
-        ensures refused { IfErr result IsResource }
-        ensures kept { KeepsStore (state S.Store self.old) (state S.Store self.new) }
-    {
-        if self.conn.is_autocommit() {
-            return Err(StoreError::StoreFault);
-        }
-        self.known = None;
-        tables::put_table(&mut self.conn, alloc, name, schema)
     }
 }

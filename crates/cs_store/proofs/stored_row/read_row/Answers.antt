@@ -3,7 +3,8 @@ use Rattle.std.proofs.Common.{[], map, length, refl, sym, ap, subst, ◌∙◌, 
 use Rattle.std.proofs.lemmas.Result.{err_from_is_err_and}
 use Rattle.cs_value.specs.declared.value.OwnedField.TheVariants.{Defined}
 use Rattle.cs_value.specs.Table.{IsKeyedRow}
-use Rattle.cs_store.proofs.StoredRowLemmas.{row_image, row_image_same, row_whole, no_fault_answered}
+use Rattle.cs_value.proofs.RowImages.{same_from_fields}
+use Rattle.cs_store.proofs.StoredRowLemmas.{row_image, row_whole, no_fault_answered}
 use Rattle.cs_store.proofs.stored_row.read_row.Goals as goal
 
 pub returns-in-Err-Fault-clause-refused : goal.returns-in-Err-Fault-clause-refused
@@ -46,7 +47,7 @@ returns-then-not-is_keyed-clause-refused c =
       λ row values keyed e.
           let image = row_image c.args.flags.now c.args.bytes.now row values keyed e in
           let is = c.in-Ok.ensures.only (map Defined row) [] image.fields image.as_many image.begins in
-          let same = row_image_same row c.in_ok-row.row (sym is.0 ∙ c.in_ok-row.ensures.found) in
+          let same = same_from_fields row c.in_ok-row.row (sym is.0 ∙ c.in_ok-row.ensures.found) in
           absurd (cc (c.if-not-is_keyed.ensures.keyed.1 (subst (IsKeyedRow c.args.flags.now) same keyed))),
     )
 
