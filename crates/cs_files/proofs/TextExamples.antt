@@ -6,7 +6,8 @@ use Rattle.cs_value.specs.declared.value.OwnedValue.{OwnedValue}
 use Rattle.cs_value.specs.declared.value.OwnedValue.TheVariants.{Int, Text, Blob, Null}
 use Rattle.cs_wire.specs.declared.entry.Change.TheVariants.{Insert, Delete}
 use Rattle.cs_wire.proofs.Examples.{one_change, x, y, row, update, idle_update}
-use Rattle.cs_files.specs.Texts.{doubled, literal, separated, field_text, header_text, entry_text, group_text, dump_of}
+use Rattle.cs_value.specs.Quoting.{doubled}
+use Rattle.cs_files.specs.Texts.{literal, separated, field_text, header_text, entry_text, group_text, dump_of}
 use Rattle.cs_files.specs.Texts.{assignment, condition, statement, sql_of}
 
 computing : Unit {0}

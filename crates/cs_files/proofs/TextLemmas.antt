@@ -4,7 +4,8 @@ use Rattle.std.specs.List.{flat_map}
 use Rattle.hex.specs.Hex.{encode_with, encode_lower}
 use Rattle.cs_value.specs.declared.value.OwnedValue.{OwnedValue}
 use Rattle.cs_value.specs.declared.value.OwnedField.TheVariants.{Defined}
-use Rattle.cs_files.specs.Texts.{doubled, literal, field_text}
+use Rattle.cs_value.specs.Quoting.{doubled}
+use Rattle.cs_files.specs.Texts.{literal, field_text}
 
 -- a byte is twice there or once, whatever follows
 pub doubled_bytes : (quote : ℕ) (text : List ℕ) → doubled quote text ≡ flat_map (λ byte. doubled quote (byte ∷ [])) text

@@ -10,7 +10,8 @@ use Rattle.cs_files.specs.declared.texts.sql.Piece.{Piece as SqlPiece}
 use Rattle.cs_files.specs.declared.texts.sql.Piece.TheVariants as sql
 use Rattle.cs_files.specs.declared.texts.sql.Terms.{Terms}
 use Rattle.cs_files.specs.declared.texts.sql.Terms.TheVariants.{Assignments, Conditions}
-use Rattle.cs_files.specs.Texts.{quoted, literal, separated, fields_text, assignment, condition, by_place}
+use Rattle.cs_value.specs.Quoting.{quoted}
+use Rattle.cs_files.specs.Texts.{literal, separated, fields_text, assignment, condition, by_place}
 use Rattle.cs_files.specs.Texts.{conditions, assignments}
 
 -- what a piece of a line is printed as

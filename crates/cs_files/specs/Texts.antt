@@ -4,6 +4,7 @@ use Rattle.std.specs.Prelude.{ℕ, ◌+◌, ◌==◌, if◌then◌else◌, Bool,
 use Rattle.std.specs.List.{flat_map}
 use Rattle.std.specs.Fmt.{signed_decimal}
 use Rattle.hex.specs.Hex.{encode_lower}
+use Rattle.cs_value.specs.Quoting.{quoted}
 use Rattle.cs_value.specs.declared.value.OwnedValue.{OwnedValue}
 use Rattle.cs_value.specs.declared.value.OwnedValue.TheVariants.{Int, Text, Blob, Null}
 use Rattle.cs_value.specs.declared.value.OwnedField.{OwnedField}
@@ -13,15 +14,6 @@ use Rattle.cs_wire.specs.declared.entry.Change.TheVariants.{Insert, Delete, Upda
 use Rattle.cs_wire.specs.Changeset.{HeaderData, GroupData}
 
 -- ---- literals
-
--- each of these bytes twice
-unfoldable pub doubled : ℕ → List ℕ → List ℕ
-doubled quote [] = []
-doubled quote (b ∷ text) = if b == quote then quote ∷ quote ∷ doubled quote text else b ∷ doubled quote text
-
--- a text between two quotes, with each quote in it doubled
-abbrev pub quoted : ℕ → List ℕ → List ℕ
-quoted quote text = quote ∷ doubled quote text ++ quote ∷ []
 
 unfoldable pub literal : OwnedValue → List ℕ
 literal (Int z) = signed_decimal z

@@ -22,7 +22,8 @@ use Rattle.cs_shell.specs.Script.{SlotMap, error_line, refusal_text, reply_text,
 use Rattle.cs_shell.specs.Script.{shown, nothing_to_show, inverted, not_inverted, nothing_to_invert, LineGives, answered, not_text, malformed}
 use Rattle.cs_shell.specs.Script.{Dumped, joined, dumped, ScriptGives, RunsInput}
 use Rattle.cs_files.proofs.Examples.{insert_file_inverts, insert_file_joins_update, later_file}
-use Rattle.cs_files.specs.Texts.{doubled, literal, separated, field_text, header_text, entry_text, group_text}
+use Rattle.cs_value.specs.Quoting.{doubled}
+use Rattle.cs_files.specs.Texts.{literal, separated, field_text, header_text, entry_text, group_text}
 use Rattle.cs_shell.specs.declared.script.Status.TheVariants.{Done}
 use Rattle.cs_files.specs.declared.told.Told.{Told}
 use Rattle.cs_shell.specs.declared.reply.Refusal.TheVariants.{Fault, Syntax, EmptySlot, BadHex, LineText}

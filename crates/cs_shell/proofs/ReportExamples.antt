@@ -6,7 +6,7 @@ use Rattle.cs_wire.proofs.Examples.{row}
 use Rattle.cs_group.specs.declared.conflict.Kind.TheVariants.{Conflict}
 use Rattle.cs_group.specs.declared.conflict.Choice.TheVariants.{Replace}
 use Rattle.cs_group.specs.Applying.{ConflictData}
-use Rattle.cs_files.specs.Texts.{doubled}
+use Rattle.cs_value.specs.Quoting.{doubled}
 use Rattle.cs_shell.specs.Report.{skip_text, met_text, count_text}
 
 computing : Unit {0}

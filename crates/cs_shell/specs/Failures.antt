@@ -15,7 +15,7 @@ use Rattle.cs_shell.specs.declared.reply.Refusal.TheVariants.{Fault, Schema, NoM
 use Rattle.cs_shell.specs.declared.command.Failure.{Failure}
 use Rattle.cs_shell.specs.declared.command.Failure.TheVariants.{Refused, Output}
 use Rattle.cs_shell.specs.Script.{error_line, number_detail}
-use Rattle.cs_files.specs.Texts.{quoted}
+use Rattle.cs_value.specs.Quoting.{quoted}
 use Rattle.cs_shell.specs.Report.{kind_text}
 
 abbrev pub unread : OrNoMemory ReadFault → Failure

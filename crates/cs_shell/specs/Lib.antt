@@ -7,6 +7,7 @@ pub mod Report
 pub use Rattle.cs_value.specs.Value
 pub use Rattle.cs_value.specs.Varint
 pub use Rattle.cs_value.specs.Spelling
+pub use Rattle.cs_value.specs.Quoting
 pub use Rattle.cs_value.specs.Key
 pub use Rattle.cs_value.specs.Maps
 pub use Rattle.cs_value.specs.Table

@@ -8,7 +8,7 @@ use Rattle.cs_group.specs.declared.conflict.Choice.TheVariants as choice
 use Rattle.cs_group.specs.Applying.{MetData}
 use Rattle.cs_apply.specs.declared.report.Report.{Report}
 use Rattle.cs_apply.specs.Report.{met_of}
-use Rattle.cs_files.specs.Texts.{quoted}
+use Rattle.cs_value.specs.Quoting.{quoted}
 
 -- the numbers are SQLite's: SQLITE_CHANGESET_DATA, SQLITE_CHANGESET_NOTFOUND and SQLITE_CHANGESET_CONFLICT
 abbrev pub kind_number : Kind → ℕ

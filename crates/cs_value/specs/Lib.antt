@@ -1,6 +1,7 @@
 pub mod Value
 pub mod Varint
 pub mod Spelling
+pub mod Quoting
 pub mod Key
 pub mod Maps
 pub mod State

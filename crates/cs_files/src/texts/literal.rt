@@ -2,7 +2,8 @@
 ghost use Rattle.std.specs.Prelude.{◌≤◌, ◌∷◌, [], length, decimal};
 ghost use Rattle.hex.specs.Hex.{encode_lower};
 ghost use Rattle.cs_files.specs.Gathering.{Gathers};
-ghost use Rattle.cs_files.specs.Texts.{doubled, quoted, literal};
+ghost use Rattle.cs_value.specs.Quoting.{doubled, quoted};
+ghost use Rattle.cs_files.specs.Texts.{literal};
 ghost use Rattle.cs_value.specs.declared.value.OwnedValue.TheVariants.{Blob};
 
 use crate::fault::OutputFault;
@@ -28,7 +29,7 @@ pub(super) fn add_number<W: Write>(
 }
 
 /// Adds a byte of a text, twice where it is the quote.
-#[tactic(auto, unfolding(crate::specs::Texts::doubled))]
+#[tactic(auto, unfolding(cs_value::specs::Quoting::doubled))]
 fn add_quotable<W: Write>(
     gather: &mut Gather,
     out: &mut Told<W>,

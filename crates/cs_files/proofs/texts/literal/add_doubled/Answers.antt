@@ -3,7 +3,7 @@ use Rattle.std.proofs.Common.{ap, ◌∷◌, [], sym, ◌∙◌, arith}
 use Rattle.std.specs.List.{flat_map}
 use Rattle.std.proofs.lemmas.List.{take_all}
 use Rattle.cs_value.proofs.ListLemmas.{flat_map_take_more, flat_map_split}
-use Rattle.cs_files.specs.Texts.{doubled}
+use Rattle.cs_value.specs.Quoting.{doubled}
 use Rattle.cs_files.proofs.GatherLemmas.{Gathered-more, Gathers-stopped, Gathers-done}
 use Rattle.cs_files.proofs.TextLemmas.{doubled_bytes}
 use Rattle.cs_files.proofs.texts.literal.add_doubled.Goals as goal

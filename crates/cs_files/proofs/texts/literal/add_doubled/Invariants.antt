@@ -1,6 +1,6 @@
 use Rattle.std.proofs.Common.{◌∷◌, [], take}
 use Rattle.std.specs.List.{flat_map}
-use Rattle.cs_files.specs.Texts.{doubled}
+use Rattle.cs_value.specs.Quoting.{doubled}
 use Rattle.cs_files.specs.Gathering.{Gathered}
 use Rattle.cs_files.proofs.texts.literal.add_doubled.Given as goal
 
