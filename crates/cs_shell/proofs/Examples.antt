@@ -17,16 +17,18 @@ use Rattle.cs_wire.specs.declared.entry.Change.TheVariants.{Insert}
 use Rattle.cs_wire.specs.declared.fault.ReadFaultKind.TheVariants.{NotTable, EmptyGroup}
 use Rattle.cs_wire.proofs.Examples.{one_change, row, insert_file, delete_file, update_file, insert_is_spelled}
 use Rattle.cs_wire.proofs.Examples.{insert_is_changeset, letter_is_refused}
-use Rattle.cs_shell.specs.Lines.{HasNoFeed, words_of, IsSlot, CommandData, Load, Hex, Invert, Concat, Dump, Asks, AsksNothing}
-use Rattle.cs_shell.specs.Script.{SlotMap, error_line, refusal_text, reply_text, Silent, Text as Printed, Refused, CommandGives, loaded, no_hex}
-use Rattle.cs_shell.specs.Script.{shown, nothing_to_show, inverted, not_inverted, nothing_to_invert, LineGives, answered, not_text, malformed}
-use Rattle.cs_shell.specs.Script.{Dumped, joined, dumped, ScriptGives, RunsInput}
+use Rattle.cs_shell.specs.Lines.{words_of, IsSlot, CommandData, Load, Hex, Invert, Concat, Dump, Asks, AsksNothing}
+use Rattle.cs_shell.specs.ErrorLines.{refusal_text}
+use Rattle.cs_shell.specs.Replies.{Reply, Silent, Text as Printed, Dumped, Refused, reply_text, replies_text}
+use Rattle.cs_shell.specs.Script.{SlotMap, CommandGives, loaded, no_hex, shown, nothing_to_show, inverted, not_inverted}
+use Rattle.cs_shell.specs.Script.{nothing_to_invert, joined, dumped, LineGives, answered, not_text, malformed}
+use Rattle.cs_shell.specs.Runs.{HasNoFeed, AnswersAll, RunsInput}
 use Rattle.cs_files.proofs.Examples.{insert_file_inverts, insert_file_joins_update, later_file}
 use Rattle.cs_value.specs.Quoting.{doubled}
 use Rattle.cs_files.specs.Texts.{literal, separated, field_text, header_text, entry_text, group_text}
 use Rattle.cs_shell.specs.declared.script.Status.TheVariants.{Done}
 use Rattle.cs_files.specs.declared.told.Told.{Told}
-use Rattle.cs_shell.specs.declared.reply.Refusal.TheVariants.{Fault, Syntax, EmptySlot, BadHex, LineText}
+use Rattle.cs_shell.specs.declared.refusal.Refusal.TheVariants.{Read, Syntax, EmptySlot, BadHex, LineText}
 
 computing : Unit {0}
 unfolding encode_utf8 chars is_utf8
@@ -119,18 +121,13 @@ capital_asks_something (rest, word) = absurd (omega (arith, ap (λ bytes. get_or
 
 -- printed texts
 
--- the line of an empty slot
-empty_slot_is_printed : error_line 62 (codes "EmptySlot") [] ≡ codes "error 62 EmptySlot\n"
-unfolding digits
-empty_slot_is_printed = refl
-
 -- the reply to a line that names an empty slot
 empty_slot_reply_is_printed : reply_text (Refused EmptySlot) ≡ codes "error 62 EmptySlot\n"
-unfolding reply_text refusal_text
-empty_slot_reply_is_printed = empty_slot_is_printed
+unfolding reply_text refusal_text digits
+empty_slot_reply_is_printed = refl
 
 -- the line of a header of 6 bytes without a change behind it
-fault_is_printed : refusal_text (Fault (record { kind = EmptyGroup; place = 6 })) ≡ codes "error 9 EmptyGroup 6\n"
+fault_is_printed : refusal_text (Read (record { kind = EmptyGroup; place = 6 })) ≡ codes "error 9 EmptyGroup 6\n"
 unfolding refusal_text digits
 fault_is_printed = refl
 
@@ -165,7 +162,7 @@ empty_slot_is_not_inverted : CommandGives empty (Invert (codes "a") (codes "b"))
 empty_slot_is_not_inverted = nothing_to_invert empty (codes "a") (codes "b") (get-empty _ (codes "a"))
 
 -- a slot of the byte 41 is not inverted: that is no table
-table_is_wanted : CommandGives (insert empty (codes "a") (0x41 ∷ [])) (Invert (codes "a") (codes "b")) (Refused (Fault (record { kind = NotTable; place = 0 }))) (insert empty (codes "a") (0x41 ∷ []))
+table_is_wanted : CommandGives (insert empty (codes "a") (0x41 ∷ [])) (Invert (codes "a") (codes "b")) (Refused (Read (record { kind = NotTable; place = 0 }))) (insert empty (codes "a") (0x41 ∷ []))
 table_is_wanted = not_inverted _ (codes "a") (codes "b") (0x41 ∷ []) (record { kind = NotTable; place = 0 }) (get_filled empty (codes "a") (0x41 ∷ []) refl) letter_is_refused
 
 -- one digit is no byte
@@ -259,34 +256,34 @@ no_feed_in : (line : List ℕ) → list_any (λ b. b == 10) line ≡ false → H
 no_feed_in [] h = tt
 no_feed_in (b ∷ line) h = let parts = or_parts (b == 10) (list_any (λ b. b == 10) line) h in (eqb-false b 10 parts.0, no_feed_in line parts.1)
 
--- the file of the insertion is loaded, inverted and shown: that of the deletion is printed
-script_inverts : ScriptGives empty (codes ".load a 5402010074001200010000000000000001030178\n.invert a b\n.hex b\n")
-    (codes "5402010074000900010000000000000001030178\n") false
-unfolding reply_text encode_with
+abbrev three_replies : List Reply
+three_replies = Silent ∷ Silent ∷ Printed (encode_lower delete_file) ∷ []
+
+-- the file of the insertion is loaded, inverted and shown
+script_inverts : AnswersAll LineGives empty (codes ".load a 5402010074001200010000000000000001030178\n.invert a b\n.hex b\n")
+    three_replies both_filled
 script_inverts = record {
   lines = load_line ∷ invert_line ∷ hex_line ∷ [];
   last = [];
-  replies = Silent ∷ Silent ∷ Printed (encode_lower delete_file) ∷ [];
-  new = both_filled;
   splits = record {
     spelled = refl;
     no_feed = (no_feed_in load_line refl, (no_feed_in invert_line refl, (no_feed_in hex_line refl, tt)));
     no_feed_last = tt;
   };
   given = (a_filled, load_line_gives, (both_filled, invert_line_gives, (both_filled, hex_line_gives, refl)));
-  written_is = refl;
-  refused_is = refl;
-  short = omega arith;
 }
 
+-- that of the deletion is printed
+inverse_is_printed : replies_text three_replies ≡ codes "5402010074000900010000000000000001030178\n"
+unfolding reply_text encode_with
+inverse_is_printed = refl
+
 -- a script of one line, which ends without a line feed and names an empty slot
-script_is_refused : ScriptGives empty hex_line (codes "error 62 EmptySlot\n") true
-unfolding computing reply_text refusal_text digits
+script_is_refused : AnswersAll LineGives empty hex_line (Refused EmptySlot ∷ []) empty
+unfolding computing
 script_is_refused = record {
   lines = [];
   last = hex_line;
-  replies = Refused EmptySlot ∷ [];
-  new = empty;
   splits = record {
     spelled = refl;
     no_feed = tt;
@@ -295,31 +292,36 @@ script_is_refused = record {
   given =
       let text = IsUtf8-from_is_utf8 hex_line refl in
       (empty, answered empty hex_line (Hex (codes "b")) (Refused EmptySlot) empty text hex_line_asks empty_slot_is_refused, refl);
-  written_is = refl;
-  refused_is = refl;
-  short = omega arith;
 }
 
--- an empty script prints nothing
-empty_script_prints_nothing : (slots : SlotMap) → ScriptGives slots [] [] false
-empty_script_prints_nothing slots = record {
+-- an empty script is answered with nothing
+empty_script_answers : (slots : SlotMap) → AnswersAll LineGives slots [] [] slots
+empty_script_answers slots = record {
   lines = [];
   last = [];
-  replies = [];
-  new = slots;
   splits = record { spelled = refl; no_feed = tt; no_feed_last = tt };
   given = refl;
-  written_is = refl;
-  refused_is = refl;
-  short = omega arith;
 }
 
 -- where the input has no bytes left, nothing is written and the exit status is 0
 empty_input_ends : {R W : Type 0} (contents : W → Option (List ℕ)) (input : Told R) (out : Told W)
-    → RunsInput (λ reader. Some []) contents 0 input input out out
+    → RunsInput (λ reader. Some []) contents LineGives empty 0 input input out out
 empty_input_ends contents input out = record {
   status = Done;
+  final = empty;
   exit_is = refl;
-  ended = ([], empty_script_prints_nothing empty, Appends-nil _);
-  flagged = tt;
+  runs = record {
+    text = [];
+    consumed = refl;
+    bounded = omega arith;
+    at_end = refl;
+    ended = record {
+      short = omega arith;
+      replies = [];
+      answers = empty_script_answers empty;
+      written = Appends-nil _;
+      refused = refl;
+    };
+    flagged = tt;
+  };
 }

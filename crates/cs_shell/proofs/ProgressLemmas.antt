@@ -1,19 +1,20 @@
 -- Lemmas on a script that is run line by line.
-use Rattle.std.proofs.Common.{◌≡◌, ◌≢◌, ℕ, ◌+◌, ◌<◌, ◌≤◌, ◌||◌, ◌==◌, vec_len, Bool, true, false, List, [], ◌∷◌, ◌++◌, length, take, get_or, Option, Result, Ok, Err, OnOk, refl, sym, ap, subst, ◌∙◌, append_assoc, append-nil, arith, length-append}
+use Rattle.std.proofs.Common.{◌≡◌, ◌≢◌, inl, inr, ℕ, ◌+◌, ◌<◌, ◌≤◌, ◌||◌, Bool, true, false, List, [], ◌∷◌, ◌++◌, length, take, drop, get_or, Option, Result, Ok, Err, OnOk, OnErr, refl, sym, ap, subst, ◌∙◌, append_assoc, append-nil, arith, length-append}
 use Rattle.std.specs.List.{flat_map, list_any}
-use Rattle.std.proofs.lemmas.Bool.{both_ways, eqb-true, eqb-false}
-use Rattle.std.proofs.lemmas.List.{take_more, take_all, nil_from_length, flat_map_more}
+use Rattle.std.proofs.lemmas.Bool.{both_ways}
+use Rattle.std.proofs.lemmas.List.{take_more, take_all, take-append-drop, flat_map_more}
 use Rattle.std.proofs.lemmas.List.Recursion.{or_push}
-use Rattle.std.specs.FinMap.{empty}
 use Rattle.std.specs.Io.KnownBytes.{Appends}
 use Rattle.std.proofs.KnownBytes.{Appends-nil, Appends-trans}
 use Rattle.cs_value.proofs.ListLemmas.{AllByRecursion-push}
+use Rattle.cs_shell.specs.declared.reader.LineReader.{LineReader}
 use Rattle.cs_shell.specs.declared.script.Script.{Script}
 use Rattle.cs_files.specs.declared.told.Told.{Told}
 use Rattle.cs_files.specs.Told.{known}
-use Rattle.cs_shell.specs.Lines.{Splits, HasNoFeed, ended, unended}
-use Rattle.cs_shell.specs.Script.{SlotMap, Reply, LineGives, LinesGive, reply_text, replies_text, is_refused}
-use Rattle.cs_shell.specs.Progress.{HoldsLine, AddsByte, EndsLine, Progress, Advances, Finishes}
+use Rattle.cs_files.specs.Calls.{AppendsFront}
+use Rattle.cs_shell.specs.Replies.{Reply, reply_text, replies_text, is_refused}
+use Rattle.cs_shell.specs.Runs.{Splits, HasNoFeed, ended, unended, LinesGive, AnswersAll}
+use Rattle.cs_shell.specs.Progress.{Holds, HasBegun, IsFresh, Adds, EndsLine, Progress, Advances, Broken, Breaks, Finishes, Unfinished}
 
 list_any-push : {X : Type 0} (p : X → Bool) (xs : List X) (x : X) → list_any p (xs ++ x ∷ []) ≡ (list_any p xs || p x)
 list_any-push p xs x = or_push (list_any p) p refl (λ y ys. refl) xs x
@@ -36,67 +37,72 @@ Splits-feed text lines last s = record {
   no_feed_last = tt;
 }
 
+-- what holds in any case holds at Err
+pub on_err : {X E : Type 0} {P : Type 0} (result : Result X E) → P → OnErr result P
+on_err (Ok x) h = tt
+on_err (Err e) h = h
+
 -- a line more is answered
-pub LinesGive-push : (old mid new : SlotMap) (lines : List (List ℕ)) (replies : List Reply) (line : List ℕ) (reply : Reply) → LinesGive old lines replies mid → LineGives mid line reply new
-    → LinesGive old (lines ++ line ∷ []) (replies ++ reply ∷ []) new
-LinesGive-push old mid new [] [] line reply h given = (new, subst (λ m. LineGives m line reply new) h given, refl)
-LinesGive-push old mid new (l ∷ lines) (r ∷ replies) line reply h given = (h.0, h.1, LinesGive-push h.0 mid new lines replies line reply h.2 given)
-LinesGive-push old mid new [] (r ∷ replies) line reply h given = absurd h
-LinesGive-push old mid new (l ∷ lines) [] line reply h given = absurd h
+pub LinesGive-push : {M : Type 0} (gives : M → List ℕ → Reply → M → Type 0) (old mid new : M) (lines : List (List ℕ)) (replies : List Reply) (line : List ℕ) (reply : Reply) → LinesGive gives old lines replies mid
+    → gives mid line reply new → LinesGive gives old (lines ++ line ∷ []) (replies ++ reply ∷ []) new
+LinesGive-push gives old mid new [] [] line reply h given = (new, subst (λ m. gives m line reply new) h given, refl)
+LinesGive-push gives old mid new (l ∷ lines) (r ∷ replies) line reply h given = (h.0, h.1, LinesGive-push gives h.0 mid new lines replies line reply h.2 given)
+LinesGive-push gives old mid new [] (r ∷ replies) line reply h given = absurd h
+LinesGive-push gives old mid new (l ∷ lines) [] line reply h given = absurd h
 
 push_nonempty : (bytes : List ℕ) (b : ℕ) → bytes ++ b ∷ [] ≢ []
 push_nonempty bytes b is = absurd (omega (arith, ap length is, length-append bytes (b ∷ [])))
 
 -- what was run, where nothing is read
-pub Progress-start : (script : Script) (out : Option (List ℕ)) → script.slots ≡ empty → script.line.items ≡ [] → script.is_lost ≡ false → script.has_refused ≡ false
-    → Progress empty [] out out script
-Progress-start script out slots line held fine = record {
+pub Progress-start : {M : Type 0} (gives : M → List ℕ → Reply → M → Type 0) (script : Script M) (out : Option (List ℕ)) → IsFresh script → Progress gives script.machine [] out out script
+Progress-start gives script out fresh = record {
   lines = [];
   last = [];
   replies = [];
   splits = record { spelled = refl; no_feed = tt; no_feed_last = tt };
-  given = slots;
+  given = refl;
   written = Appends-nil out;
-  has_refused = sym fine;
-  holds = λ _. line;
-  lost = λ lost. absurd (both_ways script.is_lost held lost);
+  has_refused = sym fresh.1;
+  holds = λ _. fresh.0.0;
+  lost = λ lost. absurd (both_ways script.line.is_lost fresh.0.1 lost);
 }
 
-pub Advances-nil : {W : Type 0} (contents : W → Option (List ℕ)) (script : Script) (out : Told W) → Advances contents script script out out []
-Advances-nil contents script out = record {
-  progress = λ start front first p. subst (λ l. Progress start l first (known contents out) script) (sym (append-nil front)) p;
+pub Advances-nil : {M W : Type 0} (contents : W → Option (List ℕ)) (gives : M → List ℕ → Reply → M → Type 0) (script : Script M) (out : Told W) → Advances contents gives script script out out []
+Advances-nil contents gives script out = record {
+  progress = λ start front first p. subst (λ l. Progress gives start l first (known contents out) script) (sym (append-nil front)) p;
 }
 
-pub Advances-trans : {W : Type 0} (contents : W → Option (List ℕ)) (a b c : Script) (x y z : Told W) (bytes more : List ℕ) → Advances contents a b x y bytes → Advances contents b c y z more
-    → Advances contents a c x z (bytes ++ more)
-Advances-trans contents a b c x y z bytes more p q = record {
+pub Advances-trans : {M W : Type 0} (contents : W → Option (List ℕ)) (gives : M → List ℕ → Reply → M → Type 0) (a b c : Script M) (x y z : Told W) (bytes more : List ℕ) → Advances contents gives a b x y bytes
+    → Advances contents gives b c y z more → Advances contents gives a c x z (bytes ++ more)
+Advances-trans contents gives a b c x y z bytes more p q = record {
   progress = λ start front first h.
-      subst (λ l. Progress start l first (known contents z) c) (append_assoc front bytes more) (q.progress start (front ++ bytes) first (p.progress start front first h));
+      subst (λ l. Progress gives start l first (known contents z) c) (append_assoc front bytes more) (q.progress start (front ++ bytes) first (p.progress start front first h));
 }
 
 -- bytes of a list, one more
-pub Advances-more : {W : Type 0} (contents : W → Option (List ℕ)) (a b c : Script) (x y z : Told W) (bytes : List ℕ) (i : ℕ) → i < length bytes → Advances contents a b x y (take i bytes)
-    → Advances contents b c y z (get_or bytes i 0 ∷ []) → Advances contents a c x z (take (i + 1) bytes)
-Advances-more contents a b c x y z bytes i within p q =
-    subst (Advances contents a c x z) (sym (take_more bytes i 0 within)) (Advances-trans contents a b c x y z _ _ p q)
+pub Advances-more : {M W : Type 0} (contents : W → Option (List ℕ)) (gives : M → List ℕ → Reply → M → Type 0) (a b c : Script M) (x y z : Told W) (bytes : List ℕ) (i : ℕ) → i < length bytes
+    → Advances contents gives a b x y (take i bytes) → Advances contents gives b c y z (get_or bytes i 0 ∷ []) → Advances contents gives a c x z (take (i + 1) bytes)
+Advances-more contents gives a b c x y z bytes i within p q =
+    subst (Advances contents gives a c x z) (sym (take_more bytes i 0 within)) (Advances-trans contents gives a b c x y z _ _ p q)
 
 -- bytes of a list, which are all
-pub Advances-all : {W : Type 0} (contents : W → Option (List ℕ)) (a b : Script) (x y : Told W) (bytes : List ℕ) (i : ℕ) → length bytes ≤ i → Advances contents a b x y (take i bytes)
-    → Advances contents a b x y bytes
-Advances-all contents a b x y bytes i past p = subst (Advances contents a b x y) (take_all i bytes past) p
+pub Advances-all : {M W : Type 0} (contents : W → Option (List ℕ)) (gives : M → List ℕ → Reply → M → Type 0) (a b : Script M) (x y : Told W) (bytes : List ℕ) (i : ℕ) → length bytes ≤ i
+    → Advances contents gives a b x y (take i bytes) → Advances contents gives a b x y bytes
+Advances-all contents gives a b x y bytes i past p = subst (Advances contents gives a b x y) (take_all i bytes past) p
 
 -- a byte that ends no line
-pub Advances-byte : {W : Type 0} (contents : W → Option (List ℕ)) (old new : Script) (out : Told W) (b : ℕ) → b ≢ 10 → AddsByte old new b → Advances contents old new out out (b ∷ [])
-Advances-byte contents old new out b apart adds = record {
+pub Advances-byte : {M W : Type 0} (contents : W → Option (List ℕ)) (gives : M → List ℕ → Reply → M → Type 0) (old new : Script M) (out : Told W) (b : ℕ) → b ≢ 10 → new.machine ≡ old.machine → new.has_refused ≡ old.has_refused
+    → Adds old.line new.line b → Advances contents gives old new out out (b ∷ [])
+Advances-byte contents gives old new out b apart same refused adds = record {
   progress = λ start front first p. record {
     lines = p.lines;
     last = p.last ++ b ∷ [];
     replies = p.replies;
     splits = Splits-byte front p.lines p.last b apart p.splits;
-    given = subst (λ m. LinesGive start p.lines p.replies m) (sym adds.slots) p.given;
+    given = subst (λ m. LinesGive gives start p.lines p.replies m) (sym same) p.given;
     written = p.written;
-    has_refused = p.has_refused ∙ sym adds.has_refused;
-    holds = λ held. (adds.line held).1 ∙ ap (λ l. l ++ b ∷ []) (p.holds (adds.line held).0);
+    has_refused = p.has_refused ∙ sym refused;
+    holds = λ held. (adds held).1 ∙ ap (λ l. l ++ b ∷ []) (p.holds (adds held).0);
     lost = λ _. push_nonempty p.last b;
   };
 }
@@ -110,83 +116,160 @@ written_more : (first before after : Option (List ℕ)) (replies : List Reply) (
 written_more first before after replies reply p q =
     subst (λ text. Appends first after text) (sym (replies_text-push replies reply)) (Appends-trans first before after _ _ p q)
 
+-- a front of a text behind another
+pub AppendsFront-behind : (first before after : Option (List ℕ)) (text more : List ℕ) → Appends first before text → AppendsFront before after more → AppendsFront first after (text ++ more)
+AppendsFront-behind first before after text more p q =
+    (text ++ q.0, q.1, ap (λ l. text ++ l) q.2 ∙ sym (append_assoc text q.0 q.1), Appends-trans first before after text q.0 p q.3)
+
+front_more : (first before after : Option (List ℕ)) (replies : List Reply) (reply : Reply) → Appends first before (replies_text replies) → AppendsFront before after (reply_text reply)
+    → AppendsFront first after (replies_text (replies ++ reply ∷ []))
+front_more first before after replies reply p q =
+    subst (λ text. AppendsFront first after text) (sym (replies_text-push replies reply)) (AppendsFront-behind first before after _ _ p q)
+
 refused_more : (replies : List Reply) (reply : Reply) (b c : Bool) → list_any is_refused replies ≡ b → c ≡ (b || is_refused reply) → list_any is_refused (replies ++ reply ∷ []) ≡ c
 refused_more replies reply b c p q = list_any-push is_refused replies reply ∙ ap (λ t. t || is_refused reply) p ∙ sym q
 
 -- a line feed
-pub Advances-feed : {W X E : Type 0} (contents : W → Option (List ℕ)) (old new : Script) (result : Result X E) (before after : Told W) → EndsLine contents old new result before after
-    → OnOk result (Advances contents old new before after (10 ∷ []))
-Advances-feed contents old new (Ok x) before after e = record {
+pub Advances-feed : {M W X E : Type 0} (contents : W → Option (List ℕ)) (gives : M → List ℕ → Reply → M → Type 0) (old new : Script M) (result : Result X E) (before after : Told W)
+    → EndsLine contents gives old new result before after → OnOk result (Advances contents gives old new before after (10 ∷ []))
+Advances-feed contents gives old new (Ok x) before after e = record {
   progress = λ start front first p. record {
     lines = p.lines ++ p.last ∷ [];
     last = [];
     replies = p.replies ++ e.reply ∷ [];
     splits = Splits-feed front p.lines p.last p.splits;
-    given = LinesGive-push start old.slots new.slots p.lines p.replies p.last e.reply p.given (e.given p.last p.holds);
+    given = LinesGive-push gives start old.machine new.machine p.lines p.replies p.last e.reply p.given (e.given p.last p.holds);
     written = written_more first (known contents before) (known contents after) p.replies e.reply p.written e.writes.wrote;
     has_refused = refused_more p.replies e.reply old.has_refused new.has_refused p.has_refused e.has_refused;
-    holds = λ _. e.line;
-    lost = λ lost. absurd (both_ways new.is_lost e.is_lost lost);
+    holds = λ _. e.at_start.0;
+    lost = λ lost. absurd (both_ways new.line.is_lost e.at_start.1 lost);
   };
 }
-Advances-feed contents old new (Err x) before after e = tt
+Advances-feed contents gives old new (Err x) before after e = tt
 
--- what a test of the line's length says
-pub some_line : (script : Script) (is_empty : Bool) → is_empty ≡ (vec_len script.line == 0) → is_empty ≡ false → script.line.items ≢ []
-some_line script is_empty is tested none = eqb-false (vec_len script.line) 0 (sym is ∙ tested) (script.line.ok.0 ∙ ap length none)
+-- a line feed, where a write fails
+pub Breaks-feed : {M W X E : Type 0} (contents : W → Option (List ℕ)) (gives : M → List ℕ → Reply → M → Type 0) (old new : Script M) (result : Result X E) (before after : Told W)
+    → EndsLine contents gives old new result before after → OnErr result (Breaks contents gives old new before after (10 ∷ []))
+Breaks-feed contents gives old new (Ok x) before after e = tt
+Breaks-feed contents gives old new (Err x) before after e = record {
+  broken = λ start front first p. record {
+    front = front ++ 10 ∷ [];
+    rest = [];
+    whole = sym (append-nil (front ++ 10 ∷ []));
+    replies = p.replies ++ e.reply ∷ [];
+    answers = record {
+      lines = p.lines ++ p.last ∷ [];
+      last = [];
+      splits = Splits-feed front p.lines p.last p.splits;
+      given = LinesGive-push gives start old.machine new.machine p.lines p.replies p.last e.reply p.given (e.given p.last p.holds);
+    };
+    written = front_more first (known contents before) (known contents after) p.replies e.reply p.written e.writes.wrote;
+  };
+}
 
-pub empty_line : (script : Script) (is_empty : Bool) → is_empty ≡ (vec_len script.line == 0) → is_empty ≡ true → script.line.items ≡ []
-empty_line script is_empty is tested = nil_from_length script.line.items (sym script.line.ok.0 ∙ eqb-true (vec_len script.line) 0 (sym is ∙ tested))
+-- more text, of which nothing is answered
+pub Broken-longer : {M : Type 0} (gives : M → List ℕ → Reply → M → Type 0) (start : M) (text more : List ℕ) (before after : Option (List ℕ)) (final : M) → Broken gives start text before after final
+    → Broken gives start (text ++ more) before after final
+Broken-longer gives start text more before after final b = record {
+  front = b.front;
+  rest = b.rest ++ more;
+  whole = ap (λ l. l ++ more) b.whole ∙ append_assoc b.front b.rest more;
+  replies = b.replies;
+  answers = b.answers;
+  written = b.written;
+}
+
+-- bytes of a list, at one of which a write fails
+pub Breaks-more : {M W : Type 0} (contents : W → Option (List ℕ)) (gives : M → List ℕ → Reply → M → Type 0) (a b c : Script M) (x y z : Told W) (bytes : List ℕ) (i : ℕ) → i < length bytes
+    → Advances contents gives a b x y (take i bytes) → Breaks contents gives b c y z (get_or bytes i 0 ∷ []) → Breaks contents gives a c x z bytes
+Breaks-more contents gives a b c x y z bytes i within p q = record {
+  broken = λ start front first h.
+      let text : (front ++ take i bytes) ++ get_or bytes i 0 ∷ [] ≡ front ++ take (i + 1) bytes =
+      append_assoc front (take i bytes) (get_or bytes i 0 ∷ []) ∙ ap (λ l. front ++ l) (sym (take_more bytes i 0 within)) in
+      let whole : (front ++ take (i + 1) bytes) ++ drop (i + 1) bytes ≡ front ++ bytes =
+      append_assoc front (take (i + 1) bytes) (drop (i + 1) bytes) ∙ ap (λ l. front ++ l) (take-append-drop (i + 1) bytes) in
+      subst (λ l. Broken gives start l first (known contents z) c.machine) (ap (λ l. l ++ drop (i + 1) bytes) text ∙ whole)
+      (Broken-longer gives start _ (drop (i + 1) bytes) first (known contents z) c.machine (q.broken start (front ++ take i bytes) first (p.progress start front first h)));
+}
 
 -- a last line that has a byte
 unended_some : (last : List ℕ) → last ≢ [] → unended last ≡ last ∷ []
 unended_some [] some = absurd (some refl)
 unended_some (b ∷ bytes) some = refl
 
--- the last line has a byte, and was ended
-pub Finishes-ended : {W X E : Type 0} (contents : W → Option (List ℕ)) (old new : Script) (result : Result X E) (before after : Told W)
-    → EndsLine contents old new result before after → (old.is_lost ≡ false → old.line.items ≢ []) → OnOk result (Finishes contents old new before after)
-Finishes-ended contents old new (Ok x) before after e some = record {
-  writes = λ start text first p short.
-      let full : p.last ≢ [] = full_line p.last old some p.holds p.lost in (
-        replies_text (p.replies ++ e.reply ∷ []),
-        record {
-          lines = p.lines;
-          last = p.last;
-          replies = p.replies ++ e.reply ∷ [];
-          new = new.slots;
-          splits = p.splits;
-          given = subst (λ ls. LinesGive start (p.lines ++ ls) (p.replies ++ e.reply ∷ []) new.slots) (sym (unended_some p.last full))
-              (LinesGive-push start old.slots new.slots p.lines p.replies p.last e.reply p.given (e.given p.last p.holds));
-          written_is = refl;
-          refused_is = refused_more p.replies e.reply old.has_refused new.has_refused p.has_refused e.has_refused;
-          short = short;
-        },
-        written_more first (known contents before) (known contents after) p.replies e.reply p.written e.writes.wrote,
-      );
-}
+-- the line that is read has a byte
+last_some : (reader : LineReader) (last : List ℕ) → HasBegun reader → Holds reader last → (reader.is_lost ≡ true → last ≢ []) → last ≢ []
+last_some reader last begun holds lost none =
+    elim reader.is_lost as (λ b. reader.is_lost ≡ b → ⊥) [
+      | true ↦ λ is. lost is none
+      | false ↦ λ is. some_byte is begun (holds is)
+    ] refl
   where
-    full_line : (last : List ℕ) (script : Script) → (script.is_lost ≡ false → script.line.items ≢ []) → HoldsLine script last → (script.is_lost ≡ true → last ≢ []) → last ≢ []
-    full_line last script some holds lost none =
-        elim script.is_lost as (λ b. script.is_lost ≡ b → ⊥) [ true ↦ λ is. lost is none | false ↦ λ is. some is (holds is ∙ none) ] refl
-Finishes-ended contents old new (Err x) before after e some = tt
+    some_byte : reader.is_lost ≡ false → HasBegun reader → reader.bytes.items ≡ last → ⊥
+    some_byte held (inl is) same = both_ways reader.is_lost held is
+    some_byte held (inr some) same = some (same ∙ none)
+
+-- the last line was answered, and the text with it
+last_answered : {M W X E : Type 0} (contents : W → Option (List ℕ)) (gives : M → List ℕ → Reply → M → Type 0) (old new : Script M) (result : Result X E) (before after : Told W)
+    → EndsLine contents gives old new result before after → HasBegun old.line → (start : M) (text : List ℕ) (first : Option (List ℕ)) → (p : Progress gives start text first (known contents before) old)
+    → (e : Reply) → ((line : List ℕ) → Holds old.line line → gives old.machine line e new.machine) → AnswersAll gives start text (p.replies ++ e ∷ []) new.machine
+last_answered contents gives old new result before after ends begun start text first p e given = record {
+  lines = p.lines;
+  last = p.last;
+  splits = p.splits;
+  given = subst (λ ls. LinesGive gives start (p.lines ++ ls) (p.replies ++ e ∷ []) new.machine)
+      (sym (unended_some p.last (last_some old.line p.last begun p.holds p.lost)))
+      (LinesGive-push gives start old.machine new.machine p.lines p.replies p.last e p.given (given p.last p.holds));
+}
+
+pub Finishes-ended : {M W X E : Type 0} (contents : W → Option (List ℕ)) (gives : M → List ℕ → Reply → M → Type 0) (old new : Script M) (result : Result X E) (before after : Told W)
+    → EndsLine contents gives old new result before after → HasBegun old.line → OnOk result (Finishes contents gives old new before after)
+Finishes-ended contents gives old new (Ok x) before after e begun = record {
+  answered = λ start text first p. (
+    p.replies ++ e.reply ∷ [],
+    last_answered contents gives old new (Ok x) before after e begun start text first p e.reply e.given,
+    written_more first (known contents before) (known contents after) p.replies e.reply p.written e.writes.wrote,
+    refused_more p.replies e.reply old.has_refused new.has_refused p.has_refused e.has_refused,
+  );
+}
+Finishes-ended contents gives old new (Err x) before after e begun = tt
+
+pub Unfinished-ended : {M W X E : Type 0} (contents : W → Option (List ℕ)) (gives : M → List ℕ → Reply → M → Type 0) (old new : Script M) (result : Result X E) (before after : Told W)
+    → EndsLine contents gives old new result before after → HasBegun old.line → OnErr result (Unfinished contents gives old new before after)
+Unfinished-ended contents gives old new (Ok x) before after e begun = tt
+Unfinished-ended contents gives old new (Err x) before after e begun = record {
+  answered = λ start text first p. (
+    p.replies ++ e.reply ∷ [],
+    last_answered contents gives old new (Err x) before after e begun start text first p e.reply e.given,
+    front_more first (known contents before) (known contents after) p.replies e.reply p.written e.writes.wrote,
+  );
+}
 
 -- there is no last line
-pub Finishes-at_once : {W : Type 0} (contents : W → Option (List ℕ)) (script : Script) (out : Told W) → script.is_lost ≡ false → script.line.items ≡ [] → Finishes contents script script out out
-Finishes-at_once contents script out held none = record {
-  writes = λ start text first p short. (
-    replies_text p.replies,
+no_line : (reader : LineReader) (last : List ℕ) → (HasBegun reader → ⊥) → Holds reader last → last ≡ []
+no_line reader [] none holds = refl
+no_line reader (b ∷ bytes) none holds =
+    elim reader.is_lost as (λ l. reader.is_lost ≡ l → b ∷ bytes ≡ []) [
+      | true ↦ λ is. absurd (none (inl is))
+      | false ↦ λ is. absurd (none (inr (λ empty. cons_nil (sym (holds is) ∙ empty))))
+    ] refl
+  where
+    cons_nil : b ∷ bytes ≡ [] → ⊥
+    cons_nil same = absurd (omega (arith, ap length same))
+
+pub Finishes-at_once : {M W : Type 0} (contents : W → Option (List ℕ)) (gives : M → List ℕ → Reply → M → Type 0) (script : Script M) (out : Told W) → (HasBegun script.line → ⊥)
+    → Finishes contents gives script script out out
+Finishes-at_once contents gives script out none = record {
+  answered = λ start text first p. (
+    p.replies,
     record {
       lines = p.lines;
       last = p.last;
-      replies = p.replies;
-      new = script.slots;
       splits = p.splits;
-      given = subst (λ ls. LinesGive start ls p.replies script.slots) (sym (ap (λ l. p.lines ++ unended l) (sym (p.holds held) ∙ none) ∙ append-nil p.lines)) p.given;
-      written_is = refl;
-      refused_is = p.has_refused;
-      short = short;
+      given = subst (λ ls. LinesGive gives start ls p.replies script.machine)
+          (sym (ap (λ l. p.lines ++ unended l) (no_line script.line p.last none p.holds) ∙ append-nil p.lines)) p.given;
     },
     p.written,
+    p.has_refused,
   );
 }

@@ -1,72 +1,54 @@
 -- Lemmas on the replies to commands, with what calls ensure turned the way that they are stated.
-use Rattle.std.proofs.Common.{◌≡◌, ◌⊎◌, inl, inr, ℕ, List, true, false, Some, Result, Ok, Err, IfOk, MatchResult, is_err, IsUtf8, refl, sym, ap, subst, ◌∙◌}
+use Rattle.std.proofs.Common.{◌≡◌, ◌⊎◌, inl, inr, ℕ, List, true, false, Some, Result, Ok, Err, MatchResult, is_err, IsUtf8, refl}
 use Rattle.std.proofs.lemmas.Bool.{both_ways}
-use Rattle.hex.specs.Hex.{encode_lower, decode_of}
+use Rattle.hex.specs.Hex.{decode_of}
 use Rattle.hex.specs.declared.error.FromHexError.{FromHexError}
-use Rattle.hex.specs.declared.error.FromHexError.TheVariants.{OutOfMemory}
-use Rattle.std.specs.FinMap.{get, insert}
-use Rattle.cs_value.specs.declared.refusal.NoMemory.{NoMemory}
+use Rattle.hex.specs.declared.error.FromHexError.TheVariants as hex
+use Rattle.std.specs.FinMap.{get}
 use Rattle.cs_value.specs.declared.refusal.OrNoMemory.{OrNoMemory}
 use Rattle.cs_value.specs.declared.refusal.OrNoMemory.TheVariants as tool
 use Rattle.cs_value.specs.Refusals.{Refuses}
 use Rattle.cs_wire.specs.declared.fault.ReadFault.{ReadFault}
 use Rattle.cs_wire.specs.ReadFaults.{ReadFails}
-use Rattle.cs_shell.specs.declared.reply.Reply.{Reply}
-use Rattle.cs_shell.specs.declared.reply.Refusal.TheVariants as refusal
-use Rattle.cs_wire.specs.Changeset.{GroupData, IsChangeset, file_bytes}
 use Rattle.cs_files.specs.declared.fault.FileFault.{FileFault}
-use Rattle.cs_files.specs.declared.fault.FileFault.TheVariants as file_fault
-use Rattle.cs_files.specs.Files.{Inverts, Joins, JoinFails}
-use Rattle.cs_shell.specs.Lines.{CommandData, Load, Hex, Invert, Concat, Dump, Asks}
-use Rattle.cs_shell.specs.Script.{SlotMap, Silent, Text, Dumped, Refused, CommandGives, loaded, shown, inverted, joined, not_read, not_joined, dumped, LineGives, answered, no_memory}
-use Rattle.cs_shell.specs.Replies.{reply_of, IsRefusalOf, IsJoinRefusal}
-use Rattle.cs_shell.specs.Script as script
+use Rattle.cs_files.specs.Files.{JoinFails}
+use Rattle.cs_shell.specs.declared.lines.LineFault.{LineFault}
+use Rattle.cs_shell.specs.declared.lines.LineFault.TheVariants as line_fault
+use Rattle.cs_shell.specs.Lines.{Load, Invert, Concat, Dump}
+use Rattle.cs_shell.specs.ErrorLines.{of_hex, of_line, of_read, of_files}
+use Rattle.cs_shell.specs.Replies.{Refused, RefusesLine}
+use Rattle.cs_shell.specs.Script.{SlotMap, CommandGives, no_hex, not_inverted, not_joined, not_dumped, unable, LineGives, malformed, no_memory}
 
--- a slot that was given the bytes of its digits
-pub gives_loaded : (old new : SlotMap) (slot digits bytes : List ℕ) → decode_of digits ≡ Ok bytes → new ≡ insert old slot bytes → CommandGives old (Load slot digits) Silent new
-gives_loaded old new slot digits bytes is stored = subst (λ m. CommandGives old (Load slot digits) Silent m) (sym stored) (loaded old slot digits bytes is)
+-- digits that are not decoded
+pub gives_not_loaded : (old : SlotMap) (slot digits : List ℕ) (e : FromHexError) → (e ≡ hex.OutOfMemory) ⊎ (decode_of digits ≡ Err e) → CommandGives old (Load slot digits) (Refused (of_hex e)) old
+gives_not_loaded old slot digits e (inl same) = rw same (unable old (Load slot digits))
+gives_not_loaded old slot digits hex.OutOfMemory (inr is) = unable old (Load slot digits)
+gives_not_loaded old slot digits (hex.InvalidHexCharacter c index) (inr is) = no_hex old slot digits _ is
+gives_not_loaded old slot digits hex.OddLength (inr is) = no_hex old slot digits _ is
+gives_not_loaded old slot digits hex.InvalidStringLength (inr is) = no_hex old slot digits _ is
 
--- a slot whose digits are shown
-pub gives_shown : (old : SlotMap) (slot bytes text : List ℕ) → Some bytes ≡ get old slot → text ≡ encode_lower bytes → CommandGives old (Hex slot) (Text text) old
-gives_shown old slot bytes text is spelled = subst (λ t. CommandGives old (Hex slot) (Text t) old) (sym spelled) (shown old slot bytes (sym is))
-
--- a slot that was given an inverse
-pub gives_inverted : (old new : SlotMap) (from into file out : List ℕ) → Some file ≡ get old from → Inverts file out → new ≡ insert old into out → CommandGives old (Invert from into) Silent new
-gives_inverted old new from into file out is inverse stored =
-    subst (λ m. CommandGives old (Invert from into) Silent m) (sym stored) (inverted old from into file out (sym is) inverse)
-
--- a slot that was given a join
-pub gives_joined : (old new : SlotMap) (first second into file other out : List ℕ) → Some file ≡ get old first → Some other ≡ get old second → Joins file other out → new ≡ insert old into out
-    → CommandGives old (Concat first second into) Silent new
-gives_joined old new first second into file other out is other_is joins stored =
-    subst (λ m. CommandGives old (Concat first second into) Silent m) (sym stored) (joined old first second into file other out (sym is) (sym other_is) joins)
-
--- a slot whose changeset is printed
-pub gives_dumped : (old : SlotMap) (slot file : List ℕ) (changeset : List GroupData) → Some file ≡ get old slot → IsChangeset changeset × (file ≡ file_bytes changeset)
-    → CommandGives old (Dump slot) (Dumped changeset) old
-gives_dumped old slot file changeset is found = dumped old slot changeset found.0 (sym is ∙ ap Some found.1)
-
--- what holds of the reply to a file that is refused
-pub of_refused : (Holds : script.Reply → Type 0) (file : List ℕ) (fault : OrNoMemory ReadFault) (reply : script.Reply) → Refuses (λ f. ReadFails file f.kind f.place) fault → IsRefusalOf fault reply
-    → ((f : ReadFault) → ReadFails file f.kind f.place → Holds (Refused (refusal.Fault f))) → Holds reply
-of_refused Holds file (tool.Fault f) reply why same holds = subst Holds (sym same) (holds f why)
-of_refused Holds file tool.NoMemory reply why same holds = absurd same
+-- a slot whose bytes are not inverted
+pub gives_not_inverted : (old : SlotMap) (from into file : List ℕ) (fault : OrNoMemory ReadFault) → get old from ≡ Some file → Refuses (λ f. ReadFails file f.kind f.place) fault
+    → CommandGives old (Invert from into) (Refused (of_read fault)) old
+gives_not_inverted old from into file (tool.Fault f) is why = not_inverted old from into file f is why
+gives_not_inverted old from into file tool.NoMemory is why = unable old (Invert from into)
 
 -- slots whose files are not joined
-pub gives_join_refused : (old : SlotMap) (first second into file other : List ℕ) (fault : OrNoMemory FileFault) (reply : script.Reply) → Some file ≡ get old first → Some other ≡ get old second
-    → Refuses (JoinFails file other) fault → IsJoinRefusal fault reply → CommandGives old (Concat first second into) reply old
-gives_join_refused old first second into file other (tool.Fault (file_fault.First f)) reply is other_is why same =
-    subst (λ r. CommandGives old (Concat first second into) r old) (sym same) (not_read old first second into file other f (sym is) (sym other_is) (inl why))
-gives_join_refused old first second into file other (tool.Fault (file_fault.Second f)) reply is other_is why same =
-    subst (λ r. CommandGives old (Concat first second into) r old) (sym same) (not_read old first second into file other f (sym is) (sym other_is) (inr why))
-gives_join_refused old first second into file other (tool.Fault (file_fault.Schema s)) reply is other_is why same =
-    subst (λ r. CommandGives old (Concat first second into) r old) (sym same) (not_joined old first second into file other s (sym is) (sym other_is) why)
-gives_join_refused old first second into file other tool.NoMemory reply is other_is why same = absurd same
+pub gives_not_joined : (old : SlotMap) (first second into file other : List ℕ) (fault : OrNoMemory FileFault) → get old first ≡ Some file → get old second ≡ Some other → Refuses (JoinFails file other) fault
+    → CommandGives old (Concat first second into) (Refused (of_files fault)) old
+gives_not_joined old first second into file other (tool.Fault f) is other_is why = not_joined old first second into file other f is other_is why
+gives_not_joined old first second into file other tool.NoMemory is other_is why = unable old (Concat first second into)
 
--- what a failed decoding says, unless memory ran out
-pub bad_digits : (text : List ℕ) (e : FromHexError) → (e ≡ OutOfMemory) ⊎ (decode_of text ≡ Err e) → (e ≡ OutOfMemory → ⊥) → decode_of text ≡ Err e
-bad_digits text e (inl same) apart = absurd (apart same)
-bad_digits text e (inr is) apart = is
+-- a slot whose bytes are no changeset's
+pub gives_not_dumped : (old : SlotMap) (slot file : List ℕ) (fault : OrNoMemory ReadFault) → get old slot ≡ Some file → Refuses (λ f. ReadFails file f.kind f.place) fault
+    → CommandGives old (Dump slot) (Refused (of_read fault)) old
+gives_not_dumped old slot file (tool.Fault f) is why = not_dumped old slot file f is why
+gives_not_dumped old slot file tool.NoMemory is why = unable old (Dump slot)
+
+-- a line that is not read
+pub gives_unread : (old : SlotMap) (line : List ℕ) (fault : LineFault) → IsUtf8 line → RefusesLine line fault → LineGives old line (Refused (of_line fault)) old
+gives_unread old line (line_fault.Syntax column) text why = malformed old line column text why.0 why.1 why.2 why.3
+gives_unread old line (line_fault.NoMemory e) text why = no_memory old line
 
 -- what a test says of a fact that holds at Ok, and not at Err
 pub tested_ok : {X E : Type 0} (result : Result X E) (same : X → Type 0) (more : E → Type 0) (P : Type 0)
@@ -78,13 +60,3 @@ pub tested_err : {X E : Type 0} (result : Result X E) (same : X → Type 0) (mor
     → MatchResult result (λ x. same x × P) (λ e. ¬ P × more e) → is_err result ≡ true → P → ⊥
 tested_err (Ok x) same more P h tested = absurd (both_ways false refl tested)
 tested_err (Err e) same more P h tested = h.0
-
--- a command that is answered answers its line
-pub gives_answered : (old new : SlotMap) (line : List ℕ) (command : CommandData) (result : Result Reply NoMemory) → IsUtf8 line → Asks line command
-    → IfOk result (λ reply. CommandGives old command (reply_of reply) new) → IfOk result (λ reply. LineGives old line (reply_of reply) new)
-gives_answered old new line command (Ok reply) text asks h = answered old line command (reply_of reply) new text asks h
-gives_answered old new line command (Err e) text asks h = tt
-
--- a line that is refused for memory, and changed nothing
-pub gives_no_memory : (old new : SlotMap) (line : List ℕ) → new ≡ old → LineGives old line (Refused refusal.NoMemory) new
-gives_no_memory old new line same = subst (λ m. LineGives old line (Refused refusal.NoMemory) m) (sym same) (no_memory old line)

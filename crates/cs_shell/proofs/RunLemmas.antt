@@ -1,159 +1,213 @@
 -- Lemmas on an input that is read and run piece by piece.
-use Rattle.std.proofs.Common.{◌≡◌, ℕ, ◌+◌, ◌-◌, ◌≤◌, ◌<◌, Bool, false, List, [], ◌++◌, length, take, drop, Option, None, Some, IfSome, codes, refl, sym, ap, subst, ◌∙◌, arith, length-append}
-use Rattle.std.specs.FinMap.{empty}
-use Rattle.std.specs.Io.KnownBytes.{Appends, Consumes}
+use Rattle.std.proofs.Common.{◌≡◌, ℕ, ◌+◌, ◌-◌, ◌≤◌, ◌<◌, true, false, List, [], ◌∷◌, ◌++◌, length, take, drop, Option, None, Some, refl, sym, ap, subst, ◌∙◌, arith, length-append, append-nil}
+use Rattle.std.specs.Prelude.{if◌then◌else◌, IsTrue}
+use Rattle.std.specs.Io.KnownBytes.{Appends, Consumes, Keeps, IsAtEnd}
 use Rattle.std.proofs.KnownBytes.{Appends-trans, Consumes-trans}
 use Rattle.std.proofs.lemmas.List.{append_assoc, length-drop, length-take-le, take-append-drop}
-use Rattle.std.proofs.lemmas.Option.{IfSome_then}
+use Rattle.cs_shell.specs.declared.refusal.Refusal.TheVariants.{ScriptTooLong}
 use Rattle.cs_shell.specs.declared.script.Script.{Script}
-use Rattle.cs_shell.specs.declared.script.Status.TheVariants.{TooLong, InputFault}
-use Rattle.cs_shell.specs.declared.script.Stop.{Stop}
-use Rattle.cs_shell.specs.declared.script.Stop.TheVariants as stop
+use Rattle.cs_shell.specs.declared.script.Status.{Status}
+use Rattle.cs_shell.specs.declared.script.Status.TheVariants.{Done, LinesRefused, TooLong, InputFault, OutputFault}
 use Rattle.cs_files.specs.declared.told.Told.{Told}
-use Rattle.cs_files.specs.Told.{known}
-use Rattle.cs_shell.specs.Script.{SCRIPT_LIMIT, FrontGives, Ends, error_line, replies_text}
-use Rattle.cs_shell.specs.Progress.{Advances, WritesScript, Finishes, HasRead, RunsText, OverrunsText, RunsFront, RunsScript, StopsAt, status_of}
-use Rattle.cs_shell.proofs.ProgressLemmas.{Progress-start, Advances-trans}
+use Rattle.cs_files.specs.Told.{has_failed, known}
+use Rattle.cs_files.specs.Calls.{AppendsFront}
+use Rattle.cs_shell.specs.ErrorLines.{refusal_text}
+use Rattle.cs_shell.specs.Replies.{Reply, replies_text}
+use Rattle.cs_shell.specs.Runs.{SCRIPT_LIMIT, Overruns, Runs, EndsUnwritten, at_line, at_last_line, at_overrun}
+use Rattle.cs_shell.specs.Progress.{IsFresh, Progress, Advances, Breaks, Finishes, Unfinished, HasRead, ReadsText}
+use Rattle.cs_shell.proofs.ProgressLemmas.{Progress-start, AppendsFront-behind}
 
--- a piece more is read and run
-pub HasRead-more : {R W : Type 0} (remaining : R → Option (List ℕ)) (contents : W → Option (List ℕ)) (a b c : Told R) (old mid new : Script) (x y z : Told W) (count : ℕ) (piece : List ℕ)
-    → HasRead remaining contents a b old mid x y count → Consumes (known remaining b) (known remaining c) piece → Advances contents mid new y z piece → length piece ≤ SCRIPT_LIMIT - count
-    → HasRead remaining contents a c old new x z (count + length piece)
-HasRead-more remaining contents a b c old mid new x y z count piece r consumed advances room =
-    let counted = r.counted in
-    let within = r.within in record {
-      front = r.front ++ piece;
-      consumed = Consumes-trans (known remaining a) (known remaining b) (known remaining c) r.front piece r.consumed consumed;
-      counted = length-append r.front piece ∙ ap (λ n. n + length piece) counted;
-      advances = Advances-trans contents old mid new x y z r.front piece r.advances advances;
-      within = omega arith;
-    }
+Consumes-nothing : (bytes : Option (List ℕ)) → Consumes bytes bytes []
+Consumes-nothing None = tt
+Consumes-nothing (Some text) = refl
 
--- what was read of the text, a front of a piece more, and what is left
-read_whole : (a b c : Option (List ℕ)) (front piece : List ℕ) (left : ℕ) → Consumes a b front → Consumes b c piece
-    → IfSome a (λ text. (rest : List ℕ) × (text ≡ (front ++ take left piece) ++ (drop left piece ++ rest)))
-read_whole None b c front piece left p q = tt
-read_whole (Some text) None c front piece left p q = absurd p
-read_whole (Some text) (Some more) None front piece left p q = absurd q
-read_whole (Some text) (Some more) (Some rest) front piece left p q = (
-  rest,
-  p ∙ ap (λ bytes. front ++ bytes) (q ∙ ap (λ bytes. bytes ++ rest) (sym (take-append-drop left piece)) ∙ append_assoc (take left piece) (drop left piece) rest)
-      ∙ sym (append_assoc front (take left piece) (drop left piece ++ rest)),
-)
-
--- a byte too many is read: the bytes in front of it are run, and the error line is written
-pub HasRead-overrun : {R W : Type 0} (remaining : R → Option (List ℕ)) (contents : W → Option (List ℕ)) (a b c : Told R) (old mid new : Script) (x y z w : Told W) (count : ℕ) (piece : List ℕ)
-    → HasRead remaining contents a b old mid x y count → Consumes (known remaining b) (known remaining c) piece → Advances contents mid new y z (take (SCRIPT_LIMIT - count) piece)
-    → SCRIPT_LIMIT - count < length piece → Appends (known contents z) (known contents w) (error_line 63 (codes "ScriptTooLong") [])
-    → IfSome (known remaining a) (OverrunsText contents old x w)
-HasRead-overrun remaining contents a b c old mid new x y z w count piece r consumed advances over written =
-    let left = SCRIPT_LIMIT - count in
-    let counted = r.counted in
-    let within = r.within in
-    let taken = length-take-le left piece (omega arith) in
-    let passed = length-drop left piece in
-    IfSome_then (known remaining a) (read_whole (known remaining a) (known remaining b) (known remaining c) r.front piece left r.consumed consumed) (λ text whole. record {
-      middle = z;
-      runs = record {
-        new = new;
-        front = r.front ++ take left piece;
-        rest = drop left piece ++ whole.0;
-        whole = whole.1;
-        advances = Advances-trans contents old mid new x y z r.front (take left piece) r.advances advances;
-      };
-      full = length-append r.front (take left piece) ∙ omega arith;
-      more = λ none. let count_is = sym (length-append (drop left piece) whole.0) ∙ ap length none in absurd (omega arith);
-      error_written = written;
-    })
-
--- what is left of the text that was read
-read_front : (a b : Option (List ℕ)) (front : List ℕ) → Consumes a b front → IfSome a (λ text. (rest : List ℕ) × (text ≡ front ++ rest))
-read_front None b front p = tt
-read_front (Some text) None front p = absurd p
-read_front (Some text) (Some more) front p = (more, p)
-
--- what is run of the text where a read fails
-pub HasRead-front : {R W : Type 0} (remaining : R → Option (List ℕ)) (contents : W → Option (List ℕ)) (a b : Told R) (old new : Script) (x y : Told W) (count : ℕ)
-    → HasRead remaining contents a b old new x y count → IfSome (known remaining a) (RunsFront contents old x y)
-HasRead-front remaining contents a b old new x y count r =
-    IfSome_then (known remaining a) (read_front (known remaining a) (known remaining b) r.front r.consumed) (λ text whole. record {
-      new = new;
-      front = r.front;
-      rest = whole.0;
-      whole = whole.1;
-      advances = r.advances;
-    })
-
--- a text that is run, and whose last line is run
-pub text_finished : {W : Type 0} (contents : W → Option (List ℕ)) (text : Option (List ℕ)) (old mid new : Script) (x y z : Told W) → IfSome text (RunsText contents old mid x y)
-    → Finishes contents mid new y z → IfSome text (RunsScript contents old new x z)
-text_finished contents None old mid new x y z runs finishes = tt
-text_finished contents (Some bytes) old mid new x y z runs finishes = record {
-  writes = λ start first p. finishes.writes start bytes first (runs.advances.progress start [] first p) runs.short;
+-- nothing is read yet
+pub HasRead-start : {M R W : Type 0} (remaining : R → Option (List ℕ)) (contents : W → Option (List ℕ)) (gives : M → List ℕ → Reply → M → Type 0) (script : Script M) (input : Told R) (out : Told W) → IsFresh script
+    → HasRead remaining contents gives script script input input out out 0
+HasRead-start remaining contents gives script input out fresh = record {
+  text = [];
+  consumed = Consumes-nothing (known remaining input);
+  counted = refl;
+  within = omega arith;
+  progress = Progress-start gives script (known contents out) fresh;
 }
 
--- nothing is said of a text where a write failed
-pub nothing_said : (text : Option (List ℕ)) → IfSome text (λ bytes. Unit {0})
-nothing_said None = tt
-nothing_said (Some bytes) = tt
+-- a piece more is read and run
+pub HasRead-more : {M R W : Type 0} (remaining : R → Option (List ℕ)) (contents : W → Option (List ℕ)) (gives : M → List ℕ → Reply → M → Type 0) (old mid new : Script M) (a b c : Told R) (x y z : Told W) (count : ℕ)
+    (piece : List ℕ) → HasRead remaining contents gives old mid a b x y count → Consumes (known remaining b) (known remaining c) piece → Advances contents gives mid new y z piece
+    → length piece ≤ SCRIPT_LIMIT - count → HasRead remaining contents gives old new a c x z (count + length piece)
+HasRead-more remaining contents gives old mid new a b c x y z count piece r consumed advances room =
+    let counted = r.counted in
+    let within = r.within in record {
+      text = r.text ++ piece;
+      consumed = Consumes-trans (known remaining a) (known remaining b) (known remaining c) r.text piece r.consumed consumed;
+      counted = length-append r.text piece ∙ ap (λ n. n + length piece) counted;
+      within = omega arith;
+      progress = advances.progress old.machine r.text (known contents x) r.progress;
+    }
 
--- a text that is run from no slot
-pub script_written : {W : Type 0} (contents : W → Option (List ℕ)) (text : Option (List ℕ)) (script : Script) (x y : Told W) (new : Script) (b : Bool) → script.slots ≡ empty
-    → script.line.items ≡ [] → script.is_lost ≡ false → script.has_refused ≡ false → IfSome text (RunsScript contents script new x y) → new.has_refused ≡ b
-    → IfSome text (λ bytes. WritesScript empty bytes (known contents x) (known contents y) b)
-script_written contents None script x y new b slots line held fine h is = tt
-script_written contents (Some bytes) script x y new b slots line held fine h is =
-    subst (λ r. WritesScript empty bytes (known contents x) (known contents y) r) is (h.writes empty (known contents x) (Progress-start script (known contents x) slots line held fine))
+-- the input is at its end
+pub HasRead-end : {M R W : Type 0} (remaining : R → Option (List ℕ)) (contents : W → Option (List ℕ)) (gives : M → List ℕ → Reply → M → Type 0) (old new : Script M) (a b c : Told R) (x y : Told W) (count : ℕ)
+    (piece : List ℕ) → HasRead remaining contents gives old new a b x y count → Consumes (known remaining b) (known remaining c) piece → length piece ≡ 0 → IsAtEnd (known remaining c)
+    → ReadsText remaining contents gives old new a c x y
+HasRead-end remaining contents gives old new a b c x y count piece r consumed none at_end = record {
+  count = count;
+  read = record {
+    text = r.text;
+    consumed = subst (λ l. Consumes (known remaining a) (known remaining c) l) (ap (λ l. r.text ++ l) (nothing piece none) ∙ append-nil r.text)
+        (Consumes-trans (known remaining a) (known remaining b) (known remaining c) r.text piece r.consumed consumed);
+    counted = r.counted;
+    within = r.within;
+    progress = r.progress;
+  };
+  at_end = at_end;
+}
+  where
+    nothing : (l : List ℕ) → length l ≡ 0 → l ≡ []
+    nothing [] is = refl
+    nothing (b ∷ bytes) is = absurd (omega (arith, is))
 
--- what a front of the text gives that is run from no slot, and that it is written
-front_gives : {W : Type 0} (contents : W → Option (List ℕ)) (bytes : List ℕ) (script : Script) (x y : Told W) → script.slots ≡ empty → script.line.items ≡ []
-    → script.is_lost ≡ false → script.has_refused ≡ false → (h : RunsFront contents script x y bytes)
-    → (written : List ℕ) × (gives : FrontGives empty bytes written) × (gives.front ≡ h.front) × (gives.rest ≡ h.rest) × Appends (known contents x) (known contents y) written
-front_gives contents bytes script x y slots line held fine h =
-    let p = h.advances.progress empty [] (known contents x) (Progress-start script (known contents x) slots line held fine) in (
-      replies_text p.replies,
-      record {
-        front = h.front;
-        rest = h.rest;
-        lines = p.lines;
-        last = p.last;
+Consumes-kept : (a b c : Option (List ℕ)) (text : List ℕ) → Consumes a b text → Keeps b c → Consumes a c text
+Consumes-kept None b c text p q = tt
+Consumes-kept (Some l) None c text p q = absurd p
+Consumes-kept (Some l) (Some m) None text p q = absurd q
+Consumes-kept (Some l) (Some m) (Some n) text p q = p ∙ ap (λ k. text ++ k) (sym q)
+
+-- a read fails
+pub Runs-input : {M R W : Type 0} (remaining : R → Option (List ℕ)) (contents : W → Option (List ℕ)) (gives : M → List ℕ → Reply → M → Type 0) (old new : Script M) (a b c : Told R) (x y : Told W) (count : ℕ)
+    → HasRead remaining contents gives old new a b x y count → Keeps (known remaining b) (known remaining c) → IsTrue (has_failed c)
+    → Runs remaining contents gives InputFault old.machine new.machine a c x y
+Runs-input remaining contents gives old new a b c x y count r kept failed =
+    let counted = r.counted in
+    let within = r.within in record {
+      text = r.text;
+      consumed = Consumes-kept (known remaining a) (known remaining b) (known remaining c) r.text r.consumed kept;
+      bounded = omega arith;
+      at_end = tt;
+      ended = record {
+        short = omega arith;
+        replies = r.progress.replies;
+        answers = record { lines = r.progress.lines; last = r.progress.last; splits = r.progress.splits; given = r.progress.given };
+        written = r.progress.written;
+      };
+      flagged = failed;
+    }
+
+-- a write fails for a line of a piece that was read
+pub Runs-broken : {M R W : Type 0} (remaining : R → Option (List ℕ)) (contents : W → Option (List ℕ)) (gives : M → List ℕ → Reply → M → Type 0) (old mid new : Script M) (a b c : Told R) (x y z : Told W) (count : ℕ)
+    (piece bytes more : List ℕ) → HasRead remaining contents gives old mid a b x y count → Consumes (known remaining b) (known remaining c) piece → length piece ≤ SCRIPT_LIMIT - count + 1 → piece ≡ bytes ++ more
+    → Breaks contents gives mid new y z bytes → IsTrue (has_failed z) → Runs remaining contents gives OutputFault old.machine new.machine a c x z
+Runs-broken remaining contents gives old mid new a b c x y z count piece bytes more r consumed room whole breaks failed =
+    let counted = r.counted in
+    let within = r.within in
+    let broken = breaks.broken old.machine r.text (known contents x) r.progress in record {
+      text = r.text ++ piece;
+      consumed = Consumes-trans (known remaining a) (known remaining b) (known remaining c) r.text piece r.consumed consumed;
+      bounded = omega (arith, length-append r.text piece);
+      at_end = tt;
+      ended = subst (EndsUnwritten contents gives old.machine new.machine x z)
+          (sym (ap (λ l. r.text ++ l) whole ∙ sym (append_assoc r.text bytes more) ∙ ap (λ l. l ++ more) broken.whole ∙ append_assoc broken.front broken.rest more))
+          (at_line broken.front (broken.rest ++ more) broken.replies broken.answers broken.written);
+      flagged = failed;
+    }
+
+-- what a byte too many says of the text
+overruns : {M W : Type 0} (contents : W → Option (List ℕ)) (gives : M → List ℕ → Reply → M → Type 0) (start : M) (new : Script M) (first after : Option (List ℕ)) (text piece : List ℕ) (left : ℕ)
+    → (p : Progress gives start (text ++ take left piece) first after new) → length text + left ≡ SCRIPT_LIMIT → left < length piece → Overruns gives start new.machine (text ++ piece) p.replies
+overruns contents gives start new first after text piece left p full over =
+    let taken = length-take-le left piece (omega arith) in
+    let passed = length-drop left piece in record {
+      front = text ++ take left piece;
+      rest = drop left piece;
+      whole = ap (λ l. text ++ l) (sym (take-append-drop left piece)) ∙ sym (append_assoc text (take left piece) (drop left piece));
+      full = length-append text (take left piece) ∙ omega arith;
+      more = λ none. let count_is = ap length none in absurd (omega arith);
+      answers = record { lines = p.lines; last = p.last; splits = p.splits; given = p.given };
+    }
+
+-- a byte too many is read: the bytes in front of it are run, and the error line is written
+pub Runs-overrun : {M R W : Type 0} (remaining : R → Option (List ℕ)) (contents : W → Option (List ℕ)) (gives : M → List ℕ → Reply → M → Type 0) (old mid new : Script M) (a b c : Told R) (x y z w : Told W) (count : ℕ)
+    (piece : List ℕ) → HasRead remaining contents gives old mid a b x y count → Consumes (known remaining b) (known remaining c) piece → length piece ≤ SCRIPT_LIMIT - count + 1
+    → SCRIPT_LIMIT - count < length piece → Advances contents gives mid new y z (take (SCRIPT_LIMIT - count) piece) → Appends (known contents z) (known contents w) (refusal_text ScriptTooLong)
+    → Runs remaining contents gives TooLong old.machine new.machine a c x w
+Runs-overrun remaining contents gives old mid new a b c x y z w count piece r consumed room over advances written =
+    let counted = r.counted in
+    let within = r.within in
+    let p = advances.progress old.machine r.text (known contents x) r.progress in record {
+      text = r.text ++ piece;
+      consumed = Consumes-trans (known remaining a) (known remaining b) (known remaining c) r.text piece r.consumed consumed;
+      bounded = omega (arith, length-append r.text piece);
+      at_end = tt;
+      ended = record {
         replies = p.replies;
-        new = h.new.slots;
-        whole = h.whole;
-        splits = p.splits;
-        given = p.given;
-        written_is = refl;
-      },
-      refl,
-      refl,
-      p.written,
-    )
+        overruns = overruns contents gives old.machine new (known contents x) (known contents z) r.text piece (SCRIPT_LIMIT - count) p (omega arith) over;
+        written = Appends-trans (known contents x) (known contents z) (known contents w) (replies_text p.replies) (refusal_text ScriptTooLong) p.written written;
+      };
+      flagged = tt;
+    }
 
--- a text of which a front is run
-front_written : {W : Type 0} (contents : W → Option (List ℕ)) (bytes : List ℕ) (script : Script) (x y : Told W) → script.slots ≡ empty → script.line.items ≡ [] → script.is_lost ≡ false
-    → script.has_refused ≡ false → RunsFront contents script x y bytes → Ends contents InputFault x y bytes
-front_written contents bytes script x y slots line held fine h =
-    let g = front_gives contents bytes script x y slots line held fine h in (g.0, g.1, g.4)
+-- and the error line is not
+pub Runs-overrun-broken : {M R W : Type 0} (remaining : R → Option (List ℕ)) (contents : W → Option (List ℕ)) (gives : M → List ℕ → Reply → M → Type 0) (old mid new : Script M) (a b c : Told R) (x y z w : Told W)
+    (count : ℕ) (piece : List ℕ) → HasRead remaining contents gives old mid a b x y count → Consumes (known remaining b) (known remaining c) piece → length piece ≤ SCRIPT_LIMIT - count + 1
+    → SCRIPT_LIMIT - count < length piece → Advances contents gives mid new y z (take (SCRIPT_LIMIT - count) piece) → AppendsFront (known contents z) (known contents w) (refusal_text ScriptTooLong)
+    → IsTrue (has_failed w) → Runs remaining contents gives OutputFault old.machine new.machine a c x w
+Runs-overrun-broken remaining contents gives old mid new a b c x y z w count piece r consumed room over advances written failed =
+    let counted = r.counted in
+    let within = r.within in
+    let p = advances.progress old.machine r.text (known contents x) r.progress in record {
+      text = r.text ++ piece;
+      consumed = Consumes-trans (known remaining a) (known remaining b) (known remaining c) r.text piece r.consumed consumed;
+      bounded = omega (arith, length-append r.text piece);
+      at_end = tt;
+      ended = at_overrun (r.text ++ piece) p.replies (overruns contents gives old.machine new (known contents x) (known contents z) r.text piece (SCRIPT_LIMIT - count) p (omega arith) over)
+          (AppendsFront-behind (known contents x) (known contents z) (known contents w) (replies_text p.replies) (refusal_text ScriptTooLong) p.written written);
+      flagged = failed;
+    }
 
--- a text that is too long
-overrun_written : {W : Type 0} (contents : W → Option (List ℕ)) (bytes : List ℕ) (script : Script) (x y : Told W) → script.slots ≡ empty → script.line.items ≡ [] → script.is_lost ≡ false
-    → script.has_refused ≡ false → OverrunsText contents script x y bytes → Ends contents TooLong x y bytes
-overrun_written contents bytes script x y slots line held fine h =
-    let g = front_gives contents bytes script x h.middle slots line held fine h.runs in (
-      g.0 ++ error_line 63 (codes "ScriptTooLong") [],
-      record {
-        answered = g.0;
-        gives = g.1;
-        full = ap length g.2 ∙ h.full;
-        more = λ none. h.more (sym g.3 ∙ none);
-        written_is = refl;
-      },
-      Appends-trans (known contents x) (known contents h.middle) (known contents y) _ _ g.4 h.error_written,
-    )
+-- a text that is read and run, and whose last line is run
+pub Runs-finished : {M R W : Type 0} (remaining : R → Option (List ℕ)) (contents : W → Option (List ℕ)) (gives : M → List ℕ → Reply → M → Type 0) (old mid new : Script M) (a b : Told R) (x y z : Told W)
+    → ReadsText remaining contents gives old mid a b x y → Finishes contents gives mid new y z
+    → Runs remaining contents gives (if new.has_refused then LinesRefused else Done) old.machine new.machine a b x z
+Runs-finished remaining contents gives old mid new a b x y z r finishes =
+    let counted = r.read.counted in
+    let within = r.read.within in
+    let ended = finishes.answered old.machine r.read.text (known contents x) r.read.progress in
+    elim new.has_refused as (λ h. new.has_refused ≡ h → Runs remaining contents gives (if h then LinesRefused else Done) old.machine new.machine a b x z) [
+      | true ↦ λ is. record {
+        text = r.read.text;
+        consumed = r.read.consumed;
+        bounded = omega arith;
+        at_end = r.at_end;
+        ended = record { short = omega arith; replies = ended.0; answers = ended.1; written = ended.2; refused = ended.3 ∙ is };
+        flagged = tt;
+      }
+      | false ↦ λ is. record {
+        text = r.read.text;
+        consumed = r.read.consumed;
+        bounded = omega arith;
+        at_end = r.at_end;
+        ended = record { short = omega arith; replies = ended.0; answers = ended.1; written = ended.2; refused = ended.3 ∙ is };
+        flagged = tt;
+      }
+    ] refl
 
--- a text whose run stopped
-pub stop_written : {W : Type 0} (contents : W → Option (List ℕ)) (text : Option (List ℕ)) (script : Script) (stop : Stop) (x y : Told W) → script.slots ≡ empty → script.line.items ≡ []
-    → script.is_lost ≡ false → script.has_refused ≡ false → IfSome text (StopsAt contents stop script x y) → IfSome text (Ends contents (status_of stop) x y)
-stop_written contents text script stop.TooLong x y slots line held fine h = IfSome_then text h (λ bytes. overrun_written contents bytes script x y slots line held fine)
-stop_written contents text script stop.Input x y slots line held fine h = IfSome_then text h (λ bytes. front_written contents bytes script x y slots line held fine)
-stop_written contents text script stop.Output x y slots line held fine h = nothing_said text
+-- and a write fails for its last line
+pub Runs-unfinished : {M R W : Type 0} (remaining : R → Option (List ℕ)) (contents : W → Option (List ℕ)) (gives : M → List ℕ → Reply → M → Type 0) (old mid new : Script M) (a b : Told R) (x y z : Told W)
+    → ReadsText remaining contents gives old mid a b x y → Unfinished contents gives mid new y z → IsTrue (has_failed z) → Runs remaining contents gives OutputFault old.machine new.machine a b x z
+Runs-unfinished remaining contents gives old mid new a b x y z r unfinished failed =
+    let counted = r.read.counted in
+    let within = r.read.within in
+    let ended = unfinished.answered old.machine r.read.text (known contents x) r.read.progress in record {
+      text = r.read.text;
+      consumed = r.read.consumed;
+      bounded = omega arith;
+      at_end = tt;
+      ended = at_last_line r.read.text ended.0 (omega arith) ended.1 ended.2;
+      flagged = failed;
+    }
+
+-- the same run, of a start and a status that are told otherwise
+pub Runs-told : {R W S : Type 0} (remaining : R → Option (List ℕ)) (contents : W → Option (List ℕ)) (gives : S → List ℕ → Reply → S → Type 0) (one status : Status) (first start final : S) (a b : Told R) (x y : Told W)
+    → one ≡ status → first ≡ start → Runs remaining contents gives one first final a b x y → Runs remaining contents gives status start final a b x y
+Runs-told remaining contents gives one status first start final a b x y same begun runs =
+    subst (λ s. Runs remaining contents gives s start final a b x y) same (subst (λ s. Runs remaining contents gives one s final a b x y) begun runs)

@@ -1,7 +1,8 @@
-pub mod Failures
 pub mod Lines
-pub mod Script
+pub mod ErrorLines
 pub mod Replies
+pub mod Script
+pub mod Runs
 pub mod Progress
 pub mod Report
 pub use Rattle.cs_value.specs.Value

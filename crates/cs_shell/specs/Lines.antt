@@ -1,25 +1,7 @@
 -- The lines of a script and what they say. The grammar is this project's own.
 use Rattle.std.specs.Prelude.{◌≡◌, ◌≢◌, ℕ, ◌==◌, ◌||◌, ◌⊎◌, nat_le, ◌&&◌, Bool, true, List, [], ◌∷◌, ◌++◌}
 use Rattle.std.specs.Prelude.{if◌then◌else◌, codes}
-use Rattle.std.specs.List.{flat_map, AllByRecursion}
-
--- a line with its line feed
-abbrev pub ended : List ℕ → List ℕ
-ended line = line ++ 10 ∷ []
-
-abbrev pub HasNoFeed : List ℕ → Type 0
-HasNoFeed line = AllByRecursion (λ b. b ≢ 10) line
-
--- a last line without a line feed counts if it has a byte
-abbrev pub unended : List ℕ → List (List ℕ)
-unended [] = []
-unended (b ∷ bytes) = (b ∷ bytes) ∷ []
-
--- the text is these lines, each with a line feed, and then this without one
-pub record Splits (text : List ℕ) (lines : List (List ℕ)) (last : List ℕ) : Type 0 where
-  pub spelled : text ≡ flat_map ended lines ++ last
-  pub no_feed : AllByRecursion HasNoFeed lines
-  pub no_feed_last : HasNoFeed last
+use Rattle.std.specs.List.{AllByRecursion}
 
 -- space, tab and carriage return
 abbrev pub is_blank : ℕ → Bool

@@ -1,116 +1,124 @@
 -- How far a script is run, which the loops that run it keep.
-use Rattle.std.specs.Prelude.{◌≡◌, ◌≢◌, ℕ, ◌≤◌, ◌||◌, Bool, true, false, List, [], ◌∷◌, ◌++◌, length, codes}
+use Rattle.std.specs.Prelude.{◌≡◌, ◌≢◌, ◌⊎◌, ℕ, ◌≤◌, ◌||◌, true, false, List, [], ◌∷◌, ◌++◌, length}
 use Rattle.std.specs.Prelude.{Option, Result}
 use Rattle.std.specs.List.{list_any}
-use Rattle.std.specs.Io.KnownBytes.{Appends, Consumes}
+use Rattle.std.specs.Io.KnownBytes.{Appends, Consumes, IsAtEnd}
+use Rattle.cs_files.specs.declared.told.Told.{Told}
+use Rattle.cs_files.specs.Told.{known}
+use Rattle.cs_files.specs.Calls.{AppendsFront, Writes}
+use Rattle.cs_shell.specs.declared.reader.LineReader.{LineReader}
 use Rattle.cs_shell.specs.declared.script.Script.{Script}
 use Rattle.cs_shell.specs.declared.script.Status.{Status}
 use Rattle.cs_shell.specs.declared.script.Status.TheVariants.{TooLong, InputFault, OutputFault}
 use Rattle.cs_shell.specs.declared.script.Stop.{Stop}
 use Rattle.cs_shell.specs.declared.script.Stop.TheVariants as stop
-use Rattle.cs_files.specs.declared.told.Told.{Told}
-use Rattle.cs_files.specs.Told.{known}
-use Rattle.cs_files.specs.Calls.{Writes}
-use Rattle.cs_shell.specs.Lines.{Splits}
-use Rattle.cs_shell.specs.Script.{SlotMap, Reply, LineGives, LinesGive, ScriptGives, SCRIPT_LIMIT}
-use Rattle.cs_shell.specs.Script.{error_line, reply_text, replies_text, is_refused}
+use Rattle.cs_shell.specs.Replies.{Reply, reply_text, replies_text, is_refused}
+use Rattle.cs_shell.specs.Runs.{Splits, LinesGive, Answers, AnswersAll, SCRIPT_LIMIT}
 
--- the line that is read, unless it is lost
-abbrev pub HoldsLine : Script → List ℕ → Type 0
-HoldsLine script line = script.is_lost ≡ false → script.line.items ≡ line
+-- ---- the line that is read
 
--- a byte was added to the line, or the line is lost
-pub record AddsByte (old new : Script) (byte : ℕ) : Type 0 where
-  pub slots : new.slots ≡ old.slots
-  pub has_refused : new.has_refused ≡ old.has_refused
-  pub line : new.is_lost ≡ false → (old.is_lost ≡ false) × (new.line.items ≡ old.line.items ++ byte ∷ [])
+-- these are its bytes, unless it is lost
+abbrev pub Holds : LineReader → List ℕ → Type 0
+Holds reader line = reader.is_lost ≡ false → reader.bytes.items ≡ line
 
--- the line was answered, its reply was written, or some front of it, and the next line begins
-pub record EndsLine {W X E : Type 0} (contents : W → Option (List ℕ)) (old new : Script) (result : Result X E)
-    (before after : Told W) : Type 0 where
+abbrev pub IsAtStart : LineReader → Type 0
+IsAtStart reader = (reader.bytes.items ≡ []) × (reader.is_lost ≡ false)
+
+abbrev pub HasBegun : LineReader → Type 0
+HasBegun reader = (reader.is_lost ≡ true) ⊎ (reader.bytes.items ≢ [])
+
+-- a byte was added, or the line is lost
+abbrev pub Adds : LineReader → LineReader → ℕ → Type 0
+Adds old new byte = new.is_lost ≡ false → (old.is_lost ≡ false) × (new.bytes.items ≡ old.bytes.items ++ byte ∷ [])
+
+-- ---- lines
+
+-- nothing is read, and no line was refused
+abbrev pub IsFresh : {M : Type 0} → Script M → Type 0
+IsFresh script = IsAtStart script.line × (script.has_refused ≡ false)
+
+-- the line was answered, its answer was written, or some front of it, and the next line begins
+pub record EndsLine {M W X E : Type 0} (contents : W → Option (List ℕ)) (gives : M → List ℕ → Reply → M → Type 0)
+    (old new : Script M) (result : Result X E) (before after : Told W) : Type 0 where
   pub reply : Reply
-  pub given : (line : List ℕ) → HoldsLine old line → LineGives old.slots line reply new.slots
+  pub given : (line : List ℕ) → Holds old.line line → gives old.machine line reply new.machine
   pub writes : Writes contents result before after (reply_text reply)
   pub has_refused : new.has_refused ≡ (old.has_refused || is_refused reply)
-  pub line : new.line.items ≡ []
-  pub is_lost : new.is_lost ≡ false
+  pub at_start : IsAtStart new.line
 
 -- of this front of the text each whole line was answered, and the rest is the line that is read
-pub record Progress (start : SlotMap) (front : List ℕ) (before after : Option (List ℕ)) (script : Script) : Type 0 where
+pub record Progress {M : Type 0} (gives : M → List ℕ → Reply → M → Type 0) (start : M) (front : List ℕ)
+    (before after : Option (List ℕ)) (script : Script M) : Type 0 where
   pub lines : List (List ℕ)
   pub last : List ℕ
   pub replies : List Reply
   pub splits : Splits front lines last
-  pub given : LinesGive start lines replies script.slots
+  pub given : LinesGive gives start lines replies script.machine
   pub written : Appends before after (replies_text replies)
   pub has_refused : list_any is_refused replies ≡ script.has_refused
-  pub holds : HoldsLine script last
-  pub lost : script.is_lost ≡ true → last ≢ []
+  pub holds : Holds script.line last
+  pub lost : script.line.is_lost ≡ true → last ≢ []
 
 -- whatever was run before, these bytes more are run
-pub record Advances {W : Type 0} (contents : W → Option (List ℕ)) (old new : Script) (before after : Told W)
-    (bytes : List ℕ) : Type 0 where
-  pub progress : (start : SlotMap) (front : List ℕ) (first : Option (List ℕ))
-      → Progress start front first (known contents before) old
-      → Progress start (front ++ bytes) first (known contents after) new
+pub record Advances {M W : Type 0} (contents : W → Option (List ℕ)) (gives : M → List ℕ → Reply → M → Type 0)
+    (old new : Script M) (before after : Told W) (bytes : List ℕ) : Type 0 where
+  pub progress : (start : M) (front : List ℕ) (first : Option (List ℕ))
+      → Progress gives start front first (known contents before) old
+      → Progress gives start (front ++ bytes) first (known contents after) new
 
--- what a script gives was written
-abbrev pub WritesScript : SlotMap → List ℕ → Option (List ℕ) → Option (List ℕ) → Bool → Type 0
-WritesScript start text before after some_refused =
-    (written : List ℕ) × ScriptGives start text written some_refused × Appends before after written
-
--- whatever was run before, if it is not too long, it is a script that is run
-pub record Finishes {W : Type 0} (contents : W → Option (List ℕ)) (old new : Script) (before after : Told W)
-    : Type 0 where
-  pub writes : (start : SlotMap) (text : List ℕ) (first : Option (List ℕ))
-      → Progress start text first (known contents before) old → length text ≤ SCRIPT_LIMIT
-      → WritesScript start text first (known contents after) new.has_refused
-
--- so many bytes of the input were read and run
-pub record HasRead {R W : Type 0} (remaining : R → Option (List ℕ)) (contents : W → Option (List ℕ))
-    (input_old input_new : Told R) (old new : Script) (before after : Told W) (count : ℕ) : Type 0 where
-  pub front : List ℕ
-  pub consumed : Consumes (known remaining input_old) (known remaining input_new) front
-  pub counted : length front ≡ count
-  pub advances : Advances contents old new before after front
-  pub within : count ≤ SCRIPT_LIMIT
-
--- the text, which is not too long, was run
-pub record RunsText {W : Type 0} (contents : W → Option (List ℕ)) (old new : Script) (before after : Told W)
-    (text : List ℕ) : Type 0 where
-  pub advances : Advances contents old new before after text
-  pub short : length text ≤ SCRIPT_LIMIT
-
--- whatever was written before, the text is a script that is run from the start
-pub record RunsScript {W : Type 0} (contents : W → Option (List ℕ)) (old new : Script) (before after : Told W)
-    (text : List ℕ) : Type 0 where
-  pub writes : (start : SlotMap) (first : Option (List ℕ)) → Progress start [] first (known contents before) old
-      → WritesScript start text first (known contents after) new.has_refused
-
--- a front of the text was run
-pub record RunsFront {W : Type 0} (contents : W → Option (List ℕ)) (old : Script) (before after : Told W)
-    (text : List ℕ) : Type 0 where
-  pub new : Script
+-- the lines of a front of the text were answered, and a front of what is printed for them was written
+pub record Broken {M : Type 0} (gives : M → List ℕ → Reply → M → Type 0) (start : M) (text : List ℕ)
+    (before after : Option (List ℕ)) (final : M) : Type 0 where
   pub front : List ℕ
   pub rest : List ℕ
   pub whole : text ≡ front ++ rest
-  pub advances : Advances contents old new before after front
+  pub replies : List Reply
+  pub answers : Answers gives start front replies final
+  pub written : AppendsFront before after (replies_text replies)
 
--- the text is too long: its first bytes were run, and the error line was written
-pub record OverrunsText {W : Type 0} (contents : W → Option (List ℕ)) (old : Script) (before after : Told W)
-    (text : List ℕ) : Type 0 where
-  pub middle : Told W
-  pub runs : RunsFront contents old before middle text
-  pub full : length runs.front ≡ SCRIPT_LIMIT
-  pub more : runs.rest ≢ []
-  pub error_written :
-      Appends (known contents middle) (known contents after) (error_line 63 (codes "ScriptTooLong") [])
+-- whatever was run before, a write failed in these bytes
+pub record Breaks {M W : Type 0} (contents : W → Option (List ℕ)) (gives : M → List ℕ → Reply → M → Type 0)
+    (old new : Script M) (before after : Told W) (bytes : List ℕ) : Type 0 where
+  pub broken : (start : M) (front : List ℕ) (first : Option (List ℕ))
+      → Progress gives start front first (known contents before) old
+      → Broken gives start (front ++ bytes) first (known contents after) new.machine
 
--- what was run of a text, by why that stopped: where a write failed nothing is said of it
-abbrev pub StopsAt : {W : Type 0} → (W → Option (List ℕ)) → Stop → Script → Told W → Told W → List ℕ → Type 0
-StopsAt contents stop.TooLong old before after text = OverrunsText contents old before after text
-StopsAt contents stop.Input old before after text = RunsFront contents old before after text
-StopsAt contents stop.Output old before after text = Unit {0}
+-- whatever text was run, its last line is run too
+pub record Finishes {M W : Type 0} (contents : W → Option (List ℕ)) (gives : M → List ℕ → Reply → M → Type 0)
+    (old new : Script M) (before after : Told W) : Type 0 where
+  pub answered : (start : M) (text : List ℕ) (first : Option (List ℕ))
+      → Progress gives start text first (known contents before) old
+      → (replies : List Reply) × AnswersAll gives start text replies new.machine
+      × Appends first (known contents after) (replies_text replies)
+      × (list_any is_refused replies ≡ new.has_refused)
+
+-- whatever text was run, its last line is run too, and a write failed
+pub record Unfinished {M W : Type 0} (contents : W → Option (List ℕ)) (gives : M → List ℕ → Reply → M → Type 0)
+    (old new : Script M) (before after : Told W) : Type 0 where
+  pub answered : (start : M) (text : List ℕ) (first : Option (List ℕ))
+      → Progress gives start text first (known contents before) old
+      → (replies : List Reply) × AnswersAll gives start text replies new.machine
+      × AppendsFront first (known contents after) (replies_text replies)
+
+-- ---- the input
+
+-- so many bytes of the input were read and run
+pub record HasRead {M R W : Type 0} (remaining : R → Option (List ℕ)) (contents : W → Option (List ℕ))
+    (gives : M → List ℕ → Reply → M → Type 0) (old new : Script M) (input_old input_new : Told R)
+    (before after : Told W) (count : ℕ) : Type 0 where
+  pub text : List ℕ
+  pub consumed : Consumes (known remaining input_old) (known remaining input_new) text
+  pub counted : length text ≡ count
+  pub within : count ≤ SCRIPT_LIMIT
+  pub progress : Progress gives old.machine text (known contents before) (known contents after) new
+
+-- the input was read to its end and run
+pub record ReadsText {M R W : Type 0} (remaining : R → Option (List ℕ)) (contents : W → Option (List ℕ))
+    (gives : M → List ℕ → Reply → M → Type 0) (old new : Script M) (input_old input_new : Told R)
+    (before after : Told W) : Type 0 where
+  pub count : ℕ
+  pub read : HasRead remaining contents gives old new input_old input_new before after count
+  pub at_end : IsAtEnd (known remaining input_new)
 
 -- how a script ends that is stopped
 abbrev pub status_of : Stop → Status

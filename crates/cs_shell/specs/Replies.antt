@@ -1,21 +1,19 @@
--- Commands and replies of the code, as the definitions of scripts see them.
-use Rattle.std.specs.Prelude.{◌≡◌, ℕ, ◌+◌, ◌≤◌, List, [], ◌∷◌, length, map, Bool, true, not, Option, None, Some}
-use Rattle.std.specs.Prelude.{string_bytes}
+-- What lines are answered, and the commands and answers of the code, as the definitions of scripts see them.
+use Rattle.std.specs.Prelude.{ℕ, ◌+◌, ◌≤◌, List, [], ◌∷◌, ◌++◌, length, map, Bool, true, false, not, Option, None, Some}
+use Rattle.std.specs.Prelude.{Result, Ok, Err, codes, string_bytes}
+use Rattle.std.specs.List.{flat_map}
 use Rattle.std.specs.Borrow.{Bor}
 use Rattle.cs_shell.specs.declared.lines.Command.{Command}
 use Rattle.cs_shell.specs.declared.lines.Command.TheVariants as command
 use Rattle.cs_shell.specs.declared.lines.LineFault.{LineFault}
 use Rattle.cs_shell.specs.declared.lines.LineFault.TheVariants as fault
-use Rattle.cs_value.specs.declared.refusal.OrNoMemory.{OrNoMemory}
-use Rattle.cs_value.specs.declared.refusal.OrNoMemory.TheVariants as tool
-use Rattle.cs_wire.specs.declared.fault.ReadFault.{ReadFault}
-use Rattle.cs_files.specs.declared.fault.FileFault.{FileFault}
-use Rattle.cs_files.specs.declared.fault.FileFault.TheVariants as file
-use Rattle.cs_shell.specs.declared.reply.Refusal.TheVariants as refusal
-use Rattle.cs_shell.specs.declared.reply.Reply.{Reply}
+use Rattle.cs_wire.specs.Changeset.{GroupData}
+use Rattle.cs_files.specs.Texts.{dump_of}
+use Rattle.cs_shell.specs.declared.refusal.Refusal.{Refusal}
+use Rattle.cs_shell.specs.declared.reply.Reply.{Reply as ReplyOf}
 use Rattle.cs_shell.specs.declared.reply.Reply.TheVariants as reply
 use Rattle.cs_shell.specs.Lines as lines
-use Rattle.cs_shell.specs.Script as script
+use Rattle.cs_shell.specs.ErrorLines.{refusal_text}
 
 -- a command without where its words lie in memory
 abbrev pub command_of : Command → lines.CommandData
@@ -46,21 +44,40 @@ RefusesLine line (fault.Syntax column) =
     × (1 ≤ column) × (column ≤ length line + 1)
 RefusesLine line (fault.NoMemory e) = Unit {0}
 
--- a reply without where its text lies in memory
-abbrev pub reply_of : Reply → script.Reply
-reply_of reply.Silent = script.Silent
-reply_of (reply.Text text) = script.Text (string_bytes text)
-reply_of (reply.Dump changeset) = script.Dumped changeset
-reply_of (reply.Refused why) = script.Refused why
+-- ---- replies
 
--- the reply to a line whose file is refused, but for memory
-abbrev pub IsRefusalOf : OrNoMemory ReadFault → script.Reply → Type 0
-IsRefusalOf (tool.Fault f) answer = answer ≡ script.Refused (refusal.Fault f)
-IsRefusalOf tool.NoMemory answer = ⊥
+-- what a line is answered
+pub data Reply : Type 0 where
+  Silent : Reply
+  Text : List ℕ → Reply
+  Dumped : List GroupData → Reply
+  Refused : Refusal → Reply
 
--- and to one whose files are not joined
-abbrev pub IsJoinRefusal : OrNoMemory FileFault → script.Reply → Type 0
-IsJoinRefusal (tool.Fault (file.First f)) answer = answer ≡ script.Refused (refusal.Fault f)
-IsJoinRefusal (tool.Fault (file.Second f)) answer = answer ≡ script.Refused (refusal.Fault f)
-IsJoinRefusal (tool.Fault (file.Schema s)) answer = answer ≡ script.Refused (refusal.Schema s)
-IsJoinRefusal tool.NoMemory answer = ⊥
+abbrev pub line_text : List ℕ → List ℕ
+line_text text = text ++ codes "\n"
+
+-- what is printed for a reply
+unfoldable pub reply_text : Reply → List ℕ
+reply_text Silent = []
+reply_text (Text text) = line_text text
+reply_text (Dumped changeset) = dump_of changeset
+reply_text (Refused refusal) = refusal_text refusal
+
+abbrev pub replies_text : List Reply → List ℕ
+replies_text replies = flat_map reply_text replies
+
+abbrev pub is_refused : Reply → Bool
+is_refused Silent = false
+is_refused (Text text) = false
+is_refused (Dumped changeset) = false
+is_refused (Refused refusal) = true
+
+-- a reply of the code, without where its text lies in memory
+abbrev pub reply_of : ReplyOf → Reply
+reply_of reply.Silent = Silent
+reply_of (reply.Text text) = Text (string_bytes text)
+reply_of (reply.Dump changeset) = Dumped changeset
+
+abbrev pub answer_of : Result ReplyOf Refusal → Reply
+answer_of (Ok reply) = reply_of reply
+answer_of (Err refusal) = Refused refusal

@@ -10,14 +10,17 @@
 //! assert_eq!(rt; output, b"error 62 EmptySlot\n");
 //! ```
 //!
-//! `lines` is the grammar of a script's lines, `slots` what they name, `reply` what they are answered,
-//! `print` how that is printed, and `script` runs them. `words` has the command line, `command` what that
-//! does with a file, and `report` the text of what an apply did.
+//! `lines` is the grammar of a script's lines, `slots` what they name, `reply` what they are answered, or
+//! why they are refused: a `refusal`, as of command lines. `print` says how answers are printed; `script`
+//! reads lines by a `reader` and runs them. `words` has the command line, `command` what that does with a
+//! file, and `report` the text of what an apply did.
 #![tactic(auto)]
 
 mod command;
 mod lines;
 mod print;
+mod reader;
+mod refusal;
 mod reply;
 mod report;
 mod script;

@@ -6,10 +6,8 @@ ghost use Rattle.cs_files.specs.Calls.{Writes};
 ghost use Rattle.cs_files.specs.Gathering.{Gathers};
 ghost use Rattle.cs_shell.specs.Report.{kind_number as number_of, kind_text as text_of, choice_text as text_of_choice};
 ghost use Rattle.cs_shell.specs.Report.{skip_text, met_text, count_text, report_of};
-ghost use Rattle.cs_shell.specs.Script.{error_line};
-ghost use Rattle.cs_shell.specs.Failures.{conflict_detail};
 
-use cs_apply::{Choice, Conflict, Kind, Met, Report};
+use cs_apply::{Choice, Kind, Met, Report};
 use cs_files::{Gather, OutputFault, Piece, Told, add_pieces};
 use std::io::Write;
 
@@ -25,7 +23,7 @@ fn kind_number(kind: Kind) -> usize
 }
 
 /// The name of a kind of conflict.
-fn kind_name(kind: Kind) -> &'static [u8]
+pub(crate) fn kind_name(kind: Kind) -> &'static [u8]
     ensures { result.now ≡ text_of kind }
 {
     match kind {
@@ -152,34 +150,6 @@ fn add_report<W: Write>(
     add_count(gather, out, report.written.len())
 }
 
-/// Adds the line of an error that is about a conflict.
-fn add_conflict_error<'a, W: Write>(
-    gather: &mut Gather,
-    out: &mut Told<W>,
-    code: u8,
-    name: &'a str,
-    conflict: &'a Conflict,
-) -> Result<(), OutputFault>
-    ensures { Gathers W.contents result gather.old gather.new out.old out.new
-        (error_line code name.now (conflict_detail conflict.now)) }
-{
-    add_pieces(
-        gather,
-        out,
-        &[
-            Piece::Bytes(b"error "),
-            Piece::Number(usize::from(code)),
-            Piece::Bytes(b" "),
-            Piece::Bytes(name.as_bytes()),
-            Piece::Bytes(b" "),
-            Piece::Bytes(kind_name(conflict.kind)),
-            Piece::Bytes(b" "),
-            Piece::Quoted(conflict.table.as_str()),
-            Piece::Bytes(b"\n"),
-        ],
-    )
-}
-
 /// Writes what an apply did: for each table that was passed over, in the order of the file, a line
 /// `warning 17 skipped` with its name; then for each conflict, in that order, a line with the number and
 /// the name of its kind, what was chosen for it, and the table; and then a line `applied` with the count
@@ -194,21 +164,5 @@ pub fn report_text<W: Write>(report: &Report, out: &mut Told<W>) -> Result<(), O
 {
     let mut gather = Gather::new();
     add_report(&mut gather, out, report)?;
-    gather.flush(out)
-}
-
-/// Writes the line of an error that has a number and a name, and is about a conflict. It fails as
-/// `report_text` does.
-pub(crate) fn conflict_line<W: Write>(
-    code: u8,
-    name: &str,
-    conflict: &Conflict,
-    out: &mut Told<W>,
-) -> Result<(), OutputFault>
-    ensures { Writes W.contents result out.old out.new
-        (error_line code name.now (conflict_detail conflict.now)) }
-{
-    let mut gather = Gather::new();
-    add_conflict_error(&mut gather, out, code, name, conflict)?;
     gather.flush(out)
 }

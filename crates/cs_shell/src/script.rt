@@ -1,21 +1,39 @@
 //! Scripts: lines that are read, answered and printed in turn.
-ghost use Rattle.std.specs.Prelude.{◌≡◌, ◌<◌, ◌≤◌, ◌∷◌, [], ℕ, List, length, true, false, IsTrue};
-ghost use Rattle.std.specs.Prelude.{IfOk, IfErr, IfSome, OnOk, OnErr};
+ghost use Rattle.std.specs.Prelude.{◌≡◌, ◌<◌, ◌≤◌, ◌∷◌, [], ℕ, List, if◌then◌else◌, length, IsTrue};
+ghost use Rattle.std.specs.Prelude.{IfOk, IfErr, OnOk, OnErr};
 ghost use Rattle.std.specs.FinMap as map;
-ghost use Rattle.std.specs.Io.KnownBytes.{Consumes, IsAtEnd};
+ghost use Rattle.std.specs.Io.KnownBytes.{Consumes, IsAtEnd, Keeps};
+ghost use Rattle.cs_shell.specs.declared.refusal.Refusal.TheVariants as refusal;
+ghost use Rattle.cs_shell.specs.declared.script.Status.TheVariants.{Done as EndsDone, LinesRefused as EndsRefused};
 ghost use Rattle.cs_shell.specs.declared.script.Stop.TheVariants.{Output};
 ghost use Rattle.cs_files.specs.Told.{has_failed, known};
-ghost use Rattle.cs_shell.specs.Script.{LineGives, Ends, IsFlagged};
-ghost use Rattle.cs_shell.specs.Replies.{reply_of};
-ghost use Rattle.cs_shell.specs.Progress.{HoldsLine, AddsByte, EndsLine, Advances, Finishes};
-ghost use Rattle.cs_shell.specs.Progress.{RunsText, RunsScript, StopsAt, status_of};
+ghost use Rattle.cs_shell.specs.Replies.{Reply as ReplyData, Refused, answer_of};
+ghost use Rattle.cs_shell.specs.Script.{SlotMap, LineGives};
+ghost use Rattle.cs_shell.specs.Runs.{Runs};
+ghost use Rattle.cs_shell.specs.Progress.{Holds, IsFresh, EndsLine, Advances, Breaks, Finishes, Unfinished};
+ghost use Rattle.cs_shell.specs.Progress.{HasRead, ReadsText, status_of};
 
-use crate::print::{write_error, write_reply};
-use crate::reply::{Refusal, Reply, answer};
+use crate::print::{write_answer, write_refusal};
+use crate::reader::LineReader;
+use crate::refusal::Refusal;
+use crate::reply::Reply;
 use crate::slots::Slots;
 use cs_files::{OutputFault, Told};
 use std::alloc::Global;
 use std::io::{Read, Write};
+
+/// What answers the lines of a script.
+pub(crate) trait Machine {
+    // What a line is answered, and what it makes of the machine.
+    ghost gives: { Self → List ℕ → ReplyData → Self → Type 0 };
+
+    // A line that memory is refused for changes nothing.
+    ghost loses: { (machine : Self) (line : List ℕ) → gives machine line (Refused refusal.NoMemory) machine };
+
+    /// The answer to a line, with what the line asks for done. A line that is refused changes nothing.
+    fn answer(&mut self, alloc: Global, line: &[u8]) -> Result<Reply, Refusal>
+        ensures { gives self.old line.now (answer_of result) self.new };
+}
 
 /// How a script ended.
 #[derive(Clone, Copy, Debug, PartialEq, Eq)]
@@ -57,82 +75,70 @@ const SCRIPT_LIMIT: usize = 16_777_216;
 /// How many bytes are read at once.
 const CHUNK_LEN: usize = 4096;
 
-/// Reads the next bytes into some room: none only at the end, or where there is no room.
-fn next_piece<'a, R: Read>(input: &mut Told<R>, room: &'a mut [u8]) -> Result<&'a [u8], Stop>
+/// Reads the next bytes, at most so many, into a chunk: none only at the end.
+fn next_piece<'a, R: Read>(
+    input: &mut Told<R>,
+    chunk: &'a mut [u8],
+    most: usize,
+) -> Result<&'a [u8], Stop>
+    requires { most ≤ length chunk.now }
     ensures piece { IfOk result (λ piece.
         Consumes (known R.remaining input.old) (known R.remaining input.new) piece.now) }
-    ensures short { IfOk result (λ piece. length piece.now ≤ length room.entry.now) }
-    ensures end { IfOk result (λ piece. length piece.now ≡ 0 → 0 < length room.entry.now →
+    ensures short { IfOk result (λ piece. length piece.now ≤ most) }
+    ensures end { IfOk result (λ piece. length piece.now ≡ 0 → 0 < most →
         IsAtEnd (known R.remaining input.new)) }
     ensures err { IfErr result (λ stop. stop ≡ Stop.Input) }
+    ensures kept { OnErr result (Keeps (known R.remaining input.old) (known R.remaining input.new)) }
     ensures flagged { OnErr result (IsTrue (has_failed input.new)) }
 {
-    match input.read(room) {
-        Ok(count) => Ok(&room[..count]),
+    match input.read(&mut chunk[..most]) {
+        Ok(count) => Ok(&chunk[..count]),
         Err(_) => Err(Stop::Input),
     }
 }
 
-/// A script that is being run: the slots so far, and the line that is read.
+/// A script that is being run, by what answers its lines, and the line that is read.
 #[derive(Drop)]
-struct Script {
-    slots: Slots,
-    /// The bytes of the line so far, if it is not lost.
-    line: Vec<u8>,
-    /// Whether memory was refused for the line.
-    is_lost: bool,
+struct Script<M: Machine> {
+    machine: M,
+    line: LineReader,
     /// Whether some line was refused.
     has_refused: bool,
 }
 
-impl Script {
+impl<M: Machine> Script<M> {
     /// A script of which nothing is read.
-    fn new(alloc: Global) -> Script
-        ensures slots { result.slots ≡ map.empty }
-        ensures line { result.line.items ≡ [] }
-        ensures is_lost { result.is_lost ≡ false }
-        ensures has_refused { result.has_refused ≡ false }
+    fn new(alloc: Global, machine: M) -> Script<M>
+        ensures machine { result.machine ≡ machine }
+        ensures fresh { IsFresh result }
     {
         Script {
-            slots: Slots::new(alloc),
-            line: Vec::new(alloc),
-            is_lost: false,
+            machine,
+            line: LineReader::new(alloc),
             has_refused: false,
         }
     }
 
-    /// Adds a byte to the line, which is lost where memory is refused.
-    fn add_byte(&mut self, alloc: Global, byte: u8)
-        ensures { AddsByte self.old self.new byte }
-    {
-        if !self.is_lost && self.line.push(byte).is_err() {
-            self.line = Vec::new(alloc);
-            self.is_lost = true;
-        }
-    }
-
-    /// The reply to the line.
-    fn answer_line(&mut self, alloc: Global) -> Reply
-        ensures given { (line : List ℕ) → HoldsLine self.old line →
-            LineGives self.old.slots line (reply_of result) self.new.slots }
+    /// The answer to the line.
+    fn answer_line(&mut self, alloc: Global) -> Result<Reply, Refusal>
+        ensures given { (line : List ℕ) → Holds self.old.line line →
+            M.gives self.old.machine line (answer_of result) self.new.machine }
         ensures has_refused { self.new.has_refused ≡ self.old.has_refused }
     {
-        if self.is_lost {
-            Reply::Refused(Refusal::NoMemory)
-        } else {
-            answer(alloc, &mut self.slots, &self.line)
+        match self.line.bytes() {
+            Some(line) => self.machine.answer(alloc, line),
+            None => Err(Refusal::NoMemory),
         }
     }
 
-    /// Answers the line, prints the reply and begins the next line.
+    /// Answers the line, prints the answer and begins the next line.
     fn end_line<W: Write>(&mut self, alloc: Global, out: &mut Told<W>) -> Result<(), OutputFault>
-        ensures { EndsLine W.contents self.old self.new result out.old out.new }
+        ensures { EndsLine W.contents M.gives self.old self.new result out.old out.new }
     {
-        let reply = self.answer_line(alloc);
-        self.has_refused |= reply.is_refused();
-        self.is_lost = false;
-        self.line.clear();
-        write_reply(out, &reply)
+        let answer = self.answer_line(alloc);
+        self.has_refused |= answer.is_err();
+        self.line.restart();
+        write_answer(out, &answer)
     }
 
     /// Takes a byte of the script, and runs the line that it ends.
@@ -143,13 +149,15 @@ impl Script {
         out: &mut Told<W>,
     ) -> Result<(), OutputFault>
         ensures ok { OnOk result
-            (Advances W.contents self.old self.new out.old out.new (byte ∷ [])) }
+            (Advances W.contents M.gives self.old self.new out.old out.new (byte ∷ [])) }
+        ensures broken { OnErr result
+            (Breaks W.contents M.gives self.old self.new out.old out.new (byte ∷ [])) }
         ensures flagged { OnErr result (IsTrue (has_failed out.new)) }
     {
         if byte == b'\n' {
             return self.end_line(alloc, out);
         }
-        self.add_byte(alloc, byte);
+        self.line.add(alloc, byte);
         Ok(())
     }
 
@@ -161,7 +169,9 @@ impl Script {
         out: &mut Told<W>,
     ) -> Result<(), OutputFault>
         ensures ok { OnOk result
-            (Advances W.contents self.old self.new out.old out.new bytes.now) }
+            (Advances W.contents M.gives self.old self.new out.old out.new bytes.now) }
+        ensures broken { OnErr result
+            (Breaks W.contents M.gives self.old self.new out.old out.new bytes.now) }
         ensures flagged { OnErr result (IsTrue (has_failed out.new)) }
     {
         for byte in bytes {
@@ -172,11 +182,11 @@ impl Script {
 
     /// Runs a last line that no line feed ends, if it has a byte.
     fn finish<W: Write>(&mut self, alloc: Global, out: &mut Told<W>) -> Result<(), OutputFault>
-        ensures ok { OnOk result
-            (Finishes W.contents self.old self.new out.old out.new) }
+        ensures ok { OnOk result (Finishes W.contents M.gives self.old self.new out.old out.new) }
+        ensures broken { OnErr result (Unfinished W.contents M.gives self.old self.new out.old out.new) }
         ensures flagged { OnErr result (IsTrue (has_failed out.new)) }
     {
-        if self.is_lost || !self.line.is_empty() {
+        if self.line.has_begun() {
             return self.end_line(alloc, out);
         }
         Ok(())
@@ -190,24 +200,24 @@ impl Script {
         input: &mut Told<R>,
         out: &mut Told<W>,
     ) -> Result<(), Stop>
-        ensures ok { OnOk result (IfSome (known R.remaining input.old)
-            (RunsText W.contents self.old self.new out.old out.new)) }
-        ensures stopped { IfErr result (λ stop. IfSome (known R.remaining input.old)
-            (StopsAt W.contents stop self.old out.old out.new)) }
-        ensures flagged { IfErr result (λ stop. IsFlagged (status_of stop) input.new out.new) }
+        requires { IsFresh self.old }
+        ensures ok { OnOk result (ReadsText R.remaining W.contents M.gives self.old self.new
+            input.old input.new out.old out.new) }
+        ensures stopped { IfErr result (λ stop. Runs R.remaining W.contents M.gives (status_of stop)
+            self.old.machine self.new.machine input.old input.new out.old out.new) }
     {
         let mut chunk = [0; CHUNK_LEN];
         let mut count = 0;
         loop {
             let left = SCRIPT_LIMIT - count;
             let wanted = CHUNK_LEN.min(left + 1);
-            let piece = next_piece(input, &mut chunk[..wanted])?;
+            let piece = next_piece(input, &mut chunk, wanted)?;
             if piece.is_empty() {
                 return Ok(());
             }
             if piece.len() > left {
                 self.take_all(alloc, &piece[..left], out)?;
-                write_error(out, 63, "ScriptTooLong")?;
+                write_refusal(out, &Refusal::ScriptTooLong)?;
                 return Err(Stop::TooLong);
             }
             self.take_all(alloc, piece, out)?;
@@ -222,11 +232,12 @@ impl Script {
         input: &mut Told<R>,
         out: &mut Told<W>,
     ) -> Result<(), Stop>
-        ensures ok { OnOk result (IfSome (known R.remaining input.old)
-            (RunsScript W.contents self.old self.new out.old out.new)) }
-        ensures stopped { IfErr result (λ stop. IfSome (known R.remaining input.old)
-            (StopsAt W.contents stop self.old out.old out.new)) }
-        ensures flagged { IfErr result (λ stop. IsFlagged (status_of stop) input.new out.new) }
+        requires { IsFresh self.old }
+        ensures ok { OnOk result (Runs R.remaining W.contents M.gives
+            (if self.new.has_refused then EndsRefused else EndsDone)
+            self.old.machine self.new.machine input.old input.new out.old out.new) }
+        ensures stopped { IfErr result (λ stop. Runs R.remaining W.contents M.gives (status_of stop)
+            self.old.machine self.new.machine input.old input.new out.old out.new) }
     {
         self.take_input(alloc, input, out)?;
         self.finish(alloc, out)?;
@@ -235,14 +246,14 @@ impl Script {
 }
 
 /// Runs a script: reads its lines, answers each before the next is read, and prints the replies. A
-/// line that memory is refused for is refused. It stops at a byte after 16777216, once the whole
-/// lines of those are run and an error line is printed, and where a read or a write fails.
+/// line that memory is refused for is refused. It reads at most 16777217 bytes: at a byte after
+/// 16777216 it stops, once the whole lines of those are run and an error line is printed. It stops, too,
+/// where a read or a write fails; lines that were run stand.
 pub fn run_slots<R: Read, W: Write>(alloc: Global, input: &mut Told<R>, out: &mut Told<W>) -> Status
-    ensures ended { IfSome (known R.remaining input.old)
-        (Ends W.contents result out.old out.new) }
-    ensures flagged { IsFlagged result input.new out.new }
+    ensures { (final : SlotMap) × Runs R.remaining W.contents LineGives result map.empty final
+        input.old input.new out.old out.new }
 {
-    let mut script = Script::new(alloc);
+    let mut script = Script::new(alloc, Slots::new(alloc));
     match script.run(alloc, input, out) {
         Ok(()) if script.has_refused => Status::LinesRefused,
         Ok(()) => Status::Done,

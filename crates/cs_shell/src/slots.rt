@@ -1,8 +1,9 @@
 //! The slots of a script: bytes under names.
-ghost use Rattle.std.specs.Prelude.{◌≡◌, OnOk, OnErr, Option};
-ghost use Rattle.std.specs.Option.{option_copied};
+ghost use Rattle.std.specs.Prelude.{◌≡◌, OnOk, OnErr, None, Some, MatchResult};
 ghost use Rattle.std.specs.FinMap as map;
+ghost use Rattle.cs_shell.specs.declared.refusal.Refusal.TheVariants.{EmptySlot};
 
+use crate::refusal::Refusal;
 use cs_value::NoMemory;
 use std::alloc::Global;
 use std::collections::BTreeMap;
@@ -38,12 +39,15 @@ impl Slots {
         }
     }
 
-    /// The bytes under a name.
-    pub(crate) fn get(&self, name: &[u8]) -> Option<&[u8]>
-        ensures { option_copied result ≡ map.get self.now name.now }
+    /// The bytes under a name. It refuses a name without bytes.
+    pub(crate) fn get(&self, name: &[u8]) -> Result<&[u8], Refusal>
+        ensures { MatchResult result (λ bytes. map.get self.now name.now ≡ Some bytes.now)
+            (λ refusal. (refusal ≡ EmptySlot) × (map.get self.now name.now ≡ None)) }
     {
-        let bytes = self.slots.get(name)?;
-        Some(bytes.as_slice())
+        match self.slots.get(name) {
+            Some(bytes) => Ok(bytes.as_slice()),
+            None => Err(Refusal::EmptySlot),
+        }
     }
 
     /// Puts bytes under a name, in place of those that it had. A refusal changes nothing.

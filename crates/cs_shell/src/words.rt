@@ -3,11 +3,15 @@ ghost use Rattle.std.specs.Prelude.{◌≡◌, ◌≤◌, Some, length, false};
 ghost use Rattle.std.specs.Io.KnownBytes.{Appends};
 ghost use Rattle.cs_files.specs.Told.{has_failed, known};
 ghost use Rattle.cs_files.specs.Calls.{AppendsFront};
-ghost use Rattle.cs_shell.specs.Script.{exit_of, RunsInput};
+ghost use Rattle.std.specs.FinMap as map;
+ghost use Rattle.cs_shell.specs.Runs.{exit_of, RunsInput};
+ghost use Rattle.cs_shell.specs.Script.{LineGives};
 
-use crate::command::{Command, Failure, report, run_command};
+use crate::command::{Command, run_command};
+use crate::print::write_refusal;
+use crate::refusal::Refusal;
 use crate::script::{Status, run_slots};
-use cs_files::{Told, write_whole};
+use cs_files::{OutputFault, Told, write_whole};
 use std::io::{Read, Write};
 use std::rt::HostRuntime;
 
@@ -64,6 +68,11 @@ fn parse_command<'a>(name: &str, arguments: &'a [String]) -> Option<Command<'a>>
     }
 }
 
+/// Writes the error line of a refusal. Where that fails there is nowhere left to say so.
+fn report<E: Write>(err: &mut Told<E>, refusal: &Refusal) {
+    let _ = write_refusal(err, refusal);
+}
+
 /// The exit status of a script, whose own errors are already written. A stream that failed is
 /// reported.
 fn end_script<E: Write>(err: &mut Told<E>, status: Status) -> u8
@@ -72,8 +81,8 @@ fn end_script<E: Write>(err: &mut Told<E>, status: Status) -> u8
     match status {
         Status::Done => return 0,
         Status::LinesRefused | Status::TooLong => {}
-        Status::InputFault => report(err, Failure::Input),
-        Status::OutputFault => report(err, Failure::Output),
+        Status::InputFault => report(err, &Refusal::Input),
+        Status::OutputFault => report(err, &Refusal::Output(OutputFault)),
     }
     1
 }
@@ -110,7 +119,7 @@ pub fn run_words<R: Read, W: Write, E: Write>(
 ) -> u8
     ensures status { result ≤ 2 }
     ensures script { length words.now ≤ 1 →
-        RunsInput R.remaining W.contents result input.old input.new out.old out.new }
+        RunsInput R.remaining W.contents LineGives map.empty result input.old input.new out.old out.new }
     ensures usage { result ≡ 2 → has_failed err.new ≡ false →
         Appends (known E.contents err.old) (known E.contents err.new) USAGE.now }
     ensures unprinted { result ≡ 2 → out.new ≡ out.old }
@@ -119,8 +128,8 @@ pub fn run_words<R: Read, W: Write, E: Write>(
         Some(Action::Script) => end_script(err, run_slots(rt.alloc(), input, out)),
         Some(Action::OnFile { file, command }) => match run_command(rt, file, command, out) {
             Ok(()) => 0,
-            Err(failure) => {
-                report(err, failure);
+            Err(refusal) => {
+                report(err, &refusal);
                 1
             }
         },

@@ -1,21 +1,19 @@
 -- `reply::dump`: what it ensures.
-use Rattle.std.proofs.Common.{sym}
-use Rattle.std.proofs.lemmas.Result.{IfOk-weaker}
-use Rattle.cs_shell.specs.Lines.{Dump}
-use Rattle.cs_shell.specs.Replies.{reply_of}
-use Rattle.cs_shell.specs.Script.{CommandGives, not_dumped, nothing_to_dump}
-use Rattle.cs_shell.proofs.ReplyLemmas.{gives_dumped, of_refused}
+use Rattle.std.proofs.Common.{Some, ap, ◌∙◌}
+use Rattle.std.proofs.lemmas.Result.{err_from_is_err_and}
+use Rattle.cs_shell.specs.Script.{dumped, nothing_to_dump}
+use Rattle.cs_shell.proofs.ReplyLemmas.{gives_not_dumped}
 use Rattle.cs_shell.proofs.reply.dump.Goals as goal
 
-pub returns-in_default : goal.returns-in_default
-returns-in_default c = nothing_to_dump _ _ (sym c.in_default.ensures)
+pub returns-in_err-get : goal.returns-in_err-get
+returns-in_err-get c =
+    let p = err_from_is_err_and c.from_residual.result c.from_residual.ensures.1 in
+    rw (p.1, p.2, c.in_err-get.ensures.0) (nothing_to_dump _ _ c.in_err-get.ensures.1)
 
-pub returns-in-Ok : goal.returns-in-Ok
-returns-in-Ok c = gives_dumped _ _ _ _ c.in-Some.ensures c.in-Ok.ensures.found
+pub returns-in_err-read : goal.returns-in_err-read
+returns-in_err-read c =
+    let p = err_from_is_err_and c.from_residual-in_err-read.result c.from_residual-in_err-read.ensures.1 in
+    rw (p.1, p.2) (gives_not_dumped _ _ _ _ c.in_ok-get.ensures c.in_err-read.ensures.refused)
 
-pub returns-in-Err : goal.returns-in-Err
-returns-in-Err c =
-    let slots = c.args.slots.now in
-    let slot = c.args.slot.now in
-    let file = c.in-Some.file.now in
-    IfOk-weaker c.refuse.result _ _ (λ reply is. of_refused (λ r. CommandGives slots (Dump slot) r slots) file c.in-Err.fault (reply_of reply) c.in-Err.ensures.refused is (λ f why. not_dumped slots slot file f (sym c.in-Some.ensures) why)) c.refuse.ensures
+pub returns : goal.returns
+returns c = dumped _ _ _ c.in_ok-read.ensures.found.0 (c.in_ok-get.ensures ∙ ap Some c.in_ok-read.ensures.found.1)

@@ -1,22 +1,23 @@
--- `reply::invert`: the clause `ok`.
-use Rattle.std.proofs.Common.{sym}
-use Rattle.std.proofs.lemmas.Result.{IfOk-weaker}
-use Rattle.cs_shell.specs.Lines.{Invert}
-use Rattle.cs_shell.specs.Replies.{reply_of}
-use Rattle.cs_shell.specs.Script.{CommandGives, not_inverted, nothing_to_invert}
-use Rattle.cs_shell.proofs.ReplyLemmas.{gives_inverted, of_refused}
+-- `reply::invert`: what it ensures.
+use Rattle.std.proofs.lemmas.Result.{err_from_is_err_and}
+use Rattle.cs_shell.specs.Script.{inverted, nothing_to_invert, unable}
+use Rattle.cs_shell.proofs.ReplyLemmas.{gives_not_inverted}
 use Rattle.cs_shell.proofs.reply.invert.Goals as goal
 
-pub returns-in_default-clause-ok : goal.returns-in_default-clause-ok
-returns-in_default-clause-ok c = nothing_to_invert _ _ _ (sym c.in_default.ensures)
+pub returns-in_err-get : goal.returns-in_err-get
+returns-in_err-get c =
+    let p = err_from_is_err_and c.from_residual.result c.from_residual.ensures.1 in
+    rw (p.1, p.2, c.in_err-get.ensures.0) (nothing_to_invert _ _ _ c.in_err-get.ensures.1)
 
-pub returns-in_ok-insert-in-Ok-clause-ok : goal.returns-in_ok-insert-in-Ok-clause-ok
-returns-in_ok-insert-in-Ok-clause-ok c = gives_inverted _ _ _ _ _ _ c.in-Some.ensures c.in-Ok.ensures.inverted c.in_ok-insert-in-Ok.ensures.ok
+pub returns-in_err-inverse : goal.returns-in_err-inverse
+returns-in_err-inverse c =
+    let p = err_from_is_err_and c.from_residual-in_err-inverse.result c.from_residual-in_err-inverse.ensures.1 in
+    rw (p.1, p.2) (gives_not_inverted _ _ _ _ _ c.in_ok-get.ensures c.in_err-inverse.ensures.refused)
 
-pub returns-in-Err-clause-ok : goal.returns-in-Err-clause-ok
-returns-in-Err-clause-ok c =
-    let slots = c.args.slots.now in
-    let from = c.args.from.now in
-    let into = c.args.into.now in
-    let file = c.in-Some.file.now in
-    IfOk-weaker c.refuse.result _ _ (λ reply is. of_refused (λ r. CommandGives slots (Invert from into) r slots) file c.in-Err.fault (reply_of reply) c.in-Err.ensures.refused is (λ f why. not_inverted slots from into file f (sym c.in-Some.ensures) why)) c.refuse.ensures
+pub returns-in_err-insert : goal.returns-in_err-insert
+returns-in_err-insert c =
+    let p = err_from_is_err_and c.from_residual-in_err-insert.result c.from_residual-in_err-insert.ensures.1 in
+    rw (p.1, p.2, c.in_err-insert.ensures.err) (unable _ _)
+
+pub returns : goal.returns
+returns c = rw c.in_ok-insert.ensures.ok (inverted _ _ _ _ _ c.in_ok-get.ensures c.in_ok-inverse.ensures.inverted)

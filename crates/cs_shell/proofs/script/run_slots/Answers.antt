@@ -1,19 +1,37 @@
--- `script::run_slots`: the clause `ended`.
-use Rattle.cs_shell.proofs.RunLemmas.{script_written, stop_written}
+-- `script::run_slots`: what it ensures.
+use Rattle.std.proofs.Common.{ap, ◌∙◌}
+use Rattle.std.specs.Prelude.{if◌then◌else◌}
+use Rattle.cs_shell.specs.declared.script.Status.TheVariants.{Done, LinesRefused}
+use Rattle.cs_shell.specs.Progress.{status_of}
+use Rattle.cs_shell.proofs.RunLemmas.{Runs-told}
 use Rattle.cs_shell.proofs.script.run_slots.Goals as goal
 
-pub returns-in-Ok-clause-ended : goal.returns-in-Ok-clause-ended
-returns-in-Ok-clause-ended g c =
-    script_written g.W.Write.contents _ _ _ _ c.run.new.self _ c.new-script.ensures.slots c.new-script.ensures.line c.new-script.ensures.is_lost c.new-script.ensures.has_refused c.in-Ok.ensures.ok c.if-script.true
+pub returns-in-Ok : goal.returns-in-Ok
+returns-in-Ok g c = (
+  c.run.new.self.machine,
+  Runs-told _ _ _ _ _ _ _ _ _ _ _ _ (ap (λ b. if b then LinesRefused else Done) c.if-script.true) (c.new-script.ensures.machine ∙ c.new.ensures) c.in-Ok.ensures.ok,
+)
 
-pub returns-in-Ok-2-clause-ended : goal.returns-in-Ok-2-clause-ended
-returns-in-Ok-2-clause-ended g c =
-    script_written g.W.Write.contents _ _ _ _ c.run.new.self _ c.new-script.ensures.slots c.new-script.ensures.line c.new-script.ensures.is_lost c.new-script.ensures.has_refused c.in-Ok-2.ensures.ok c.if-script.false
+pub returns-in-Ok-2 : goal.returns-in-Ok-2
+returns-in-Ok-2 g c = (
+  c.run.new.self.machine,
+  Runs-told _ _ _ _ _ _ _ _ _ _ _ _ (ap (λ b. if b then LinesRefused else Done) c.if-script.false) (c.new-script.ensures.machine ∙ c.new.ensures) c.in-Ok-2.ensures.ok,
+)
 
-pub returns-in-Err-TooLong-clause-ended : goal.returns-in-Err-TooLong-clause-ended
-returns-in-Err-TooLong-clause-ended g c =
-    rw c.in-Err-TooLong.field-0-is at (stop_written g.W.Write.contents _ _ _ _ _ c.new-script.ensures.slots c.new-script.ensures.line c.new-script.ensures.is_lost c.new-script.ensures.has_refused c.in-Err-TooLong.ensures.stopped)
+pub returns-in-Err-TooLong : goal.returns-in-Err-TooLong
+returns-in-Err-TooLong g c = (
+  c.run.new.self.machine,
+  Runs-told _ _ _ _ _ _ _ _ _ _ _ _ (ap status_of c.in-Err-TooLong.field-0-is) (c.new-script.ensures.machine ∙ c.new.ensures) c.in-Err-TooLong.ensures.stopped,
+)
 
-pub returns-in-Err-Input-clause-ended : goal.returns-in-Err-Input-clause-ended
-returns-in-Err-Input-clause-ended g c =
-    rw c.in-Err-Input.field-0-is at (stop_written g.W.Write.contents _ _ _ _ _ c.new-script.ensures.slots c.new-script.ensures.line c.new-script.ensures.is_lost c.new-script.ensures.has_refused c.in-Err-Input.ensures.stopped)
+pub returns-in-Err-Input : goal.returns-in-Err-Input
+returns-in-Err-Input g c = (
+  c.run.new.self.machine,
+  Runs-told _ _ _ _ _ _ _ _ _ _ _ _ (ap status_of c.in-Err-Input.field-0-is) (c.new-script.ensures.machine ∙ c.new.ensures) c.in-Err-Input.ensures.stopped,
+)
+
+pub returns : goal.returns
+returns g c = (
+  c.run.new.self.machine,
+  Runs-told _ _ _ _ _ _ _ _ _ _ _ _ (ap status_of c.in-Err-Output.field-0-is) (c.new-script.ensures.machine ∙ c.new.ensures) c.in-Err-Output.ensures.stopped,
+)

@@ -1,6 +1,8 @@
 -- `script::Script::answer_line`: the clause `given`.
-use Rattle.cs_shell.specs.Script.{no_memory}
+use Rattle.std.proofs.Common.{subst}
+use Rattle.cs_shell.specs.Replies.{answer_of}
 use Rattle.cs_shell.proofs.script.Script.answer_line.Goals as goal
 
-pub returns-then-self-clause-given : goal.returns-then-self-clause-given
-returns-then-self-clause-given c = λ line holds. no_memory _ line
+pub returns-in-Some-clause-given : goal.returns-in-Some-clause-given
+returns-in-Some-clause-given g c = λ line holds.
+    subst (λ l. g.M.Machine.gives c.args.self.now.machine l (answer_of c.answer.result) c.answer.new.self) (c.in-Some.ensures line holds) c.answer.ensures

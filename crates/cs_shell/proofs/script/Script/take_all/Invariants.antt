@@ -3,4 +3,4 @@ use Rattle.cs_shell.specs.Progress.{Advances}
 use Rattle.cs_shell.proofs.script.Script.take_all.Given as goal
 
 abbrev pub invariant-loop-byte : goal.invariant-loop-byte
-invariant-loop-byte g l = Advances g.W.Write.contents l.initial.self l.self l.initial.out l.out (take l.byte-index l.bytes)
+invariant-loop-byte g l = Advances g.W.Write.contents g.M.Machine.gives l.initial.self l.self l.initial.out l.out (take l.byte-index l.bytes)

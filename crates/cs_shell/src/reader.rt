@@ -1,0 +1,60 @@
+//! The line of a script that is being read.
+ghost use Rattle.std.specs.Prelude.{◌≡◌, ◌↔◌, List, ℕ, IfSome, IsTrue};
+ghost use Rattle.cs_shell.specs.Progress.{Adds, HasBegun, Holds, IsAtStart};
+
+use std::alloc::Global;
+
+/// The bytes of a line so far, unless memory was refused for one: then the line is lost, and its bytes
+/// are passed over.
+#[derive(Drop)]
+pub(crate) struct LineReader {
+    bytes: Vec<u8>,
+    is_lost: bool,
+}
+
+impl LineReader {
+    /// A line of which nothing is read.
+    pub(crate) fn new(alloc: Global) -> LineReader
+        ensures { IsAtStart result }
+    {
+        LineReader {
+            bytes: Vec::new(alloc),
+            is_lost: false,
+        }
+    }
+
+    /// Adds a byte to the line, which is lost where memory is refused.
+    pub(crate) fn add(&mut self, alloc: Global, byte: u8)
+        ensures { Adds self.old self.new byte }
+    {
+        if !self.is_lost && self.bytes.push(byte).is_err() {
+            self.bytes = Vec::new(alloc);
+            self.is_lost = true;
+        }
+    }
+
+    /// Whether the line has a byte, also where it is lost.
+    pub(crate) fn has_begun(&self) -> bool
+        ensures { IsTrue result ↔ HasBegun self.now }
+    {
+        self.is_lost || !self.bytes.is_empty()
+    }
+
+    /// The bytes of the line, unless it is lost.
+    pub(crate) fn bytes(&self) -> Option<&[u8]>
+        ensures { (line : List ℕ) → Holds self.now line → IfSome result (λ bytes. bytes.now ≡ line) }
+    {
+        if self.is_lost {
+            return None;
+        }
+        Some(&self.bytes)
+    }
+
+    /// Begins the next line, of which nothing is read.
+    pub(crate) fn restart(&mut self)
+        ensures { IsAtStart self.new }
+    {
+        self.bytes.clear();
+        self.is_lost = false;
+    }
+}

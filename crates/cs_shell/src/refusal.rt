@@ -1,0 +1,212 @@
+//! Why a line of a script, or a command line, is refused.
+ghost use Rattle.std.specs.Prelude.{◌≡◌};
+ghost use Rattle.cs_shell.specs.ErrorLines.{code_of, class_of, name_of, detail_of, detail_in};
+ghost use Rattle.cs_shell.specs.ErrorLines.{of_hex, of_line, of_read, of_files};
+ghost use Rattle.cs_shell.specs.declared.refusal.Refusal.TheVariants as refusal;
+
+use crate::lines::LineFault;
+use cs_apply::{ApplyFault, Conflict};
+use cs_files::{FileFault, OutputFault, ToolFault};
+use cs_value::{Fault, NoMemory};
+use cs_wire::{ReadError, ReadFault};
+use hex::FromHexError;
+use std::alloc::AllocError;
+
+/// Why a line or a command line is refused.
+#[derive(Debug, Drop)]
+pub(crate) enum Refusal {
+    /// Memory was refused.
+    NoMemory,
+    /// Bytes are no changeset's file.
+    Read(ReadFault),
+    /// Two changesets are not joined, or one of two files is no changeset's.
+    Files(FileFault),
+    /// A changeset is not applied, or a store is not opened or closed.
+    Apply(ApplyFault),
+    /// The line does not fit the grammar from this column on.
+    Syntax(usize),
+    /// A slot has no bytes.
+    EmptySlot,
+    /// The script has more than 16777216 bytes.
+    ScriptTooLong,
+    /// The digits are not hexadecimal, two for each byte.
+    BadHex,
+    /// The line is not UTF-8.
+    LineText,
+    /// A file is missing or too long, or a read failed.
+    Input,
+    /// A file is not written, or a write failed.
+    Output(OutputFault),
+}
+
+/// What an error line says behind its name.
+#[derive(Clone, Copy, Debug)]
+pub(crate) enum Detail<'a> {
+    Nothing,
+    /// A place, or a column.
+    Number(usize),
+    /// The kind of a conflict, and its table.
+    Conflict(&'a Conflict),
+}
+
+impl Fault for Refusal {
+    ghost code_of = { code_of };
+
+    ghost class_of = { class_of };
+
+    ghost name_of = { name_of };
+
+    fn code(&self) -> u8 {
+        match self {
+            Refusal::NoMemory => NoMemory.code(),
+            Refusal::Read(fault) => fault.code(),
+            Refusal::Files(fault) => fault.code(),
+            Refusal::Apply(fault) => fault.code(),
+            Refusal::Syntax(_) => 61,
+            Refusal::EmptySlot => 62,
+            Refusal::ScriptTooLong => 63,
+            Refusal::BadHex => 66,
+            Refusal::LineText => 68,
+            Refusal::Input => 71,
+            Refusal::Output(fault) => fault.code(),
+        }
+    }
+
+    fn class(&self) -> u8 {
+        match self {
+            Refusal::NoMemory => NoMemory.class(),
+            Refusal::Read(fault) => fault.class(),
+            Refusal::Files(fault) => fault.class(),
+            Refusal::Apply(fault) => fault.class(),
+            Refusal::Syntax(_)
+            | Refusal::EmptySlot
+            | Refusal::ScriptTooLong
+            | Refusal::BadHex
+            | Refusal::LineText => 1,
+            Refusal::Input => 10,
+            Refusal::Output(fault) => fault.class(),
+        }
+    }
+
+    fn name(&self) -> &'static str {
+        match self {
+            Refusal::NoMemory => NoMemory.name(),
+            Refusal::Read(fault) => fault.name(),
+            Refusal::Files(fault) => fault.name(),
+            Refusal::Apply(fault) => fault.name(),
+            Refusal::Syntax(_) => "Syntax",
+            Refusal::EmptySlot => "EmptySlot",
+            Refusal::ScriptTooLong => "ScriptTooLong",
+            Refusal::BadHex => "BadHex",
+            Refusal::LineText => "LineText",
+            Refusal::Input => "InputFault",
+            Refusal::Output(fault) => fault.name(),
+        }
+    }
+}
+
+impl Refusal {
+    /// What an error line says behind its name.
+    pub(crate) fn detail(&self) -> Detail<'_>
+        ensures { detail_in result ≡ detail_of self.now }
+    {
+        match self {
+            Refusal::Read(fault) => Detail::Number(fault.place),
+            Refusal::Files(FileFault::First(fault) | FileFault::Second(fault)) => {
+                Detail::Number(fault.place)
+            }
+            Refusal::Files(FileFault::Schema(fault)) => Detail::Number(fault.place),
+            Refusal::Apply(fault) => apply_detail(fault),
+            Refusal::Syntax(column) => Detail::Number(*column),
+            _ => Detail::Nothing,
+        }
+    }
+}
+
+/// What an error line says of an apply that is refused.
+fn apply_detail(fault: &ApplyFault) -> Detail<'_>
+    ensures { detail_in result ≡ detail_of (refusal.Apply fault.now) }
+{
+    match fault {
+        ApplyFault::Read(fault) => Detail::Number(fault.place),
+        ApplyFault::Wider(place) => Detail::Number(*place),
+        ApplyFault::Abort(conflict) | ApplyFault::Misuse(conflict) => Detail::Conflict(conflict),
+        ApplyFault::Store(_) | ApplyFault::NoMemory => Detail::Nothing,
+    }
+}
+
+impl From<NoMemory> for Refusal {
+    ghost from_gives = { λ _ r. r ≡ refusal.NoMemory };
+
+    fn from(_fault: NoMemory) -> Refusal {
+        Refusal::NoMemory
+    }
+}
+
+impl From<AllocError> for Refusal {
+    ghost from_gives = { λ _ r. r ≡ refusal.NoMemory };
+
+    fn from(_fault: AllocError) -> Refusal {
+        Refusal::NoMemory
+    }
+}
+
+impl From<FromHexError> for Refusal {
+    ghost from_gives = { λ error r. r ≡ of_hex error };
+
+    fn from(error: FromHexError) -> Refusal {
+        match error {
+            FromHexError::OutOfMemory => Refusal::NoMemory,
+            _ => Refusal::BadHex,
+        }
+    }
+}
+
+impl From<LineFault> for Refusal {
+    ghost from_gives = { λ fault r. r ≡ of_line fault };
+
+    fn from(fault: LineFault) -> Refusal {
+        match fault {
+            LineFault::Syntax { column } => Refusal::Syntax(column),
+            LineFault::NoMemory(_) => Refusal::NoMemory,
+        }
+    }
+}
+
+impl From<ReadError> for Refusal {
+    ghost from_gives = { λ error r. r ≡ of_read error };
+
+    fn from(error: ReadError) -> Refusal {
+        match error {
+            ReadError::Fault(fault) => Refusal::Read(fault),
+            ReadError::NoMemory => Refusal::NoMemory,
+        }
+    }
+}
+
+impl From<ToolFault> for Refusal {
+    ghost from_gives = { λ error r. r ≡ of_files error };
+
+    fn from(error: ToolFault) -> Refusal {
+        match error {
+            ToolFault::Fault(fault) => Refusal::Files(fault),
+            ToolFault::NoMemory => Refusal::NoMemory,
+        }
+    }
+}
+
+impl From<ApplyFault> for Refusal {
+    ghost from_gives = { λ fault r. r ≡ refusal.Apply fault };
+
+    fn from(fault: ApplyFault) -> Refusal {
+        Refusal::Apply(fault)
+    }
+}
+
+impl From<OutputFault> for Refusal {
+    ghost from_gives = { λ fault r. r ≡ refusal.Output fault };
+
+    fn from(fault: OutputFault) -> Refusal {
+        Refusal::Output(fault)
+    }
+}
