@@ -1,6 +1,6 @@
 -- The definitions of scripts, on a table `t` of two columns, of which the first is the key.
 use Rattle.std.proofs.Common.{◌≡◌, ℕ, true, false, List, [], ◌∷◌, ◌++◌, Option, Some}
-use Rattle.std.proofs.Common.{get_or, ◌==◌, true≢false, codes, refl, sym, ap, ◌∙◌, inl, inr, arith}
+use Rattle.std.proofs.Common.{◌==◌, true≢false, codes, refl, sym, ap, ◌∙◌, inl, inr, arith}
 use Rattle.std.specs.List.{list_any}
 use Rattle.std.specs.Char.{encode_utf8}
 use Rattle.std.specs.Str.{chars, is_utf8}
@@ -17,11 +17,12 @@ use Rattle.cs_wire.specs.declared.entry.Change.TheVariants.{Insert}
 use Rattle.cs_wire.specs.declared.fault.ReadFaultKind.TheVariants.{NotTable, EmptyGroup}
 use Rattle.cs_wire.proofs.Examples.{one_change, row, insert_file, delete_file, update_file, insert_is_spelled}
 use Rattle.cs_wire.proofs.Examples.{insert_is_changeset, letter_is_refused}
-use Rattle.cs_shell.specs.Lines.{words_of, IsSlot, CommandData, Load, Hex, Invert, Concat, Dump, Asks, AsksNothing}
+use Rattle.cs_lines.specs.Commands.{Load, Hex, Invert, Concat, Dump, IsSlot}
+use Rattle.cs_lines.specs.Lines.{words_of, Spelled}
 use Rattle.cs_shell.specs.ErrorLines.{refusal_text}
 use Rattle.cs_shell.specs.Replies.{Reply, Silent, Text as Printed, Dumped, Refused, reply_text, replies_text}
 use Rattle.cs_shell.specs.Script.{SlotMap, CommandGives, loaded, no_hex, shown, nothing_to_show, inverted, not_inverted}
-use Rattle.cs_shell.specs.Script.{nothing_to_invert, joined, dumped, LineGives, answered, not_text, malformed}
+use Rattle.cs_shell.specs.Script.{nothing_to_invert, joined, dumped, LineGives, answered, not_text}
 use Rattle.cs_shell.specs.Runs.{HasNoFeed, AnswersAll, RunsInput}
 use Rattle.cs_files.proofs.Examples.{insert_file_inverts, insert_file_joins_update, later_file}
 use Rattle.cs_value.specs.Quoting.{doubled}
@@ -53,71 +54,33 @@ abbrev hex_line : List ℕ
 hex_line = codes ".hex b"
 
 -- `.hex b` asks for the bytes of the slot `b`
-hex_line_asks : Asks hex_line (Hex (codes "b"))
+hex_line_asks : Spelled hex_line (Hex (codes "b"))
 unfolding words_of
-hex_line_asks = (b_is_slot, refl)
+hex_line_asks = inr (inl (b_is_slot, refl))
 
 abbrev invert_line : List ℕ
 invert_line = codes ".invert a b"
 
 -- `.invert a b` asks for the inverse of the slot `a` in the slot `b`
-invert_line_asks : Asks invert_line (Invert (codes "a") (codes "b"))
+invert_line_asks : Spelled invert_line (Invert (codes "a") (codes "b"))
 unfolding words_of
-invert_line_asks = (a_is_slot, b_is_slot, refl)
+invert_line_asks = inr (inl (a_is_slot, b_is_slot, refl))
 
 abbrev concat_line : List ℕ
 concat_line = codes ".concat a b c"
 
 -- `.concat a b c` asks for the join of the slots `a` and `b` in the slot `c`
-concat_line_asks : Asks concat_line (Concat (codes "a") (codes "b") (codes "c"))
+concat_line_asks : Spelled concat_line (Concat (codes "a") (codes "b") (codes "c"))
 unfolding words_of
-concat_line_asks = (a_is_slot, b_is_slot, c_is_slot, refl)
+concat_line_asks = inr (inl (a_is_slot, b_is_slot, c_is_slot, refl))
 
 abbrev dump_line : List ℕ
 dump_line = codes ".dump a"
 
 -- `.dump a` asks for the text of the slot `a`
-dump_line_asks : Asks dump_line (Dump (codes "a"))
+dump_line_asks : Spelled dump_line (Dump (codes "a"))
 unfolding words_of
-dump_line_asks = (a_is_slot, refl)
-
--- blanks may stand around words, and several between them
-blanks_are_passed : Asks (codes "  .invert   a b ") (Invert (codes "a") (codes "b"))
-unfolding words_of
-blanks_are_passed = (a_is_slot, b_is_slot, refl)
-
--- `.load b` without digits asks for a slot of no bytes
-load_without_digits_asks : Asks (codes ".load b") (Load (codes "b") [])
-unfolding words_of
-load_without_digits_asks = (b_is_slot, inr (refl, refl))
-
--- a line of a space, a tab and a carriage return asks for nothing
-blank_line_asks_nothing : AsksNothing (32 ∷ 9 ∷ 13 ∷ [])
-unfolding words_of
-blank_line_asks_nothing = tt
-
--- a comment asks for nothing
-comment_asks_nothing : AsksNothing (codes " --comment, to the end of the line")
-unfolding words_of
-comment_asks_nothing = (codes "comment,", refl)
-
-second_byte : List (List ℕ) → ℕ
-second_byte words = get_or (get_or words 0 []) 1 0
-
--- `.Hex b` is no command, since a capital is another byte than the small letter
-capital_asks_no_command : (command : CommandData) → Asks (codes ".Hex b") command → ⊥
-unfolding words_of second_byte
-capital_asks_no_command (Load slot text) (slot_is, inl words) = absurd (omega (arith, ap second_byte words))
-capital_asks_no_command (Load slot text) (slot_is, inr words) = absurd (omega (arith, ap second_byte words.0))
-capital_asks_no_command (Hex slot) h = absurd (omega (arith, ap second_byte h.1))
-capital_asks_no_command (Invert from into) h = absurd (omega (arith, ap second_byte h.2))
-capital_asks_no_command (Concat first second into) h = absurd (omega (arith, ap second_byte h.3))
-capital_asks_no_command (Dump slot) h = absurd (omega (arith, ap second_byte h.1))
-
--- and it is no comment
-capital_asks_something : AsksNothing (codes ".Hex b") → ⊥
-unfolding words_of
-capital_asks_something (rest, word) = absurd (omega (arith, ap (λ bytes. get_or bytes 0 0) word))
+dump_line_asks = inr (inl (a_is_slot, refl))
 
 -- printed texts
 
@@ -132,7 +95,7 @@ unfolding refusal_text digits
 fault_is_printed = refl
 
 -- that of a line which is malformed at its 24th byte
-syntax_is_printed : refusal_text (Syntax 24) ≡ codes "error 61 Syntax 24\n"
+syntax_is_printed : refusal_text (Syntax (record { column = 24 })) ≡ codes "error 61 Syntax 24\n"
 unfolding refusal_text digits
 syntax_is_printed = refl
 
@@ -181,12 +144,6 @@ not_text_is_refused : (slots : SlotMap) → LineGives slots (0xff ∷ []) (Refus
 unfolding computing
 not_text_is_refused slots = not_text slots (0xff ∷ []) (λ text. true≢false (sym (is_utf8-from_IsUtf8 (0xff ∷ []) text)))
 
--- `.Hex b` is refused with a column that the line has
-capital_is_refused : (slots : SlotMap) → LineGives slots (codes ".Hex b") (Refused (Syntax 1)) slots
-unfolding computing
-capital_is_refused slots =
-    malformed slots (codes ".Hex b") 1 (IsUtf8-from_is_utf8 (codes ".Hex b") refl) capital_asks_something capital_asks_no_command (omega arith) (omega arith)
-
 abbrev insert_digits : List ℕ
 insert_digits = codes "5402010074001200010000000000000001030178"
 
@@ -194,9 +151,9 @@ abbrev load_line : List ℕ
 load_line = codes ".load a " ++ insert_digits
 
 -- `.load a` with digits asks for a slot of their bytes
-load_line_asks : Asks load_line (Load (codes "a") insert_digits)
-unfolding words_of
-load_line_asks = (a_is_slot, inl refl)
+load_line_asks : Spelled load_line (Load (codes "a") insert_digits)
+unfolding words_of computing
+load_line_asks = inr (inl (a_is_slot, IsUtf8-from_is_utf8 insert_digits refl, inl refl))
 
 abbrev a_filled : SlotMap
 a_filled = insert empty (codes "a") insert_file

@@ -3,4 +3,3 @@ pub mod ProgressLemmas
 pub mod ReplyLemmas
 pub mod ReportExamples
 pub mod RunLemmas
-pub mod WordLemmas

@@ -1,6 +1,5 @@
 -- Lemmas on the replies to commands, with what calls ensure turned the way that they are stated.
-use Rattle.std.proofs.Common.{◌≡◌, ◌⊎◌, inl, inr, ℕ, List, true, false, Some, Result, Ok, Err, MatchResult, is_err, IsUtf8, refl}
-use Rattle.std.proofs.lemmas.Bool.{both_ways}
+use Rattle.std.proofs.Common.{◌≡◌, ◌⊎◌, inl, inr, ℕ, List, Some, Err, IsUtf8, arith}
 use Rattle.hex.specs.Hex.{decode_of}
 use Rattle.hex.specs.declared.error.FromHexError.{FromHexError}
 use Rattle.hex.specs.declared.error.FromHexError.TheVariants as hex
@@ -12,12 +11,12 @@ use Rattle.cs_wire.specs.declared.fault.ReadFault.{ReadFault}
 use Rattle.cs_wire.specs.ReadFaults.{ReadFails}
 use Rattle.cs_files.specs.declared.fault.FileFault.{FileFault}
 use Rattle.cs_files.specs.Files.{JoinFails}
-use Rattle.cs_shell.specs.declared.lines.LineFault.{LineFault}
-use Rattle.cs_shell.specs.declared.lines.LineFault.TheVariants as line_fault
-use Rattle.cs_shell.specs.Lines.{Load, Invert, Concat, Dump}
+use Rattle.cs_lines.specs.declared.fault.SyntaxFault.{SyntaxFault}
+use Rattle.cs_lines.specs.Commands.{CommandData, Load, Invert, Concat, Dump}
+use Rattle.cs_lines.specs.Lines.{RefusesLine, Spelled}
 use Rattle.cs_shell.specs.ErrorLines.{of_hex, of_line, of_read, of_files}
-use Rattle.cs_shell.specs.Replies.{Refused, RefusesLine}
-use Rattle.cs_shell.specs.Script.{SlotMap, CommandGives, no_hex, not_inverted, not_joined, not_dumped, unable, LineGives, malformed, no_memory}
+use Rattle.cs_shell.specs.Replies.{Reply, Refused}
+use Rattle.cs_shell.specs.Script.{SlotMap, CommandGives, no_hex, not_inverted, not_joined, not_dumped, unable, AnswersCommand, LineGives, malformed, answered, not_run, no_memory}
 
 -- digits that are not decoded
 pub gives_not_loaded : (old : SlotMap) (slot digits : List ℕ) (e : FromHexError) → (e ≡ hex.OutOfMemory) ⊎ (decode_of digits ≡ Err e) → CommandGives old (Load slot digits) (Refused (of_hex e)) old
@@ -46,17 +45,11 @@ gives_not_dumped old slot file (tool.Fault f) is why = not_dumped old slot file 
 gives_not_dumped old slot file tool.NoMemory is why = unable old (Dump slot)
 
 -- a line that is not read
-pub gives_unread : (old : SlotMap) (line : List ℕ) (fault : LineFault) → IsUtf8 line → RefusesLine line fault → LineGives old line (Refused (of_line fault)) old
-gives_unread old line (line_fault.Syntax column) text why = malformed old line column text why.0 why.1 why.2 why.3
-gives_unread old line (line_fault.NoMemory e) text why = no_memory old line
+pub gives_unread : (old : SlotMap) (line : List ℕ) (fault : OrNoMemory SyntaxFault) → IsUtf8 line → RefusesLine line fault → LineGives old line (Refused (of_line fault)) old
+gives_unread old line (tool.Fault fault) text why = malformed old line fault text why.0 why.1 why.2 why.3
+gives_unread old line tool.NoMemory text why = no_memory old line
 
--- what a test says of a fact that holds at Ok, and not at Err
-pub tested_ok : {X E : Type 0} (result : Result X E) (same : X → Type 0) (more : E → Type 0) (P : Type 0)
-    → MatchResult result (λ x. same x × P) (λ e. ¬ P × more e) → is_err result ≡ false → P
-tested_ok (Ok x) same more P h tested = h.1
-tested_ok (Err e) same more P h tested = absurd (both_ways true tested refl)
-
-pub tested_err : {X E : Type 0} (result : Result X E) (same : X → Type 0) (more : E → Type 0) (P : Type 0)
-    → MatchResult result (λ x. same x × P) (λ e. ¬ P × more e) → is_err result ≡ true → P → ⊥
-tested_err (Ok x) same more P h tested = absurd (both_ways false refl tested)
-tested_err (Err e) same more P h tested = h.0
+-- a command that is answered answers its line
+pub gives_command : (old new : SlotMap) (line : List ℕ) (command : CommandData) (reply : Reply) → IsUtf8 line → Spelled line command → AnswersCommand old command reply new → LineGives old line reply new
+gives_command old new line command reply text asks (inl gives) = answered old line command reply new text asks gives
+gives_command old new line command reply text asks (inr n) = rw (n.1, n.2) (not_run old line command (record { column = 1 }) text asks n.0 (omega arith) (omega arith))

@@ -95,19 +95,20 @@ Runs-input remaining contents gives old new a b c x y count r kept failed =
 
 -- a write fails for a line of a piece that was read
 pub Runs-broken : {M R W : Type 0} (remaining : R → Option (List ℕ)) (contents : W → Option (List ℕ)) (gives : M → List ℕ → Reply → M → Type 0) (old mid new : Script M) (a b c : Told R) (x y z : Told W) (count : ℕ)
-    (piece bytes more : List ℕ) → HasRead remaining contents gives old mid a b x y count → Consumes (known remaining b) (known remaining c) piece → length piece ≤ SCRIPT_LIMIT - count + 1 → piece ≡ bytes ++ more
+    (piece bytes more : List ℕ) → HasRead remaining contents gives old mid a b x y count → Consumes (known remaining b) (known remaining c) piece → length piece ≤ SCRIPT_LIMIT - count + 1 → piece ≡ bytes ++ more → length bytes ≤ SCRIPT_LIMIT - count
     → Breaks contents gives mid new y z bytes → IsTrue (has_failed z) → Runs remaining contents gives OutputFault old.machine new.machine a c x z
-Runs-broken remaining contents gives old mid new a b c x y z count piece bytes more r consumed room whole breaks failed =
+Runs-broken remaining contents gives old mid new a b c x y z count piece bytes more r consumed room whole within_limit breaks failed =
     let counted = r.counted in
     let within = r.within in
-    let broken = breaks.broken old.machine r.text (known contents x) r.progress in record {
+    let broken = breaks.broken old.machine r.text (known contents x) r.progress in
+    let parts = sym (length-append r.text bytes) ∙ ap length broken.whole ∙ length-append broken.front broken.rest in record {
       text = r.text ++ piece;
       consumed = Consumes-trans (known remaining a) (known remaining b) (known remaining c) r.text piece r.consumed consumed;
       bounded = omega (arith, length-append r.text piece);
       at_end = tt;
-      ended = subst (EndsUnwritten contents gives old.machine new.machine x z)
+      ended = subst (EndsUnwritten contents gives old.machine new.machine x z (known remaining c))
           (sym (ap (λ l. r.text ++ l) whole ∙ sym (append_assoc r.text bytes more) ∙ ap (λ l. l ++ more) broken.whole ∙ append_assoc broken.front broken.rest more))
-          (at_line broken.front (broken.rest ++ more) broken.replies broken.answers broken.written);
+          (at_line broken.front (broken.rest ++ more) broken.replies (omega arith) broken.answers broken.written);
       flagged = failed;
     }
 
@@ -202,7 +203,7 @@ Runs-unfinished remaining contents gives old mid new a b x y z r unfinished fail
       consumed = r.read.consumed;
       bounded = omega arith;
       at_end = tt;
-      ended = at_last_line r.read.text ended.0 (omega arith) ended.1 ended.2;
+      ended = at_last_line r.read.text ended.0 (omega arith) r.at_end ended.1 ended.2;
       flagged = failed;
     }
 

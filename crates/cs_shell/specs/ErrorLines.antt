@@ -15,21 +15,20 @@ use Rattle.cs_files.specs.declared.fault.FileFault.TheVariants as file
 use Rattle.cs_files.specs.Faults as files
 use Rattle.hex.specs.declared.error.FromHexError.{FromHexError}
 use Rattle.hex.specs.declared.error.FromHexError.TheVariants as hex
-use Rattle.cs_shell.specs.declared.lines.LineFault.{LineFault}
-use Rattle.cs_shell.specs.declared.lines.LineFault.TheVariants as line
+use Rattle.cs_lines.specs.declared.fault.SyntaxFault.{SyntaxFault}
 use Rattle.cs_shell.specs.declared.refusal.Detail.{Detail}
 use Rattle.cs_shell.specs.declared.refusal.Detail.TheVariants as detail
 use Rattle.cs_shell.specs.declared.refusal.Refusal.{Refusal}
 use Rattle.cs_shell.specs.declared.refusal.Refusal.TheVariants.{NoMemory, Read, Files, Apply, Syntax, EmptySlot}
 use Rattle.cs_shell.specs.declared.refusal.Refusal.TheVariants.{ScriptTooLong, BadHex, LineText, Input, Output}
-use Rattle.cs_shell.specs.Report.{kind_text}
+use Rattle.cs_lines.specs.Commands.{kind_text}
 
 abbrev pub code_of : Refusal → ℕ
 code_of NoMemory = 60
 code_of (Read fault) = read.code_of fault.kind
 code_of (Files fault) = files.code_of fault
 code_of (Apply fault) = applies.code_of fault
-code_of (Syntax column) = 61
+code_of (Syntax fault) = 61
 code_of EmptySlot = 62
 code_of ScriptTooLong = 63
 code_of BadHex = 66
@@ -52,7 +51,7 @@ name_of NoMemory = codes "NoMemory"
 name_of (Read fault) = read.name_of fault.kind
 name_of (Files fault) = files.name_of fault
 name_of (Apply fault) = applies.name_of fault
-name_of (Syntax column) = codes "Syntax"
+name_of (Syntax fault) = codes "Syntax"
 name_of EmptySlot = codes "EmptySlot"
 name_of ScriptTooLong = codes "ScriptTooLong"
 name_of BadHex = codes "BadHex"
@@ -84,7 +83,7 @@ detail_of (Files (file.First fault)) = number_detail fault.place
 detail_of (Files (file.Second fault)) = number_detail fault.place
 detail_of (Files (file.Schema fault)) = number_detail fault.place
 detail_of (Apply fault) = apply_detail fault
-detail_of (Syntax column) = number_detail column
+detail_of (Syntax fault) = number_detail fault.column
 detail_of _ = []
 
 -- a number, a name, and what the refusal is about
@@ -103,9 +102,9 @@ abbrev pub of_hex : FromHexError → Refusal
 of_hex hex.OutOfMemory = NoMemory
 of_hex _ = BadHex
 
-abbrev pub of_line : LineFault → Refusal
-of_line (line.Syntax column) = Syntax column
-of_line (line.NoMemory e) = NoMemory
+abbrev pub of_line : OrNoMemory SyntaxFault → Refusal
+of_line (tool.Fault fault) = Syntax fault
+of_line tool.NoMemory = NoMemory
 
 abbrev pub of_read : OrNoMemory ReadFault → Refusal
 of_read (tool.Fault fault) = Read fault

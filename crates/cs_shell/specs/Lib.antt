@@ -1,4 +1,3 @@
-pub mod Lines
 pub mod ErrorLines
 pub mod Replies
 pub mod Script
@@ -20,6 +19,9 @@ pub use Rattle.cs_wire.specs.ReadFaults
 pub use Rattle.cs_group.specs.Inverse
 pub use Rattle.cs_group.specs.Net
 pub use Rattle.cs_group.specs.Joining
+pub use Rattle.cs_lines.specs.Tokens
+pub use Rattle.cs_lines.specs.Commands
+pub use Rattle.cs_lines.specs.Lines
 pub use Rattle.cs_files.specs.Files
 pub use Rattle.cs_files.specs.Faults
 pub use Rattle.cs_files.specs.Calls

@@ -1,50 +1,13 @@
--- What lines are answered, and the commands and answers of the code, as the definitions of scripts see them.
-use Rattle.std.specs.Prelude.{ℕ, ◌+◌, ◌≤◌, List, [], ◌∷◌, ◌++◌, length, map, Bool, true, false, not, Option, None, Some}
+-- What lines are answered, and what is printed for that.
+use Rattle.std.specs.Prelude.{ℕ, List, [], ◌++◌, Bool, true, false}
 use Rattle.std.specs.Prelude.{Result, Ok, Err, codes, string_bytes}
 use Rattle.std.specs.List.{flat_map}
-use Rattle.std.specs.Borrow.{Bor}
-use Rattle.cs_shell.specs.declared.lines.Command.{Command}
-use Rattle.cs_shell.specs.declared.lines.Command.TheVariants as command
-use Rattle.cs_shell.specs.declared.lines.LineFault.{LineFault}
-use Rattle.cs_shell.specs.declared.lines.LineFault.TheVariants as fault
 use Rattle.cs_wire.specs.Changeset.{GroupData}
 use Rattle.cs_files.specs.Texts.{dump_of}
 use Rattle.cs_shell.specs.declared.refusal.Refusal.{Refusal}
 use Rattle.cs_shell.specs.declared.reply.Reply.{Reply as ReplyOf}
 use Rattle.cs_shell.specs.declared.reply.Reply.TheVariants as reply
-use Rattle.cs_shell.specs.Lines as lines
 use Rattle.cs_shell.specs.ErrorLines.{refusal_text}
-
--- a command without where its words lie in memory
-abbrev pub command_of : Command → lines.CommandData
-command_of (command.Load slot digits) = lines.Load slot.now digits.now
-command_of (command.Hex slot) = lines.Hex slot.now
-command_of (command.Invert from into) = lines.Invert from.now into.now
-command_of (command.Concat first second into) = lines.Concat first.now second.now into.now
-command_of (command.Dump slot) = lines.Dump slot.now
-
--- the bytes of words
-abbrev pub texts : List (Bor (List ℕ)) → List (List ℕ)
-texts words = map (λ word. word.now) words
-
--- nothing is left, or a word begins
-abbrev pub starts_word : List ℕ → Bool
-starts_word [] = true
-starts_word (b ∷ bytes) = not (lines.is_blank b)
-
--- the words are this command's, or no command's
-abbrev pub Parses : List (List ℕ) → Option Command → Type 0
-Parses words None = (command : lines.CommandData) → lines.IsCommand words command → ⊥
-Parses words (Some command) = lines.IsCommand words (command_of command)
-
--- why a line is refused: it asks for nothing that there is, and the column is one of its; or memory was refused
-abbrev pub RefusesLine : List ℕ → LineFault → Type 0
-RefusesLine line (fault.Syntax column) =
-    (lines.AsksNothing line → ⊥) × ((command : lines.CommandData) → lines.Asks line command → ⊥)
-    × (1 ≤ column) × (column ≤ length line + 1)
-RefusesLine line (fault.NoMemory e) = Unit {0}
-
--- ---- replies
 
 -- what a line is answered
 pub data Reply : Type 0 where

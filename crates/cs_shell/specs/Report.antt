@@ -3,28 +3,17 @@ use Rattle.std.specs.Prelude.{ℕ, List, ◌++◌, length, codes, decimal, strin
 use Rattle.std.specs.List.{flat_map}
 use Rattle.cs_group.specs.declared.conflict.Kind.{Kind}
 use Rattle.cs_group.specs.declared.conflict.Kind.TheVariants as kind
-use Rattle.cs_group.specs.declared.conflict.Choice.{Choice}
-use Rattle.cs_group.specs.declared.conflict.Choice.TheVariants as choice
 use Rattle.cs_group.specs.Applying.{MetData}
 use Rattle.cs_apply.specs.declared.report.Report.{Report}
 use Rattle.cs_apply.specs.Report.{met_of}
 use Rattle.cs_value.specs.Quoting.{quoted}
+use Rattle.cs_lines.specs.Commands.{kind_text, choice_text}
 
 -- the numbers are SQLite's: SQLITE_CHANGESET_DATA, SQLITE_CHANGESET_NOTFOUND and SQLITE_CHANGESET_CONFLICT
 abbrev pub kind_number : Kind → ℕ
 kind_number kind.Data = 1
 kind_number kind.NotFound = 2
 kind_number kind.Conflict = 3
-
-abbrev pub kind_text : Kind → List ℕ
-kind_text kind.Data = codes "data"
-kind_text kind.NotFound = codes "notfound"
-kind_text kind.Conflict = codes "conflict"
-
-abbrev pub choice_text : Choice → List ℕ
-choice_text choice.Omit = codes "omit"
-choice_text choice.Replace = codes "replace"
-choice_text choice.Abort = codes "abort"
 
 -- a table that was passed over; 17 is SQLite's SQLITE_SCHEMA
 unfoldable pub skip_text : List ℕ → List ℕ

@@ -101,31 +101,35 @@ pub record EndsOverrun {W S : Type 0} (contents : W → Option (List ℕ)) (give
   pub overruns : Overruns gives start final text replies
   pub written : Appends (known contents before) (known contents after) (overrun_text replies)
 
--- a write failed: of what is printed for the lines that were answered a front is written
+-- a write failed, where this is left of the input: of what is printed for the lines that were answered a front is
+-- written. A last line that no line feed ends is answered only at the end of the input
 pub data EndsUnwritten {W S : Type 0} (contents : W → Option (List ℕ)) (gives : S → List ℕ → Reply → S → Type 0)
-    (start final : S) (before after : Told W) : List ℕ → Type 0 where
-  at_line : (front rest : List ℕ) (replies : List Reply) → Answers gives start front replies final
+    (start final : S) (before after : Told W) (left : Option (List ℕ)) : List ℕ → Type 0 where
+  at_line : (front rest : List ℕ) (replies : List Reply) → length front ≤ SCRIPT_LIMIT
+      → Answers gives start front replies final
       → AppendsFront (known contents before) (known contents after) (replies_text replies)
-      → EndsUnwritten contents gives start final before after (front ++ rest)
-  at_last_line : (text : List ℕ) (replies : List Reply) → length text ≤ SCRIPT_LIMIT
+      → EndsUnwritten contents gives start final before after left (front ++ rest)
+  at_last_line : (text : List ℕ) (replies : List Reply) → length text ≤ SCRIPT_LIMIT → IsAtEnd left
       → AnswersAll gives start text replies final
       → AppendsFront (known contents before) (known contents after) (replies_text replies)
-      → EndsUnwritten contents gives start final before after text
+      → EndsUnwritten contents gives start final before after left text
   at_overrun : (text : List ℕ) (replies : List Reply) → Overruns gives start final text replies
       → AppendsFront (known contents before) (known contents after) (overrun_text replies)
-      → EndsUnwritten contents gives start final before after text
+      → EndsUnwritten contents gives start final before after left text
 
--- by its status
+-- by its status, and what is left of the input
 abbrev pub Ends : {W S : Type 0} → (W → Option (List ℕ)) → (S → List ℕ → Reply → S → Type 0) → Status → S → S
-    → Told W → Told W → List ℕ → Type 0
-Ends contents gives Done start final before after text =
+    → Told W → Told W → Option (List ℕ) → List ℕ → Type 0
+Ends contents gives Done start final before after left text =
     EndsText contents gives start final before after text false
-Ends contents gives LinesRefused start final before after text =
+Ends contents gives LinesRefused start final before after left text =
     EndsText contents gives start final before after text true
-Ends contents gives TooLong start final before after text = EndsOverrun contents gives start final before after text
-Ends contents gives InputFault start final before after text = EndsFront contents gives start final before after text
-Ends contents gives OutputFault start final before after text =
-    EndsUnwritten contents gives start final before after text
+Ends contents gives TooLong start final before after left text =
+    EndsOverrun contents gives start final before after text
+Ends contents gives InputFault start final before after left text =
+    EndsFront contents gives start final before after text
+Ends contents gives OutputFault start final before after left text =
+    EndsUnwritten contents gives start final before after left text
 
 -- the input is read to its end, unless something stopped the script
 abbrev pub ReadsAll : Status → Option (List ℕ) → Type 0
@@ -147,7 +151,7 @@ pub record Runs {R W S : Type 0} (remaining : R → Option (List ℕ)) (contents
   pub consumed : Consumes (known remaining input_before) (known remaining input_after) text
   pub bounded : length text ≤ SCRIPT_LIMIT + 1
   pub at_end : ReadsAll status (known remaining input_after)
-  pub ended : Ends contents gives status start final before after text
+  pub ended : Ends contents gives status start final before after (known remaining input_after) text
   pub flagged : IsFlagged status input_after after
 
 -- the exit status of a script that ended so

@@ -1,6 +1,6 @@
 //! The `changeset` tool as a library: inverting, joining, printing and applying the files of SQLite
 //! changesets, by the lines of a script and by the words of a command line. The calls on files are those of
-//! [`cs_files`], which is passed on.
+//! [`cs_files`], and the grammar of lines is that of [`cs_lines`]; both are passed on.
 //!
 //! ```rust
 //! // An INSERT of ('x') into the table t of one column, and the DELETE of that row.
@@ -10,14 +10,13 @@
 //! assert_eq!(rt; output, b"error 62 EmptySlot\n");
 //! ```
 //!
-//! `lines` is the grammar of a script's lines, `slots` what they name, `reply` what they are answered, or
-//! why they are refused: a `refusal`, as of command lines. `print` says how answers are printed; `script`
+//! `slots` is what the lines of a script name, `reply` what they are answered, or why they are refused: a
+//! `refusal`, as of command lines. `print` says how answers are printed; `script`
 //! reads lines by a `reader` and runs them. `words` has the command line, `command` what that does with a
 //! file, and `report` the text of what an apply did.
 #![tactic(auto)]
 
 mod command;
-mod lines;
 mod print;
 mod reader;
 mod refusal;
@@ -32,6 +31,7 @@ pub use cs_files::{
     invert_bytes, sql_file, sql_text,
 };
 pub use cs_group::SchemaFault;
+pub use cs_lines::{Assignment, Command, LineFault, SyntaxFault, parse_line};
 pub use cs_wire::{ReadError, ReadFault, ReadFaultKind};
 pub use report::report_text;
 pub use script::{Status, run_slots};

@@ -6,8 +6,8 @@ ghost use Rattle.cs_shell.specs.Replies.{answer_of, line_text, reply_of, reply_t
 
 use crate::refusal::{Detail, Refusal};
 use crate::reply::Reply;
-use crate::report::kind_name;
 use cs_files::{Gather, OutputFault, Piece, Told, add_pieces, dump_text};
+use cs_lines::kind_name;
 use cs_value::Fault;
 use std::io::Write;
 
@@ -32,7 +32,7 @@ fn add_refusal<W: Write>(
             add_pieces(gather, out, &[error, code, blank, name, blank, number, end])
         }
         Detail::Conflict(conflict) => {
-            let kind = Piece::Bytes(kind_name(conflict.kind));
+            let kind = Piece::Bytes(kind_name(conflict.kind).as_bytes());
             let table = Piece::Quoted(conflict.table.as_str());
             add_pieces(
                 gather,

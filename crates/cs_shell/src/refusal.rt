@@ -4,9 +4,9 @@ ghost use Rattle.cs_shell.specs.ErrorLines.{code_of, class_of, name_of, detail_o
 ghost use Rattle.cs_shell.specs.ErrorLines.{of_hex, of_line, of_read, of_files};
 ghost use Rattle.cs_shell.specs.declared.refusal.Refusal.TheVariants as refusal;
 
-use crate::lines::LineFault;
 use cs_apply::{ApplyFault, Conflict};
 use cs_files::{FileFault, OutputFault, ToolFault};
+use cs_lines::{LineFault, SyntaxFault};
 use cs_value::{Fault, NoMemory};
 use cs_wire::{ReadError, ReadFault};
 use hex::FromHexError;
@@ -23,9 +23,9 @@ pub(crate) enum Refusal {
     Files(FileFault),
     /// A changeset is not applied, or a store is not opened or closed.
     Apply(ApplyFault),
-    /// The line does not fit the grammar from this column on.
-    Syntax(usize),
-    /// A slot has no bytes.
+    /// The line asks for nothing that there is.
+    Syntax(SyntaxFault),
+    /// A slot was not filled.
     EmptySlot,
     /// The script has more than 16777216 bytes.
     ScriptTooLong,
@@ -62,7 +62,7 @@ impl Fault for Refusal {
             Refusal::Read(fault) => fault.code(),
             Refusal::Files(fault) => fault.code(),
             Refusal::Apply(fault) => fault.code(),
-            Refusal::Syntax(_) => 61,
+            Refusal::Syntax(fault) => fault.code(),
             Refusal::EmptySlot => 62,
             Refusal::ScriptTooLong => 63,
             Refusal::BadHex => 66,
@@ -78,11 +78,8 @@ impl Fault for Refusal {
             Refusal::Read(fault) => fault.class(),
             Refusal::Files(fault) => fault.class(),
             Refusal::Apply(fault) => fault.class(),
-            Refusal::Syntax(_)
-            | Refusal::EmptySlot
-            | Refusal::ScriptTooLong
-            | Refusal::BadHex
-            | Refusal::LineText => 1,
+            Refusal::Syntax(fault) => fault.class(),
+            Refusal::EmptySlot | Refusal::ScriptTooLong | Refusal::BadHex | Refusal::LineText => 1,
             Refusal::Input => 10,
             Refusal::Output(fault) => fault.class(),
         }
@@ -94,7 +91,7 @@ impl Fault for Refusal {
             Refusal::Read(fault) => fault.name(),
             Refusal::Files(fault) => fault.name(),
             Refusal::Apply(fault) => fault.name(),
-            Refusal::Syntax(_) => "Syntax",
+            Refusal::Syntax(fault) => fault.name(),
             Refusal::EmptySlot => "EmptySlot",
             Refusal::ScriptTooLong => "ScriptTooLong",
             Refusal::BadHex => "BadHex",
@@ -117,7 +114,7 @@ impl Refusal {
             }
             Refusal::Files(FileFault::Schema(fault)) => Detail::Number(fault.place),
             Refusal::Apply(fault) => apply_detail(fault),
-            Refusal::Syntax(column) => Detail::Number(*column),
+            Refusal::Syntax(fault) => Detail::Number(fault.column),
             _ => Detail::Nothing,
         }
     }
@@ -167,8 +164,8 @@ impl From<LineFault> for Refusal {
 
     fn from(fault: LineFault) -> Refusal {
         match fault {
-            LineFault::Syntax { column } => Refusal::Syntax(column),
-            LineFault::NoMemory(_) => Refusal::NoMemory,
+            LineFault::Fault(fault) => Refusal::Syntax(fault),
+            LineFault::NoMemory => Refusal::NoMemory,
         }
     }
 }

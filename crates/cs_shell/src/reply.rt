@@ -1,13 +1,13 @@
 //! What a line is answered.
-ghost use Rattle.cs_shell.specs.Lines as lines;
-ghost use Rattle.cs_shell.specs.Script.{CommandGives, LineGives, no_memory};
-ghost use Rattle.cs_shell.specs.Replies.{command_of, answer_of};
+ghost use Rattle.cs_lines.specs.Commands as lines;
+ghost use Rattle.cs_shell.specs.Script.{AnswersCommand, CommandGives, LineGives, no_memory};
+ghost use Rattle.cs_shell.specs.Replies.{answer_of};
 
-use crate::lines::{Command, parse_line};
 use crate::refusal::Refusal;
 use crate::script::Machine;
 use crate::slots::Slots;
 use cs_files::{concat_bytes, invert_bytes};
+use cs_lines::{Command, SyntaxFault, parse_line};
 use cs_wire::{Changeset, read};
 use std::alloc::Global;
 
@@ -73,20 +73,27 @@ fn dump(alloc: Global, slots: &Slots, slot: &[u8]) -> Result<Reply, Refusal>
     Ok(Reply::Dump(read(alloc, slots.get(slot)?)?))
 }
 
-/// Does what a command asks for.
-fn run_command(alloc: Global, slots: &mut Slots, command: Command<'_>) -> Result<Reply, Refusal>
-    ensures { CommandGives slots.old (command_of command.entry) (answer_of result) slots.new }
+/// Does what a command on slots asks for. One on tables or on a session does not fit.
+fn run_command(alloc: Global, slots: &mut Slots, command: &Command) -> Result<Reply, Refusal>
+    ensures { AnswersCommand slots.old (lines.command_of command.now) (answer_of result) slots.new }
 {
     match command {
-        Command::Load { slot, digits } => load(alloc, slots, slot, digits),
-        Command::Hex { slot } => show(alloc, slots, slot),
-        Command::Invert { from, into } => invert(alloc, slots, from, into),
+        Command::Load { slot, digits } => load(alloc, slots, slot.as_bytes(), digits.as_bytes()),
+        Command::Hex { slot } => show(alloc, slots, slot.as_bytes()),
+        Command::Invert { from, into } => invert(alloc, slots, from.as_bytes(), into.as_bytes()),
         Command::Concat {
             first,
             second,
             into,
-        } => join(alloc, slots, first, second, into),
-        Command::Dump { slot } => dump(alloc, slots, slot),
+        } => join(
+            alloc,
+            slots,
+            first.as_bytes(),
+            second.as_bytes(),
+            into.as_bytes(),
+        ),
+        Command::Dump { slot } => dump(alloc, slots, slot.as_bytes()),
+        _ => Err(Refusal::Syntax(SyntaxFault { column: 1 })),
     }
 }
 
@@ -96,11 +103,11 @@ impl Machine for Slots {
     ghost loses = { λ slots line. no_memory slots line };
 
     fn answer(&mut self, alloc: Global, line: &[u8]) -> Result<Reply, Refusal> {
-        if std::str::from_utf8(line).is_err() {
+        let Ok(line) = std::str::from_utf8(line) else {
             return Err(Refusal::LineText);
-        }
+        };
         match parse_line(alloc, line)? {
-            Some(command) => run_command(alloc, self, command),
+            Some(command) => run_command(alloc, self, &command),
             None => Ok(Reply::Silent),
         }
     }

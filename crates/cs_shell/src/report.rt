@@ -4,11 +4,12 @@ ghost use Rattle.std.specs.List.{flat_map};
 ghost use Rattle.cs_apply.specs.Report.{met_of};
 ghost use Rattle.cs_files.specs.Calls.{Writes};
 ghost use Rattle.cs_files.specs.Gathering.{Gathers};
-ghost use Rattle.cs_shell.specs.Report.{kind_number as number_of, kind_text as text_of, choice_text as text_of_choice};
+ghost use Rattle.cs_shell.specs.Report.{kind_number as number_of};
 ghost use Rattle.cs_shell.specs.Report.{skip_text, met_text, count_text, report_of};
 
-use cs_apply::{Choice, Kind, Met, Report};
+use cs_apply::{Kind, Met, Report};
 use cs_files::{Gather, OutputFault, Piece, Told, add_pieces};
+use cs_lines::{choice_name, kind_name};
 use std::io::Write;
 
 /// The number of a kind of conflict, which is SQLite's.
@@ -19,28 +20,6 @@ fn kind_number(kind: Kind) -> usize
         Kind::Data => 1,
         Kind::NotFound => 2,
         Kind::Conflict => 3,
-    }
-}
-
-/// The name of a kind of conflict.
-pub(crate) fn kind_name(kind: Kind) -> &'static [u8]
-    ensures { result.now ≡ text_of kind }
-{
-    match kind {
-        Kind::Data => b"data",
-        Kind::NotFound => b"notfound",
-        Kind::Conflict => b"conflict",
-    }
-}
-
-/// The name of a choice.
-fn choice_name(choice: Choice) -> &'static [u8]
-    ensures { result.now ≡ text_of_choice choice }
-{
-    match choice {
-        Choice::Omit => b"omit",
-        Choice::Replace => b"replace",
-        Choice::Abort => b"abort",
     }
 }
 
@@ -92,9 +71,9 @@ fn add_met<W: Write>(gather: &mut Gather, out: &mut Told<W>, met: &Met) -> Resul
             Piece::Bytes(b"conflict "),
             Piece::Number(kind_number(conflict.kind)),
             Piece::Bytes(b" "),
-            Piece::Bytes(kind_name(conflict.kind)),
+            Piece::Bytes(kind_name(conflict.kind).as_bytes()),
             Piece::Bytes(b" "),
-            Piece::Bytes(choice_name(met.choice)),
+            Piece::Bytes(choice_name(met.choice).as_bytes()),
             Piece::Bytes(b" "),
             Piece::Quoted(conflict.table.as_str()),
             Piece::Bytes(b"\n"),

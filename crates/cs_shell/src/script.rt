@@ -27,10 +27,10 @@ pub(crate) trait Machine {
     // What a line is answered, and what it makes of the machine.
     ghost gives: { Self → List ℕ → ReplyData → Self → Type 0 };
 
-    // A line that memory is refused for changes nothing.
+    // Any line may be refused for memory, and then the machine is as it was.
     ghost loses: { (machine : Self) (line : List ℕ) → gives machine line (Refused refusal.NoMemory) machine };
 
-    /// The answer to a line, with what the line asks for done. A line that is refused changes nothing.
+    /// The answer to a line, with what the line asks for done.
     fn answer(&mut self, alloc: Global, line: &[u8]) -> Result<Reply, Refusal>
         ensures { gives self.old line.now (answer_of result) self.new };
 }
@@ -245,7 +245,7 @@ impl<M: Machine> Script<M> {
     }
 }
 
-/// Runs a script: reads its lines, answers each before the next is read, and prints the replies. A
+/// Runs a script: reads its lines, answers those that it has before it reads on, and prints the replies. A
 /// line that memory is refused for is refused. It reads at most 16777217 bytes: at a byte after
 /// 16777216 it stops, once the whole lines of those are run and an error line is printed. It stops, too,
 /// where a read or a write fails; lines that were run stand.

@@ -30,7 +30,7 @@ impl Model for Slots {
 }
 
 impl Slots {
-    /// No slot has bytes.
+    /// No slot is filled.
     pub(crate) fn new(alloc: Global) -> Slots
         ensures { result ≡ map.empty }
     {
@@ -39,7 +39,7 @@ impl Slots {
         }
     }
 
-    /// The bytes under a name. It refuses a name without bytes.
+    /// The bytes under a name. It refuses a name under which none were put.
     pub(crate) fn get(&self, name: &[u8]) -> Result<&[u8], Refusal>
         ensures { MatchResult result (λ bytes. map.get self.now name.now ≡ Some bytes.now)
             (λ refusal. (refusal ≡ EmptySlot) × (map.get self.now name.now ≡ None)) }

@@ -1,6 +1,6 @@
 //! Tests of the public calls, of what no contract and no line of a script says.
 //!
-//! `value`, `wire`, `group`, `shell`, `store`, `apply` and `session` have those of a crate each, and `refusals`
+//! `value`, `wire`, `group`, `lines`, `shell`, `store`, `apply` and `session` have those of a crate each, and `refusals`
 //! the numbers, names and texts of what they refuse with. `stores` has those of stores over SQL,
 //! `adoption` those of what is taken over as a store, `recording` those of applies through sessions,
 //! `recorded` the files of SQLite's own session library that sessions make again, and `calling` the
@@ -15,6 +15,8 @@ mod apply;
 mod calling;
 #[cfg(test)]
 mod group;
+#[cfg(test)]
+mod lines;
 #[cfg(test)]
 mod recorded;
 #[cfg(test)]

@@ -1,6 +1,7 @@
 -- `script::Script::take_input`: the invariant of the loop at `piece`, the clause `stopped`.
-use Rattle.std.proofs.Common.{sym, arith, append-nil}
-use Rattle.std.proofs.lemmas.List.{take-append-drop}
+use Rattle.std.proofs.Common.{sym, arith, append-nil, ◌-◌}
+use Rattle.cs_shell.specs.Runs.{SCRIPT_LIMIT}
+use Rattle.std.proofs.lemmas.List.{take-append-drop, length-take-le}
 use Rattle.std.proofs.lemmas.Result.{err_from_is_err_and}
 use Rattle.cs_shell.proofs.RunLemmas.{HasRead-start, HasRead-more, Runs-broken, Runs-overrun, Runs-overrun-broken}
 use Rattle.cs_shell.proofs.script.Script.take_input.Goals as goal
@@ -11,7 +12,7 @@ loop-piece-init g c = HasRead-start _ _ _ _ _ _ c.requires
 pub returns-in_err-take_all-clause-stopped : goal.returns-in_err-take_all-clause-stopped
 returns-in_err-take_all-clause-stopped g c =
     let p = err_from_is_err_and c.from_residual-in_err-take_all.result c.from_residual-in_err-take_all.ensures.1 in
-    rw (p.1, p.2) (Runs-broken _ _ _ _ _ _ _ _ c.next_piece.new.input _ _ _ _ c.in_ok-piece.piece.now _ _ c.loop-piece.invariant c.in_ok-piece.ensures.piece (omega (arith, c.in_ok-piece.ensures.short, c.min-wanted.ensures)) (sym (take-append-drop _ _)) c.in_err-take_all.ensures.broken c.in_err-take_all.ensures.flagged)
+    rw (p.1, p.2) (Runs-broken _ _ _ _ _ _ _ _ c.next_piece.new.input _ _ _ _ c.in_ok-piece.piece.now _ _ c.loop-piece.invariant c.in_ok-piece.ensures.piece (omega (arith, c.in_ok-piece.ensures.short, c.min-wanted.ensures)) (sym (take-append-drop _ _)) (omega (arith, length-take-le (SCRIPT_LIMIT - c.loop-piece.count) c.in_ok-piece.piece.now (omega (arith, c.if-piece-left.true)))) c.in_err-take_all.ensures.broken c.in_err-take_all.ensures.flagged)
 
 pub returns-in_err-write_refusal-clause-stopped : goal.returns-in_err-write_refusal-clause-stopped
 returns-in_err-write_refusal-clause-stopped g c =
@@ -25,7 +26,7 @@ returns-then-piece-left-clause-stopped g c =
 pub returns-in_err-take_all-2-clause-stopped : goal.returns-in_err-take_all-2-clause-stopped
 returns-in_err-take_all-2-clause-stopped g c =
     let p = err_from_is_err_and c.from_residual-in_err-take_all-2.result c.from_residual-in_err-take_all-2.ensures.1 in
-    rw (p.1, p.2) (Runs-broken _ _ _ _ _ _ _ _ c.next_piece.new.input _ _ _ _ c.in_ok-piece.piece.now _ _ c.loop-piece.invariant c.in_ok-piece.ensures.piece (omega (arith, c.in_ok-piece.ensures.short, c.min-wanted.ensures)) (sym (append-nil _)) c.in_err-take_all-2.ensures.broken c.in_err-take_all-2.ensures.flagged)
+    rw (p.1, p.2) (Runs-broken _ _ _ _ _ _ _ _ c.next_piece.new.input _ _ _ _ c.in_ok-piece.piece.now _ _ c.loop-piece.invariant c.in_ok-piece.ensures.piece (omega (arith, c.in_ok-piece.ensures.short, c.min-wanted.ensures)) (sym (append-nil _)) c.if-piece-left.false c.in_err-take_all-2.ensures.broken c.in_err-take_all-2.ensures.flagged)
 
 pub loop-piece-preserved : goal.loop-piece-preserved
 loop-piece-preserved g c =

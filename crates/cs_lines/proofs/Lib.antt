@@ -1,0 +1,17 @@
+pub mod PartLemmas
+pub mod IntegerLemmas
+pub mod TokenTakes
+pub mod TokenSteps
+pub mod TokenAgain
+pub mod TokenLemmas
+pub mod TokenExamples
+pub mod WordLemmas
+pub mod DotLemmas
+pub mod StatementLemmas
+pub mod StatementLaws
+pub mod StatementForms
+pub mod ApplyAgain
+pub mod AttachAgain
+pub mod DotTaken
+pub mod LineLaws
+pub mod LineExamples

@@ -1,0 +1,158 @@
+-- The commands that lines ask for, and the tokens and words of each. The grammar is this project's own: of SQL and of the
+-- shell of SQLite it has the few forms that tables, rows and changesets need.
+use Rattle.std.specs.Prelude.{◌≡◌, ◌≢◌, ◌⊎◌, ℕ, List, [], ◌∷◌, ◌++◌, map, true, codes, AllPairs, IsUtf8, string_bytes}
+use Rattle.std.specs.List.{flat_map, AllByRecursion}
+use Rattle.cs_value.specs.declared.value.OwnedValue.{OwnedValue}
+use Rattle.cs_group.specs.declared.conflict.Kind.{Kind}
+use Rattle.cs_group.specs.declared.conflict.Kind.TheVariants as kind
+use Rattle.cs_group.specs.declared.conflict.Choice.{Choice}
+use Rattle.cs_group.specs.declared.conflict.Choice.TheVariants as choice
+use Rattle.cs_lines.specs.declared.command.Command.{Command}
+use Rattle.cs_lines.specs.declared.command.Command.TheVariants as command
+use Rattle.cs_lines.specs.declared.command.Assignment.{Assignment}
+use Rattle.cs_lines.specs.declared.symbol.Symbol.TheVariants.{Create as CREATE, Table as TABLE, Primary as PRIMARY}
+use Rattle.cs_lines.specs.declared.symbol.Symbol.TheVariants.{Key as KEY, Insert as INSERT, Into as INTO, Values as VALUES}
+use Rattle.cs_lines.specs.declared.symbol.Symbol.TheVariants.{Update as UPDATE, Set as SET, Where as WHERE, And as AND}
+use Rattle.cs_lines.specs.declared.symbol.Symbol.TheVariants.{Delete as DELETE, From as FROM, Select as SELECT}
+use Rattle.cs_lines.specs.declared.symbol.Symbol.TheVariants.{Open, Close, Comma, Semicolon, Equals, Star}
+use Rattle.cs_lines.specs.Tokens.{Token, Fixed, Name, Value, is_word_byte}
+
+-- a column, and the value that it gets or has
+pub record AssignmentData : Type 0 where
+  pub column : List ℕ
+  pub value : OwnedValue
+
+-- what a line asks for; names, slots and digits are bytes
+pub data CommandData : Type 0 where
+  Create : (name : List ℕ) (columns keys : List (List ℕ)) → CommandData
+  Insert : (table : List ℕ) (values : List OwnedValue) → CommandData
+  Update : (table : List ℕ) (sets conditions : List AssignmentData) → CommandData
+  Delete : (table : List ℕ) (conditions : List AssignmentData) → CommandData
+  Select : (table : List ℕ) → CommandData
+  Load : (slot digits : List ℕ) → CommandData
+  Hex : (slot : List ℕ) → CommandData
+  Dump : (slot : List ℕ) → CommandData
+  Invert : (from into : List ℕ) → CommandData
+  Concat : (first second into : List ℕ) → CommandData
+  Apply : (slot : List ℕ) (on_data on_notfound on_conflict : Choice) → CommandData
+  Revert : (slot : List ℕ) → CommandData
+  SessionOpen : CommandData
+  SessionAttach : (table : List ℕ) → CommandData
+  SessionChangeset : (slot : List ℕ) → CommandData
+  SessionIsEmpty : CommandData
+  SessionUndo : CommandData
+  SessionClose : CommandData
+
+-- ---- statements
+
+-- the lists of tokens in a row, with a symbol between each two
+unfoldable pub joined : Token → List (List Token) → List Token
+joined between [] = []
+joined between (item ∷ []) = item
+joined between (item ∷ next ∷ items) = item ++ between ∷ joined between (next ∷ items)
+
+abbrev pub assignment : AssignmentData → List Token
+assignment a = Name a.column ∷ Fixed Equals ∷ Value a.value ∷ []
+
+-- the conditions, and the end of the statement
+abbrev pub where_tokens : List AssignmentData → List Token
+where_tokens conditions = Fixed WHERE ∷ joined (Fixed AND) (map assignment conditions) ++ Fixed Semicolon ∷ []
+
+-- the tokens are the statement's: its lists have an element, and one at least
+abbrev pub IsStatement : List Token → CommandData → Type 0
+IsStatement tokens (Create name columns keys) = (columns ≢ []) × (keys ≢ [])
+    × (tokens ≡ Fixed CREATE ∷ Fixed TABLE ∷ Name name ∷ Fixed Open
+    ∷ flat_map (λ column. Name column ∷ Fixed Comma ∷ []) columns
+    ++ Fixed PRIMARY ∷ Fixed KEY ∷ Fixed Open ∷ joined (Fixed Comma) (map (λ key. Name key ∷ []) keys)
+    ++ Fixed Close ∷ Fixed Close ∷ Fixed Semicolon ∷ [])
+IsStatement tokens (Insert table values) = (values ≢ [])
+    × (tokens ≡ Fixed INSERT ∷ Fixed INTO ∷ Name table ∷ Fixed VALUES ∷ Fixed Open
+    ∷ joined (Fixed Comma) (map (λ value. Value value ∷ []) values) ++ Fixed Close ∷ Fixed Semicolon ∷ [])
+IsStatement tokens (Update table sets conditions) = (sets ≢ []) × (conditions ≢ [])
+    × (tokens ≡ Fixed UPDATE ∷ Name table ∷ Fixed SET ∷ joined (Fixed Comma) (map assignment sets)
+    ++ where_tokens conditions)
+IsStatement tokens (Delete table conditions) = (conditions ≢ [])
+    × (tokens ≡ Fixed DELETE ∷ Fixed FROM ∷ Name table ∷ where_tokens conditions)
+IsStatement tokens (Select table) =
+    tokens ≡ Fixed SELECT ∷ Fixed Star ∷ Fixed FROM ∷ Name table ∷ Fixed Semicolon ∷ []
+IsStatement tokens _ = ⊥
+
+-- ---- dot lines
+
+-- the name of a slot: one or more letters, digits and `_`
+abbrev pub IsSlot : List ℕ → Type 0
+IsSlot name = (name ≢ []) × AllByRecursion (λ b. is_word_byte b ≡ true) name
+
+abbrev pub kind_text : Kind → List ℕ
+kind_text kind.Data = codes "data"
+kind_text kind.NotFound = codes "notfound"
+kind_text kind.Conflict = codes "conflict"
+
+abbrev pub choice_text : Choice → List ℕ
+choice_text choice.Omit = codes "omit"
+choice_text choice.Replace = codes "replace"
+choice_text choice.Abort = codes "abort"
+
+-- what is chosen for the conflicts of a kind
+pub record Setting : Type 0 where
+  pub kind : Kind
+  pub choice : Choice
+
+abbrev pub setting_text : Setting → List ℕ
+setting_text s = kind_text s.kind ++ codes "=" ++ choice_text s.choice
+
+-- the choice is the one that is set for the kind, or Abort where none is
+abbrev pub IsChosen : List Setting → Kind → Choice → Type 0
+IsChosen [] kind chosen = chosen ≡ choice.Abort
+IsChosen (s ∷ settings) kind chosen =
+    ((s.kind ≡ kind) × (chosen ≡ s.choice)) ⊎ ((s.kind ≢ kind) × IsChosen settings kind chosen)
+
+-- the words are the dot line's, of which digits are any text; `.session attach`, which a name follows, is no matter of words alone
+abbrev pub IsDotLine : List (List ℕ) → CommandData → Type 0
+IsDotLine words (Load slot digits) = IsSlot slot × IsUtf8 digits
+    × ((words ≡ codes ".load" ∷ slot ∷ digits ∷ []) ⊎ ((words ≡ codes ".load" ∷ slot ∷ []) × (digits ≡ [])))
+IsDotLine words (Hex slot) = IsSlot slot × (words ≡ codes ".hex" ∷ slot ∷ [])
+IsDotLine words (Dump slot) = IsSlot slot × (words ≡ codes ".dump" ∷ slot ∷ [])
+IsDotLine words (Invert from into) = IsSlot from × IsSlot into × (words ≡ codes ".invert" ∷ from ∷ into ∷ [])
+IsDotLine words (Concat first second into) = IsSlot first × IsSlot second × IsSlot into
+    × (words ≡ codes ".concat" ∷ first ∷ second ∷ into ∷ [])
+IsDotLine words (Apply slot on_data on_notfound on_conflict) = IsSlot slot × (settings : List Setting)
+    × (words ≡ codes ".apply" ∷ slot ∷ map setting_text settings) × AllPairs (λ s t. s.kind ≢ t.kind) settings
+    × IsChosen settings kind.Data on_data × IsChosen settings kind.NotFound on_notfound
+    × IsChosen settings kind.Conflict on_conflict
+IsDotLine words (Revert slot) = IsSlot slot × (words ≡ codes ".revert" ∷ slot ∷ [])
+IsDotLine words SessionOpen = words ≡ codes ".session" ∷ codes "open" ∷ []
+IsDotLine words (SessionChangeset slot) = IsSlot slot × (words ≡ codes ".session" ∷ codes "changeset" ∷ slot ∷ [])
+IsDotLine words SessionIsEmpty = words ≡ codes ".session" ∷ codes "isempty" ∷ []
+IsDotLine words SessionUndo = words ≡ codes ".session" ∷ codes "undo" ∷ []
+IsDotLine words SessionClose = words ≡ codes ".session" ∷ codes "close" ∷ []
+IsDotLine words _ = ⊥
+
+-- ---- the code's commands
+
+abbrev pub assignment_of : Assignment → AssignmentData
+assignment_of a = record { column = string_bytes a.column; value = a.value }
+
+-- a command, with the bytes of its names
+abbrev pub command_of : Command → CommandData
+command_of (command.Create name columns keys) =
+    Create (string_bytes name) (map string_bytes columns.items) (map string_bytes keys.items)
+command_of (command.Insert table values) = Insert (string_bytes table) values.items
+command_of (command.Update table sets conditions) =
+    Update (string_bytes table) (map assignment_of sets.items) (map assignment_of conditions.items)
+command_of (command.Delete table conditions) = Delete (string_bytes table) (map assignment_of conditions.items)
+command_of (command.Select table) = Select (string_bytes table)
+command_of (command.Load slot digits) = Load (string_bytes slot) (string_bytes digits)
+command_of (command.Hex slot) = Hex (string_bytes slot)
+command_of (command.Dump slot) = Dump (string_bytes slot)
+command_of (command.Invert from into) = Invert (string_bytes from) (string_bytes into)
+command_of (command.Concat first second into) =
+    Concat (string_bytes first) (string_bytes second) (string_bytes into)
+command_of (command.Apply slot on_data on_notfound on_conflict) = Apply (string_bytes slot) on_data on_notfound on_conflict
+command_of (command.Revert slot) = Revert (string_bytes slot)
+command_of command.SessionOpen = SessionOpen
+command_of (command.SessionAttach table) = SessionAttach (string_bytes table)
+command_of (command.SessionChangeset slot) = SessionChangeset (string_bytes slot)
+command_of command.SessionIsEmpty = SessionIsEmpty
+command_of command.SessionUndo = SessionUndo
+command_of command.SessionClose = SessionClose

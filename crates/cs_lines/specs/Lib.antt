@@ -1,0 +1,9 @@
+pub mod Tokens
+pub mod Commands
+pub mod Lines
+pub mod Reading
+pub mod StatementReading
+pub mod DotReading
+pub mod LineReading
+pub use Rattle.cs_value.specs.Value
+pub use Rattle.cs_value.specs.Quoting

@@ -1,0 +1,217 @@
+-- Statements as functions on lists of tokens, which the code computes: what contracts of this crate's own functions say.
+use Rattle.std.specs.Prelude.{◌≡◌, ℕ, ◌==◌, List, [], ◌∷◌, ◌++◌, Option, None, Some, option_map}
+use Rattle.std.specs.Prelude.{Bool, true, false, if◌then◌else◌, Result, Ok, Err}
+use Rattle.cs_value.specs.declared.value.OwnedValue.{OwnedValue}
+use Rattle.cs_value.specs.declared.refusal.OrNoMemory.{OrNoMemory}
+use Rattle.cs_value.specs.declared.refusal.OrNoMemory.TheVariants as refusal
+use Rattle.cs_lines.specs.declared.symbol.Symbol.{Symbol}
+use Rattle.cs_lines.specs.declared.symbol.Symbol.TheVariants as symbol
+use Rattle.cs_lines.specs.declared.stop.Misfit.{Misfit}
+use Rattle.cs_lines.specs.Tokens.{Token, Fixed, Name, Value}
+use Rattle.cs_lines.specs.Commands.{CommandData, AssignmentData, Create, Insert, Update, Delete, Select}
+
+-- ---- readers
+
+-- why a reader stops: what it reads is not there, or memory was refused
+abbrev pub Misfits : {Y : Type 0} → Option Y → OrNoMemory Misfit → Type 0
+Misfits read (refusal.Fault f) = read ≡ None
+Misfits read refusal.NoMemory = Unit {0}
+
+-- a reader's answer, against what there is to read
+abbrev pub Reads : {X Y : Type 0} → Result X (OrNoMemory Misfit) → (X → Y) → Option Y → Type 0
+Reads (Ok x) view read = read ≡ Some (view x)
+Reads (Err stop) view read = Misfits read stop
+
+-- what is read behind what was read
+abbrev pub and_then : {X Y : Type 0} → Option X → (X → Option Y) → Option Y
+and_then None next = None
+and_then (Some x) next = next x
+
+-- ---- statements, read token by token
+
+-- the place of a symbol among the symbols
+abbrev pub symbol_place : Symbol → ℕ
+symbol_place symbol.Create = 0
+symbol_place symbol.Table = 1
+symbol_place symbol.Primary = 2
+symbol_place symbol.Key = 3
+symbol_place symbol.Insert = 4
+symbol_place symbol.Into = 5
+symbol_place symbol.Values = 6
+symbol_place symbol.Update = 7
+symbol_place symbol.Set = 8
+symbol_place symbol.Where = 9
+symbol_place symbol.And = 10
+symbol_place symbol.Delete = 11
+symbol_place symbol.From = 12
+symbol_place symbol.Select = 13
+symbol_place symbol.Open = 14
+symbol_place symbol.Close = 15
+symbol_place symbol.Comma = 16
+symbol_place symbol.Semicolon = 17
+symbol_place symbol.Equals = 18
+symbol_place symbol.Star = 19
+
+abbrev pub same_symbol : Symbol → Symbol → Bool
+same_symbol a b = symbol_place a == symbol_place b
+
+abbrev pub is_fixed : Symbol → Option Token → Bool
+is_fixed symbol (Some (Fixed found)) = same_symbol found symbol
+is_fixed symbol (Some (Name name)) = false
+is_fixed symbol (Some (Value value)) = false
+is_fixed symbol None = false
+
+abbrev pub name_of : Option Token → Option (List ℕ)
+name_of (Some (Fixed found)) = None
+name_of (Some (Name name)) = Some name
+name_of (Some (Value value)) = None
+name_of None = None
+
+abbrev pub value_of_token : Option Token → Option OwnedValue
+value_of_token (Some (Fixed found)) = None
+value_of_token (Some (Name name)) = None
+value_of_token (Some (Value value)) = Some value
+value_of_token None = None
+
+-- whether the token stands between items, or ends them
+abbrev pub turn_of : Symbol → Symbol → Option Token → Option Bool
+turn_of between last token =
+    if is_fixed between token then Some true else if is_fixed last token then Some false else None
+
+-- a list of tokens, of which those that are read are taken
+abbrev pub Tokens : Type 0
+Tokens = List (Option Token)
+
+-- what the first token is, and the tokens behind it
+abbrev pub first_in : {X : Type 0} → (Option Token → Option X) → Tokens → Option (X × Tokens)
+first_in item [] = None
+first_in item (t ∷ ts) = option_map (λ x. (x, ts)) (item t)
+
+unfoldable pub fixed_in : Symbol → Tokens → Option Tokens
+fixed_in symbol [] = None
+fixed_in symbol (t ∷ ts) = if is_fixed symbol t then Some ts else None
+
+unfoldable pub name_in : Tokens → Option (List ℕ × Tokens)
+name_in tokens = first_in name_of tokens
+
+unfoldable pub value_in : Tokens → Option (OwnedValue × Tokens)
+value_in tokens = first_in value_of_token tokens
+
+unfoldable pub turn_in : Symbol → Symbol → Tokens → Option (Bool × Tokens)
+turn_in between last tokens = first_in (turn_of between last) tokens
+
+unfoldable pub end_in : Tokens → Option (Unit {0})
+end_in [] = Some tt
+end_in (t ∷ ts) = None
+
+-- with these items in front
+abbrev pub onto : {X : Type 0} → List X → Option (List X × Tokens) → Option (List X × Tokens)
+onto items read = option_map (λ r. (items ++ r.0, r.1)) read
+
+-- more items, or none
+abbrev pub going : {X : Type 0} → Bool → Tokens → Option (List X × Tokens) → Option (List X × Tokens)
+going true tokens more = more
+going false tokens more = Some ([], tokens)
+
+-- items of one token, with a symbol between each two, and the one that ends them
+unfoldable pub list_in : {X : Type 0} → (Option Token → Option X) → Symbol → Symbol → Tokens → Option (List X × Tokens)
+list_in item between last [] = None
+list_in item between last (t ∷ []) = None
+list_in item between last (t ∷ u ∷ ts) = and_then (item t)
+    (λ x. and_then (turn_of between last u) (λ more. onto (x ∷ []) (going more ts (list_in item between last ts))))
+
+abbrev pub names_in : Tokens → Option (List (List ℕ) × Tokens)
+names_in tokens = list_in name_of symbol.Comma symbol.Close tokens
+
+abbrev pub values_in : Tokens → Option (List OwnedValue × Tokens)
+values_in tokens = list_in value_of_token symbol.Comma symbol.Close tokens
+
+unfoldable pub assignment_in : Tokens → Option (AssignmentData × Tokens)
+assignment_in tokens = and_then (name_in tokens) (λ n. and_then (fixed_in symbol.Equals n.1)
+    (λ t. and_then (value_in t) (λ v. Some (record { column = n.0; value = v.0 }, v.1))))
+
+-- an assignment's tokens
+abbrev pub assignment_of_tokens : Option Token → Option Token → Option Token → Option AssignmentData
+assignment_of_tokens t u v = and_then (name_of t) (λ n. if is_fixed symbol.Equals u
+    then option_map (λ x. record { column = n; value = x }) (value_of_token v) else None)
+
+unfoldable pub assignments_in : Symbol → Symbol → Tokens → Option (List AssignmentData × Tokens)
+assignments_in between last [] = None
+assignments_in between last (t ∷ []) = None
+assignments_in between last (t ∷ u ∷ []) = None
+assignments_in between last (t ∷ u ∷ v ∷ []) = None
+assignments_in between last (t ∷ u ∷ v ∷ w ∷ ts) = and_then (assignment_of_tokens t u v)
+    (λ x. and_then (turn_of between last w) (λ more. onto (x ∷ []) (going more ts (assignments_in between last ts))))
+
+-- a column and a comma, or PRIMARY
+unfoldable pub column_in : Tokens → Option (Option (List ℕ) × Tokens)
+column_in [] = None
+column_in (t ∷ ts) = if is_fixed symbol.Primary t then Some (None, ts)
+    else and_then (name_of t) (λ n. option_map (λ rest. (Some n, rest)) (fixed_in symbol.Comma ts))
+
+-- further columns, and PRIMARY
+unfoldable pub more_columns_in : Tokens → Option (List (List ℕ) × Tokens)
+more_columns_in [] = None
+more_columns_in (t ∷ []) = if is_fixed symbol.Primary t then Some ([], []) else None
+more_columns_in (t ∷ u ∷ ts) = if is_fixed symbol.Primary t then Some ([], u ∷ ts)
+    else and_then (name_of t) (λ n. if is_fixed symbol.Comma u then onto (n ∷ []) (more_columns_in ts) else None)
+
+-- a column that was read and those that follow, or none
+abbrev pub columns_behind : Option (List ℕ) → Tokens → Option (List (List ℕ) × Tokens)
+columns_behind None tokens = Some ([], tokens)
+columns_behind (Some name) tokens = onto (name ∷ []) (more_columns_in tokens)
+
+unfoldable pub columns_in : Tokens → Option (List (List ℕ) × Tokens)
+columns_in tokens = and_then (name_in tokens) (λ n. and_then (fixed_in symbol.Comma n.1)
+    (λ t. columns_behind (Some n.0) t))
+
+unfoldable pub create_in : Tokens → Option (CommandData × Tokens)
+create_in tokens = and_then (fixed_in symbol.Table tokens) (λ t. and_then (name_in t)
+    (λ n. and_then (fixed_in symbol.Open n.1) (λ t. and_then (columns_in t)
+    (λ c. and_then (fixed_in symbol.Key c.1) (λ t. and_then (fixed_in symbol.Open t) (λ t. and_then (names_in t)
+    (λ k. and_then (fixed_in symbol.Close k.1) (λ t. and_then (fixed_in symbol.Semicolon t)
+    (λ t. Some (Create n.0 c.0 k.0, t))))))))))
+
+unfoldable pub insert_in : Tokens → Option (CommandData × Tokens)
+insert_in tokens = and_then (fixed_in symbol.Into tokens) (λ t. and_then (name_in t)
+    (λ n. and_then (fixed_in symbol.Values n.1) (λ t. and_then (fixed_in symbol.Open t) (λ t. and_then (values_in t)
+    (λ v. and_then (fixed_in symbol.Semicolon v.1) (λ t. Some (Insert n.0 v.0, t)))))))
+
+unfoldable pub update_in : Tokens → Option (CommandData × Tokens)
+update_in tokens = and_then (name_in tokens) (λ n. and_then (fixed_in symbol.Set n.1)
+    (λ t. and_then (assignments_in symbol.Comma symbol.Where t)
+    (λ s. and_then (assignments_in symbol.And symbol.Semicolon s.1) (λ c. Some (Update n.0 s.0 c.0, c.1)))))
+
+unfoldable pub delete_in : Tokens → Option (CommandData × Tokens)
+delete_in tokens = and_then (fixed_in symbol.From tokens) (λ t. and_then (name_in t)
+    (λ n. and_then (fixed_in symbol.Where n.1)
+    (λ t. and_then (assignments_in symbol.And symbol.Semicolon t) (λ c. Some (Delete n.0 c.0, c.1)))))
+
+unfoldable pub select_in : Tokens → Option (CommandData × Tokens)
+select_in tokens = and_then (fixed_in symbol.Star tokens) (λ t. and_then (fixed_in symbol.From t)
+    (λ t. and_then (name_in t) (λ n. and_then (fixed_in symbol.Semicolon n.1) (λ t. Some (Select n.0, t)))))
+
+abbrev pub symbol_of : Option Token → Option Symbol
+symbol_of (Some (Fixed found)) = Some found
+symbol_of (Some (Name name)) = None
+symbol_of (Some (Value value)) = None
+symbol_of None = None
+
+unfoldable pub symbol_in : Tokens → Option (Symbol × Tokens)
+symbol_in tokens = first_in symbol_of tokens
+
+-- a statement, by the keyword before these tokens
+unfoldable pub form_of : Symbol → Tokens → Option (CommandData × Tokens)
+form_of first tokens =
+    if same_symbol first symbol.Create then create_in tokens
+    else if same_symbol first symbol.Insert then insert_in tokens
+    else if same_symbol first symbol.Update then update_in tokens
+    else if same_symbol first symbol.Delete then delete_in tokens
+    else if same_symbol first symbol.Select then select_in tokens
+    else None
+
+unfoldable pub form_in : Tokens → Option (CommandData × Tokens)
+form_in tokens = and_then (symbol_in tokens) (λ s. form_of s.0 s.1)
+
+unfoldable pub statement_in : Tokens → Option CommandData
+statement_in tokens = and_then (form_in tokens) (λ c. and_then (end_in c.1) (λ _. Some c.0))

@@ -1,0 +1,32 @@
+//! The lines of a script: statements on tables and rows, and dot lines on changesets and on the session.
+//!
+//! ```rust
+//! let Some(Command::Select { table }) = parse_line(alloc, "select * from t;")? else { .. };
+//! assert_eq!(rt; table, "t");
+//! ```
+//!
+//! `line` says what a line asks for, a `command`, or why it asks for nothing: a `fault`. A line is a
+//! `statement`, made of `token`s: each `symbol`, words and integers (`piece`), `quoted` texts and `blob`s;
+//! or a `dot` line, made of `words`. `byte` tells bytes apart. `choice` has the names of conflicts' kinds and
+//! of what is done about them.
+#![tactic(auto)]
+
+mod blob;
+mod byte;
+mod choice;
+mod command;
+mod dot;
+mod fault;
+mod line;
+mod piece;
+mod quoted;
+mod statement;
+mod stop;
+mod symbol;
+mod token;
+mod words;
+
+pub use choice::{choice_name, kind_name};
+pub use command::{Assignment, Command};
+pub use fault::{LineFault, SyntaxFault};
+pub use line::parse_line;

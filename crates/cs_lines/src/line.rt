@@ -1,0 +1,89 @@
+//! Lines.
+ghost use Rattle.std.specs.Prelude.{◌≡◌, ◌↔◌, ◌∷◌, [], Some, IfOk, IfErr, IsTrue, MatchOption, option_map};
+ghost use Rattle.cs_lines.specs.Commands.{CommandData, command_of};
+ghost use Rattle.cs_lines.specs.Lines.{IsNoCommand, IsNothing, RefusesLine, Spelled, words_of};
+ghost use Rattle.cs_lines.specs.StatementReading.{Reads};
+ghost use Rattle.cs_lines.specs.LineReading.{begins_dot, line_in};
+
+use crate::command::Command;
+use crate::dot::dot_line;
+use crate::fault::{LineFault, SyntaxFault};
+use crate::statement::statement;
+use crate::stop::{Stop, column};
+use crate::words::next_word;
+use std::alloc::Global;
+
+/// What a line asks for, or None where it is blank or a comment. The line is without its line feed.
+///
+/// # Errors
+///
+/// [`SyntaxFault`](crate::SyntaxFault) where the line asks for nothing that there is, with the column of
+/// the first token or word that is malformed or does not fit; `NoMemory` where memory is refused.
+pub fn parse_line(alloc: Global, line: &str) -> Result<Option<Command>, LineFault>
+    ensures asked { IfOk result (λ asked.
+        MatchOption asked (IsNothing line.now) (λ command. Spelled line.now (command_of command))) }
+    ensures only { (command : CommandData) → Spelled line.now command →
+        IfOk result (λ asked. option_map command_of asked ≡ Some command) }
+    ensures refused { IfErr result (RefusesLine line.now) }
+{
+    let line = line.as_bytes();
+    if is_nothing(line) {
+        return Ok(None);
+    }
+    match read_line(alloc, line) {
+        Ok(command) => Ok(Some(command)),
+        Err(Stop::Fault(misfit)) => Err(LineFault::Fault(SyntaxFault {
+            column: column(line, misfit),
+        })),
+        Err(Stop::NoMemory) => Err(LineFault::NoMemory),
+    }
+}
+
+/// Whether a line is blank or a comment.
+fn is_nothing(line: &[u8]) -> bool
+    ensures { IsTrue result ↔ IsNothing line.now }
+{
+    match next_word(line) {
+        Some((word, _)) => begins_comment(word),
+        None => true,
+    }
+}
+
+/// Whether a word begins a comment.
+fn begins_comment(word: &[u8]) -> bool
+    ensures { IsTrue result ↔ IsNoCommand (word.now ∷ []) }
+{
+    word.starts_with(b"--")
+}
+
+/// Whether the first word of a line begins with a dot.
+fn is_dot_line(line: &[u8]) -> bool
+    ensures { result ≡ begins_dot (words_of line.now) }
+{
+    match next_word(line) {
+        Some((word, _)) => has_dot(word),
+        None => false,
+    }
+}
+
+/// Whether a word begins with a dot.
+fn has_dot(word: &[u8]) -> bool
+    ensures { result ≡ begins_dot (word.now ∷ []) }
+{
+    match word {
+        [first, ..] => *first == b'.',
+        [] => false,
+    }
+}
+
+/// The command that a line asks for, which is neither blank nor a comment.
+#[tactic(auto, unfolding(crate::specs::LineReading::line_in))]
+fn read_line(alloc: Global, line: &[u8]) -> Result<Command, Stop>
+    ensures { Reads result command_of (line_in line.now) }
+{
+    if is_dot_line(line) {
+        dot_line(alloc, line)
+    } else {
+        statement(alloc, line)
+    }
+}
