@@ -13,12 +13,12 @@ use Rattle.cs_lines.specs.StatementReading.{and_then}
 use Rattle.cs_lines.specs.DotReading.{when_none, setting_in, settings_in, no_settings, slot_in, apply_in}
 
 -- what is chosen for a kind so far, and with one more choice
-abbrev at : Settings → Kind → Option Choice
+abbrev pub at : Settings → Kind → Option Choice
 at s kind.Data = s.on_data
 at s kind.NotFound = s.on_notfound
 at s kind.Conflict = s.on_conflict
 
-abbrev set_at : Settings → Kind → Choice → Settings
+abbrev pub set_at : Settings → Kind → Choice → Settings
 set_at s kind.Data c = record s { on_data = Some c }
 set_at s kind.NotFound c = record s { on_notfound = Some c }
 set_at s kind.Conflict c = record s { on_conflict = Some c }

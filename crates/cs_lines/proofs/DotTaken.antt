@@ -22,6 +22,7 @@ use Rattle.cs_lines.specs.DotReading.{chosen_in, when_none, or_else, setting_in,
 use Rattle.cs_lines.proofs.TokenLemmas.{tokens_taken}
 use Rattle.cs_lines.proofs.StatementLaws.{then_some}
 use Rattle.cs_lines.proofs.WordLemmas.{words_of-nil, words_of-blank, behind_word-blank}
+use Rattle.cs_lines.proofs.ApplyAgain.{at as chosen_for, set_at as choose}
 use Rattle.cs_lines.proofs.DotLemmas.{is_slot-says, dot_is, dot_none, session_is, session_none, not_ended, words_of-join, tail, words_behind}
 use Rattle.cs_lines.proofs.DotLemmas.{dot_of-load, dot_of-hex, dot_of-dump, dot_of-invert, dot_of-concat, dot_of-apply, dot_of-revert, dot_of-session, dot_of-none}
 use Rattle.cs_lines.proofs.DotLemmas.{session_of-attach, session_of-changeset, session_of-open, session_of-isempty, session_of-undo, session_of-close, session_of-none}
@@ -142,16 +143,6 @@ load_taken ws c h =
     subst (λ c. IsDotLine (codes ".load" ∷ ws) c) m.2 (j.0, k.0, load_form ws f.0.1 f.0.0 m.0 j.1 k.1)
 
 -- ---- `.apply`
-
-abbrev chosen_for : Settings → Kind → Option Choice
-chosen_for s kind.Data = s.on_data
-chosen_for s kind.NotFound = s.on_notfound
-chosen_for s kind.Conflict = s.on_conflict
-
-abbrev choose : Settings → Kind → Choice → Settings
-choose s kind.Data c = record s { on_data = Some c }
-choose s kind.NotFound c = record s { on_notfound = Some c }
-choose s kind.Conflict c = record s { on_conflict = Some c }
 
 -- what a choice changes
 abbrev Changes : Settings → Settings → Kind → Choice → Kind → Type 0
