@@ -11,7 +11,7 @@ use Rattle.cs_files.specs.declared.texts.sql.Piece.TheVariants as sql
 use Rattle.cs_files.specs.declared.texts.sql.Terms.{Terms}
 use Rattle.cs_files.specs.declared.texts.sql.Terms.TheVariants.{Assignments, Conditions}
 use Rattle.cs_value.specs.Quoting.{quoted}
-use Rattle.cs_files.specs.Texts.{literal, separated, fields_text, assignment, condition, by_place}
+use Rattle.cs_files.specs.Texts.{literal, separated, fields_text, listed_text, assignment, condition, by_place}
 use Rattle.cs_files.specs.Texts.{conditions, assignments}
 
 -- what a piece of a line is printed as
@@ -22,6 +22,7 @@ line_piece_text (line.Quoted text) = quoted 39 text.now
 line_piece_text (line.Flags flags) = separated (codes ",") (map decimal flags.now)
 line_piece_text (line.Row row) = fields_text (map Defined row.now)
 line_piece_text (line.Record fields) = fields_text fields.now
+line_piece_text (line.Listed row) = listed_text row.now
 
 -- the value of a field, if there is one
 abbrev pub HoldsValue : Option (Bor OwnedValue) → OwnedField → Type 0

@@ -27,6 +27,10 @@ separated between [] = []
 separated between (piece ∷ []) = piece
 separated between (piece ∷ next ∷ pieces) = piece ++ between ++ separated between (next ∷ pieces)
 
+-- the values of a row, as a list of rows has them
+abbrev pub listed_text : List OwnedValue → List ℕ
+listed_text row = separated (codes "|") (map literal row)
+
 -- ---- what the entries are
 
 unfoldable pub field_text : OwnedField → List ℕ

@@ -8,7 +8,7 @@ ghost use Rattle.cs_store.specs.Store.{IsAtRest, KeepsStore, tables_in};
 ghost use Rattle.cs_value.specs.Table.{IsName};
 ghost use Rattle.cs_value.specs.State.{rows_at};
 ghost use Rattle.cs_session.specs.declared.fault.SessionFault.TheVariants.{NoMemory as OutOfMemory};
-ghost use Rattle.cs_session.specs.FirstImages.{AttachedTable, rewound, recorded_changes};
+ghost use Rattle.cs_session.specs.FirstImages.{AttachedTable, IsNotes, rewound, recorded_changes};
 ghost use Rattle.cs_session.specs.Attaching.{Attaches, RefusesAttach, IsNewTable};
 ghost use Rattle.cs_session.specs.Changes.{HasTables, RefusesChanges};
 ghost use Rattle.cs_session.specs.Recording.{Records, RefusesEdit, MayEdit, RecordsApply, RefusesApply};
@@ -67,6 +67,14 @@ impl Session {
         ensures { IsTrue result ↔ All (λ t. t.firsts ≡ []) self.now }
     {
         are_unwritten(&self.tables)
+    }
+
+    /// What a session remembers is well formed: no table stands in it twice, no key of a table twice, and
+    /// each row could stand in its table. It has no effect.
+    pub fn notes_law(&self)
+        ensures { IsNotes self.now }
+    {
+        let _ = &self.tables;
     }
 
     /// Attaches a table of a store, of which nothing is noted yet.

@@ -26,6 +26,8 @@ pub enum Piece<'a> {
     Row(&'a Row),
     /// The fields of a record.
     Record(&'a Image),
+    /// The values of a row, as a list of rows has them.
+    Listed(&'a Row),
 }
 
 impl Print for Piece<'_> {
@@ -39,6 +41,7 @@ impl Print for Piece<'_> {
             Piece::Flags(flags) => add_separated(gather, out, b",", flags),
             Piece::Row(row) => add_separated(gather, out, b",", row.values()),
             Piece::Record(image) => add_separated(gather, out, b",", image.fields()),
+            Piece::Listed(row) => add_separated(gather, out, b"|", row.values()),
         }
     }
 }

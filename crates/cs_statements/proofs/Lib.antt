@@ -1,0 +1,4 @@
+pub mod NameLemmas
+pub mod ColumnLemmas
+pub mod RowLemmas
+pub mod Examples
