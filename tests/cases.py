@@ -1,13 +1,14 @@
 #!/usr/bin/env python3
-"""Runs the script of `crates/changeset`, and names the case where something else is printed than has to be, or the one behind
+"""Runs the script of `crates/cases`, and names the case where something else is printed than has to be, or the one behind
 it where it prints too little.
 
-python3 tests/cases.py [PROGRAM], where PROGRAM is `crates/changeset/out/changeset` unless it is named."""
+python3 tests/cases.py [PROGRAM], where PROGRAM runs its standard input as a script, as `crates/changeset/out/changeset`
+does, which it is unless it is named."""
 import subprocess
 import sys
 from pathlib import Path
 
-CRATE = Path(__file__).resolve().parent.parent / "crates/changeset"
+CRATES = Path(__file__).resolve().parent.parent / "crates"
 
 
 def printed(program, lines):
@@ -37,16 +38,16 @@ def case_of(script, count):
 
 
 def main(program):
-    script = (CRATE / "stdin").read_bytes().splitlines(keepends=True)
-    wanted = (CRATE / "stdout").read_bytes()
+    script = (CRATES / "cases/stdin").read_bytes().splitlines(keepends=True)
+    wanted = (CRATES / "cases/stdout").read_bytes()
     if not Path(program).exists():
         sys.exit(f"tests/cases.py: there is no {program}; `rt run` in crates/changeset builds it")
     if printed(program, script) == wanted:
         print("each case prints what it has to")
         return
     count = first_wrong(program, script, wanted)
-    sys.exit(f"tests/cases.py: line {count} of crates/changeset/stdin prints something else, in the case\n{case_of(script, count)}")
+    sys.exit(f"tests/cases.py: line {count} of crates/cases/stdin prints something else, in the case\n{case_of(script, count)}")
 
 
 if __name__ == "__main__":
-    main(sys.argv[1] if len(sys.argv) > 1 else CRATE / "out/changeset")
+    main(sys.argv[1] if len(sys.argv) > 1 else CRATES / "changeset/out/changeset")

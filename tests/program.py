@@ -11,15 +11,17 @@ import contextlib
 import json
 import os
 import pathlib
+import select
 import sqlite3
 import subprocess
 import sys
 import tempfile
+import time
 import unittest
 
 from stores import (
     RECORDS, UNDEFINED, VERSION, Table, count_changes, delete, header, insert, read_records, read_store, run_schema,
-    run_sql, run_statements, shown, update, write_store,
+    run_sql, run_statements, shown, shown_rows, update, write_store,
 )
 
 HERE = pathlib.Path(__file__).resolve().parent
@@ -42,6 +44,9 @@ C is omit, replace or abort (the default).
 T = header("t", 1, 0)
 KEY = b"\x01\x00\x00\x00\x00\x00\x00\x00\x01"
 
+# The line that makes it.
+CREATE = "CREATE TABLE t(a, b, PRIMARY KEY(a));"
+
 INSERT = T + insert(1, "x")
 DELETE = T + delete(1, "x")
 UPDATE = T + update((1, "x"), (UNDEFINED, "y"))
@@ -51,6 +56,9 @@ INPUT_FAULT = "error 71 InputFault\n"
 OUTPUT_FAULT = "error 72 OutputFault\n"
 DAMAGED_STORE = "error 37 DamagedStore\n"
 STORE_FAULT = "error 38 StoreFault\n"
+
+# How many seconds an answer may take.
+PATIENCE = 120
 
 NEEDS_FULL = unittest.skipUnless(os.path.exists("/dev/full"), "no /dev/full")
 
@@ -87,9 +95,13 @@ class ProgramTest(unittest.TestCase):
         """Runs the program, and answers its exit status and what it prints to both streams."""
         source = {"stdin": stdin} if isinstance(stdin, int) else {"input": stdin}
         done = subprocess.run(
-            [PROGRAM, *words], cwd=self.folder, stdout=stdout, stderr=subprocess.PIPE, timeout=120, **source
+            [PROGRAM, *words], cwd=self.folder, stdout=stdout, stderr=subprocess.PIPE, timeout=PATIENCE, **source
         )
         return done.returncode, (done.stdout or b"").decode(), done.stderr.decode()
+
+    def run_lines(self, lines):
+        """Runs lines as a script, and answers its exit status and what it prints to both streams."""
+        return self.run_program(stdin="".join(line + "\n" for line in lines).encode())
 
     def run_full(self, *words, stdin=b""):
         """Runs the program with a standard output that takes nothing."""
@@ -252,6 +264,62 @@ class Scripts(ProgramTest):
     @NEEDS_FULL
     def test_answers_that_are_not_written(self):
         self.assertEqual(self.run_full(stdin=b".hex a"), (1, "", OUTPUT_FAULT))
+
+    def test_line_of_ten_megabytes(self):
+        """A line of 10 MB is answered, and so is the one behind it."""
+        text = "x" * 10_000_000
+        for lines, printed in (
+            (["-- " + text, ".hex a"], ""),
+            ([".hex " + text, ".hex a"], "error 62 EmptySlot\n"),
+            ([CREATE, f"INSERT INTO t VALUES(1, '{text}');", "SELECT * FROM t;", ".hex a"], f"1|'{text}'\n"),
+        ):
+            # assertEqual would show where such lines differ, which takes it minutes.
+            wanted = (1, printed + "error 62 EmptySlot\n", "")
+            self.assertTrue(self.run_lines(lines) == wanted, [line[:30] for line in lines])
+
+    @contextlib.contextmanager
+    def dialogue(self):
+        """The program, with a script that is not written yet."""
+        pipes = {"stdin": subprocess.PIPE, "stdout": subprocess.PIPE, "stderr": subprocess.PIPE}
+        with subprocess.Popen([PROGRAM], cwd=self.folder, bufsize=0, **pipes) as child:
+            try:
+                yield child
+            finally:
+                child.kill()
+
+    def expect_answer(self, child, text, answer):
+        """Writes a part of the script, and asserts that this is read before more is written."""
+        child.stdin.write(text.encode())
+        end, read, wanted = time.monotonic() + PATIENCE, b"", answer.encode()
+        while len(read) < len(wanted):
+            ready, _, _ = select.select([child.stdout], [], [], max(0, end - time.monotonic()))
+            piece = os.read(child.stdout.fileno(), len(wanted) - len(read)) if ready else b""
+            if not piece:
+                break
+            read += piece
+        self.assertEqual(read, wanted, text)
+
+    def test_each_line_is_answered_before_more_is_read(self):
+        with self.dialogue() as child:
+            for text, answer in (
+                (CREATE + "\n", ""),
+                ("SELECT * FROM none;\n", "error 31 NoTable\n"),
+                ("INSERT INTO t VALUES(1, 'x');\n", ""),
+                ("SELECT * FROM t;\n", "1|'x'\n"),
+                ("INSERT INTO t VALUES(1, 'y');\n", "error 33 KeyTaken\n"),
+                (f".load a {UPDATE.hex()}\n", ""),
+                (".hex a\n", UPDATE.hex() + "\n"),
+                (".apply a\n", "applied 1\n"),
+                # Two lines at once, and a line by halves.
+                (".dump a\nSELECT * FROM t;\n", "table 't' columns 2 flags 1,0\nupdate 0 old 1,'x' new -,'y'\n1|'y'\n"),
+                (".reve", ""),
+                ("rt a\n", "applied 1\n"),
+                # The last line has no line feed, and is answered at the end.
+                ("SELECT * FROM t;", ""),
+            ):
+                self.expect_answer(child, text, answer)
+            self.assertEqual(child.communicate(timeout=PATIENCE), (b"1|'x'\n", b""))
+            self.assertEqual(child.returncode, 1)
 
 
 class StoreTest(ProgramTest):
@@ -506,11 +574,16 @@ REFUSED = (
 )
 
 
+def recorded_cases():
+    """The recorded files that are accepted, each with the tables before it and behind it."""
+    return json.loads((RECORDED / "rows.json").read_text(encoding="utf-8"))
+
+
 class Recorded(StoreTest):
     """Files that SQLite recorded: applied as SQLite did it, and undone by their inverses."""
 
     def test_accepted_files(self):
-        for case in json.loads((RECORDED / "rows.json").read_text(encoding="utf-8")):
+        for case in recorded_cases():
             with self.case(file=case["file"]):
                 self.expect_there_and_back(RECORDED / case["file"], case)
 
@@ -536,7 +609,7 @@ class Recorded(StoreTest):
         return inverse
 
     def test_accepted_files_as_sql(self):
-        for case in json.loads((RECORDED / "rows.json").read_text(encoding="utf-8")):
+        for case in recorded_cases():
             with self.subTest(file=case["file"]):
                 before = run_schema(case["schema"], case["start"])
                 status, text, reported = self.run_program(RECORDED / case["file"], "sql")
@@ -550,6 +623,72 @@ class Recorded(StoreTest):
                 self.expect_refused((RECORDED / name).read_bytes(), line)
                 self.expect([RECORDED / name, "invert", "o"], 1, "", line)
         self.assertFalse((self.folder / "o").exists())
+
+
+def tables_after(case):
+    """The tables that SQLite had behind a recorded file."""
+    rows, name = [], ""
+    for line in case["after"].split("\n")[:-1]:
+        if line.startswith("table "):
+            name = line[len("table "):]
+        else:
+            rows.append(f"INSERT INTO {name} VALUES({line.replace('|', ', ')});")
+    after = run_schema(case["schema"], "".join(rows))
+    assert shown(after) == case["after"], after
+    return after
+
+
+def load_of(case):
+    """The line that puts a recorded file into the slot a."""
+    return ".load a " + (RECORDED / case["file"]).read_bytes().hex()
+
+
+def selects(tables):
+    """The lines that list tables, and what they print."""
+    names = sorted(tables)
+    return [f'SELECT * FROM "{name}";' for name in names], "".join(shown_rows(tables[name]) for name in names)
+
+
+class RecordedByLines(ProgramTest):
+    """The same files by lines of a script, on tables that lines made."""
+
+    def expect_parts(self, *parts):
+        """Runs a script of parts, each of them lines and what these print, and asserts that no line is refused."""
+        lines = [line for lines, _ in parts for line in lines]
+        self.assertEqual(self.run_lines(lines), (0, "".join(printed for _, printed in parts), ""))
+
+    def test_files_are_applied_and_reverted(self):
+        for case in recorded_cases():
+            with self.subTest(file=case["file"]):
+                before, after = run_schema(case["schema"], case["start"]), tables_after(case)
+                report = f"applied {count_changes(before, after)}\n"
+                self.expect_parts(
+                    (case["lines"], ""),
+                    selects(before),
+                    ([load_of(case), ".apply a"], report),
+                    selects(after),
+                    ([".revert a"], report),
+                    selects(before),
+                )
+
+    def test_files_are_applied_in_a_session_that_undoes_them(self):
+        for case in recorded_cases():
+            with self.subTest(file=case["file"]):
+                before, after = run_schema(case["schema"], case["start"]), tables_after(case)
+                report = f"applied {count_changes(before, after)}\n"
+                self.expect_parts(
+                    (case["lines"] + [".session open"] + [f'.session attach "{name}"' for name in before], ""),
+                    ([".session isempty"], "1\n"),
+                    ([load_of(case), ".apply a", ".session isempty"], report + "0\n"),
+                    selects(after),
+                    ([".session changeset b", ".session undo"], report),
+                    selects(before),
+                    # What the session told does what the file did, and is undone, too.
+                    ([".apply b"], report),
+                    selects(after),
+                    ([".session undo", ".session close"], report),
+                    selects(before),
+                )
 
 
 def main():

@@ -213,13 +213,14 @@ def literal(value):
     return str(value) if isinstance(value, int) else "'" + value.replace("'", "''") + "'"
 
 
+def shown_rows(table):
+    """The rows of a table as text, a line each."""
+    return "".join("|".join(map(literal, row)) + "\n" for row in table.rows)
+
+
 def shown(tables):
     """Tables as text: the name of each, and its rows."""
-    lines = []
-    for name in sorted(tables):
-        lines.append("table " + literal(name) + "\n")
-        lines += ["|".join(map(literal, row)) + "\n" for row in tables[name].rows]
-    return "".join(lines)
+    return "".join("table " + literal(name) + "\n" + shown_rows(tables[name]) for name in sorted(tables))
 
 
 def count_changes(before, after):

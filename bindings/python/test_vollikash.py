@@ -2,7 +2,7 @@
 """Tests of the library as it is linked: the calls of vollikash.py, and those of vollikash.h by `bindings/c/check.c`.
 
 What is wanted is what the changeset program does with the same files: the recorded ones of `examples/` and
-`tests/recorded`, their prefixes, and those of the stored run of `crates/changeset`, most of which are damaged.
+`tests/recorded`, their prefixes, and those of the stored run of `crates/cases`, most of which are damaged.
 `bindings/check` builds what this needs, and runs it.
 
 usage: bindings/python/test_vollikash.py
@@ -102,7 +102,7 @@ def prefixes():
 
 def loaded():
     """The files that the stored run of the shell loads."""
-    lines = (TOP / "crates/changeset/stdin").read_bytes().splitlines()
+    lines = (TOP / "crates/cases/stdin").read_bytes().splitlines()
     loads = [re.fullmatch(rb"\.load \w+ ((?:[0-9a-f]{2})+)", line) for line in lines]
     return sorted({bytes.fromhex(load[1].decode()) for load in loads if load})
 

@@ -1,5 +1,5 @@
 -- The definitions of scripts, on a table `t` of two columns, of which the first is the key.
-use Rattle.std.proofs.Common.{◌≡◌, ℕ, true, false, List, [], ◌∷◌, ◌++◌, Option, Some}
+use Rattle.std.proofs.Common.{◌≡◌, ℕ, true, false, List, [], ◌∷◌, ◌++◌, Option, None, Some}
 use Rattle.std.proofs.Common.{◌==◌, true≢false, codes, refl, sym, ap, ◌∙◌, inl, inr, arith}
 use Rattle.std.specs.List.{list_any}
 use Rattle.std.specs.Char.{encode_utf8}
@@ -21,8 +21,10 @@ use Rattle.cs_lines.specs.Commands.{Load, Hex, Invert, Concat, Dump, IsSlot}
 use Rattle.cs_lines.specs.Lines.{words_of, Spelled}
 use Rattle.cs_shell.specs.ErrorLines.{refusal_text}
 use Rattle.cs_shell.specs.Replies.{Reply, Silent, Text as Printed, Dumped, Refused, reply_text, replies_text}
-use Rattle.cs_shell.specs.Script.{SlotMap, CommandGives, loaded, no_hex, shown, nothing_to_show, inverted, not_inverted}
-use Rattle.cs_shell.specs.Script.{nothing_to_invert, joined, dumped, LineGives, answered, not_text}
+use Rattle.cs_shell.specs.ShellState.{SlotMap, ShellState}
+use Rattle.cs_shell.specs.Stores.{beginning}
+use Rattle.cs_shell.specs.Script.{SlotsGive, loaded, no_hex, shown, nothing_to_show, inverted, not_inverted}
+use Rattle.cs_shell.specs.Script.{nothing_to_invert, joined, dumped, on_slots, LineGives, answered, not_text}
 use Rattle.cs_shell.specs.Runs.{HasNoFeed, AnswersAll, RunsInput}
 use Rattle.cs_files.proofs.Examples.{insert_file_inverts, insert_file_joins_update, later_file}
 use Rattle.cs_value.specs.Quoting.{doubled}
@@ -117,32 +119,36 @@ get_beside : (slots : SlotMap) (slot bytes other : List ℕ) → eq_by_cmp (slic
 get_beside slots slot bytes other apart = get-insert nat_list_cmp_total slots slot bytes other ∙ cond-false _ _ _ apart
 
 -- where no slot has bytes, `.hex b` is refused
-empty_slot_is_refused : CommandGives empty (Hex (codes "b")) (Refused EmptySlot) empty
+empty_slot_is_refused : SlotsGive empty (Hex (codes "b")) (Refused EmptySlot) empty
 empty_slot_is_refused = nothing_to_show empty (codes "b") (get-empty _ (codes "b"))
 
 -- and so is `.invert a b`
-empty_slot_is_not_inverted : CommandGives empty (Invert (codes "a") (codes "b")) (Refused EmptySlot) empty
+empty_slot_is_not_inverted : SlotsGive empty (Invert (codes "a") (codes "b")) (Refused EmptySlot) empty
 empty_slot_is_not_inverted = nothing_to_invert empty (codes "a") (codes "b") (get-empty _ (codes "a"))
 
 -- a slot of the byte 41 is not inverted: that is no table
-table_is_wanted : CommandGives (insert empty (codes "a") (0x41 ∷ [])) (Invert (codes "a") (codes "b")) (Refused (Read (record { kind = NotTable; place = 0 }))) (insert empty (codes "a") (0x41 ∷ []))
+table_is_wanted : SlotsGive (insert empty (codes "a") (0x41 ∷ [])) (Invert (codes "a") (codes "b")) (Refused (Read (record { kind = NotTable; place = 0 }))) (insert empty (codes "a") (0x41 ∷ []))
 table_is_wanted = not_inverted _ (codes "a") (codes "b") (0x41 ∷ []) (record { kind = NotTable; place = 0 }) (get_filled empty (codes "a") (0x41 ∷ []) refl) letter_is_refused
 
 -- one digit is no byte
-one_digit_is_refused : (slots : SlotMap) → CommandGives slots (Load (codes "b") (codes "5")) (Refused BadHex) slots
+one_digit_is_refused : (slots : SlotMap) → SlotsGive slots (Load (codes "b") (codes "5")) (Refused BadHex) slots
 one_digit_is_refused slots = no_hex slots (codes "b") (codes "5") OddLength refl
 
 -- no digits are no bytes
-no_digits_are_loaded : (slots : SlotMap) → CommandGives slots (Load (codes "b") []) Silent (insert slots (codes "b") [])
+no_digits_are_loaded : (slots : SlotMap) → SlotsGive slots (Load (codes "b") []) Silent (insert slots (codes "b") [])
 unfolding decode_pairs
 no_digits_are_loaded slots = loaded slots (codes "b") [] [] refl
 
 -- lines and scripts
 
+-- slots alone: there is no table, and no session is open
+abbrev with_slots : SlotMap → ShellState
+with_slots slots = record { tables = empty; slots = slots; session = None }
+
 -- the byte 0xff alone is no text
-not_text_is_refused : (slots : SlotMap) → LineGives slots (0xff ∷ []) (Refused LineText) slots
+not_text_is_refused : (state : ShellState) → LineGives state (0xff ∷ []) (Refused LineText) state
 unfolding computing
-not_text_is_refused slots = not_text slots (0xff ∷ []) (λ text. true≢false (sym (is_utf8-from_IsUtf8 (0xff ∷ []) text)))
+not_text_is_refused state = not_text state (0xff ∷ []) (λ text. true≢false (sym (is_utf8-from_IsUtf8 (0xff ∷ []) text)))
 
 abbrev insert_digits : List ℕ
 insert_digits = codes "5402010074001200010000000000000001030178"
@@ -162,31 +168,31 @@ abbrev both_filled : SlotMap
 both_filled = insert a_filled (codes "b") delete_file
 
 -- the file of the insertion is loaded
-load_line_gives : LineGives empty load_line Silent a_filled
+load_line_gives : LineGives (with_slots empty) load_line Silent (with_slots a_filled)
 unfolding computing decode_pairs
 load_line_gives =
-    answered empty load_line (Load (codes "a") insert_digits) Silent a_filled (IsUtf8-from_is_utf8 load_line refl) load_line_asks
-    (loaded empty (codes "a") insert_digits insert_file refl)
+    answered (with_slots empty) load_line (Load (codes "a") insert_digits) Silent (with_slots a_filled) (IsUtf8-from_is_utf8 load_line refl) load_line_asks
+    (on_slots (Load (codes "a") insert_digits) Silent a_filled (loaded empty (codes "a") insert_digits insert_file refl))
 
 -- and inverted
-invert_line_gives : LineGives a_filled invert_line Silent both_filled
+invert_line_gives : LineGives (with_slots a_filled) invert_line Silent (with_slots both_filled)
 unfolding computing
 invert_line_gives =
-    answered a_filled invert_line (Invert (codes "a") (codes "b")) Silent both_filled (IsUtf8-from_is_utf8 invert_line refl) invert_line_asks
-    (inverted a_filled (codes "a") (codes "b") insert_file delete_file (get_filled empty (codes "a") insert_file refl) insert_file_inverts)
+    answered (with_slots a_filled) invert_line (Invert (codes "a") (codes "b")) Silent (with_slots both_filled) (IsUtf8-from_is_utf8 invert_line refl) invert_line_asks
+    (on_slots (Invert (codes "a") (codes "b")) Silent both_filled (inverted a_filled (codes "a") (codes "b") insert_file delete_file (get_filled empty (codes "a") insert_file refl) insert_file_inverts))
 
 -- and the inverse is shown
-hex_line_gives : LineGives both_filled hex_line (Printed (encode_lower delete_file)) both_filled
+hex_line_gives : LineGives (with_slots both_filled) hex_line (Printed (encode_lower delete_file)) (with_slots both_filled)
 unfolding computing
 hex_line_gives =
-    answered both_filled hex_line (Hex (codes "b")) (Printed (encode_lower delete_file)) both_filled (IsUtf8-from_is_utf8 hex_line refl) hex_line_asks
-    (shown both_filled (codes "b") delete_file (get_filled a_filled (codes "b") delete_file refl))
+    answered (with_slots both_filled) hex_line (Hex (codes "b")) (Printed (encode_lower delete_file)) (with_slots both_filled) (IsUtf8-from_is_utf8 hex_line refl) hex_line_asks
+    (on_slots (Hex (codes "b")) (Printed (encode_lower delete_file)) both_filled (shown both_filled (codes "b") delete_file (get_filled a_filled (codes "b") delete_file refl)))
 
 abbrev update_filled : SlotMap
 update_filled = insert a_filled (codes "b") update_file
 
 -- the files of the insertion and of the update are joined: the slot `c` then holds that of the insertion of (1, 'y')
-concat_line_gives : LineGives update_filled concat_line Silent (insert update_filled (codes "c") later_file)
+concat_line_gives : LineGives (with_slots update_filled) concat_line Silent (with_slots (insert update_filled (codes "c") later_file))
 unfolding computing
 concat_line_gives =
     let a = codes "a" in
@@ -195,18 +201,18 @@ concat_line_gives =
     let text = IsUtf8-from_is_utf8 concat_line refl in
     let of_a = get_beside a_filled b update_file a refl ∙ get_filled empty a insert_file refl in
     let of_b = get_filled a_filled b update_file refl in
-    answered update_filled concat_line (Concat a b c) Silent (insert update_filled c later_file) text concat_line_asks
-    (joined update_filled a b c insert_file update_file later_file of_a of_b insert_file_joins_update)
+    answered (with_slots update_filled) concat_line (Concat a b c) Silent (with_slots (insert update_filled c later_file)) text concat_line_asks
+    (on_slots (Concat a b c) Silent (insert update_filled c later_file) (joined update_filled a b c insert_file update_file later_file of_a of_b insert_file_joins_update))
 
 -- the text of the file of the insertion is printed
-dump_line_gives : LineGives a_filled dump_line (Dumped (one_change (Insert row))) a_filled
+dump_line_gives : LineGives (with_slots a_filled) dump_line (Dumped (one_change (Insert row))) (with_slots a_filled)
 unfolding computing
 dump_line_gives =
     let a = codes "a" in
     let text = IsUtf8-from_is_utf8 dump_line refl in
     let of_a = get_filled empty a insert_file refl ∙ ap (λ bytes. Some bytes) (sym insert_is_spelled) in
-    answered a_filled dump_line (Dump a) (Dumped (one_change (Insert row))) a_filled text dump_line_asks
-    (dumped a_filled a (one_change (Insert row)) insert_is_changeset of_a)
+    answered (with_slots a_filled) dump_line (Dump a) (Dumped (one_change (Insert row))) (with_slots a_filled) text dump_line_asks
+    (on_slots (Dump a) (Dumped (one_change (Insert row))) a_filled (dumped a_filled a (one_change (Insert row)) insert_is_changeset of_a))
 
 -- a line in which no byte is a line feed
 no_feed_in : (line : List ℕ) → list_any (λ b. b == 10) line ≡ false → HasNoFeed line
@@ -217,8 +223,8 @@ abbrev three_replies : List Reply
 three_replies = Silent ∷ Silent ∷ Printed (encode_lower delete_file) ∷ []
 
 -- the file of the insertion is loaded, inverted and shown
-script_inverts : AnswersAll LineGives empty (codes ".load a 5402010074001200010000000000000001030178\n.invert a b\n.hex b\n")
-    three_replies both_filled
+script_inverts : AnswersAll LineGives (with_slots empty) (codes ".load a 5402010074001200010000000000000001030178\n.invert a b\n.hex b\n")
+    three_replies (with_slots both_filled)
 script_inverts = record {
   lines = load_line ∷ invert_line ∷ hex_line ∷ [];
   last = [];
@@ -227,7 +233,7 @@ script_inverts = record {
     no_feed = (no_feed_in load_line refl, (no_feed_in invert_line refl, (no_feed_in hex_line refl, tt)));
     no_feed_last = tt;
   };
-  given = (a_filled, load_line_gives, (both_filled, invert_line_gives, (both_filled, hex_line_gives, refl)));
+  given = (with_slots a_filled, load_line_gives, (with_slots both_filled, invert_line_gives, (with_slots both_filled, hex_line_gives, refl)));
 }
 
 -- that of the deletion is printed
@@ -236,7 +242,7 @@ unfolding reply_text encode_with
 inverse_is_printed = refl
 
 -- a script of one line, which ends without a line feed and names an empty slot
-script_is_refused : AnswersAll LineGives empty hex_line (Refused EmptySlot ∷ []) empty
+script_is_refused : AnswersAll LineGives (with_slots empty) hex_line (Refused EmptySlot ∷ []) (with_slots empty)
 unfolding computing
 script_is_refused = record {
   lines = [];
@@ -247,13 +253,16 @@ script_is_refused = record {
     no_feed_last = no_feed_in hex_line refl;
   };
   given =
-      let text = IsUtf8-from_is_utf8 hex_line refl in
-      (empty, answered empty hex_line (Hex (codes "b")) (Refused EmptySlot) empty text hex_line_asks empty_slot_is_refused, refl);
+      let text = IsUtf8-from_is_utf8 hex_line refl in (
+        with_slots empty,
+        answered (with_slots empty) hex_line (Hex (codes "b")) (Refused EmptySlot) (with_slots empty) text hex_line_asks (on_slots (Hex (codes "b")) (Refused EmptySlot) empty empty_slot_is_refused),
+        refl,
+      );
 }
 
 -- an empty script is answered with nothing
-empty_script_answers : (slots : SlotMap) → AnswersAll LineGives slots [] [] slots
-empty_script_answers slots = record {
+empty_script_answers : (state : ShellState) → AnswersAll LineGives state [] [] state
+empty_script_answers state = record {
   lines = [];
   last = [];
   splits = record { spelled = refl; no_feed = tt; no_feed_last = tt };
@@ -262,10 +271,10 @@ empty_script_answers slots = record {
 
 -- where the input has no bytes left, nothing is written and the exit status is 0
 empty_input_ends : {R W : Type 0} (contents : W → Option (List ℕ)) (input : Told R) (out : Told W)
-    → RunsInput (λ reader. Some []) contents LineGives empty 0 input input out out
+    → RunsInput (λ reader. Some []) contents LineGives (beginning empty) 0 input input out out
 empty_input_ends contents input out = record {
   status = Done;
-  final = empty;
+  final = beginning empty;
   exit_is = refl;
   runs = record {
     text = [];
@@ -275,7 +284,7 @@ empty_input_ends contents input out = record {
     ended = record {
       short = omega arith;
       replies = [];
-      answers = empty_script_answers empty;
+      answers = empty_script_answers (beginning empty);
       written = Appends-nil _;
       refused = refl;
     };

@@ -14,7 +14,7 @@ use Rattle.cs_files.specs.Told.{known}
 use Rattle.cs_files.specs.Calls.{AppendsFront}
 use Rattle.cs_shell.specs.Replies.{Reply, reply_text, replies_text, is_refused}
 use Rattle.cs_shell.specs.Runs.{Splits, HasNoFeed, ended, unended, LinesGive, AnswersAll}
-use Rattle.cs_shell.specs.Progress.{Holds, HasBegun, IsFresh, Adds, EndsLine, Progress, Advances, Broken, Breaks, Finishes, Unfinished}
+use Rattle.cs_shell.specs.Progress.{Holds, HasBegun, IsFresh, Adds, Running, running, EndsLine, Progress, Advances, Broken, Breaks, Finishes, Unfinished}
 
 list_any-push : {X : Type 0} (p : X → Bool) (xs : List X) (x : X) → list_any p (xs ++ x ∷ []) ≡ (list_any p xs || p x)
 list_any-push p xs x = or_push (list_any p) p refl (λ y ys. refl) xs x
@@ -54,8 +54,8 @@ push_nonempty : (bytes : List ℕ) (b : ℕ) → bytes ++ b ∷ [] ≢ []
 push_nonempty bytes b is = absurd (omega (arith, ap length is, length-append bytes (b ∷ [])))
 
 -- what was run, where nothing is read
-pub Progress-start : {M : Type 0} (gives : M → List ℕ → Reply → M → Type 0) (script : Script M) (out : Option (List ℕ)) → IsFresh script → Progress gives script.machine [] out out script
-Progress-start gives script out fresh = record {
+pub Progress-start : {M : Type 0} (gives : M → List ℕ → Reply → M → Type 0) (machine : M) (script : Script) (out : Option (List ℕ)) → IsFresh script → Progress gives machine [] out out (running machine script)
+Progress-start gives machine script out fresh = record {
   lines = [];
   last = [];
   replies = [];
@@ -67,12 +67,12 @@ Progress-start gives script out fresh = record {
   lost = λ lost. absurd (both_ways script.line.is_lost fresh.0.1 lost);
 }
 
-pub Advances-nil : {M W : Type 0} (contents : W → Option (List ℕ)) (gives : M → List ℕ → Reply → M → Type 0) (script : Script M) (out : Told W) → Advances contents gives script script out out []
+pub Advances-nil : {M W : Type 0} (contents : W → Option (List ℕ)) (gives : M → List ℕ → Reply → M → Type 0) (script : Running M) (out : Told W) → Advances contents gives script script out out []
 Advances-nil contents gives script out = record {
   progress = λ start front first p. subst (λ l. Progress gives start l first (known contents out) script) (sym (append-nil front)) p;
 }
 
-pub Advances-trans : {M W : Type 0} (contents : W → Option (List ℕ)) (gives : M → List ℕ → Reply → M → Type 0) (a b c : Script M) (x y z : Told W) (bytes more : List ℕ) → Advances contents gives a b x y bytes
+pub Advances-trans : {M W : Type 0} (contents : W → Option (List ℕ)) (gives : M → List ℕ → Reply → M → Type 0) (a b c : Running M) (x y z : Told W) (bytes more : List ℕ) → Advances contents gives a b x y bytes
     → Advances contents gives b c y z more → Advances contents gives a c x z (bytes ++ more)
 Advances-trans contents gives a b c x y z bytes more p q = record {
   progress = λ start front first h.
@@ -80,18 +80,18 @@ Advances-trans contents gives a b c x y z bytes more p q = record {
 }
 
 -- bytes of a list, one more
-pub Advances-more : {M W : Type 0} (contents : W → Option (List ℕ)) (gives : M → List ℕ → Reply → M → Type 0) (a b c : Script M) (x y z : Told W) (bytes : List ℕ) (i : ℕ) → i < length bytes
+pub Advances-more : {M W : Type 0} (contents : W → Option (List ℕ)) (gives : M → List ℕ → Reply → M → Type 0) (a b c : Running M) (x y z : Told W) (bytes : List ℕ) (i : ℕ) → i < length bytes
     → Advances contents gives a b x y (take i bytes) → Advances contents gives b c y z (get_or bytes i 0 ∷ []) → Advances contents gives a c x z (take (i + 1) bytes)
 Advances-more contents gives a b c x y z bytes i within p q =
     subst (Advances contents gives a c x z) (sym (take_more bytes i 0 within)) (Advances-trans contents gives a b c x y z _ _ p q)
 
 -- bytes of a list, which are all
-pub Advances-all : {M W : Type 0} (contents : W → Option (List ℕ)) (gives : M → List ℕ → Reply → M → Type 0) (a b : Script M) (x y : Told W) (bytes : List ℕ) (i : ℕ) → length bytes ≤ i
+pub Advances-all : {M W : Type 0} (contents : W → Option (List ℕ)) (gives : M → List ℕ → Reply → M → Type 0) (a b : Running M) (x y : Told W) (bytes : List ℕ) (i : ℕ) → length bytes ≤ i
     → Advances contents gives a b x y (take i bytes) → Advances contents gives a b x y bytes
 Advances-all contents gives a b x y bytes i past p = subst (Advances contents gives a b x y) (take_all i bytes past) p
 
 -- a byte that ends no line
-pub Advances-byte : {M W : Type 0} (contents : W → Option (List ℕ)) (gives : M → List ℕ → Reply → M → Type 0) (old new : Script M) (out : Told W) (b : ℕ) → b ≢ 10 → new.machine ≡ old.machine → new.has_refused ≡ old.has_refused
+pub Advances-byte : {M W : Type 0} (contents : W → Option (List ℕ)) (gives : M → List ℕ → Reply → M → Type 0) (old new : Running M) (out : Told W) (b : ℕ) → b ≢ 10 → new.machine ≡ old.machine → new.has_refused ≡ old.has_refused
     → Adds old.line new.line b → Advances contents gives old new out out (b ∷ [])
 Advances-byte contents gives old new out b apart same refused adds = record {
   progress = λ start front first p. record {
@@ -130,7 +130,7 @@ refused_more : (replies : List Reply) (reply : Reply) (b c : Bool) → list_any 
 refused_more replies reply b c p q = list_any-push is_refused replies reply ∙ ap (λ t. t || is_refused reply) p ∙ sym q
 
 -- a line feed
-pub Advances-feed : {M W X E : Type 0} (contents : W → Option (List ℕ)) (gives : M → List ℕ → Reply → M → Type 0) (old new : Script M) (result : Result X E) (before after : Told W)
+pub Advances-feed : {M W X E : Type 0} (contents : W → Option (List ℕ)) (gives : M → List ℕ → Reply → M → Type 0) (old new : Running M) (result : Result X E) (before after : Told W)
     → EndsLine contents gives old new result before after → OnOk result (Advances contents gives old new before after (10 ∷ []))
 Advances-feed contents gives old new (Ok x) before after e = record {
   progress = λ start front first p. record {
@@ -148,7 +148,7 @@ Advances-feed contents gives old new (Ok x) before after e = record {
 Advances-feed contents gives old new (Err x) before after e = tt
 
 -- a line feed, where a write fails
-pub Breaks-feed : {M W X E : Type 0} (contents : W → Option (List ℕ)) (gives : M → List ℕ → Reply → M → Type 0) (old new : Script M) (result : Result X E) (before after : Told W)
+pub Breaks-feed : {M W X E : Type 0} (contents : W → Option (List ℕ)) (gives : M → List ℕ → Reply → M → Type 0) (old new : Running M) (result : Result X E) (before after : Told W)
     → EndsLine contents gives old new result before after → OnErr result (Breaks contents gives old new before after (10 ∷ []))
 Breaks-feed contents gives old new (Ok x) before after e = tt
 Breaks-feed contents gives old new (Err x) before after e = record {
@@ -180,7 +180,7 @@ Broken-longer gives start text more before after final b = record {
 }
 
 -- bytes of a list, at one of which a write fails
-pub Breaks-more : {M W : Type 0} (contents : W → Option (List ℕ)) (gives : M → List ℕ → Reply → M → Type 0) (a b c : Script M) (x y z : Told W) (bytes : List ℕ) (i : ℕ) → i < length bytes
+pub Breaks-more : {M W : Type 0} (contents : W → Option (List ℕ)) (gives : M → List ℕ → Reply → M → Type 0) (a b c : Running M) (x y z : Told W) (bytes : List ℕ) (i : ℕ) → i < length bytes
     → Advances contents gives a b x y (take i bytes) → Breaks contents gives b c y z (get_or bytes i 0 ∷ []) → Breaks contents gives a c x z bytes
 Breaks-more contents gives a b c x y z bytes i within p q = record {
   broken = λ start front first h.
@@ -210,7 +210,7 @@ last_some reader last begun holds lost none =
     some_byte held (inr some) same = some (same ∙ none)
 
 -- the last line was answered, and the text with it
-last_answered : {M W X E : Type 0} (contents : W → Option (List ℕ)) (gives : M → List ℕ → Reply → M → Type 0) (old new : Script M) (result : Result X E) (before after : Told W)
+last_answered : {M W X E : Type 0} (contents : W → Option (List ℕ)) (gives : M → List ℕ → Reply → M → Type 0) (old new : Running M) (result : Result X E) (before after : Told W)
     → EndsLine contents gives old new result before after → HasBegun old.line → (start : M) (text : List ℕ) (first : Option (List ℕ)) → (p : Progress gives start text first (known contents before) old)
     → (e : Reply) → ((line : List ℕ) → Holds old.line line → gives old.machine line e new.machine) → AnswersAll gives start text (p.replies ++ e ∷ []) new.machine
 last_answered contents gives old new result before after ends begun start text first p e given = record {
@@ -222,7 +222,7 @@ last_answered contents gives old new result before after ends begun start text f
       (LinesGive-push gives start old.machine new.machine p.lines p.replies p.last e p.given (given p.last p.holds));
 }
 
-pub Finishes-ended : {M W X E : Type 0} (contents : W → Option (List ℕ)) (gives : M → List ℕ → Reply → M → Type 0) (old new : Script M) (result : Result X E) (before after : Told W)
+pub Finishes-ended : {M W X E : Type 0} (contents : W → Option (List ℕ)) (gives : M → List ℕ → Reply → M → Type 0) (old new : Running M) (result : Result X E) (before after : Told W)
     → EndsLine contents gives old new result before after → HasBegun old.line → OnOk result (Finishes contents gives old new before after)
 Finishes-ended contents gives old new (Ok x) before after e begun = record {
   answered = λ start text first p. (
@@ -234,7 +234,7 @@ Finishes-ended contents gives old new (Ok x) before after e begun = record {
 }
 Finishes-ended contents gives old new (Err x) before after e begun = tt
 
-pub Unfinished-ended : {M W X E : Type 0} (contents : W → Option (List ℕ)) (gives : M → List ℕ → Reply → M → Type 0) (old new : Script M) (result : Result X E) (before after : Told W)
+pub Unfinished-ended : {M W X E : Type 0} (contents : W → Option (List ℕ)) (gives : M → List ℕ → Reply → M → Type 0) (old new : Running M) (result : Result X E) (before after : Told W)
     → EndsLine contents gives old new result before after → HasBegun old.line → OnErr result (Unfinished contents gives old new before after)
 Unfinished-ended contents gives old new (Ok x) before after e begun = tt
 Unfinished-ended contents gives old new (Err x) before after e begun = record {
@@ -257,7 +257,7 @@ no_line reader (b ∷ bytes) none holds =
     cons_nil : b ∷ bytes ≡ [] → ⊥
     cons_nil same = absurd (omega (arith, ap length same))
 
-pub Finishes-at_once : {M W : Type 0} (contents : W → Option (List ℕ)) (gives : M → List ℕ → Reply → M → Type 0) (script : Script M) (out : Told W) → (HasBegun script.line → ⊥)
+pub Finishes-at_once : {M W : Type 0} (contents : W → Option (List ℕ)) (gives : M → List ℕ → Reply → M → Type 0) (script : Running M) (out : Told W) → (HasBegun script.line → ⊥)
     → Finishes contents gives script script out out
 Finishes-at_once contents gives script out none = record {
   answered = λ start text first p. (

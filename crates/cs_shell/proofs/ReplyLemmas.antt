@@ -1,5 +1,5 @@
 -- Lemmas on the replies to commands, with what calls ensure turned the way that they are stated.
-use Rattle.std.proofs.Common.{◌≡◌, ◌⊎◌, inl, inr, ℕ, List, Some, Err, IsUtf8, arith}
+use Rattle.std.proofs.Common.{◌≡◌, ◌⊎◌, inl, inr, ℕ, List, Some, Err}
 use Rattle.hex.specs.Hex.{decode_of}
 use Rattle.hex.specs.declared.error.FromHexError.{FromHexError}
 use Rattle.hex.specs.declared.error.FromHexError.TheVariants as hex
@@ -11,15 +11,14 @@ use Rattle.cs_wire.specs.declared.fault.ReadFault.{ReadFault}
 use Rattle.cs_wire.specs.ReadFaults.{ReadFails}
 use Rattle.cs_files.specs.declared.fault.FileFault.{FileFault}
 use Rattle.cs_files.specs.Files.{JoinFails}
-use Rattle.cs_lines.specs.declared.fault.SyntaxFault.{SyntaxFault}
 use Rattle.cs_lines.specs.Commands.{CommandData, Load, Invert, Concat, Dump}
-use Rattle.cs_lines.specs.Lines.{RefusesLine, Spelled}
-use Rattle.cs_shell.specs.ErrorLines.{of_hex, of_line, of_read, of_files}
+use Rattle.cs_shell.specs.ErrorLines.{of_hex, of_read, of_files}
 use Rattle.cs_shell.specs.Replies.{Reply, Refused}
-use Rattle.cs_shell.specs.Script.{SlotMap, CommandGives, no_hex, not_inverted, not_joined, not_dumped, unable, AnswersCommand, LineGives, malformed, answered, not_run, no_memory}
+use Rattle.cs_shell.specs.Script.{SlotsGive, no_hex, not_inverted, not_joined, not_dumped, unable}
+use Rattle.cs_shell.specs.ShellState.{SlotMap}
 
 -- digits that are not decoded
-pub gives_not_loaded : (old : SlotMap) (slot digits : List ℕ) (e : FromHexError) → (e ≡ hex.OutOfMemory) ⊎ (decode_of digits ≡ Err e) → CommandGives old (Load slot digits) (Refused (of_hex e)) old
+pub gives_not_loaded : (old : SlotMap) (slot digits : List ℕ) (e : FromHexError) → (e ≡ hex.OutOfMemory) ⊎ (decode_of digits ≡ Err e) → SlotsGive old (Load slot digits) (Refused (of_hex e)) old
 gives_not_loaded old slot digits e (inl same) = rw same (unable old (Load slot digits))
 gives_not_loaded old slot digits hex.OutOfMemory (inr is) = unable old (Load slot digits)
 gives_not_loaded old slot digits (hex.InvalidHexCharacter c index) (inr is) = no_hex old slot digits _ is
@@ -28,28 +27,18 @@ gives_not_loaded old slot digits hex.InvalidStringLength (inr is) = no_hex old s
 
 -- a slot whose bytes are not inverted
 pub gives_not_inverted : (old : SlotMap) (from into file : List ℕ) (fault : OrNoMemory ReadFault) → get old from ≡ Some file → Refuses (λ f. ReadFails file f.kind f.place) fault
-    → CommandGives old (Invert from into) (Refused (of_read fault)) old
+    → SlotsGive old (Invert from into) (Refused (of_read fault)) old
 gives_not_inverted old from into file (tool.Fault f) is why = not_inverted old from into file f is why
 gives_not_inverted old from into file tool.NoMemory is why = unable old (Invert from into)
 
 -- slots whose files are not joined
 pub gives_not_joined : (old : SlotMap) (first second into file other : List ℕ) (fault : OrNoMemory FileFault) → get old first ≡ Some file → get old second ≡ Some other → Refuses (JoinFails file other) fault
-    → CommandGives old (Concat first second into) (Refused (of_files fault)) old
+    → SlotsGive old (Concat first second into) (Refused (of_files fault)) old
 gives_not_joined old first second into file other (tool.Fault f) is other_is why = not_joined old first second into file other f is other_is why
 gives_not_joined old first second into file other tool.NoMemory is other_is why = unable old (Concat first second into)
 
 -- a slot whose bytes are no changeset's
 pub gives_not_dumped : (old : SlotMap) (slot file : List ℕ) (fault : OrNoMemory ReadFault) → get old slot ≡ Some file → Refuses (λ f. ReadFails file f.kind f.place) fault
-    → CommandGives old (Dump slot) (Refused (of_read fault)) old
+    → SlotsGive old (Dump slot) (Refused (of_read fault)) old
 gives_not_dumped old slot file (tool.Fault f) is why = not_dumped old slot file f is why
 gives_not_dumped old slot file tool.NoMemory is why = unable old (Dump slot)
-
--- a line that is not read
-pub gives_unread : (old : SlotMap) (line : List ℕ) (fault : OrNoMemory SyntaxFault) → IsUtf8 line → RefusesLine line fault → LineGives old line (Refused (of_line fault)) old
-gives_unread old line (tool.Fault fault) text why = malformed old line fault text why.0 why.1 why.2 why.3
-gives_unread old line tool.NoMemory text why = no_memory old line
-
--- a command that is answered answers its line
-pub gives_command : (old new : SlotMap) (line : List ℕ) (command : CommandData) (reply : Reply) → IsUtf8 line → Spelled line command → AnswersCommand old command reply new → LineGives old line reply new
-gives_command old new line command reply text asks (inl gives) = answered old line command reply new text asks gives
-gives_command old new line command reply text asks (inr n) = rw (n.1, n.2) (not_run old line command (record { column = 1 }) text asks n.0 (omega arith) (omega arith))

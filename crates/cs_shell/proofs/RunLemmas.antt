@@ -1,5 +1,5 @@
 -- Lemmas on an input that is read and run piece by piece.
-use Rattle.std.proofs.Common.{◌≡◌, ℕ, ◌+◌, ◌-◌, ◌≤◌, ◌<◌, true, false, List, [], ◌∷◌, ◌++◌, length, take, drop, Option, None, Some, refl, sym, ap, subst, ◌∙◌, arith, length-append, append-nil}
+use Rattle.std.proofs.Common.{◌≡◌, ℕ, ◌+◌, ◌-◌, ◌≤◌, ◌<◌, Bool, true, false, List, [], ◌∷◌, ◌++◌, length, take, drop, Option, None, Some, refl, sym, ap, subst, ◌∙◌, arith, length-append, append-nil}
 use Rattle.std.specs.Prelude.{if◌then◌else◌, IsTrue}
 use Rattle.std.specs.Io.KnownBytes.{Appends, Consumes, Keeps, IsAtEnd}
 use Rattle.std.proofs.KnownBytes.{Appends-trans, Consumes-trans}
@@ -13,8 +13,8 @@ use Rattle.cs_files.specs.Told.{has_failed, known}
 use Rattle.cs_files.specs.Calls.{AppendsFront}
 use Rattle.cs_shell.specs.ErrorLines.{refusal_text}
 use Rattle.cs_shell.specs.Replies.{Reply, replies_text}
-use Rattle.cs_shell.specs.Runs.{SCRIPT_LIMIT, Overruns, Runs, EndsUnwritten, at_line, at_last_line, at_overrun}
-use Rattle.cs_shell.specs.Progress.{IsFresh, Progress, Advances, Breaks, Finishes, Unfinished, HasRead, ReadsText}
+use Rattle.cs_shell.specs.Runs.{SCRIPT_LIMIT, unended, LinesGive, Answers, AnswersAll, EndsText, EndsFront, EndsOverrun, Overruns, Ends, Runs, EndsUnwritten, at_line, at_last_line, at_overrun}
+use Rattle.cs_shell.specs.Progress.{IsFresh, Running, running, Progress, Advances, Breaks, Finishes, Unfinished, HasRead, ReadsText}
 use Rattle.cs_shell.proofs.ProgressLemmas.{Progress-start, AppendsFront-behind}
 
 Consumes-nothing : (bytes : Option (List ℕ)) → Consumes bytes bytes []
@@ -22,18 +22,18 @@ Consumes-nothing None = tt
 Consumes-nothing (Some text) = refl
 
 -- nothing is read yet
-pub HasRead-start : {M R W : Type 0} (remaining : R → Option (List ℕ)) (contents : W → Option (List ℕ)) (gives : M → List ℕ → Reply → M → Type 0) (script : Script M) (input : Told R) (out : Told W) → IsFresh script
-    → HasRead remaining contents gives script script input input out out 0
-HasRead-start remaining contents gives script input out fresh = record {
+pub HasRead-start : {M R W : Type 0} (remaining : R → Option (List ℕ)) (contents : W → Option (List ℕ)) (gives : M → List ℕ → Reply → M → Type 0) (machine : M) (script : Script) (input : Told R) (out : Told W) → IsFresh script
+    → HasRead remaining contents gives (running machine script) (running machine script) input input out out 0
+HasRead-start remaining contents gives machine script input out fresh = record {
   text = [];
   consumed = Consumes-nothing (known remaining input);
   counted = refl;
   within = omega arith;
-  progress = Progress-start gives script (known contents out) fresh;
+  progress = Progress-start gives machine script (known contents out) fresh;
 }
 
 -- a piece more is read and run
-pub HasRead-more : {M R W : Type 0} (remaining : R → Option (List ℕ)) (contents : W → Option (List ℕ)) (gives : M → List ℕ → Reply → M → Type 0) (old mid new : Script M) (a b c : Told R) (x y z : Told W) (count : ℕ)
+pub HasRead-more : {M R W : Type 0} (remaining : R → Option (List ℕ)) (contents : W → Option (List ℕ)) (gives : M → List ℕ → Reply → M → Type 0) (old mid new : Running M) (a b c : Told R) (x y z : Told W) (count : ℕ)
     (piece : List ℕ) → HasRead remaining contents gives old mid a b x y count → Consumes (known remaining b) (known remaining c) piece → Advances contents gives mid new y z piece
     → length piece ≤ SCRIPT_LIMIT - count → HasRead remaining contents gives old new a c x z (count + length piece)
 HasRead-more remaining contents gives old mid new a b c x y z count piece r consumed advances room =
@@ -47,7 +47,7 @@ HasRead-more remaining contents gives old mid new a b c x y z count piece r cons
     }
 
 -- the input is at its end
-pub HasRead-end : {M R W : Type 0} (remaining : R → Option (List ℕ)) (contents : W → Option (List ℕ)) (gives : M → List ℕ → Reply → M → Type 0) (old new : Script M) (a b c : Told R) (x y : Told W) (count : ℕ)
+pub HasRead-end : {M R W : Type 0} (remaining : R → Option (List ℕ)) (contents : W → Option (List ℕ)) (gives : M → List ℕ → Reply → M → Type 0) (old new : Running M) (a b c : Told R) (x y : Told W) (count : ℕ)
     (piece : List ℕ) → HasRead remaining contents gives old new a b x y count → Consumes (known remaining b) (known remaining c) piece → length piece ≡ 0 → IsAtEnd (known remaining c)
     → ReadsText remaining contents gives old new a c x y
 HasRead-end remaining contents gives old new a b c x y count piece r consumed none at_end = record {
@@ -74,7 +74,7 @@ Consumes-kept (Some l) (Some m) None text p q = absurd q
 Consumes-kept (Some l) (Some m) (Some n) text p q = p ∙ ap (λ k. text ++ k) (sym q)
 
 -- a read fails
-pub Runs-input : {M R W : Type 0} (remaining : R → Option (List ℕ)) (contents : W → Option (List ℕ)) (gives : M → List ℕ → Reply → M → Type 0) (old new : Script M) (a b c : Told R) (x y : Told W) (count : ℕ)
+pub Runs-input : {M R W : Type 0} (remaining : R → Option (List ℕ)) (contents : W → Option (List ℕ)) (gives : M → List ℕ → Reply → M → Type 0) (old new : Running M) (a b c : Told R) (x y : Told W) (count : ℕ)
     → HasRead remaining contents gives old new a b x y count → Keeps (known remaining b) (known remaining c) → IsTrue (has_failed c)
     → Runs remaining contents gives InputFault old.machine new.machine a c x y
 Runs-input remaining contents gives old new a b c x y count r kept failed =
@@ -94,7 +94,7 @@ Runs-input remaining contents gives old new a b c x y count r kept failed =
     }
 
 -- a write fails for a line of a piece that was read
-pub Runs-broken : {M R W : Type 0} (remaining : R → Option (List ℕ)) (contents : W → Option (List ℕ)) (gives : M → List ℕ → Reply → M → Type 0) (old mid new : Script M) (a b c : Told R) (x y z : Told W) (count : ℕ)
+pub Runs-broken : {M R W : Type 0} (remaining : R → Option (List ℕ)) (contents : W → Option (List ℕ)) (gives : M → List ℕ → Reply → M → Type 0) (old mid new : Running M) (a b c : Told R) (x y z : Told W) (count : ℕ)
     (piece bytes more : List ℕ) → HasRead remaining contents gives old mid a b x y count → Consumes (known remaining b) (known remaining c) piece → length piece ≤ SCRIPT_LIMIT - count + 1 → piece ≡ bytes ++ more → length bytes ≤ SCRIPT_LIMIT - count
     → Breaks contents gives mid new y z bytes → IsTrue (has_failed z) → Runs remaining contents gives OutputFault old.machine new.machine a c x z
 Runs-broken remaining contents gives old mid new a b c x y z count piece bytes more r consumed room whole within_limit breaks failed =
@@ -113,7 +113,7 @@ Runs-broken remaining contents gives old mid new a b c x y z count piece bytes m
     }
 
 -- what a byte too many says of the text
-overruns : {M W : Type 0} (contents : W → Option (List ℕ)) (gives : M → List ℕ → Reply → M → Type 0) (start : M) (new : Script M) (first after : Option (List ℕ)) (text piece : List ℕ) (left : ℕ)
+overruns : {M W : Type 0} (contents : W → Option (List ℕ)) (gives : M → List ℕ → Reply → M → Type 0) (start : M) (new : Running M) (first after : Option (List ℕ)) (text piece : List ℕ) (left : ℕ)
     → (p : Progress gives start (text ++ take left piece) first after new) → length text + left ≡ SCRIPT_LIMIT → left < length piece → Overruns gives start new.machine (text ++ piece) p.replies
 overruns contents gives start new first after text piece left p full over =
     let taken = length-take-le left piece (omega arith) in
@@ -127,7 +127,7 @@ overruns contents gives start new first after text piece left p full over =
     }
 
 -- a byte too many is read: the bytes in front of it are run, and the error line is written
-pub Runs-overrun : {M R W : Type 0} (remaining : R → Option (List ℕ)) (contents : W → Option (List ℕ)) (gives : M → List ℕ → Reply → M → Type 0) (old mid new : Script M) (a b c : Told R) (x y z w : Told W) (count : ℕ)
+pub Runs-overrun : {M R W : Type 0} (remaining : R → Option (List ℕ)) (contents : W → Option (List ℕ)) (gives : M → List ℕ → Reply → M → Type 0) (old mid new : Running M) (a b c : Told R) (x y z w : Told W) (count : ℕ)
     (piece : List ℕ) → HasRead remaining contents gives old mid a b x y count → Consumes (known remaining b) (known remaining c) piece → length piece ≤ SCRIPT_LIMIT - count + 1
     → SCRIPT_LIMIT - count < length piece → Advances contents gives mid new y z (take (SCRIPT_LIMIT - count) piece) → Appends (known contents z) (known contents w) (refusal_text ScriptTooLong)
     → Runs remaining contents gives TooLong old.machine new.machine a c x w
@@ -148,7 +148,7 @@ Runs-overrun remaining contents gives old mid new a b c x y z w count piece r co
     }
 
 -- and the error line is not
-pub Runs-overrun-broken : {M R W : Type 0} (remaining : R → Option (List ℕ)) (contents : W → Option (List ℕ)) (gives : M → List ℕ → Reply → M → Type 0) (old mid new : Script M) (a b c : Told R) (x y z w : Told W)
+pub Runs-overrun-broken : {M R W : Type 0} (remaining : R → Option (List ℕ)) (contents : W → Option (List ℕ)) (gives : M → List ℕ → Reply → M → Type 0) (old mid new : Running M) (a b c : Told R) (x y z w : Told W)
     (count : ℕ) (piece : List ℕ) → HasRead remaining contents gives old mid a b x y count → Consumes (known remaining b) (known remaining c) piece → length piece ≤ SCRIPT_LIMIT - count + 1
     → SCRIPT_LIMIT - count < length piece → Advances contents gives mid new y z (take (SCRIPT_LIMIT - count) piece) → AppendsFront (known contents z) (known contents w) (refusal_text ScriptTooLong)
     → IsTrue (has_failed w) → Runs remaining contents gives OutputFault old.machine new.machine a c x w
@@ -166,7 +166,7 @@ Runs-overrun-broken remaining contents gives old mid new a b c x y z w count pie
     }
 
 -- a text that is read and run, and whose last line is run
-pub Runs-finished : {M R W : Type 0} (remaining : R → Option (List ℕ)) (contents : W → Option (List ℕ)) (gives : M → List ℕ → Reply → M → Type 0) (old mid new : Script M) (a b : Told R) (x y z : Told W)
+pub Runs-finished : {M R W : Type 0} (remaining : R → Option (List ℕ)) (contents : W → Option (List ℕ)) (gives : M → List ℕ → Reply → M → Type 0) (old mid new : Running M) (a b : Told R) (x y z : Told W)
     → ReadsText remaining contents gives old mid a b x y → Finishes contents gives mid new y z
     → Runs remaining contents gives (if new.has_refused then LinesRefused else Done) old.machine new.machine a b x z
 Runs-finished remaining contents gives old mid new a b x y z r finishes =
@@ -193,7 +193,7 @@ Runs-finished remaining contents gives old mid new a b x y z r finishes =
     ] refl
 
 -- and a write fails for its last line
-pub Runs-unfinished : {M R W : Type 0} (remaining : R → Option (List ℕ)) (contents : W → Option (List ℕ)) (gives : M → List ℕ → Reply → M → Type 0) (old mid new : Script M) (a b : Told R) (x y z : Told W)
+pub Runs-unfinished : {M R W : Type 0} (remaining : R → Option (List ℕ)) (contents : W → Option (List ℕ)) (gives : M → List ℕ → Reply → M → Type 0) (old mid new : Running M) (a b : Told R) (x y z : Told W)
     → ReadsText remaining contents gives old mid a b x y → Unfinished contents gives mid new y z → IsTrue (has_failed z) → Runs remaining contents gives OutputFault old.machine new.machine a b x z
 Runs-unfinished remaining contents gives old mid new a b x y z r unfinished failed =
     let counted = r.read.counted in
@@ -207,8 +207,100 @@ Runs-unfinished remaining contents gives old mid new a b x y z r unfinished fail
       flagged = failed;
     }
 
--- the same run, of a start and a status that are told otherwise
-pub Runs-told : {R W S : Type 0} (remaining : R → Option (List ℕ)) (contents : W → Option (List ℕ)) (gives : S → List ℕ → Reply → S → Type 0) (one status : Status) (first start final : S) (a b : Told R) (x y : Told W)
-    → one ≡ status → first ≡ start → Runs remaining contents gives one first final a b x y → Runs remaining contents gives status start final a b x y
-Runs-told remaining contents gives one status first start final a b x y same begun runs =
-    subst (λ s. Runs remaining contents gives s start final a b x y) same (subst (λ s. Runs remaining contents gives one s final a b x y) begun runs)
+-- the same run, of a status that is told otherwise
+pub Runs-told : {R W S : Type 0} (remaining : R → Option (List ℕ)) (contents : W → Option (List ℕ)) (gives : S → List ℕ → Reply → S → Type 0) (one status : Status) (start final : S) (a b : Told R) (x y : Told W)
+    → one ≡ status → Runs remaining contents gives one start final a b x y → Runs remaining contents gives status start final a b x y
+Runs-told remaining contents gives one status start final a b x y same runs =
+    subst (λ s. Runs remaining contents gives s start final a b x y) same runs
+
+-- ---- states that are seen otherwise
+
+-- what answers lines from the one state to the other is seen as what does from the first to the last
+abbrev Sees : {S T : Type 0} → (S → List ℕ → Reply → S → Type 0) → (T → List ℕ → Reply → T → Type 0) → S → S → T → T → Type 0
+Sees gives shows start final first last = (lines : List (List ℕ)) (replies : List Reply) → LinesGive gives start lines replies final → LinesGive shows first lines replies last
+
+Answers-seen : {S T : Type 0} (gives : S → List ℕ → Reply → S → Type 0) (shows : T → List ℕ → Reply → T → Type 0) (start final : S) (first last : T) (text : List ℕ) (replies : List Reply) → Sees gives shows start final first last
+    → Answers gives start text replies final → Answers shows first text replies last
+Answers-seen gives shows start final first last text replies sees a = record {
+  lines = a.lines;
+  last = a.last;
+  splits = a.splits;
+  given = sees a.lines replies a.given;
+}
+
+AnswersAll-seen : {S T : Type 0} (gives : S → List ℕ → Reply → S → Type 0) (shows : T → List ℕ → Reply → T → Type 0) (start final : S) (first last : T) (text : List ℕ) (replies : List Reply) → Sees gives shows start final first last
+    → AnswersAll gives start text replies final → AnswersAll shows first text replies last
+AnswersAll-seen gives shows start final first last text replies sees a = record {
+  lines = a.lines;
+  last = a.last;
+  splits = a.splits;
+  given = sees (a.lines ++ unended a.last) replies a.given;
+}
+
+Overruns-seen : {S T : Type 0} (gives : S → List ℕ → Reply → S → Type 0) (shows : T → List ℕ → Reply → T → Type 0) (start final : S) (first last : T) (text : List ℕ) (replies : List Reply) → Sees gives shows start final first last
+    → Overruns gives start final text replies → Overruns shows first last text replies
+Overruns-seen gives shows start final first last text replies sees o = record {
+  front = o.front;
+  rest = o.rest;
+  whole = o.whole;
+  full = o.full;
+  more = o.more;
+  answers = Answers-seen gives shows start final first last o.front replies sees o.answers;
+}
+
+EndsText-seen : {W S T : Type 0} (contents : W → Option (List ℕ)) (gives : S → List ℕ → Reply → S → Type 0) (shows : T → List ℕ → Reply → T → Type 0) (start final : S) (first last : T) (x y : Told W) (text : List ℕ) (some_refused : Bool)
+    → Sees gives shows start final first last → EndsText contents gives start final x y text some_refused → EndsText contents shows first last x y text some_refused
+EndsText-seen contents gives shows start final first last x y text some_refused sees e = record {
+  short = e.short;
+  replies = e.replies;
+  answers = AnswersAll-seen gives shows start final first last text e.replies sees e.answers;
+  written = e.written;
+  refused = e.refused;
+}
+
+EndsFront-seen : {W S T : Type 0} (contents : W → Option (List ℕ)) (gives : S → List ℕ → Reply → S → Type 0) (shows : T → List ℕ → Reply → T → Type 0) (start final : S) (first last : T) (x y : Told W) (text : List ℕ)
+    → Sees gives shows start final first last → EndsFront contents gives start final x y text → EndsFront contents shows first last x y text
+EndsFront-seen contents gives shows start final first last x y text sees e = record {
+  short = e.short;
+  replies = e.replies;
+  answers = Answers-seen gives shows start final first last text e.replies sees e.answers;
+  written = e.written;
+}
+
+EndsOverrun-seen : {W S T : Type 0} (contents : W → Option (List ℕ)) (gives : S → List ℕ → Reply → S → Type 0) (shows : T → List ℕ → Reply → T → Type 0) (start final : S) (first last : T) (x y : Told W) (text : List ℕ)
+    → Sees gives shows start final first last → EndsOverrun contents gives start final x y text → EndsOverrun contents shows first last x y text
+EndsOverrun-seen contents gives shows start final first last x y text sees e = record {
+  replies = e.replies;
+  overruns = Overruns-seen gives shows start final first last text e.replies sees e.overruns;
+  written = e.written;
+}
+
+EndsUnwritten-seen : {W S T : Type 0} (contents : W → Option (List ℕ)) (gives : S → List ℕ → Reply → S → Type 0) (shows : T → List ℕ → Reply → T → Type 0) (start final : S) (first last : T) (x y : Told W) (left : Option (List ℕ))
+    → Sees gives shows start final first last → (text : List ℕ) → EndsUnwritten contents gives start final x y left text → EndsUnwritten contents shows first last x y left text
+EndsUnwritten-seen contents gives shows start final first last x y left sees text (at_line front rest replies short answers written) =
+    at_line front rest replies short (Answers-seen gives shows start final first last front replies sees answers) written
+EndsUnwritten-seen contents gives shows start final first last x y left sees text (at_last_line whole replies short at_end answers written) =
+    at_last_line whole replies short at_end (AnswersAll-seen gives shows start final first last whole replies sees answers) written
+EndsUnwritten-seen contents gives shows start final first last x y left sees text (at_overrun whole replies over written) =
+    at_overrun whole replies (Overruns-seen gives shows start final first last whole replies sees over) written
+
+Ends-seen : {W S T : Type 0} (contents : W → Option (List ℕ)) (gives : S → List ℕ → Reply → S → Type 0) (shows : T → List ℕ → Reply → T → Type 0) (status : Status) (start final : S) (first last : T) (x y : Told W) (left : Option (List ℕ)) (text : List ℕ)
+    → Sees gives shows start final first last → Ends contents gives status start final x y left text → Ends contents shows status first last x y left text
+Ends-seen contents gives shows Done start final first last x y left text sees e = EndsText-seen contents gives shows start final first last x y text false sees e
+Ends-seen contents gives shows LinesRefused start final first last x y left text sees e = EndsText-seen contents gives shows start final first last x y text true sees e
+Ends-seen contents gives shows TooLong start final first last x y left text sees e = EndsOverrun-seen contents gives shows start final first last x y text sees e
+Ends-seen contents gives shows InputFault start final first last x y left text sees e = EndsFront-seen contents gives shows start final first last x y text sees e
+Ends-seen contents gives shows OutputFault start final first last x y left text sees e = EndsUnwritten-seen contents gives shows start final first last x y left sees text e
+
+-- the same run, of what is seen of its states
+pub Runs-seen : {R W S T : Type 0} (remaining : R → Option (List ℕ)) (contents : W → Option (List ℕ)) (gives : S → List ℕ → Reply → S → Type 0) (shows : T → List ℕ → Reply → T → Type 0) (status : Status) (start final : S) (first last : T)
+    (a b : Told R) (x y : Told W) → ((lines : List (List ℕ)) (replies : List Reply) → LinesGive gives start lines replies final → LinesGive shows first lines replies last)
+    → Runs remaining contents gives status start final a b x y → Runs remaining contents shows status first last a b x y
+Runs-seen remaining contents gives shows status start final first last a b x y sees runs = record {
+  text = runs.text;
+  consumed = runs.consumed;
+  bounded = runs.bounded;
+  at_end = runs.at_end;
+  ended = Ends-seen contents gives shows status start final first last x y (known remaining b) runs.text sees runs.ended;
+  flagged = runs.flagged;
+}

@@ -10,6 +10,13 @@ use Rattle.cs_apply.specs.declared.conflict.Conflict.{Conflict}
 use Rattle.cs_apply.specs.declared.fault.ApplyFault.{ApplyFault}
 use Rattle.cs_apply.specs.declared.fault.ApplyFault.TheVariants as apply
 use Rattle.cs_apply.specs.Faults as applies
+use Rattle.cs_store.specs.declared.fault.StoreError.{StoreError}
+use Rattle.cs_store.specs.declared.fault.StoreError.TheVariants as store
+use Rattle.cs_store.specs.Faults as stores
+use Rattle.cs_session.specs.declared.fault.SessionFault.{SessionFault}
+use Rattle.cs_session.specs.declared.fault.SessionFault.TheVariants as session
+use Rattle.cs_session.specs.Faults as sessions
+use Rattle.cs_statements.specs.declared.fault.UnknownColumn.{UnknownColumn as NoColumn}
 use Rattle.cs_files.specs.declared.fault.FileFault.{FileFault}
 use Rattle.cs_files.specs.declared.fault.FileFault.TheVariants as file
 use Rattle.cs_files.specs.Faults as files
@@ -19,19 +26,25 @@ use Rattle.cs_lines.specs.declared.fault.SyntaxFault.{SyntaxFault}
 use Rattle.cs_shell.specs.declared.refusal.Detail.{Detail}
 use Rattle.cs_shell.specs.declared.refusal.Detail.TheVariants as detail
 use Rattle.cs_shell.specs.declared.refusal.Refusal.{Refusal}
-use Rattle.cs_shell.specs.declared.refusal.Refusal.TheVariants.{NoMemory, Read, Files, Apply, Syntax, EmptySlot}
-use Rattle.cs_shell.specs.declared.refusal.Refusal.TheVariants.{ScriptTooLong, BadHex, LineText, Input, Output}
+use Rattle.cs_shell.specs.declared.refusal.Refusal.TheVariants.{NoMemory, Read, Files, Store, Apply, Session, Syntax}
+use Rattle.cs_shell.specs.declared.refusal.Refusal.TheVariants.{EmptySlot, ScriptTooLong, NoSession, SessionOpen, BadHex}
+use Rattle.cs_shell.specs.declared.refusal.Refusal.TheVariants.{UnknownColumn, LineText, Input, Output}
 use Rattle.cs_lines.specs.Commands.{kind_text}
 
 abbrev pub code_of : Refusal → ℕ
 code_of NoMemory = 60
 code_of (Read fault) = read.code_of fault.kind
 code_of (Files fault) = files.code_of fault
+code_of (Store error) = stores.code_of error
 code_of (Apply fault) = applies.code_of fault
+code_of (Session fault) = sessions.code_of fault
 code_of (Syntax fault) = 61
 code_of EmptySlot = 62
 code_of ScriptTooLong = 63
+code_of NoSession = 64
+code_of SessionOpen = 65
 code_of BadHex = 66
+code_of UnknownColumn = 67
 code_of LineText = 68
 code_of Input = 71
 code_of (Output fault) = 72
@@ -41,7 +54,9 @@ abbrev pub class_of : Refusal → ℕ
 class_of NoMemory = 7
 class_of (Read fault) = 11
 class_of (Files fault) = files.class_of fault
+class_of (Store error) = stores.class_of error
 class_of (Apply fault) = applies.class_of fault
+class_of (Session fault) = sessions.class_of fault
 class_of Input = 10
 class_of (Output fault) = 10
 class_of _ = 1
@@ -50,11 +65,16 @@ abbrev pub name_of : Refusal → List ℕ
 name_of NoMemory = codes "NoMemory"
 name_of (Read fault) = read.name_of fault.kind
 name_of (Files fault) = files.name_of fault
+name_of (Store error) = stores.name_of error
 name_of (Apply fault) = applies.name_of fault
+name_of (Session fault) = sessions.name_of fault
 name_of (Syntax fault) = codes "Syntax"
 name_of EmptySlot = codes "EmptySlot"
 name_of ScriptTooLong = codes "ScriptTooLong"
+name_of NoSession = codes "NoSession"
+name_of SessionOpen = codes "SessionOpen"
 name_of BadHex = codes "BadHex"
+name_of UnknownColumn = codes "UnknownColumn"
 name_of LineText = codes "LineText"
 name_of Input = codes "InputFault"
 name_of (Output fault) = codes "OutputFault"
@@ -97,6 +117,27 @@ abbrev pub detail_in : Detail → List ℕ
 detail_in detail.Nothing = []
 detail_in (detail.Number n) = number_detail n
 detail_in (detail.Conflict conflict) = conflict_detail conflict.now
+
+-- want of memory is one refusal, whoever tells it
+abbrev pub of_store : StoreError → Refusal
+of_store store.NoMemory = NoMemory
+of_store error = Store error
+
+abbrev pub of_apply : ApplyFault → Refusal
+of_apply apply.NoMemory = NoMemory
+of_apply (apply.Read fault) = Read fault
+of_apply (apply.Store error) = of_store error
+of_apply fault = Apply fault
+
+abbrev pub of_session : SessionFault → Refusal
+of_session session.NoMemory = NoMemory
+of_session (session.Store error) = of_store error
+of_session (session.Apply fault) = of_apply fault
+of_session fault = Session fault
+
+abbrev pub of_column : OrNoMemory NoColumn → Refusal
+of_column (tool.Fault fault) = UnknownColumn
+of_column tool.NoMemory = NoMemory
 
 abbrev pub of_hex : FromHexError → Refusal
 of_hex hex.OutOfMemory = NoMemory

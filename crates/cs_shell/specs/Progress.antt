@@ -1,5 +1,5 @@
 -- How far a script is run, which the loops that run it keep.
-use Rattle.std.specs.Prelude.{◌≡◌, ◌≢◌, ◌⊎◌, ℕ, ◌≤◌, ◌||◌, true, false, List, [], ◌∷◌, ◌++◌, length}
+use Rattle.std.specs.Prelude.{◌≡◌, ◌≢◌, ◌⊎◌, ℕ, ◌≤◌, ◌||◌, Bool, true, false, List, [], ◌∷◌, ◌++◌, length}
 use Rattle.std.specs.Prelude.{Option, Result}
 use Rattle.std.specs.List.{list_any}
 use Rattle.std.specs.Io.KnownBytes.{Appends, Consumes, IsAtEnd}
@@ -34,12 +34,22 @@ Adds old new byte = new.is_lost ≡ false → (old.is_lost ≡ false) × (new.by
 -- ---- lines
 
 -- nothing is read, and no line was refused
-abbrev pub IsFresh : {M : Type 0} → Script M → Type 0
+abbrev pub IsFresh : Script → Type 0
 IsFresh script = IsAtStart script.line × (script.has_refused ≡ false)
+
+-- a script that is being run, and what answers its lines
+pub record Running (M : Type 0) : Type 0 where
+  pub machine : M
+  pub line : LineReader
+  pub has_refused : Bool
+
+abbrev pub running : {M : Type 0} → M → Script → Running M
+running machine script =
+    record { machine = machine; line = script.line; has_refused = script.has_refused }
 
 -- the line was answered, its answer was written, or some front of it, and the next line begins
 pub record EndsLine {M W X E : Type 0} (contents : W → Option (List ℕ)) (gives : M → List ℕ → Reply → M → Type 0)
-    (old new : Script M) (result : Result X E) (before after : Told W) : Type 0 where
+    (old new : Running M) (result : Result X E) (before after : Told W) : Type 0 where
   pub reply : Reply
   pub given : (line : List ℕ) → Holds old.line line → gives old.machine line reply new.machine
   pub writes : Writes contents result before after (reply_text reply)
@@ -48,7 +58,7 @@ pub record EndsLine {M W X E : Type 0} (contents : W → Option (List ℕ)) (giv
 
 -- of this front of the text each whole line was answered, and the rest is the line that is read
 pub record Progress {M : Type 0} (gives : M → List ℕ → Reply → M → Type 0) (start : M) (front : List ℕ)
-    (before after : Option (List ℕ)) (script : Script M) : Type 0 where
+    (before after : Option (List ℕ)) (script : Running M) : Type 0 where
   pub lines : List (List ℕ)
   pub last : List ℕ
   pub replies : List Reply
@@ -61,7 +71,7 @@ pub record Progress {M : Type 0} (gives : M → List ℕ → Reply → M → Typ
 
 -- whatever was run before, these bytes more are run
 pub record Advances {M W : Type 0} (contents : W → Option (List ℕ)) (gives : M → List ℕ → Reply → M → Type 0)
-    (old new : Script M) (before after : Told W) (bytes : List ℕ) : Type 0 where
+    (old new : Running M) (before after : Told W) (bytes : List ℕ) : Type 0 where
   pub progress : (start : M) (front : List ℕ) (first : Option (List ℕ))
       → Progress gives start front first (known contents before) old
       → Progress gives start (front ++ bytes) first (known contents after) new
@@ -78,14 +88,14 @@ pub record Broken {M : Type 0} (gives : M → List ℕ → Reply → M → Type 
 
 -- whatever was run before, a write failed in these bytes
 pub record Breaks {M W : Type 0} (contents : W → Option (List ℕ)) (gives : M → List ℕ → Reply → M → Type 0)
-    (old new : Script M) (before after : Told W) (bytes : List ℕ) : Type 0 where
+    (old new : Running M) (before after : Told W) (bytes : List ℕ) : Type 0 where
   pub broken : (start : M) (front : List ℕ) (first : Option (List ℕ))
       → Progress gives start front first (known contents before) old
       → Broken gives start (front ++ bytes) first (known contents after) new.machine
 
 -- whatever text was run, its last line is run too
 pub record Finishes {M W : Type 0} (contents : W → Option (List ℕ)) (gives : M → List ℕ → Reply → M → Type 0)
-    (old new : Script M) (before after : Told W) : Type 0 where
+    (old new : Running M) (before after : Told W) : Type 0 where
   pub answered : (start : M) (text : List ℕ) (first : Option (List ℕ))
       → Progress gives start text first (known contents before) old
       → (replies : List Reply) × AnswersAll gives start text replies new.machine
@@ -94,7 +104,7 @@ pub record Finishes {M W : Type 0} (contents : W → Option (List ℕ)) (gives :
 
 -- whatever text was run, its last line is run too, and a write failed
 pub record Unfinished {M W : Type 0} (contents : W → Option (List ℕ)) (gives : M → List ℕ → Reply → M → Type 0)
-    (old new : Script M) (before after : Told W) : Type 0 where
+    (old new : Running M) (before after : Told W) : Type 0 where
   pub answered : (start : M) (text : List ℕ) (first : Option (List ℕ))
       → Progress gives start text first (known contents before) old
       → (replies : List Reply) × AnswersAll gives start text replies new.machine
@@ -104,7 +114,7 @@ pub record Unfinished {M W : Type 0} (contents : W → Option (List ℕ)) (gives
 
 -- so many bytes of the input were read and run
 pub record HasRead {M R W : Type 0} (remaining : R → Option (List ℕ)) (contents : W → Option (List ℕ))
-    (gives : M → List ℕ → Reply → M → Type 0) (old new : Script M) (input_old input_new : Told R)
+    (gives : M → List ℕ → Reply → M → Type 0) (old new : Running M) (input_old input_new : Told R)
     (before after : Told W) (count : ℕ) : Type 0 where
   pub text : List ℕ
   pub consumed : Consumes (known remaining input_old) (known remaining input_new) text
@@ -114,7 +124,7 @@ pub record HasRead {M R W : Type 0} (remaining : R → Option (List ℕ)) (conte
 
 -- the input was read to its end and run
 pub record ReadsText {M R W : Type 0} (remaining : R → Option (List ℕ)) (contents : W → Option (List ℕ))
-    (gives : M → List ℕ → Reply → M → Type 0) (old new : Script M) (input_old input_new : Told R)
+    (gives : M → List ℕ → Reply → M → Type 0) (old new : Running M) (input_old input_new : Told R)
     (before after : Told W) : Type 0 where
   pub count : ℕ
   pub read : HasRead remaining contents gives old new input_old input_new before after count

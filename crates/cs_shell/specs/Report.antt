@@ -1,5 +1,5 @@
 -- The text of what an apply did, which is this project's own.
-use Rattle.std.specs.Prelude.{ℕ, List, ◌++◌, length, codes, decimal, string_bytes}
+use Rattle.std.specs.Prelude.{ℕ, List, ◌++◌, length, map, codes, decimal, string_bytes}
 use Rattle.std.specs.List.{flat_map}
 use Rattle.cs_group.specs.declared.conflict.Kind.{Kind}
 use Rattle.cs_group.specs.declared.conflict.Kind.TheVariants as kind
@@ -27,8 +27,24 @@ met_text met = codes "conflict " ++ decimal (kind_number met.conflict.kind) ++ c
 unfoldable pub count_text : ℕ → List ℕ
 count_text count = codes "applied " ++ decimal count ++ codes "\n"
 
--- a line for each table that was passed over, then one for each conflict, and one with the count of the entries that
--- were carried out
+-- what is told of an apply: the tables that were passed over, the conflicts with what was chosen for them, and how many
+-- entries were carried out
+pub record ReportData : Type 0 where
+  pub skipped : List (List ℕ)
+  pub conflicts : List MetData
+  pub applied : ℕ
+
+-- a line for each table that was passed over, then one for each conflict, and one with the count
+abbrev pub told_text : ReportData → List ℕ
+told_text told = flat_map skip_text told.skipped ++ (flat_map met_text told.conflicts ++ count_text told.applied)
+
+abbrev pub told_of : Report → ReportData
+told_of report = record {
+  skipped = map string_bytes report.skipped.items;
+  conflicts = map met_of report.conflicts.items;
+  applied = length report.written.items;
+}
+
+-- the text of a report
 abbrev pub report_of : Report → List ℕ
-report_of report = flat_map (λ table. skip_text (string_bytes table)) report.skipped.items
-    ++ (flat_map (λ met. met_text (met_of met)) report.conflicts.items ++ count_text (length report.written.items))
+report_of report = told_text (told_of report)

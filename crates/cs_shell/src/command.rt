@@ -3,7 +3,7 @@ ghost use Rattle.std.specs.Prelude.{◌≤◌, length, IfOk};
 
 use crate::refusal::Refusal;
 use crate::report::report_text;
-use cs_apply::{ApplyFault, Choice, apply};
+use cs_apply::{Choice, apply};
 use cs_files::{OutputFault, Told, concat_bytes, dump_text, invert_bytes, sql_text};
 use cs_store::{Store, StoreError};
 use cs_wire::{Changeset, read};
@@ -71,11 +71,11 @@ fn apply_file<W: Write>(
     out: &mut Told<W>,
 ) -> Result<(), Refusal> {
     let file = read_file(rt, file)?;
-    let mut store = Store::open_from(rt, store, false, Unknown).map_err(ApplyFault::from)?;
+    let mut store = Store::open_from(rt, store, false, Unknown)?;
     let applied = apply(rt.alloc(), &mut store, &file, &|_| Choice::Abort);
     let closed = store.into_connection().close();
     report_text(&applied?, out)?;
-    Ok(closed.map_err(StoreError::from).map_err(ApplyFault::from)?)
+    Ok(closed.map_err(StoreError::from)?)
 }
 
 /// Does what a command asks for with a file.

@@ -2,13 +2,14 @@
 ghost use Rattle.cs_files.specs.Calls.{Writes};
 ghost use Rattle.cs_files.specs.Gathering.{Gathers};
 ghost use Rattle.cs_shell.specs.ErrorLines.{refusal_text};
-ghost use Rattle.cs_shell.specs.Replies.{answer_of, line_text, reply_of, reply_text};
+ghost use Rattle.cs_shell.specs.Replies.{answer_of, line_text, reply_of, reply_text, rows_text};
 
 use crate::refusal::{Detail, Refusal};
 use crate::reply::Reply;
+use crate::report::report_text;
 use cs_files::{Gather, OutputFault, Piece, Told, add_pieces, dump_text};
 use cs_lines::kind_name;
-use cs_value::Fault;
+use cs_value::{Fault, Row};
 use std::io::Write;
 
 /// Adds the error line of a refusal.
@@ -69,6 +70,30 @@ fn write_line<W: Write>(out: &mut Told<W>, text: &str) -> Result<(), OutputFault
     gather.flush(out)
 }
 
+/// Adds a line for each row.
+fn add_rows<W: Write>(
+    gather: &mut Gather,
+    out: &mut Told<W>,
+    rows: &[Row],
+) -> Result<(), OutputFault>
+    ensures { Gathers W.contents result gather.old gather.new out.old out.new (rows_text rows.now) }
+{
+    for row in rows {
+        add_pieces(gather, out, &[Piece::Listed(row), Piece::Bytes(b"\n")])?;
+    }
+    Ok(())
+}
+
+/// Writes a line for each row, and fails as `write_refusal` does. No text is gathered but what fits into an
+/// array of fixed length.
+fn write_rows<W: Write>(out: &mut Told<W>, rows: &[Row]) -> Result<(), OutputFault>
+    ensures { Writes W.contents result out.old out.new (rows_text rows.now) }
+{
+    let mut gather = Gather::new();
+    add_rows(&mut gather, out, rows)?;
+    gather.flush(out)
+}
+
 /// Writes what is printed for a reply, and fails as `write_refusal` does.
 #[tactic(auto, unfolding(crate::specs::Replies::reply_text))]
 fn write_reply<W: Write>(out: &mut Told<W>, reply: &Reply) -> Result<(), OutputFault>
@@ -78,6 +103,8 @@ fn write_reply<W: Write>(out: &mut Told<W>, reply: &Reply) -> Result<(), OutputF
         Reply::Silent => Ok(()),
         Reply::Text(text) => write_line(out, text.as_str()),
         Reply::Dump(changeset) => dump_text(changeset, out),
+        Reply::Rows(rows) => write_rows(out, rows),
+        Reply::Report(report) => report_text(report, out),
     }
 }
 

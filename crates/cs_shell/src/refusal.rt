@@ -2,11 +2,15 @@
 ghost use Rattle.std.specs.Prelude.{◌≡◌};
 ghost use Rattle.cs_shell.specs.ErrorLines.{code_of, class_of, name_of, detail_of, detail_in};
 ghost use Rattle.cs_shell.specs.ErrorLines.{of_hex, of_line, of_read, of_files};
+ghost use Rattle.cs_shell.specs.ErrorLines.{of_store, of_apply, of_session, of_column};
 ghost use Rattle.cs_shell.specs.declared.refusal.Refusal.TheVariants as refusal;
 
 use cs_apply::{ApplyFault, Conflict};
 use cs_files::{FileFault, OutputFault, ToolFault};
 use cs_lines::{LineFault, SyntaxFault};
+use cs_session::SessionFault;
+use cs_statements::{ColumnFault, UnknownColumn};
+use cs_store::StoreError;
 use cs_value::{Fault, NoMemory};
 use cs_wire::{ReadError, ReadFault};
 use hex::FromHexError;
@@ -21,16 +25,26 @@ pub(crate) enum Refusal {
     Read(ReadFault),
     /// Two changesets are not joined, or one of two files is no changeset's.
     Files(FileFault),
-    /// A changeset is not applied, or a store is not opened or closed.
+    /// A store refused, for another cause than memory.
+    Store(StoreError),
+    /// A changeset is not applied: a table is wider, or a conflict ends it.
     Apply(ApplyFault),
+    /// A table is not attached.
+    Session(SessionFault),
     /// The line asks for nothing that there is.
     Syntax(SyntaxFault),
     /// A slot was not filled.
     EmptySlot,
     /// The script has more than 16777216 bytes.
     ScriptTooLong,
+    /// No session is open.
+    NoSession,
+    /// A session is open.
+    SessionOpen,
     /// The digits are not hexadecimal, two for each byte.
     BadHex,
+    /// A name is that of no column, or stands twice, or is missing.
+    UnknownColumn,
     /// The line is not UTF-8.
     LineText,
     /// A file is missing or too long, or a read failed.
@@ -61,11 +75,16 @@ impl Fault for Refusal {
             Refusal::NoMemory => NoMemory.code(),
             Refusal::Read(fault) => fault.code(),
             Refusal::Files(fault) => fault.code(),
+            Refusal::Store(error) => error.code(),
             Refusal::Apply(fault) => fault.code(),
+            Refusal::Session(fault) => fault.code(),
             Refusal::Syntax(fault) => fault.code(),
             Refusal::EmptySlot => 62,
             Refusal::ScriptTooLong => 63,
+            Refusal::NoSession => 64,
+            Refusal::SessionOpen => 65,
             Refusal::BadHex => 66,
+            Refusal::UnknownColumn => UnknownColumn.code(),
             Refusal::LineText => 68,
             Refusal::Input => 71,
             Refusal::Output(fault) => fault.code(),
@@ -77,9 +96,13 @@ impl Fault for Refusal {
             Refusal::NoMemory => NoMemory.class(),
             Refusal::Read(fault) => fault.class(),
             Refusal::Files(fault) => fault.class(),
+            Refusal::Store(error) => error.class(),
             Refusal::Apply(fault) => fault.class(),
+            Refusal::Session(fault) => fault.class(),
             Refusal::Syntax(fault) => fault.class(),
             Refusal::EmptySlot | Refusal::ScriptTooLong | Refusal::BadHex | Refusal::LineText => 1,
+            Refusal::NoSession | Refusal::SessionOpen => 1,
+            Refusal::UnknownColumn => UnknownColumn.class(),
             Refusal::Input => 10,
             Refusal::Output(fault) => fault.class(),
         }
@@ -90,11 +113,16 @@ impl Fault for Refusal {
             Refusal::NoMemory => NoMemory.name(),
             Refusal::Read(fault) => fault.name(),
             Refusal::Files(fault) => fault.name(),
+            Refusal::Store(error) => error.name(),
             Refusal::Apply(fault) => fault.name(),
+            Refusal::Session(fault) => fault.name(),
             Refusal::Syntax(fault) => fault.name(),
             Refusal::EmptySlot => "EmptySlot",
             Refusal::ScriptTooLong => "ScriptTooLong",
+            Refusal::NoSession => "NoSession",
+            Refusal::SessionOpen => "SessionOpen",
             Refusal::BadHex => "BadHex",
+            Refusal::UnknownColumn => UnknownColumn.name(),
             Refusal::LineText => "LineText",
             Refusal::Input => "InputFault",
             Refusal::Output(fault) => fault.name(),
@@ -192,11 +220,51 @@ impl From<ToolFault> for Refusal {
     }
 }
 
+impl From<StoreError> for Refusal {
+    ghost from_gives = { λ error r. r ≡ of_store error };
+
+    fn from(error: StoreError) -> Refusal {
+        match error {
+            StoreError::NoMemory => Refusal::NoMemory,
+            error => Refusal::Store(error),
+        }
+    }
+}
+
 impl From<ApplyFault> for Refusal {
-    ghost from_gives = { λ fault r. r ≡ refusal.Apply fault };
+    ghost from_gives = { λ fault r. r ≡ of_apply fault };
 
     fn from(fault: ApplyFault) -> Refusal {
-        Refusal::Apply(fault)
+        match fault {
+            ApplyFault::NoMemory => Refusal::NoMemory,
+            ApplyFault::Read(fault) => Refusal::Read(fault),
+            ApplyFault::Store(error) => Refusal::from(error),
+            fault => Refusal::Apply(fault),
+        }
+    }
+}
+
+impl From<SessionFault> for Refusal {
+    ghost from_gives = { λ fault r. r ≡ of_session fault };
+
+    fn from(fault: SessionFault) -> Refusal {
+        match fault {
+            SessionFault::NoMemory => Refusal::NoMemory,
+            SessionFault::Store(error) => Refusal::from(error),
+            SessionFault::Apply(fault) => Refusal::from(fault),
+            fault => Refusal::Session(fault),
+        }
+    }
+}
+
+impl From<ColumnFault> for Refusal {
+    ghost from_gives = { λ fault r. r ≡ of_column fault };
+
+    fn from(fault: ColumnFault) -> Refusal {
+        match fault {
+            ColumnFault::Fault(_) => Refusal::UnknownColumn,
+            ColumnFault::NoMemory => Refusal::NoMemory,
+        }
     }
 }
 

@@ -1,23 +1,20 @@
 //! Scripts: lines that are read, answered and printed in turn.
 ghost use Rattle.std.specs.Prelude.{◌≡◌, ◌<◌, ◌≤◌, ◌∷◌, [], ℕ, List, if◌then◌else◌, length, IsTrue};
 ghost use Rattle.std.specs.Prelude.{IfOk, IfErr, OnOk, OnErr};
-ghost use Rattle.std.specs.FinMap as map;
 ghost use Rattle.std.specs.Io.KnownBytes.{Consumes, IsAtEnd, Keeps};
 ghost use Rattle.cs_shell.specs.declared.refusal.Refusal.TheVariants as refusal;
 ghost use Rattle.cs_shell.specs.declared.script.Status.TheVariants.{Done as EndsDone, LinesRefused as EndsRefused};
 ghost use Rattle.cs_shell.specs.declared.script.Stop.TheVariants.{Output};
 ghost use Rattle.cs_files.specs.Told.{has_failed, known};
 ghost use Rattle.cs_shell.specs.Replies.{Reply as ReplyData, Refused, answer_of};
-ghost use Rattle.cs_shell.specs.Script.{SlotMap, LineGives};
 ghost use Rattle.cs_shell.specs.Runs.{Runs};
-ghost use Rattle.cs_shell.specs.Progress.{Holds, IsFresh, EndsLine, Advances, Breaks, Finishes, Unfinished};
-ghost use Rattle.cs_shell.specs.Progress.{HasRead, ReadsText, status_of};
+ghost use Rattle.cs_shell.specs.Progress.{Holds, IsFresh, running, EndsLine, Advances, Breaks, Finishes};
+ghost use Rattle.cs_shell.specs.Progress.{Unfinished, HasRead, ReadsText, status_of};
 
 use crate::print::{write_answer, write_refusal};
 use crate::reader::LineReader;
 use crate::refusal::Refusal;
 use crate::reply::Reply;
-use crate::slots::Slots;
 use cs_files::{OutputFault, Told};
 use std::alloc::Global;
 use std::io::{Read, Write};
@@ -97,114 +94,126 @@ fn next_piece<'a, R: Read>(
     }
 }
 
-/// A script that is being run, by what answers its lines, and the line that is read.
+/// A script that is being run: the line that is read, and what is known of those before it.
 #[derive(Drop)]
-struct Script<M: Machine> {
-    machine: M,
+struct Script {
     line: LineReader,
     /// Whether some line was refused.
     has_refused: bool,
 }
 
-impl<M: Machine> Script<M> {
+impl Script {
     /// A script of which nothing is read.
-    fn new(alloc: Global, machine: M) -> Script<M>
-        ensures machine { result.machine ≡ machine }
-        ensures fresh { IsFresh result }
+    fn new(alloc: Global) -> Script
+        ensures { IsFresh result }
     {
         Script {
-            machine,
             line: LineReader::new(alloc),
             has_refused: false,
         }
     }
 
-    /// The answer to the line.
-    fn answer_line(&mut self, alloc: Global) -> Result<Reply, Refusal>
-        ensures given { (line : List ℕ) → Holds self.old.line line →
-            M.gives self.old.machine line (answer_of result) self.new.machine }
-        ensures has_refused { self.new.has_refused ≡ self.old.has_refused }
+    /// The machine's answer to the line.
+    fn answer_line<M: Machine>(&self, alloc: Global, machine: &mut M) -> Result<Reply, Refusal>
+        ensures { (line : List ℕ) → Holds self.now.line line →
+            M.gives machine.old line (answer_of result) machine.new }
     {
         match self.line.bytes() {
-            Some(line) => self.machine.answer(alloc, line),
+            Some(line) => machine.answer(alloc, line),
             None => Err(Refusal::NoMemory),
         }
     }
 
-    /// Answers the line, prints the answer and begins the next line.
-    fn end_line<W: Write>(&mut self, alloc: Global, out: &mut Told<W>) -> Result<(), OutputFault>
-        ensures { EndsLine W.contents M.gives self.old self.new result out.old out.new }
+    /// Has the machine answer the line, prints the answer and begins the next line.
+    fn end_line<M: Machine, W: Write>(
+        &mut self,
+        alloc: Global,
+        machine: &mut M,
+        out: &mut Told<W>,
+    ) -> Result<(), OutputFault>
+        ensures { EndsLine W.contents M.gives (running machine.old self.old) (running machine.new self.new)
+            result out.old out.new }
     {
-        let answer = self.answer_line(alloc);
+        let answer = self.answer_line(alloc, machine);
         self.has_refused |= answer.is_err();
         self.line.restart();
         write_answer(out, &answer)
     }
 
     /// Takes a byte of the script, and runs the line that it ends.
-    fn take<W: Write>(
+    fn take<M: Machine, W: Write>(
         &mut self,
         alloc: Global,
+        machine: &mut M,
         byte: u8,
         out: &mut Told<W>,
     ) -> Result<(), OutputFault>
-        ensures ok { OnOk result
-            (Advances W.contents M.gives self.old self.new out.old out.new (byte ∷ [])) }
-        ensures broken { OnErr result
-            (Breaks W.contents M.gives self.old self.new out.old out.new (byte ∷ [])) }
+        ensures ok { OnOk result (Advances W.contents M.gives (running machine.old self.old)
+            (running machine.new self.new) out.old out.new (byte ∷ [])) }
+        ensures broken { OnErr result (Breaks W.contents M.gives (running machine.old self.old)
+            (running machine.new self.new) out.old out.new (byte ∷ [])) }
         ensures flagged { OnErr result (IsTrue (has_failed out.new)) }
     {
         if byte == b'\n' {
-            return self.end_line(alloc, out);
+            return self.end_line(alloc, machine, out);
         }
         self.line.add(alloc, byte);
         Ok(())
     }
 
     /// Takes bytes of the script, and runs each line that one of them ends.
-    fn take_all<W: Write>(
+    fn take_all<M: Machine, W: Write>(
         &mut self,
         alloc: Global,
+        machine: &mut M,
         bytes: &[u8],
         out: &mut Told<W>,
     ) -> Result<(), OutputFault>
-        ensures ok { OnOk result
-            (Advances W.contents M.gives self.old self.new out.old out.new bytes.now) }
-        ensures broken { OnErr result
-            (Breaks W.contents M.gives self.old self.new out.old out.new bytes.now) }
+        ensures ok { OnOk result (Advances W.contents M.gives (running machine.old self.old)
+            (running machine.new self.new) out.old out.new bytes.now) }
+        ensures broken { OnErr result (Breaks W.contents M.gives (running machine.old self.old)
+            (running machine.new self.new) out.old out.new bytes.now) }
         ensures flagged { OnErr result (IsTrue (has_failed out.new)) }
     {
         for byte in bytes {
-            self.take(alloc, *byte, out)?;
+            self.take(alloc, machine, *byte, out)?;
         }
         Ok(())
     }
 
     /// Runs a last line that no line feed ends, if it has a byte.
-    fn finish<W: Write>(&mut self, alloc: Global, out: &mut Told<W>) -> Result<(), OutputFault>
-        ensures ok { OnOk result (Finishes W.contents M.gives self.old self.new out.old out.new) }
-        ensures broken { OnErr result (Unfinished W.contents M.gives self.old self.new out.old out.new) }
+    fn finish<M: Machine, W: Write>(
+        &mut self,
+        alloc: Global,
+        machine: &mut M,
+        out: &mut Told<W>,
+    ) -> Result<(), OutputFault>
+        ensures ok { OnOk result (Finishes W.contents M.gives (running machine.old self.old)
+            (running machine.new self.new) out.old out.new) }
+        ensures broken { OnErr result (Unfinished W.contents M.gives (running machine.old self.old)
+            (running machine.new self.new) out.old out.new) }
         ensures flagged { OnErr result (IsTrue (has_failed out.new)) }
     {
         if self.line.has_begun() {
-            return self.end_line(alloc, out);
+            return self.end_line(alloc, machine, out);
         }
         Ok(())
     }
 
     /// Takes what the input has, and runs each line that a line feed ends. It stops at a byte too
     /// many, and where a read or a write fails.
-    fn take_input<R: Read, W: Write>(
+    fn take_input<M: Machine, R: Read, W: Write>(
         &mut self,
         alloc: Global,
+        machine: &mut M,
         input: &mut Told<R>,
         out: &mut Told<W>,
     ) -> Result<(), Stop>
         requires { IsFresh self.old }
-        ensures ok { OnOk result (ReadsText R.remaining W.contents M.gives self.old self.new
-            input.old input.new out.old out.new) }
+        ensures ok { OnOk result (ReadsText R.remaining W.contents M.gives (running machine.old self.old)
+            (running machine.new self.new) input.old input.new out.old out.new) }
         ensures stopped { IfErr result (λ stop. Runs R.remaining W.contents M.gives (status_of stop)
-            self.old.machine self.new.machine input.old input.new out.old out.new) }
+            machine.old machine.new input.old input.new out.old out.new) }
     {
         let mut chunk = [0; CHUNK_LEN];
         let mut count = 0;
@@ -216,45 +225,51 @@ impl<M: Machine> Script<M> {
                 return Ok(());
             }
             if piece.len() > left {
-                self.take_all(alloc, &piece[..left], out)?;
+                self.take_all(alloc, machine, &piece[..left], out)?;
                 write_refusal(out, &Refusal::ScriptTooLong)?;
                 return Err(Stop::TooLong);
             }
-            self.take_all(alloc, piece, out)?;
+            self.take_all(alloc, machine, piece, out)?;
             count += piece.len();
         }
     }
 
     /// Runs all of the input.
-    fn run<R: Read, W: Write>(
+    fn run<M: Machine, R: Read, W: Write>(
         &mut self,
         alloc: Global,
+        machine: &mut M,
         input: &mut Told<R>,
         out: &mut Told<W>,
     ) -> Result<(), Stop>
         requires { IsFresh self.old }
         ensures ok { OnOk result (Runs R.remaining W.contents M.gives
             (if self.new.has_refused then EndsRefused else EndsDone)
-            self.old.machine self.new.machine input.old input.new out.old out.new) }
+            machine.old machine.new input.old input.new out.old out.new) }
         ensures stopped { IfErr result (λ stop. Runs R.remaining W.contents M.gives (status_of stop)
-            self.old.machine self.new.machine input.old input.new out.old out.new) }
+            machine.old machine.new input.old input.new out.old out.new) }
     {
-        self.take_input(alloc, input, out)?;
-        self.finish(alloc, out)?;
+        self.take_input(alloc, machine, input, out)?;
+        self.finish(alloc, machine, out)?;
         Ok(())
     }
 }
 
-/// Runs a script: reads its lines, answers those that it has before it reads on, and prints the replies. A
-/// line that memory is refused for is refused. It reads at most 16777217 bytes: at a byte after
-/// 16777216 it stops, once the whole lines of those are run and an error line is printed. It stops, too,
-/// where a read or a write fails; lines that were run stand.
-pub fn run_slots<R: Read, W: Write>(alloc: Global, input: &mut Told<R>, out: &mut Told<W>) -> Status
-    ensures { (final : SlotMap) × Runs R.remaining W.contents LineGives result map.empty final
+/// Runs a script by a machine that answers its lines: reads the lines, has those answered that it has before
+/// it reads on, and prints the replies. A line that memory is refused for is refused. It reads at most
+/// 16777217 bytes: at a byte after 16777216 it stops, once the whole lines of those are run and an error line
+/// is printed. It stops, too, where a read or a write fails; lines that were run stand.
+pub(crate) fn run_machine<M: Machine, R: Read, W: Write>(
+    alloc: Global,
+    machine: &mut M,
+    input: &mut Told<R>,
+    out: &mut Told<W>,
+) -> Status
+    ensures { Runs R.remaining W.contents M.gives result machine.old machine.new
         input.old input.new out.old out.new }
 {
-    let mut script = Script::new(alloc, Slots::new(alloc));
-    match script.run(alloc, input, out) {
+    let mut script = Script::new(alloc);
+    match script.run(alloc, machine, input, out) {
         Ok(()) if script.has_refused => Status::LinesRefused,
         Ok(()) => Status::Done,
         Err(Stop::TooLong) => Status::TooLong,

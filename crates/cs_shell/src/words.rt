@@ -1,17 +1,21 @@
 //! The words of a command line, and what they are answered.
-ghost use Rattle.std.specs.Prelude.{◌≡◌, ◌≤◌, Some, length, false};
+ghost use Rattle.std.specs.Prelude.{◌≡◌, ◌≤◌, ◌⊎◌, Some, length, false};
 ghost use Rattle.std.specs.Io.KnownBytes.{Appends};
 ghost use Rattle.cs_files.specs.Told.{has_failed, known};
 ghost use Rattle.cs_files.specs.Calls.{AppendsFront};
 ghost use Rattle.std.specs.FinMap as map;
 ghost use Rattle.cs_shell.specs.Runs.{exit_of, RunsInput};
 ghost use Rattle.cs_shell.specs.Script.{LineGives};
+ghost use Rattle.cs_shell.specs.Stores.{beginning};
 
 use crate::command::{Command, run_command};
 use crate::print::write_refusal;
 use crate::refusal::Refusal;
-use crate::script::{Status, run_slots};
+use crate::script::Status;
+use crate::shell::run_script;
 use cs_files::{OutputFault, Told, write_whole};
+use cs_store::{Store, memory_law};
+use std::alloc::Global;
 use std::io::{Read, Write};
 use std::rt::HostRuntime;
 
@@ -87,6 +91,28 @@ fn end_script<E: Write>(err: &mut Told<E>, status: Status) -> u8
     1
 }
 
+/// Runs the input as a script on a store in memory, and answers the exit status. Where there is no memory
+/// for the store, nothing is read.
+fn run_input<R: Read, W: Write, E: Write>(
+    alloc: Global,
+    input: &mut Told<R>,
+    out: &mut Told<W>,
+    err: &mut Told<E>,
+) -> u8
+    ensures ran { RunsInput R.remaining W.contents LineGives (beginning map.empty) result
+        input.old input.new out.old out.new ⊎ ((result ≡ 1) × (input.new ≡ input.old) × (out.new ≡ out.old)) }
+    ensures status { result ≤ 1 }
+{
+    memory_law();
+    match Store::new_memory(alloc) {
+        Ok(mut store) => end_script(err, run_script(alloc, &mut store, input, out)),
+        Err(error) => {
+            report(err, &Refusal::from(error));
+            1
+        }
+    }
+}
+
 /// Writes the usage text, and answers the exit status of words that fit no command. It writes some
 /// front of the text where a write fails or takes no byte, and then the flag of the stream is set.
 pub fn print_usage<E: Write>(err: &mut Told<E>) -> u8
@@ -102,7 +128,8 @@ pub fn print_usage<E: Write>(err: &mut Told<E>) -> u8
 /// Does what the words of a command line ask for, the program's name first, and answers the exit
 /// status: 0 where that is done, 1 where it is refused and 2 where the words fit no command.
 ///
-/// With no word behind the name the input is run as a script, as `run_slots` does. `FILE invert OUT`
+/// With no word behind the name the input is run as a script on a store in memory, as [`run_script`] does,
+/// unless there is no memory for the store. `FILE invert OUT`
 /// writes the inverse of FILE into OUT, `FILE concat FILE2 OUT` the join of FILE and FILE2, and
 /// `FILE dump` and `FILE sql` print FILE. A file may have 1073741824 bytes; OUT is replaced, and may
 /// be one of the others. `FILE apply STORE` applies FILE to the store in the file STORE, which is made
@@ -118,14 +145,14 @@ pub fn run_words<R: Read, W: Write, E: Write>(
     err: &mut Told<E>,
 ) -> u8
     ensures status { result ≤ 2 }
-    ensures script { length words.now ≤ 1 →
-        RunsInput R.remaining W.contents LineGives map.empty result input.old input.new out.old out.new }
+    ensures script { length words.now ≤ 1 → RunsInput R.remaining W.contents LineGives (beginning map.empty) result
+        input.old input.new out.old out.new ⊎ ((result ≡ 1) × (input.new ≡ input.old) × (out.new ≡ out.old)) }
     ensures usage { result ≡ 2 → has_failed err.new ≡ false →
         Appends (known E.contents err.old) (known E.contents err.new) USAGE.now }
     ensures unprinted { result ≡ 2 → out.new ≡ out.old }
 {
     match parse_words(words) {
-        Some(Action::Script) => end_script(err, run_slots(rt.alloc(), input, out)),
+        Some(Action::Script) => run_input(rt.alloc(), input, out, err),
         Some(Action::OnFile { file, command }) => match run_command(rt, file, command, out) {
             Ok(()) => 0,
             Err(refusal) => {

@@ -1,10 +1,12 @@
 //! Calls on files, texts, scripts and command lines.
 
+use crate::stores::end;
 use crate::{DELETE, INSERT, UPDATE};
 use cs_shell::{
     FileFault, Status, Told, ToolFault, concat_bytes, dump_text, invert_bytes, print_usage,
-    run_slots, run_words, sql_text,
+    run_script, run_words, sql_text,
 };
+use cs_store::Store;
 use cs_wire::read;
 use std::io::{ErrorKind, Read, Write};
 use std::process::Abort;
@@ -35,45 +37,56 @@ fn prints_readable_text_and_sql(rt: HostRuntime) {
     assert!(rt; out.into_inner().as_slice() == printed.as_slice());
 }
 
-/// A reader of some bytes, a few at once, that ends or fails behind them.
+/// A reader of some bytes, a few at once, that fails behind so many reads.
 #[derive(Drop)]
 struct Script<'a> {
     bytes: &'a [u8],
     step: usize,
-    breaks: bool,
+    reads: usize,
 }
 
 impl Read for Script<'_> {
     fn read(&mut self, buf: &mut [u8]) -> io::Result<usize> {
-        if self.bytes.is_empty() && self.breaks {
-            return Err(io::Error::from(ErrorKind::Other));
+        if self.reads > 0 {
+            self.reads -= 1;
+            let count = buf.len().min(self.step);
+            return self.bytes.read(&mut buf[..count]);
         }
-        let count = buf.len().min(self.step);
-        self.bytes.read(&mut buf[..count])
+        Err(io::Error::from(ErrorKind::Other))
     }
 }
 
-/// A writer that fails, or takes nothing, and knows whether it was flushed.
+/// A writer that takes the bytes that it waits for, one a write, and fails, or takes nothing, at any other and
+/// behind the last. It knows whether it was flushed.
 #[derive(Drop)]
-struct Closed {
+struct Narrow<'a> {
+    wanted: &'a [u8],
     fails: bool,
     flushed: bool,
 }
 
 /// Such a writer, not flushed yet.
-fn closed_writer(fails: bool) -> Closed {
-    Closed {
+fn narrow(wanted: &[u8], fails: bool) -> Narrow<'_> {
+    Narrow {
+        wanted,
         fails,
         flushed: false,
     }
 }
 
-impl Write for Closed {
-    fn write(&mut self, _buf: &[u8]) -> io::Result<usize> {
-        if self.fails {
-            return Err(io::Error::from(ErrorKind::Other));
+impl Write for Narrow<'_> {
+    fn write(&mut self, buf: &[u8]) -> io::Result<usize> {
+        let [byte, ..] = buf else {
+            return Ok(0);
+        };
+        match self.wanted {
+            [next, after @ ..] if next == byte => {
+                self.wanted = after;
+                Ok(1)
+            }
+            _ if self.fails => Err(io::Error::from(ErrorKind::Other)),
+            _ => Ok(0),
         }
-        Ok(0)
     }
 
     fn flush(&mut self) -> io::Result<()> {
@@ -82,45 +95,103 @@ impl Write for Closed {
     }
 }
 
-/// Runs a script, and asserts how that ends and what it prints.
-fn expect_run(rt: &(impl Abort + AllocGlobal), script: Script, status: Status, printed: &[u8]) {
-    let mut written = Vec::new(rt.alloc());
+/// Runs a script on a store without tables, and asserts how that ends, and that all is printed that the output
+/// waits for.
+fn expect_run(rt: &(impl Abort + AllocGlobal), script: Script, printed: Narrow, status: Status) {
+    let mut store = Store::new_memory(rt.alloc()).expect(rt, "a store");
     let mut input = Told::new(script);
-    let mut out = Told::new(&mut written);
-    assert!(rt; run_slots(rt.alloc(), &mut input, &mut out) == status);
-    assert!(rt; input.failed() == (status == Status::InputFault) && !out.failed());
-    assert!(rt; written.as_slice() == printed);
+    let mut out = Told::new(printed);
+    assert!(rt; run_script(rt.alloc(), &mut store, &mut input, &mut out) == status);
+    end(store);
+    assert!(rt; input.failed() == (status == Status::InputFault));
+    assert!(rt; out.failed() == (status == Status::OutputFault));
+    assert!(rt; out.into_inner().wanted.is_empty());
 }
 
 #[test]
 fn joins_pieces_of_a_line(rt: HostRuntime) {
-    for (step, breaks, status) in [
-        (4096, false, Status::LinesRefused),
-        (1, false, Status::LinesRefused),
-        (1, true, Status::InputFault),
+    for (step, reads, status) in [
+        (4096, 2, Status::LinesRefused),
+        (1, 15, Status::LinesRefused),
+        (1, 14, Status::InputFault),
     ] {
         let script = Script {
             bytes: b".hex q\n-- .hex",
             step,
-            breaks,
+            reads,
         };
-        expect_run(&rt, script, status, b"error 62 EmptySlot\n");
+        expect_run(&rt, script, narrow(b"error 62 EmptySlot\n", false), status);
+    }
+}
+
+/// A script of tables, a changeset and a session.
+const LINES: &[u8] = b"CREATE TABLE t(a, b, PRIMARY KEY(a));
+INSERT INTO t VALUES(1,'z');
+.session open
+.session attach t
+INSERT INTO t VALUES(2,'w');
+.load a 5402010074001200010000000000000001030178
+.apply a conflict=replace
+.apply a
+INSERT INTO t VALUES(2,'v');
+SELECT * FROM t;
+.session undo
+SELECT * FROM t;
+.session changeset c
+.hex c
+";
+
+/// What its first eight lines print.
+const FIRST_ANSWERS: &[u8] = b"conflict 3 conflict replace 't'
+applied 1
+error 41 Abort conflict 't'
+";
+
+/// What it prints.
+const ANSWERS: &[u8] = b"conflict 3 conflict replace 't'
+applied 1
+error 41 Abort conflict 't'
+error 33 KeyTaken
+1|'x'
+2|'w'
+applied 2
+1|'z'
+
+";
+
+#[test]
+fn answers_lines_until_a_stream_fails(rt: HostRuntime) {
+    for (reads, printed, fails, status) in [
+        (5, ANSWERS, false, Status::LinesRefused),
+        // The fourth read, behind 240 bytes, would have the line feed of the ninth line.
+        (3, FIRST_ANSWERS, false, Status::InputFault),
+        (5, FIRST_ANSWERS, false, Status::OutputFault),
+        (5, FIRST_ANSWERS, true, Status::OutputFault),
+    ] {
+        let script = Script {
+            bytes: LINES,
+            step: 80,
+            reads,
+        };
+        expect_run(&rt, script, narrow(printed, fails), status);
     }
 }
 
 #[test]
 fn reports_a_broken_or_full_output(rt: HostRuntime) {
     for fails in [true, false] {
-        let mut input = Told::new(b".hex q\n".as_slice());
-        let mut out = Told::new(closed_writer(fails));
-        assert!(rt; run_slots(rt.alloc(), &mut input, &mut out) == Status::OutputFault);
-        assert!(rt; out.failed() && !input.failed());
+        let script = Script {
+            bytes: b".hex q\n",
+            step: 4096,
+            reads: 1,
+        };
+        expect_run(&rt, script, narrow(b"", fails), Status::OutputFault);
     }
 }
 
 #[test]
 fn hands_a_flush_on(rt: HostRuntime) {
-    let mut out = Told::new(closed_writer(true));
+    let mut out = Told::new(narrow(b"", true));
     out.flush().expect(&rt, "a flush");
     assert!(rt; !out.failed());
     assert!(rt; out.into_inner().flushed);
@@ -143,7 +214,7 @@ fn end_of(rt: &HostRuntime, words: &[String]) -> (u8, usize) {
         rt,
         words,
         &mut Told::new(b"".as_slice()),
-        &mut Told::new(closed_writer(true)),
+        &mut Told::new(narrow(b"", true)),
         &mut Told::new(&mut err),
     );
     (status, err.len())

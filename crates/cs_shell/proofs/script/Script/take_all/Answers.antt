@@ -1,8 +1,9 @@
 -- `script::Script::take_all`: the clause `broken`.
 use Rattle.std.proofs.Common.{arith}
+use Rattle.cs_shell.specs.Progress.{running}
 use Rattle.cs_shell.proofs.ProgressLemmas.{Breaks-more, on_err}
 use Rattle.cs_shell.proofs.script.Script.take_all.Goals as goal
 
 pub returns-in_err-take-clause-broken : goal.returns-in_err-take-clause-broken
 returns-in_err-take-clause-broken g c =
-    on_err _ (Breaks-more _ _ _ _ _ _ _ _ c.args.bytes.now c.loop-byte.byte-index (omega arith) c.loop-byte.invariant c.in_err-take.ensures.broken)
+    on_err _ (Breaks-more _ _ _ _ (running c.take.new.machine c.take.new.self) _ _ _ c.args.bytes.now c.loop-byte.byte-index (omega arith) c.loop-byte.invariant c.in_err-take.ensures.broken)

@@ -1,0 +1,126 @@
+#!/usr/bin/env python3
+"""Times scripts on a store in memory, of 1000, 10000 and 100000 lines.
+
+INSERT lines alone; lines in a session, of which a half inserts a row each, a quarter updates one and a quarter deletes
+one; `.load` and `.hex` in turn, of files of 24 bytes; and one `.apply`, of as many INSERT entries, in a session: alone,
+with `.session changeset` behind it, and with `.session undo` behind that. Each script has to print what it is known to,
+with no line refused.
+A time is that of the whole process, the shortest of three runs, or that of one that takes more than five seconds. A run
+that takes more than a minute is ended, and `-` is printed for it. Microseconds are those of a line, or of an entry that
+is applied.
+The program has to be built first: `cd crates/changeset && rt run`.
+
+usage: bench/scripts.py [PROGRAM]
+"""
+import os
+import subprocess
+import sys
+import time
+
+from read_write import RUNS
+
+TOP = os.path.dirname(os.path.dirname(os.path.abspath(__file__)))
+sys.path.insert(0, os.path.join(TOP, "tests"))
+
+import stores  # noqa: E402
+
+COUNTS = (1_000, 10_000, 100_000)
+
+# How many seconds a run may take, and those of a run that is not done again.
+LONGEST, LONG = 60, 5
+
+CREATE = "CREATE TABLE t(a, b, PRIMARY KEY(a));"
+SESSION = [".session open", ".session attach t"]
+
+
+def inserts(count):
+    """INSERT lines alone."""
+    return [CREATE] + [f"INSERT INTO t VALUES({key}, 'hello');" for key in range(count)], ""
+
+
+def edits(count):
+    """Lines in a session: of each four, two insert a row, one updates the first and one deletes the second."""
+    lines = [CREATE] + SESSION
+    for key in range(0, count // 2, 2):
+        lines += [
+            f"INSERT INTO t VALUES({key}, 'hello');",
+            f"INSERT INTO t VALUES({key + 1}, 'hello');",
+            f"UPDATE t SET b='world' WHERE a={key};",
+            f"DELETE FROM t WHERE a={key + 1};",
+        ]
+    return lines, ""
+
+
+def slots(count):
+    """A file is loaded into one of ten slots, and printed, in turn."""
+    files = [(stores.header("t", 1, 0) + stores.insert(key, "hello")).hex() for key in range(count // 2)]
+    lines = [line for key, file in enumerate(files) for line in (f".load s{key % 10} {file}", f".hex s{key % 10}")]
+    return lines, "".join(file + "\n" for file in files)
+
+
+def applied(count):
+    """A file of so many entries is applied in a session."""
+    file = stores.header("t", 1, 0) + b"".join(stores.insert(key, "hello") for key in range(count))
+    return [CREATE] + SESSION + [f".load a {file.hex()}", ".apply a"], f"applied {count}\n"
+
+
+def told(count):
+    """The same, and the session tells its changeset."""
+    lines, printed = applied(count)
+    return lines + [".session changeset c"], printed
+
+
+def undone(count):
+    """The same, and the session undoes it."""
+    lines, printed = told(count)
+    return lines + [".session undo"], printed * 2
+
+
+SHAPES = (
+    ("INSERT", inserts),
+    ("INSERT, UPDATE, DELETE in a session", edits),
+    (".load, .hex", slots),
+    (".apply in a session", applied),
+    (".apply, .session changeset", told),
+    (".apply, .session changeset, .session undo", undone),
+)
+
+
+def run(program, script, printed):
+    """How many seconds a script takes, or None where that is too many. It has to print this."""
+    start = time.perf_counter()
+    try:
+        done = subprocess.run([program], input=script, stdout=subprocess.PIPE, timeout=LONGEST)
+    except subprocess.TimeoutExpired:
+        return None
+    taken = time.perf_counter() - start
+    if done.returncode != 0 or done.stdout != printed:
+        sys.exit(f"{program}: exit status {done.returncode}, with other lines printed than have to be")
+    return taken
+
+
+def measure(program, script, printed):
+    """The shortest of some runs, in seconds, or None where one takes too many."""
+    best = run(program, script, printed)
+    for _ in range(RUNS - 1):
+        if best is None or best > LONG:
+            break
+        best = min(best, run(program, script, printed) or best)
+    return best
+
+
+def main():
+    program = sys.argv[1] if len(sys.argv) > 1 else os.path.join(TOP, "crates/changeset/out/changeset")
+    print("    lines    seconds    us/line  what")
+    for what, shape in SHAPES:
+        for count in COUNTS:
+            lines, printed = shape(count)
+            taken = measure(program, "".join(line + "\n" for line in lines).encode(), printed.encode())
+            if taken is None:
+                print(f"{count:>9} {'-':>10} {'-':>10}  {what}", flush=True)
+                break
+            print(f"{count:>9} {taken:>10.3f} {taken / count * 1e6:>10.2f}  {what}", flush=True)
+
+
+if __name__ == "__main__":
+    main()

@@ -1,0 +1,26 @@
+-- `script::Script::end_line`: what it ensures.
+use Rattle.std.proofs.Common.{◌≡◌, ◌||◌, Bool, Result, Ok, Err, refl, sym, ap, ◌∙◌}
+use Rattle.std.specs.Prelude.{is_err}
+use Rattle.cs_shell.specs.declared.refusal.Refusal.{Refusal}
+use Rattle.cs_shell.specs.declared.reply.Reply.{Reply}
+use Rattle.cs_shell.specs.declared.reply.Reply.TheVariants.{Silent, Text, Dump, Rows, Report}
+use Rattle.cs_shell.specs.Replies.{answer_of, is_refused}
+use Rattle.cs_shell.proofs.script.Script.end_line.Goals as goal
+
+-- what is refused is an error of the code
+refused : (answer : Result Reply Refusal) → is_err answer ≡ is_refused (answer_of answer)
+refused (Ok Silent) = refl
+refused (Ok (Text text)) = refl
+refused (Ok (Dump changeset)) = refl
+refused (Ok (Rows rows)) = refl
+refused (Ok (Report report)) = refl
+refused (Err refusal) = refl
+
+pub returns : goal.returns
+returns g c = record {
+  reply = answer_of c.answer_line-answer.result;
+  given = c.answer_line-answer.ensures;
+  writes = c.write_answer.ensures;
+  has_refused = ap (λ (b : Bool). c.args.self.now.has_refused || b) (c.is_err.ensures.value ∙ refused c.answer_line-answer.result);
+  at_start = c.restart.ensures;
+}

@@ -1,0 +1,12 @@
+-- `shell::run_script`: the clause `ran`.
+use Rattle.std.proofs.Common.{◌≡◌, rules}
+use Rattle.sqlite.specs.Held.{state}
+use Rattle.cs_shell.proofs.LineLemmas.{begins}
+use Rattle.cs_shell.proofs.shell.run_script.Goals as goal
+
+pub returns-clause-ran : goal.returns-clause-ran
+returns-clause-ran g c =
+    let same : c.run_shell.new.shell.store.now ≡ c.store-1.given.0 = search rules in
+    rw (← same)
+    (begins g.R.Read.remaining g.W.Write.contents _ (state g.S.Store c.args.store.now) (state g.S.Store c.run_shell.new.shell.store.now) c.new-work.result c.run_shell.new.shell.work.now _ _ _ _ c.new-work.ensures.slots c.new-work.ensures.session
+    c.run_shell.ensures.ran)

@@ -1,0 +1,21 @@
+-- `words::run_input`: the clause `ran`.
+use Rattle.std.proofs.Common.{inl, subst, arith}
+use Rattle.sqlite.specs.Held.{state}
+use Rattle.sqlite.specs.Steps.{over_memory}
+use Rattle.cs_value.specs.State.{State}
+use Rattle.cs_shell.specs.Runs.{Runs}
+use Rattle.cs_shell.specs.Script.{LineGives}
+use Rattle.cs_shell.specs.Stores.{RunsScript, beginning}
+use Rattle.cs_shell.proofs.words.run_input.Goals as goal
+
+pub returns-in-Ok-clause-ran : goal.returns-in-Ok-clause-ran
+returns-in-Ok-clause-ran g c =
+    let ran : RunsScript g.R.Read.remaining g.W.Write.contents c.run_script.result (state over_memory c.in-Ok.store) (state over_memory c.run_script.new.store) c.args.input.now c.run_script.new.input c.args.out.now c.run_script.new.out =
+    c.run_script.ensures.ran c.in-Ok.ensures.at_rest (c.memory_law.ensures c.run_script.new.store) (λ more. omega arith) in
+    inl (record {
+      status = c.run_script.result;
+      final = ran.last;
+      exit_is = c.end_script.ensures;
+      runs = subst (λ (t : State). Runs g.R.Read.remaining g.W.Write.contents LineGives c.run_script.result (beginning t) ran.last c.args.input.now c.run_script.new.input c.args.out.now c.run_script.new.out)
+          c.in-Ok.ensures.empty ran.runs;
+    })

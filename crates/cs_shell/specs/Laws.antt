@@ -1,0 +1,16 @@
+-- What holds of any machine that answers lines over a store.
+use Rattle.std.proofs.Common.{ℕ, List, inl, refl, arith}
+use Rattle.sqlite.specs.State.{State}
+use Rattle.cs_shell.specs.declared.workspace.Workspace.{Workspace}
+use Rattle.cs_shell.specs.declared.refusal.Refusal.TheVariants.{NoMemory}
+use Rattle.cs_shell.specs.Replies.{Refused}
+use Rattle.cs_shell.specs.Script.{unanswered}
+use Rattle.cs_shell.specs.Turns.{Answers}
+
+-- memory may be refused for any line, and then nothing changes
+pub loses_line : (store : State) (work : Workspace) (line : List ℕ) → Answers store store work work line (Refused NoMemory)
+loses_line store work line = record {
+  clean = omega arith;
+  counts = omega arith;
+  done = λ rest clean none. (rest, λ here. (here, inl (unanswered _ line NoMemory (inl refl))));
+}

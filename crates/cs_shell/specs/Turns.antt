@@ -1,0 +1,100 @@
+-- What a command does with a store and a session: the vocabulary of private contracts.
+use Rattle.std.specs.Prelude.{◌≡◌, ◌⊎◌, ℕ, ◌≤◌, List, map, Option, None, Some, option_map, Result, Ok, Err, MatchResult}
+use Rattle.sqlite_disk.specs.Disk.{MoreFaults}
+use Rattle.sqlite_trees.specs.View.{doubt}
+use Rattle.sqlite.specs.State as sqlite
+use Rattle.sqlite.specs.State.{HasCleanDisk}
+use Rattle.cs_value.specs.State.{State}
+use Rattle.cs_store.specs.Store.{IsAtRest, tables_in}
+use Rattle.cs_session.specs.FirstImages.{AttachedTable, Notes, rewound_rows}
+use Rattle.cs_session.specs.Runs.{IsMoment}
+use Rattle.cs_lines.specs.Commands.{AssignmentData}
+use Rattle.cs_shell.specs.declared.refusal.Refusal.{Refusal}
+use Rattle.cs_shell.specs.declared.statements.Place.{Place}
+use Rattle.cs_shell.specs.Replies.{Reply, Refused}
+use Rattle.cs_shell.specs.declared.workspace.Workspace.{Workspace}
+use Rattle.cs_shell.specs.Script.{RowPlace, FindsRow, IsResource, LineGives}
+use Rattle.cs_shell.specs.ShellState.{SlotMap, SessionTable, SessionTables, ShellState}
+use Rattle.cs_shell.specs.Runs.{Runs}
+use Rattle.cs_shell.specs.declared.script.Status.{Status}
+use Rattle.cs_files.specs.declared.told.Told.{Told}
+
+-- ---- what a script sees
+
+-- a table that is attached, with the rows from before and the keys that were noted
+abbrev pub seen_table : State → AttachedTable → SessionTable
+seen_table tables table = record {
+  name = table.name;
+  schema = table.schema;
+  saved = rewound_rows tables table;
+  touched = map (λ f. f.key) table.firsts;
+}
+
+abbrev pub seen_session : State → Option Notes → Option SessionTables
+seen_session tables session = option_map (map (seen_table tables)) session
+
+abbrev pub seen : State → SlotMap → Option Notes → ShellState
+seen tables slots session = record { tables = tables; slots = slots; session = seen_session tables session }
+
+-- each table of the session is there as it was attached
+abbrev pub IsHere : State → Option Notes → Type 0
+IsHere tables None = Unit {0}
+IsHere tables (Some notes) = IsMoment (record { state = tables; notes = notes })
+
+-- ---- what was done
+
+-- a store that was at rest is at rest again, and this holds, if the disk did not fail and has returned what was written
+pub record Turns (old new : sqlite.State) (Holds : Type 0) : Type 0 where
+  pub clean : doubt old.is_clean ≤ doubt new.is_clean
+  pub counts : old.faults ≤ new.faults
+  pub done : IsAtRest old → HasCleanDisk new → (MoreFaults old.faults new.faults → ⊥) → IsAtRest new × Holds
+
+-- the tables were read, and this holds of them
+abbrev pub Reads : sqlite.State → sqlite.State → (State → Type 0) → Type 0
+Reads old new Holds = Turns old new ((new.now ≡ old.now) × Holds (tables_in old.now))
+
+-- memory was refused, or the database refused, and nothing changed
+pub record IsUnable (old : ShellState) (reply : Reply) (new : ShellState) : Type 0 where
+  pub why : Refusal
+  pub resource : IsResource why
+  pub refused : reply ≡ Refused why
+  pub same : new ≡ old
+
+abbrev pub OrUnable : (ShellState → Reply → ShellState → Type 0) → ShellState → Reply → ShellState → Type 0
+OrUnable Gives old reply new = Gives old reply new ⊎ IsUnable old reply new
+
+-- a command gave this reply: of what a script saw before and sees now, whatever is in the slots
+abbrev pub Works : sqlite.State → sqlite.State → Option Notes → Option Notes → (ShellState → Reply → ShellState → Type 0)
+    → Reply → Type 0
+Works old new before after Gives reply = Turns old new (IsHere (tables_in old.now) before
+    → IsHere (tables_in new.now) after
+    × ((slots : SlotMap) → OrUnable Gives (seen (tables_in old.now) slots before) reply (seen (tables_in new.now) slots after)))
+
+-- the same of one that may change slots
+abbrev pub WorksOn : sqlite.State → sqlite.State → SlotMap → SlotMap → Option Notes → Option Notes
+    → (ShellState → Reply → ShellState → Type 0) → Reply → Type 0
+WorksOn old new slots filled before after Gives reply = Turns old new (IsHere (tables_in old.now) before
+    → IsHere (tables_in new.now) after
+    × OrUnable Gives (seen (tables_in old.now) slots before) reply (seen (tables_in new.now) filled after))
+
+-- a line gave this reply
+abbrev pub Answers : sqlite.State → sqlite.State → Workspace → Workspace → List ℕ → Reply → Type 0
+Answers old new before after line reply = WorksOn old new before.slots after.slots before.session after.session
+    (λ state. LineGives state line) reply
+
+-- a script was run whose session, if one was open, has its tables there
+abbrev pub RunsShell : {R W : Type 0} → (R → Option (List ℕ)) → (W → Option (List ℕ)) → Status → sqlite.State → sqlite.State
+    → Workspace → Workspace → Told R → Told R → Told W → Told W → Type 0
+RunsShell remaining contents status old new before after input_before input_after out_before out_after =
+    IsHere (tables_in old.now) before.session → IsAtRest new × Runs remaining contents LineGives status
+    (seen (tables_in old.now) before.slots before.session) (seen (tables_in new.now) after.slots after.session)
+    input_before input_after out_before out_after
+
+-- ---- rows that are found
+
+abbrev pub place_of : Place → RowPlace
+place_of place = record { schema = place.schema; key = place.key }
+
+abbrev pub Finds : List ℕ → List AssignmentData → List AssignmentData → Result Place Refusal → State → Type 0
+Finds name sets conditions (Ok place) tables = FindsRow tables name sets conditions (Ok (place_of place))
+Finds name sets conditions (Err why) tables = FindsRow tables name sets conditions (Err why) ⊎ IsResource why
