@@ -66,7 +66,7 @@ struct Narrow<'a> {
 }
 
 /// Such a writer, not flushed yet.
-fn narrow(wanted: &[u8], fails: bool) -> Narrow<'_> {
+fn narrow_writer(wanted: &[u8], fails: bool) -> Narrow<'_> {
     Narrow {
         wanted,
         fails,
@@ -120,7 +120,12 @@ fn joins_pieces_of_a_line(rt: HostRuntime) {
             step,
             reads,
         };
-        expect_run(&rt, script, narrow(b"error 62 EmptySlot\n", false), status);
+        expect_run(
+            &rt,
+            script,
+            narrow_writer(b"error 62 EmptySlot\n", false),
+            status,
+        );
     }
 }
 
@@ -173,7 +178,7 @@ fn answers_lines_until_a_stream_fails(rt: HostRuntime) {
             step: 80,
             reads,
         };
-        expect_run(&rt, script, narrow(printed, fails), status);
+        expect_run(&rt, script, narrow_writer(printed, fails), status);
     }
 }
 
@@ -185,13 +190,13 @@ fn reports_a_broken_or_full_output(rt: HostRuntime) {
             step: 4096,
             reads: 1,
         };
-        expect_run(&rt, script, narrow(b"", fails), Status::OutputFault);
+        expect_run(&rt, script, narrow_writer(b"", fails), Status::OutputFault);
     }
 }
 
 #[test]
 fn hands_a_flush_on(rt: HostRuntime) {
-    let mut out = Told::new(narrow(b"", true));
+    let mut out = Told::new(narrow_writer(b"", true));
     out.flush().expect(&rt, "a flush");
     assert!(rt; !out.failed());
     assert!(rt; out.into_inner().flushed);
@@ -214,7 +219,7 @@ fn end_of(rt: &HostRuntime, words: &[String]) -> (u8, usize) {
         rt,
         words,
         &mut Told::new(b"".as_slice()),
-        &mut Told::new(narrow(b"", true)),
+        &mut Told::new(narrow_writer(b"", true)),
         &mut Told::new(&mut err),
     );
     (status, err.len())
