@@ -105,7 +105,10 @@ enum vollikash_code {
     VOLLIKASH_SYNTAX = 61,          /* the line fits no command */
     VOLLIKASH_EMPTY_SLOT = 62,      /* nothing was put into the slot */
     VOLLIKASH_SCRIPT_TOO_LONG = 63, /* the script has more than 16777216 bytes */
+    VOLLIKASH_NO_SESSION = 64,      /* no session is open */
+    VOLLIKASH_SESSION_OPEN = 65,    /* a session is open */
     VOLLIKASH_BAD_HEX = 66,         /* the digits are not hexadecimal, two for each byte */
+    VOLLIKASH_UNKNOWN_COLUMN = 67,  /* a column is none of the table's, stands twice or has to be named */
     VOLLIKASH_LINE_TEXT = 68,       /* the line is not UTF-8 */
     VOLLIKASH_INPUT_FAULT = 71,     /* a read failed */
     VOLLIKASH_OUTPUT_FAULT = 72     /* a write failed */

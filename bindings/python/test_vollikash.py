@@ -258,8 +258,8 @@ class Numbers(unittest.TestCase):
 
     # SQLite's result codes, of those that no document has a class for; 11 is that of every read fault.
     CLASSES = {"Ok": 0, "Abort": 4, "Misuse": 21, "Wider": 17, "Schema": 17, "AlreadyAttached": 1, "WrongStore": 1,
-               "Syntax": 1, "EmptySlot": 1, "ScriptTooLong": 1, "BadHex": 1, "LineText": 1, "InputFault": 10,
-               "OutputFault": 10, "NoRoom": 18}
+               "Syntax": 1, "EmptySlot": 1, "ScriptTooLong": 1, "NoSession": 1, "SessionOpen": 1, "BadHex": 1,
+               "UnknownColumn": 1, "LineText": 1, "InputFault": 10, "OutputFault": 10, "NoRoom": 18}
 
     def numbers(self, text):
         """The numbers that this text of the header defines, by the names of the documents."""
