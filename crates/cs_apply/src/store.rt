@@ -5,7 +5,7 @@ ghost use Rattle.sqlite.specs.State.{HasCleanDisk, Survives};
 ghost use Rattle.sqlite.specs.Held.{state};
 ghost use Rattle.cs_value.specs.State.{State};
 ghost use Rattle.cs_store.specs.Records.{KeepsContent};
-ghost use Rattle.cs_store.specs.Store.{IsAtRest, tables_in};
+ghost use Rattle.cs_store.specs.Store.{IsAtRest, RefusesShut, tables_in};
 ghost use Rattle.cs_group.specs.declared.conflict.Choice.TheVariants.{Abort as AbortChoice};
 ghost use Rattle.cs_apply.specs.declared.running.Direction.TheVariants.{Forward as ForwardRun, Inverse as InverseRun};
 ghost use Rattle.cs_apply.specs.Crash.{MayCommit};
@@ -35,6 +35,7 @@ pub fn apply<S: Alter, H: Fn(&Conflict) -> Choice>(
         (tables_in (state S.Store store.new).now)) }
     ensures refused { HasCleanDisk (state S.Store store.new) → IfErr result
         (Refuses (FnReturnsAt H.Fn handler.now) file.now ForwardRun (tables_in (state S.Store store.old).now)) }
+    ensures shut { HasCleanDisk (state S.Store store.new) → RefusesShut (state S.Store store.old) IsResource result }
     ensures named { IfErr result IsNamed }
     ensures at_rest { HasCleanDisk (state S.Store store.new) → OnOk result (IsAtRest (state S.Store store.new)) }
     ensures kept { HasCleanDisk (state S.Store store.new)
@@ -64,6 +65,7 @@ pub fn revert<S: Alter>(
         → Leads file.now before (tables_in (state S.Store store.old).now)
         → MatchResult result (λ report. (report.conflicts.items ≡ [])
         × (tables_in (state S.Store store.new).now ≡ before)) IsResource }
+    ensures shut { HasCleanDisk (state S.Store store.new) → RefusesShut (state S.Store store.old) IsResource result }
     ensures named { IfErr result IsNamed }
     ensures at_rest { HasCleanDisk (state S.Store store.new) → OnOk result (IsAtRest (state S.Store store.new)) }
     ensures kept { HasCleanDisk (state S.Store store.new)
@@ -96,6 +98,7 @@ fn run<S: Alter, H: Fn(&Conflict) -> Choice>(
         (tables_in (state S.Store store.new).now)) }
     ensures refused { HasCleanDisk (state S.Store store.new) → IfErr result
         (Refuses (FnReturnsAt H.Fn handler.now) file.now direction (tables_in (state S.Store store.old).now)) }
+    ensures shut { HasCleanDisk (state S.Store store.new) → RefusesShut (state S.Store store.old) IsResource result }
     ensures named { IfErr result IsNamed }
     ensures at_rest { HasCleanDisk (state S.Store store.new) → OnOk result (IsAtRest (state S.Store store.new)) }
     ensures kept { HasCleanDisk (state S.Store store.new)

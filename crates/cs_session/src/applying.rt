@@ -6,9 +6,10 @@ ghost use Rattle.sqlite.specs.State.{HasCleanDisk, Survives};
 ghost use Rattle.sqlite.specs.Held.{state};
 ghost use Rattle.cs_value.specs.State.{IsState};
 ghost use Rattle.cs_store.specs.Records.{KeepsContent};
-ghost use Rattle.cs_store.specs.Store.{IsAtRest, tables_in};
+ghost use Rattle.cs_store.specs.Store.{IsAtRest, RefusesShut, tables_in};
 ghost use Rattle.cs_apply.specs.declared.running.Direction.TheVariants.{Forward as ForwardRun};
 ghost use Rattle.cs_apply.specs.Crash.{MayCommit};
+ghost use Rattle.cs_session.specs.Changes.{IsResource};
 ghost use Rattle.cs_session.specs.FirstImages.{IsNotes};
 ghost use Rattle.cs_session.specs.Recording.{RecordsApply, RefusesApply};
 ghost use Rattle.cs_session.specs.Views.{attached_of, kept_of, IsSettled};
@@ -40,6 +41,7 @@ pub(crate) fn apply_noted<S: Alter, H: Fn(&Conflict) -> Choice>(
     ensures settled { AllByRecursion IsSettled tables.new }
     ensures refused { HasCleanDisk (state S.Store store.new) → IfErr result (RefusesApply (FnReturnsAt H.Fn handler.now)
         file.now (tables_in (state S.Store store.old).now) (map attached_of tables.old)) }
+    ensures shut { HasCleanDisk (state S.Store store.new) → RefusesShut (state S.Store store.old) IsResource result }
     ensures at_rest { HasCleanDisk (state S.Store store.new) → OnOk result (IsAtRest (state S.Store store.new)) }
     ensures kept { HasCleanDisk (state S.Store store.new)
         → OnErr result (KeepsContent (state S.Store store.old) (state S.Store store.new)) }
@@ -76,6 +78,7 @@ fn apply_batch<S: Alter, H: Fn(&Conflict) -> Choice>(
     ensures notes { map kept_of tables.new ≡ map kept_of tables.old }
     ensures refused { HasCleanDisk (state S.Store store.new) → IfErr result (RefusesApply (FnReturnsAt H.Fn handler.now)
         file.now (tables_in (state S.Store store.old).now) (map attached_of tables.old)) }
+    ensures shut { HasCleanDisk (state S.Store store.new) → RefusesShut (state S.Store store.old) IsResource result }
     ensures at_rest { HasCleanDisk (state S.Store store.new) → OnOk result (IsAtRest (state S.Store store.new)) }
     ensures kept { HasCleanDisk (state S.Store store.new)
         → OnErr result (KeepsContent (state S.Store store.old) (state S.Store store.new)) }

@@ -5,7 +5,8 @@ ghost use Rattle.sqlite.specs.State.{HasCleanDisk, Survives};
 ghost use Rattle.sqlite.specs.Held.{state};
 ghost use Rattle.cs_value.specs.State.{IsState};
 ghost use Rattle.cs_store.specs.Records.{KeepsContent};
-ghost use Rattle.cs_store.specs.Store.{IsAtRest, tables_in};
+ghost use Rattle.cs_store.specs.Store.{IsAtRest, RefusesShut, tables_in};
+ghost use Rattle.cs_session.specs.Changes.{IsResource};
 ghost use Rattle.cs_session.specs.FirstImages.{IsNotes};
 ghost use Rattle.cs_session.specs.Recording.{Records, RefusesEdit, MayEdit, table_of};
 ghost use Rattle.cs_session.specs.Views.{attached_of, kept_of, IsSettled};
@@ -34,6 +35,7 @@ pub(crate) fn edit_noted<S: Alter>(
     ensures settled { AllByRecursion IsSettled tables.new }
     ensures refused { HasCleanDisk (state S.Store store.new)
         → IfErr result (RefusesEdit (tables_in (state S.Store store.old).now) edit.now (map attached_of tables.old)) }
+    ensures shut { HasCleanDisk (state S.Store store.new) → RefusesShut (state S.Store store.old) IsResource result }
     ensures at_rest { HasCleanDisk (state S.Store store.new) → OnOk result (IsAtRest (state S.Store store.new)) }
     ensures kept { HasCleanDisk (state S.Store store.new)
         → OnErr result (KeepsContent (state S.Store store.old) (state S.Store store.new)) }
@@ -68,6 +70,7 @@ fn edit_batch<S: Alter>(
     ensures notes { map kept_of tables.new ≡ map kept_of tables.old }
     ensures refused { HasCleanDisk (state S.Store store.new)
         → IfErr result (RefusesEdit (tables_in (state S.Store store.old).now) edit.now (map attached_of tables.old)) }
+    ensures shut { HasCleanDisk (state S.Store store.new) → RefusesShut (state S.Store store.old) IsResource result }
     ensures at_rest { HasCleanDisk (state S.Store store.new) → OnOk result (IsAtRest (state S.Store store.new)) }
     ensures kept { HasCleanDisk (state S.Store store.new)
         → OnErr result (KeepsContent (state S.Store store.old) (state S.Store store.new)) }

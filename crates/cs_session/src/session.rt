@@ -1,16 +1,16 @@
 //! Sessions, and the tables that are attached to them.
-ghost use Rattle.std.specs.Prelude.{◌≡◌, ◌↔◌, [], ◌∷◌, ◌++◌, All, IsTrue, OnOk, OnErr, IfOk, IfErr};
+ghost use Rattle.std.specs.Prelude.{◌≡◌, ◌⊎◌, ◌↔◌, [], ◌∷◌, ◌++◌, All, Any, IsTrue, OnOk, OnErr, IfOk, IfErr};
 ghost use Rattle.std.specs.Fn.{FnReturnsAt};
 ghost use Rattle.sqlite.specs.State.{HasCleanDisk, Survives};
 ghost use Rattle.sqlite.specs.Held.{state};
 ghost use Rattle.cs_store.specs.Records.{KeepsContent, KeepsCrash};
-ghost use Rattle.cs_store.specs.Store.{IsAtRest, KeepsStore, tables_in};
+ghost use Rattle.cs_store.specs.Store.{IsAtRest, KeepsStore, RefusesShut, tables_in};
 ghost use Rattle.cs_value.specs.Table.{IsName};
 ghost use Rattle.cs_value.specs.State.{rows_at};
-ghost use Rattle.cs_session.specs.declared.fault.SessionFault.TheVariants.{NoMemory as OutOfMemory};
+ghost use Rattle.cs_session.specs.declared.fault.SessionFault.TheVariants.{AlreadyAttached as IsThere, NoMemory as OutOfMemory};
 ghost use Rattle.cs_session.specs.FirstImages.{AttachedTable, IsNotes, rewound, recorded_changes};
 ghost use Rattle.cs_session.specs.Attaching.{Attaches, RefusesAttach, IsNewTable};
-ghost use Rattle.cs_session.specs.Changes.{HasTables, RefusesChanges};
+ghost use Rattle.cs_session.specs.Changes.{HasTables, IsResource, RefusesChanges};
 ghost use Rattle.cs_session.specs.Recording.{Records, RefusesEdit, MayEdit, RecordsApply, RefusesApply};
 ghost use Rattle.cs_apply.specs.declared.running.Direction.TheVariants.{Forward as ForwardRun};
 ghost use Rattle.cs_apply.specs.Crash.{MayCommit};
@@ -95,6 +95,8 @@ impl Session {
             ++ rows_at (tables_in (state S.Store store.old).now) name.now ∷ []) }
         ensures refused { HasCleanDisk (state S.Store store.new)
             → IfErr result (RefusesAttach (tables_in (state S.Store store.old).now) name.now self.old) }
+        ensures shut { HasCleanDisk (state S.Store store.new) → RefusesShut (state S.Store store.old)
+            (λ e. ((e ≡ IsThere) × Any (λ t. t.name ≡ name.now) self.old) ⊎ IsResource e) result }
         ensures same { OnErr result (self.new ≡ self.old) }
         ensures read { HasCleanDisk (state S.Store store.new)
             → OnOk result ((state S.Store store.new).now ≡ (state S.Store store.old).now) }
@@ -103,13 +105,13 @@ impl Session {
         if has_name(&self.tables, name) {
             return Err(SessionFault::AlreadyAttached);
         }
+        let Some(schema) = store.schema(alloc, name)? else {
+            return Err(SessionFault::Store(StoreError::NoTable));
+        };
         if !is_table_name(name) {
             return Err(SessionFault::Store(StoreError::NoTable));
         }
-        match store.schema(alloc, name)? {
-            Some(schema) => self.push(alloc, name, schema),
-            None => Err(SessionFault::Store(StoreError::NoTable)),
-        }
+        self.push(alloc, name, schema)
     }
 
     /// Carries out an edit, and notes the keys that it wrote where their table is attached, with the rows
@@ -132,6 +134,8 @@ impl Session {
             ≡ rewound self.old (tables_in (state S.Store store.old).now)) }
         ensures refused { HasCleanDisk (state S.Store store.new)
             → IfErr result (RefusesEdit (tables_in (state S.Store store.old).now) edit.now self.old) }
+        ensures shut { HasCleanDisk (state S.Store store.new)
+            → RefusesShut (state S.Store store.old) IsResource result }
         ensures same { OnErr result (self.new ≡ self.old) }
         ensures at_rest { HasCleanDisk (state S.Store store.new) → OnOk result (IsAtRest (state S.Store store.new)) }
         ensures kept { HasCleanDisk (state S.Store store.new)
@@ -165,6 +169,8 @@ impl Session {
             ≡ rewound self.old (tables_in (state S.Store store.old).now)) }
         ensures refused { HasCleanDisk (state S.Store store.new) → IfErr result (RefusesApply
             (FnReturnsAt H.Fn handler.now) file.now (tables_in (state S.Store store.old).now) self.old) }
+        ensures shut { HasCleanDisk (state S.Store store.new)
+            → RefusesShut (state S.Store store.old) IsResource result }
         ensures same { OnErr result (self.new ≡ self.old) }
         ensures at_rest { HasCleanDisk (state S.Store store.new) → OnOk result (IsAtRest (state S.Store store.new)) }
         ensures kept { HasCleanDisk (state S.Store store.new)
@@ -194,6 +200,8 @@ impl Session {
             → IfOk result (LeadsBackTo self.now (tables_in (state S.Store store.old).now)) }
         ensures refused { HasCleanDisk (state S.Store store.new)
             → IfErr result (RefusesChanges (tables_in (state S.Store store.old).now) self.now) }
+        ensures shut { HasCleanDisk (state S.Store store.new)
+            → RefusesShut (state S.Store store.old) IsResource result }
         ensures kept { HasCleanDisk (state S.Store store.new)
             → KeepsContent (state S.Store store.old) (state S.Store store.new) }
         ensures survives { KeepsCrash (state S.Store store.old) (state S.Store store.new) }
@@ -219,6 +227,8 @@ impl Session {
             (tables_in (state S.Store store.new).now)) }
         ensures refused { HasCleanDisk (state S.Store store.new)
             → IfErr result (RefusesChanges (tables_in (state S.Store store.old).now) self.now) }
+        ensures shut { HasCleanDisk (state S.Store store.new)
+            → RefusesShut (state S.Store store.old) IsResource result }
         ensures at_rest { HasCleanDisk (state S.Store store.new) → OnOk result (IsAtRest (state S.Store store.new)) }
         ensures kept { HasCleanDisk (state S.Store store.new)
             → OnErr result (KeepsContent (state S.Store store.old) (state S.Store store.new)) }

@@ -1,5 +1,5 @@
 -- What applies, as commands of a script.
-use Rattle.std.proofs.Common.{◌≡◌, inl, inr, ℕ, List, map, Option, Some, None, sym, subst}
+use Rattle.std.proofs.Common.{◌≡◌, inl, ℕ, false, List, map, Option, Some, None, sym, subst}
 use Rattle.sqlite.specs.State as sqlite
 use Rattle.sqlite.specs.State.{HasCleanDisk, Survives}
 use Rattle.cs_value.specs.State.{State}
@@ -17,11 +17,13 @@ use Rattle.cs_apply.specs.declared.report.Report.{Report}
 use Rattle.cs_apply.specs.declared.running.Direction.{Direction}
 use Rattle.cs_apply.specs.declared.running.Direction.TheVariants.{Forward, Inverse}
 use Rattle.cs_apply.specs.Crash.{MayCommit}
+use Rattle.cs_apply.specs.Running as applies
 use Rattle.cs_apply.specs.Running.{Handler, AlwaysAborts, Applies, Refuses}
 use Rattle.cs_apply.proofs.RevertLemmas.{applies_weaker, refuses_weaker}
 use Rattle.cs_files.specs.Files.{Inverts}
 use Rattle.cs_session.specs.declared.fault.SessionFault.{SessionFault}
 use Rattle.cs_session.specs.declared.fault.SessionFault.TheVariants as session
+use Rattle.cs_session.specs.Changes as sessions
 use Rattle.cs_session.specs.FirstImages.{Notes, rewound}
 use Rattle.cs_session.specs.Recording.{RecordsApply, RefusesApply}
 use Rattle.cs_shell.specs.ErrorLines.{of_apply, of_session, of_read}
@@ -29,23 +31,19 @@ use Rattle.cs_shell.specs.Replies.{Reply, Reported, Refused}
 use Rattle.cs_shell.specs.Report.{told_of}
 use Rattle.cs_shell.specs.Script.{ApplyGives, RevertGives, not_applied, reverted, recorded, unread}
 use Rattle.cs_shell.specs.ShellState.{SlotMap, ShellState}
-use Rattle.cs_shell.specs.Turns.{OrUnable, Works, seen, seen_table}
-use Rattle.cs_shell.proofs.TurnLemmas.{turns_done, turns_weaker, works_refused, works_still, no_memory}
+use Rattle.cs_shell.specs.Turns.{Gave, Works, seen, seen_table}
+use Rattle.cs_shell.proofs.TurnLemmas.{turns_done, turns_weaker, or_weaker, works_refused, works_still, no_memory, unable_as, resource_of_apply, resource_of_session}
 use Rattle.cs_shell.proofs.SessionLemmas.{session_applies, store_applies, session_refuses_apply}
 
 -- ---- commands that are weaker
 
 -- whatever is replied, and whatever a script sees then
 pub works_as : (Gives Asks : ShellState → Reply → ShellState → Type 0) (old new : sqlite.State) (before after : Option Notes) (reply : Reply)
-    → ((slots : SlotMap) (s : ShellState) → Gives (seen (tables_in old.now) slots before) reply s → Asks (seen (tables_in old.now) slots before) reply s)
+    → ((t : State) (slots : SlotMap) (s : ShellState) → Gives (seen t slots before) reply s → Asks (seen t slots before) reply s)
     → Works old new before after Gives reply → Works old new before after Asks reply
 works_as Gives Asks old new before after reply weaker works =
-    turns_weaker old new (λ holds here. let h = holds here in (h.0, λ slots. either slots (h.1 slots))) works
-  where
-    either : (slots : SlotMap) → OrUnable Gives (seen (tables_in old.now) slots before) reply (seen (tables_in new.now) slots after)
-        → OrUnable Asks (seen (tables_in old.now) slots before) reply (seen (tables_in new.now) slots after)
-    either slots (inl gives) = inl (weaker slots (seen (tables_in new.now) slots after) gives)
-    either slots (inr unable) = inr unable
+    turns_weaker (Gave before after Gives reply) (Gave before after Asks reply) old new
+    (λ t u holds here. let h = holds here in (h.0, λ slots. or_weaker Asks Gives (seen t slots before) reply (seen u slots after) (weaker t slots (seen u slots after)) (h.1 slots))) works
 
 -- ---- applies, by a handler that may choose no more than another
 
@@ -67,35 +65,37 @@ module _ (P Q : Handler) (weaker : (k : Conflict) (c : Choice) → P k c → Q k
 
   -- a file is applied, and noted
   pub works_recorded : (file : List ℕ) (old new : sqlite.State) (notes after : Notes) (report : Report) → Survives old new (MayCommit P file Forward (tables_in old.now))
-      → (HasCleanDisk new → IsAtRest new) → (HasCleanDisk new → RecordsApply P file (tables_in old.now) notes report (tables_in new.now) after)
+      → (HasCleanDisk new → IsAtRest new) → (HasCleanDisk new → old.is_open ≡ false → ⊥) → (HasCleanDisk new → RecordsApply P file (tables_in old.now) notes report (tables_in new.now) after)
       → (HasCleanDisk new → rewound after (tables_in new.now) ≡ rewound notes (tables_in old.now))
       → Works old new (Some notes) (Some after) (λ s. ApplyGives s Q file Forward) (Reported (told_of report))
-  works_recorded file old new notes after report survives rests done same =
-      turns_done old new survives rests (λ clean.
+  works_recorded file old new notes after report survives rests shut done same =
+      turns_done (Gave (Some notes) (Some after) (λ s. ApplyGives s Q file Forward) (Reported (told_of report))) old new survives rests shut (λ clean rest.
       session_applies Q file (tables_in old.now) (tables_in new.now) notes after report (records_weaker file (tables_in old.now) (tables_in new.now) notes after report (done clean)) (same clean))
 
   -- it is refused
   pub works_unrecorded : (file : List ℕ) (old new : sqlite.State) (notes after : Notes) (e : SessionFault) → Survives old new (MayCommit P file Forward (tables_in old.now))
-      → (HasCleanDisk new → KeepsContent old new) → (HasCleanDisk new → RefusesApply P file (tables_in old.now) notes e) → after ≡ notes
+      → (HasCleanDisk new → KeepsContent old new) → (HasCleanDisk new → old.is_open ≡ false → sessions.IsResource e) → (HasCleanDisk new → RefusesApply P file (tables_in old.now) notes e) → after ≡ notes
       → Works old new (Some notes) (Some after) (λ s. ApplyGives s Q file Forward) (Refused (of_session e))
-  works_unrecorded file old new notes after e survives kept why same =
+  works_unrecorded file old new notes after e survives kept shut why same =
       subst (λ (ns : Notes). Works old new (Some notes) (Some ns) (λ s. ApplyGives s Q file Forward) (Refused (of_session e))) (sym same)
-      (works_refused (λ s. ApplyGives s Q file Forward) old new (Some notes) (Refused (of_session e)) survives kept (λ clean here.
+      (works_refused (λ s. ApplyGives s Q file Forward) (Some notes) (Refused (of_session e)) old new survives kept
+      (λ clean is state. unable_as (λ s. ApplyGives s Q file Forward) state (of_session e) (resource_of_session e (shut clean is))) (λ clean here.
       session_refuses_apply Q file (tables_in old.now) notes e (refuses_recorded_weaker file (tables_in old.now) notes e (why clean)) here))
 
   -- where no session is open
   pub works_applied : (file : List ℕ) (direction : Direction) (old new : sqlite.State) (report : Report) → Survives old new (MayCommit P file direction (tables_in old.now))
-      → (HasCleanDisk new → IsAtRest new) → (HasCleanDisk new → Applies P file direction (tables_in old.now) report (tables_in new.now))
+      → (HasCleanDisk new → IsAtRest new) → (HasCleanDisk new → old.is_open ≡ false → ⊥) → (HasCleanDisk new → Applies P file direction (tables_in old.now) report (tables_in new.now))
       → Works old new None None (λ s. ApplyGives s Q file direction) (Reported (told_of report))
-  works_applied file direction old new report survives rests done =
-      turns_done old new survives rests (λ clean.
+  works_applied file direction old new report survives rests shut done =
+      turns_done (Gave None None (λ s. ApplyGives s Q file direction) (Reported (told_of report))) old new survives rests shut (λ clean rest.
       store_applies Q file direction (tables_in old.now) (tables_in new.now) report (applies_weaker P Q weaker file direction (tables_in old.now) report (tables_in new.now) (done clean)))
 
   pub works_unapplied : (file : List ℕ) (direction : Direction) (old new : sqlite.State) (e : ApplyFault) → Survives old new (MayCommit P file direction (tables_in old.now))
-      → (HasCleanDisk new → KeepsContent old new) → (HasCleanDisk new → Refuses P file direction (tables_in old.now) e)
+      → (HasCleanDisk new → KeepsContent old new) → (HasCleanDisk new → old.is_open ≡ false → applies.IsResource e) → (HasCleanDisk new → Refuses P file direction (tables_in old.now) e)
       → Works old new None None (λ s. ApplyGives s Q file direction) (Refused (of_apply e))
-  works_unapplied file direction old new e survives kept why =
-      works_refused (λ s. ApplyGives s Q file direction) old new None (Refused (of_apply e)) survives kept (λ clean here slots.
+  works_unapplied file direction old new e survives kept shut why =
+      works_refused (λ s. ApplyGives s Q file direction) None (Refused (of_apply e)) old new survives kept
+      (λ clean is state. unable_as (λ s. ApplyGives s Q file direction) state (of_apply e) (resource_of_apply e (shut clean is))) (λ clean here slots.
       inl (not_applied e (refuses_weaker P Q weaker file direction (tables_in old.now) e (why clean))))
 
 -- ---- reverts
@@ -104,7 +104,7 @@ module _ (P Q : Handler) (weaker : (k : Conflict) (c : Choice) → P k c → Q k
 pub works_reverted : (file : List ℕ) (old new : sqlite.State) (reply : Reply) → Works old new None None (λ s. ApplyGives s AlwaysAborts file Inverse) reply
     → Works old new None None (λ s. RevertGives s file s.session) reply
 works_reverted file old new reply =
-    works_as (λ s. ApplyGives s AlwaysAborts file Inverse) (λ s. RevertGives s file s.session) old new None None reply (λ slots s gives. reverted reply s gives)
+    works_as (λ s. ApplyGives s AlwaysAborts file Inverse) (λ s. RevertGives s file s.session) old new None None reply (λ t slots s gives. reverted reply s gives)
 
 -- else its inverse is applied
 pub works_inverse : (file inverse : List ℕ) (old new : sqlite.State) (notes after : Notes) (reply : Reply) → Inverts file inverse
@@ -112,10 +112,12 @@ pub works_inverse : (file inverse : List ℕ) (old new : sqlite.State) (notes af
     → Works old new (Some notes) (Some after) (λ s. RevertGives s file s.session) reply
 works_inverse file inverse old new notes after reply inverts =
     works_as (λ s. ApplyGives s AlwaysAborts inverse Forward) (λ s. RevertGives s file s.session) old new (Some notes) (Some after) reply
-    (λ slots s gives. recorded (map (seen_table (tables_in old.now)) notes) inverse reply s inverts gives)
+    (λ t slots s gives. recorded (map (seen_table t) notes) inverse reply s inverts gives)
 
 -- unless the file is not read
 pub works_unread : (file : List ℕ) (store : sqlite.State) (notes : Notes) (e : OrNoMemory ReadFault) → RefusesTool (λ f. ReadFails file f.kind f.place) e
     → Works store store (Some notes) (Some notes) (λ s. RevertGives s file s.session) (Refused (of_read e))
-works_unread file store notes (tool.Fault f) why = works_still (λ s. RevertGives s file s.session) store (Some notes) (Refused (of_read (tool.Fault f))) (λ slots. inl (unread (map (seen_table (tables_in store.now)) notes) f why))
-works_unread file store notes tool.NoMemory why = works_still (λ s. RevertGives s file s.session) store (Some notes) (Refused (of_read tool.NoMemory)) (λ slots. no_memory (λ s. RevertGives s file s.session) (seen (tables_in store.now) slots (Some notes)))
+works_unread file store notes (tool.Fault f) why =
+    works_still (λ s. RevertGives s file s.session) (Some notes) (Refused (of_read (tool.Fault f))) store (λ t slots. inl (unread (map (seen_table t) notes) f why))
+works_unread file store notes tool.NoMemory why =
+    works_still (λ s. RevertGives s file s.session) (Some notes) (Refused (of_read tool.NoMemory)) store (λ t slots. no_memory (λ s. RevertGives s file s.session) (seen t slots (Some notes)))

@@ -13,7 +13,7 @@ use Rattle.cs_files.specs.Told.{has_failed, known}
 use Rattle.cs_files.specs.Calls.{AppendsFront}
 use Rattle.cs_shell.specs.ErrorLines.{refusal_text}
 use Rattle.cs_shell.specs.Replies.{Reply, replies_text}
-use Rattle.cs_shell.specs.Runs.{SCRIPT_LIMIT, unended, LinesGive, Answers, AnswersAll, EndsText, EndsFront, EndsOverrun, Overruns, Ends, Runs, EndsUnwritten, at_line, at_last_line, at_overrun}
+use Rattle.cs_shell.specs.Runs.{SCRIPT_LIMIT, unended, LinesGive, EndsText, EndsFront, EndsOverrun, Overruns, Ends, Runs, EndsUnwritten, at_line, at_last_line, at_overrun}
 use Rattle.cs_shell.specs.Progress.{IsFresh, Running, running, Progress, Advances, Breaks, Finishes, Unfinished, HasRead, ReadsText}
 use Rattle.cs_shell.proofs.ProgressLemmas.{Progress-start, AppendsFront-behind}
 
@@ -215,92 +215,104 @@ Runs-told remaining contents gives one status start final a b x y same runs =
 
 -- ---- states that are seen otherwise
 
--- what answers lines from the one state to the other is seen as what does from the first to the last
-abbrev Sees : {S T : Type 0} → (S → List ℕ → Reply → S → Type 0) → (T → List ℕ → Reply → T → Type 0) → S → S → T → T → Type 0
-Sees gives shows start final first last = (lines : List (List ℕ)) (replies : List Reply) → LinesGive gives start lines replies final → LinesGive shows first lines replies last
+-- what was answered from the one state to the other, and what holds of any two states between which the same is answered
+pub record Answered {S T : Type 0} (gives : S → List ℕ → Reply → S → Type 0) (shows : T → List ℕ → Reply → T → Type 0) (start final : S) (Holds : T → T → Type 0) : Type 0 where
+  pub lines : List (List ℕ)
+  pub replies : List Reply
+  pub given : LinesGive gives start lines replies final
+  pub seen : (first last : T) → LinesGive shows first lines replies last → Holds first last
 
-Answers-seen : {S T : Type 0} (gives : S → List ℕ → Reply → S → Type 0) (shows : T → List ℕ → Reply → T → Type 0) (start final : S) (first last : T) (text : List ℕ) (replies : List Reply) → Sees gives shows start final first last
-    → Answers gives start text replies final → Answers shows first text replies last
-Answers-seen gives shows start final first last text replies sees a = record {
-  lines = a.lines;
-  last = a.last;
-  splits = a.splits;
-  given = sees a.lines replies a.given;
-}
+module _ {W S T : Type 0} (contents : W → Option (List ℕ)) (gives : S → List ℕ → Reply → S → Type 0) (shows : T → List ℕ → Reply → T → Type 0) (start final : S) (x y : Told W) where
+  EndsText-answered : (text : List ℕ) (some_refused : Bool) → EndsText contents gives start final x y text some_refused
+      → Answered gives shows start final (λ first last. EndsText contents shows first last x y text some_refused)
+  EndsText-answered text some_refused e = record {
+    lines = e.answers.lines ++ unended e.answers.last;
+    replies = e.replies;
+    given = e.answers.given;
+    seen = λ first last given. record {
+      short = e.short;
+      replies = e.replies;
+      answers = record { lines = e.answers.lines; last = e.answers.last; splits = e.answers.splits; given = given };
+      written = e.written;
+      refused = e.refused;
+    };
+  }
 
-AnswersAll-seen : {S T : Type 0} (gives : S → List ℕ → Reply → S → Type 0) (shows : T → List ℕ → Reply → T → Type 0) (start final : S) (first last : T) (text : List ℕ) (replies : List Reply) → Sees gives shows start final first last
-    → AnswersAll gives start text replies final → AnswersAll shows first text replies last
-AnswersAll-seen gives shows start final first last text replies sees a = record {
-  lines = a.lines;
-  last = a.last;
-  splits = a.splits;
-  given = sees (a.lines ++ unended a.last) replies a.given;
-}
+  EndsFront-answered : (text : List ℕ) → EndsFront contents gives start final x y text → Answered gives shows start final (λ first last. EndsFront contents shows first last x y text)
+  EndsFront-answered text e = record {
+    lines = e.answers.lines;
+    replies = e.replies;
+    given = e.answers.given;
+    seen = λ first last given. record {
+      short = e.short;
+      replies = e.replies;
+      answers = record { lines = e.answers.lines; last = e.answers.last; splits = e.answers.splits; given = given };
+      written = e.written;
+    };
+  }
 
-Overruns-seen : {S T : Type 0} (gives : S → List ℕ → Reply → S → Type 0) (shows : T → List ℕ → Reply → T → Type 0) (start final : S) (first last : T) (text : List ℕ) (replies : List Reply) → Sees gives shows start final first last
-    → Overruns gives start final text replies → Overruns shows first last text replies
-Overruns-seen gives shows start final first last text replies sees o = record {
-  front = o.front;
-  rest = o.rest;
-  whole = o.whole;
-  full = o.full;
-  more = o.more;
-  answers = Answers-seen gives shows start final first last o.front replies sees o.answers;
-}
+  overrun_seen : (text : List ℕ) (replies : List Reply) (o : Overruns gives start final text replies) (first last : T) → LinesGive shows first o.answers.lines replies last → Overruns shows first last text replies
+  overrun_seen text replies o first last given = record {
+    front = o.front;
+    rest = o.rest;
+    whole = o.whole;
+    full = o.full;
+    more = o.more;
+    answers = record { lines = o.answers.lines; last = o.answers.last; splits = o.answers.splits; given = given };
+  }
 
-EndsText-seen : {W S T : Type 0} (contents : W → Option (List ℕ)) (gives : S → List ℕ → Reply → S → Type 0) (shows : T → List ℕ → Reply → T → Type 0) (start final : S) (first last : T) (x y : Told W) (text : List ℕ) (some_refused : Bool)
-    → Sees gives shows start final first last → EndsText contents gives start final x y text some_refused → EndsText contents shows first last x y text some_refused
-EndsText-seen contents gives shows start final first last x y text some_refused sees e = record {
-  short = e.short;
-  replies = e.replies;
-  answers = AnswersAll-seen gives shows start final first last text e.replies sees e.answers;
-  written = e.written;
-  refused = e.refused;
-}
+  EndsOverrun-answered : (text : List ℕ) → EndsOverrun contents gives start final x y text → Answered gives shows start final (λ first last. EndsOverrun contents shows first last x y text)
+  EndsOverrun-answered text e = record {
+    lines = e.overruns.answers.lines;
+    replies = e.replies;
+    given = e.overruns.answers.given;
+    seen = λ first last given. record { replies = e.replies; overruns = overrun_seen text e.replies e.overruns first last given; written = e.written };
+  }
 
-EndsFront-seen : {W S T : Type 0} (contents : W → Option (List ℕ)) (gives : S → List ℕ → Reply → S → Type 0) (shows : T → List ℕ → Reply → T → Type 0) (start final : S) (first last : T) (x y : Told W) (text : List ℕ)
-    → Sees gives shows start final first last → EndsFront contents gives start final x y text → EndsFront contents shows first last x y text
-EndsFront-seen contents gives shows start final first last x y text sees e = record {
-  short = e.short;
-  replies = e.replies;
-  answers = Answers-seen gives shows start final first last text e.replies sees e.answers;
-  written = e.written;
-}
+  EndsUnwritten-answered : (left : Option (List ℕ)) (text : List ℕ) → EndsUnwritten contents gives start final x y left text
+      → Answered gives shows start final (λ first last. EndsUnwritten contents shows first last x y left text)
+  EndsUnwritten-answered left text (at_line front rest replies short answers written) = record {
+    lines = answers.lines;
+    replies = replies;
+    given = answers.given;
+    seen = λ first last given. at_line front rest replies short (record { lines = answers.lines; last = answers.last; splits = answers.splits; given = given }) written;
+  }
+  EndsUnwritten-answered left text (at_last_line whole replies short at_end answers written) = record {
+    lines = answers.lines ++ unended answers.last;
+    replies = replies;
+    given = answers.given;
+    seen = λ first last given. at_last_line whole replies short at_end (record { lines = answers.lines; last = answers.last; splits = answers.splits; given = given }) written;
+  }
+  EndsUnwritten-answered left text (at_overrun whole replies over written) = record {
+    lines = over.answers.lines;
+    replies = replies;
+    given = over.answers.given;
+    seen = λ first last given. at_overrun whole replies (overrun_seen whole replies over first last given) written;
+  }
 
-EndsOverrun-seen : {W S T : Type 0} (contents : W → Option (List ℕ)) (gives : S → List ℕ → Reply → S → Type 0) (shows : T → List ℕ → Reply → T → Type 0) (start final : S) (first last : T) (x y : Told W) (text : List ℕ)
-    → Sees gives shows start final first last → EndsOverrun contents gives start final x y text → EndsOverrun contents shows first last x y text
-EndsOverrun-seen contents gives shows start final first last x y text sees e = record {
-  replies = e.replies;
-  overruns = Overruns-seen gives shows start final first last text e.replies sees e.overruns;
-  written = e.written;
-}
+  Ends-answered : (status : Status) (left : Option (List ℕ)) (text : List ℕ) → Ends contents gives status start final x y left text
+      → Answered gives shows start final (λ first last. Ends contents shows status first last x y left text)
+  Ends-answered Done left text e = EndsText-answered text false e
+  Ends-answered LinesRefused left text e = EndsText-answered text true e
+  Ends-answered TooLong left text e = EndsOverrun-answered text e
+  Ends-answered InputFault left text e = EndsFront-answered text e
+  Ends-answered OutputFault left text e = EndsUnwritten-answered left text e
 
-EndsUnwritten-seen : {W S T : Type 0} (contents : W → Option (List ℕ)) (gives : S → List ℕ → Reply → S → Type 0) (shows : T → List ℕ → Reply → T → Type 0) (start final : S) (first last : T) (x y : Told W) (left : Option (List ℕ))
-    → Sees gives shows start final first last → (text : List ℕ) → EndsUnwritten contents gives start final x y left text → EndsUnwritten contents shows first last x y left text
-EndsUnwritten-seen contents gives shows start final first last x y left sees text (at_line front rest replies short answers written) =
-    at_line front rest replies short (Answers-seen gives shows start final first last front replies sees answers) written
-EndsUnwritten-seen contents gives shows start final first last x y left sees text (at_last_line whole replies short at_end answers written) =
-    at_last_line whole replies short at_end (AnswersAll-seen gives shows start final first last whole replies sees answers) written
-EndsUnwritten-seen contents gives shows start final first last x y left sees text (at_overrun whole replies over written) =
-    at_overrun whole replies (Overruns-seen gives shows start final first last whole replies sees over) written
-
-Ends-seen : {W S T : Type 0} (contents : W → Option (List ℕ)) (gives : S → List ℕ → Reply → S → Type 0) (shows : T → List ℕ → Reply → T → Type 0) (status : Status) (start final : S) (first last : T) (x y : Told W) (left : Option (List ℕ)) (text : List ℕ)
-    → Sees gives shows start final first last → Ends contents gives status start final x y left text → Ends contents shows status first last x y left text
-Ends-seen contents gives shows Done start final first last x y left text sees e = EndsText-seen contents gives shows start final first last x y text false sees e
-Ends-seen contents gives shows LinesRefused start final first last x y left text sees e = EndsText-seen contents gives shows start final first last x y text true sees e
-Ends-seen contents gives shows TooLong start final first last x y left text sees e = EndsOverrun-seen contents gives shows start final first last x y text sees e
-Ends-seen contents gives shows InputFault start final first last x y left text sees e = EndsFront-seen contents gives shows start final first last x y text sees e
-Ends-seen contents gives shows OutputFault start final first last x y left text sees e = EndsUnwritten-seen contents gives shows start final first last x y left sees text e
-
--- the same run, of what is seen of its states
-pub Runs-seen : {R W S T : Type 0} (remaining : R → Option (List ℕ)) (contents : W → Option (List ℕ)) (gives : S → List ℕ → Reply → S → Type 0) (shows : T → List ℕ → Reply → T → Type 0) (status : Status) (start final : S) (first last : T)
-    (a b : Told R) (x y : Told W) → ((lines : List (List ℕ)) (replies : List Reply) → LinesGive gives start lines replies final → LinesGive shows first lines replies last)
-    → Runs remaining contents gives status start final a b x y → Runs remaining contents shows status first last a b x y
-Runs-seen remaining contents gives shows status start final first last a b x y sees runs = record {
-  text = runs.text;
-  consumed = runs.consumed;
-  bounded = runs.bounded;
-  at_end = runs.at_end;
-  ended = Ends-seen contents gives shows status start final first last x y (known remaining b) runs.text sees runs.ended;
-  flagged = runs.flagged;
-}
+-- the lines that a run answered, and the same run of what is seen of its states
+pub Runs-answered : {R W S T : Type 0} (remaining : R → Option (List ℕ)) (contents : W → Option (List ℕ)) (gives : S → List ℕ → Reply → S → Type 0) (shows : T → List ℕ → Reply → T → Type 0) (status : Status) (start final : S)
+    (a b : Told R) (x y : Told W) → Runs remaining contents gives status start final a b x y → Answered gives shows start final (λ first last. Runs remaining contents shows status first last a b x y)
+Runs-answered remaining contents gives shows status start final a b x y runs =
+    let ends = Ends-answered contents gives shows start final x y status (known remaining b) runs.text runs.ended in
+    record {
+      lines = ends.lines;
+      replies = ends.replies;
+      given = ends.given;
+      seen = λ first last given. record {
+        text = runs.text;
+        consumed = runs.consumed;
+        bounded = runs.bounded;
+        at_end = runs.at_end;
+        ended = ends.seen first last given;
+        flagged = runs.flagged;
+      };
+    }

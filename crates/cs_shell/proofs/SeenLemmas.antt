@@ -1,13 +1,13 @@
 -- What a script sees of a session: whole tables, where the session has first images.
-use Rattle.std.proofs.Common.{◌≡◌, ◌≢◌, ℕ, suc, ◌+◌, ◌||◌, Bool, true, false, cond, List, [], ◌∷◌, ◌++◌, length, map, filter_map, Option, Some, None, option_map, refl, sym, ap, subst, ◌∙◌, arith, length-append}
+use Rattle.std.proofs.Common.{◌≡◌, ◌≢◌, ℕ, suc, ◌+◌, ◌||◌, Bool, true, false, cond, List, [], ◌∷◌, ◌++◌, length, map, filter_map, Option, Some, None, option_map, refl, sym, ap, ◌∙◌, arith, length-append}
 use Rattle.std.specs.Prelude.{unwrap_or, is_some}
 use Rattle.std.specs.List.{AllByRecursion, AllZip, flat_map, list_any, cons_option}
 use Rattle.std.specs.FinMap.{get}
-use Rattle.std.specs.Cmp.Lexicographic.{same_text, other_text, nat_list_eq_equiv}
-use Rattle.std.proofs.lemmas.List.{map-append, append-nil, length-map}
+use Rattle.std.specs.Cmp.Lexicographic.{same_text, nat_list_eq_equiv}
+use Rattle.std.proofs.lemmas.List.{map-append, length-map}
 use Rattle.std.proofs.lemmas.List.Elements.{recursion_from_All}
 use Rattle.cs_value.specs.declared.value.OwnedValue.{OwnedValue}
-use Rattle.cs_value.specs.State.{SchemaData, State, WrittenData, RowMap, schema_at, rows_at, row_at, with_rows}
+use Rattle.cs_value.specs.State.{State, WrittenData, schema_at, rows_at, row_at, with_rows}
 use Rattle.cs_value.proofs.ListLemmas.{PairsByRecursion, recursion_from_AllPairs}
 use Rattle.cs_wire.specs.declared.entry.Entry.{Entry}
 use Rattle.cs_wire.specs.Changeset.{HeaderData, GroupData}
@@ -15,13 +15,13 @@ use Rattle.cs_wire.specs.Inverse.{IsInverseGroup, IsInverseEntry}
 use Rattle.cs_store.specs.Records.{same_bytes}
 use Rattle.cs_group.specs.declared.conflict.Kind.{Kind}
 use Rattle.cs_group.specs.declared.judging.Judgement.TheVariants.{Compatible}
-use Rattle.cs_group.specs.Judging.{judgement, judged, is_compatible}
+use Rattle.cs_group.specs.Judging.{judgement, judged}
 use Rattle.cs_group.specs.JoinLaw.{net_entry}
 use Rattle.cs_group.specs.Applying.{PlacedEntry, placed, placed_in, placed_by, placed_kind, Choices, met_at, met, written_for, written, compatible_groups, applicable}
-use Rattle.cs_session.specs.FirstImages.{FirstImage, AttachedTable, Notes, IsAttachedTable, IsNotes, HasAttached, first_at, put_all_back, rewound_rows, rewound, rewound_state, noted, noted_in, writes_of, recorded, entry_since, header_of, group_of, net_group, recorded_changes}
+use Rattle.cs_session.specs.FirstImages.{FirstImage, AttachedTable, Notes, IsAttachedTable, IsNotes, HasAttached, first_at, rewound_rows, rewound, rewound_state, noted, noted_in, writes_of, recorded, entry_since, header_of, group_of, recorded_changes}
 use Rattle.cs_session.proofs.FirstLemmas.{put_all_at}
 use Rattle.cs_session.proofs.ChangesLemmas.{all_compatible}
-use Rattle.cs_shell.specs.ShellState.{SessionTable, SessionTables, with_keys, touch, net_entries, net_table, net_of, net_count, put_back}
+use Rattle.cs_shell.specs.ShellState.{with_keys, touch, net_entries, net_of, net_count, put_back}
 use Rattle.cs_shell.specs.Turns.{seen_table}
 
 -- ---- keys that are noted

@@ -1,13 +1,12 @@
 -- What calls of a session and a store do, as a script sees it.
-use Rattle.std.proofs.Common.{◌≡◌, ◌≢◌, ◌⊎◌, inl, inr, ℕ, List, [], ◌∷◌, ◌++◌, length, map, All, Any, Option, Some, None, option_map, Result, Ok, Err, IsTrue, IsUtf8, refl, sym, ap, subst, ◌∙◌}
+use Rattle.std.proofs.Common.{◌≡◌, ◌≢◌, ◌⊎◌, inl, inr, ℕ, List, [], ◌∷◌, ◌++◌, length, map, All, Any, Option, Some, None, Result, Ok, Err, refl, sym, ap, subst, ◌∙◌}
 use Rattle.std.specs.Prelude.{string_bytes}
 use Rattle.std.specs.List.{AllZip}
 use Rattle.std.specs.FinMap as map_of
-use Rattle.std.proofs.lemmas.List.{map-append, append-nil, nil_from_length, length-map}
-use Rattle.std.proofs.lemmas.List.Elements.{All-map, All-weaker, All-from_recursion, recursion_from_All}
-use Rattle.cs_value.specs.declared.value.OwnedValue.{OwnedValue}
+use Rattle.std.proofs.lemmas.List.{map-append, append-nil, length-map}
+use Rattle.std.proofs.lemmas.List.Elements.{All-map, All-from_recursion, recursion_from_All}
 use Rattle.cs_value.specs.Table.{IsName}
-use Rattle.cs_value.specs.State.{SchemaData, TableData, State, IsState, RowMap, WrittenData, schema_at, rows_at}
+use Rattle.cs_value.specs.State.{SchemaData, State, IsState, WrittenData, schema_at, rows_at}
 use Rattle.cs_value.proofs.ListLemmas.{Any-map_at, AllPairs-from_recursion}
 use Rattle.cs_value.proofs.StateLemmas.{table_of_schema}
 use Rattle.cs_wire.specs.Changeset.{GroupData}
@@ -18,32 +17,30 @@ use Rattle.cs_store.specs.declared.fault.StoreError.{StoreError}
 use Rattle.cs_store.specs.declared.fault.StoreError.TheVariants as store
 use Rattle.cs_store.specs.Editing.{Edited, Declares, edited, written_of}
 use Rattle.cs_group.specs.Applying.{met}
-use Rattle.cs_apply.specs.declared.fault.ApplyFault.{ApplyFault}
 use Rattle.cs_apply.specs.declared.report.Report.{Report}
 use Rattle.cs_apply.specs.declared.running.Direction.{Direction}
-use Rattle.cs_apply.specs.declared.running.Direction.TheVariants.{Forward, Inverse}
+use Rattle.cs_apply.specs.declared.running.Direction.TheVariants.{Forward}
 use Rattle.cs_apply.specs.Report.{met_of}
-use Rattle.cs_apply.specs.Running.{Handler, AlwaysAborts, Applies, Refuses}
+use Rattle.cs_apply.specs.Running.{Handler, Applies}
 use Rattle.cs_session.specs.declared.fault.SessionFault.{SessionFault}
 use Rattle.cs_session.specs.declared.fault.SessionFault.TheVariants as session
-use Rattle.cs_session.specs.FirstImages.{AttachedTable, Notes, IsNotes, HasAttached, rewound, rewound_state, recorded, recorded_changes}
-use Rattle.cs_session.specs.Attaching.{Attaches, RefusesAttach, IsNewTable}
-use Rattle.cs_session.specs.Changes.{HasTables, LacksTable, LacksNamed, RefusesChanges}
+use Rattle.cs_session.specs.FirstImages.{AttachedTable, Notes, IsNotes, HasAttached, rewound, recorded, recorded_changes}
+use Rattle.cs_session.specs.Attaching.{Attaches, RefusesAttach}
+use Rattle.cs_session.specs.Changes.{HasTables, LacksTable, LacksNamed}
 use Rattle.cs_session.specs.Recording.{Records, RefusesEdit, RecordsApply, RefusesApply, table_of}
 use Rattle.cs_session.specs.Undoing.{Undoes}
 use Rattle.cs_session.specs.Runs.{Moment, IsMoment, Step, rows_attached}
 use Rattle.cs_session.proofs.ChangesLemmas.{changes_are}
 use Rattle.cs_session.proofs.RunsLemmas.{rows_from_before, edited_step, applied_step, attached_step, declared_step, undone_step}
-use Rattle.cs_shell.specs.declared.refusal.Refusal.{Refusal}
 use Rattle.cs_shell.specs.declared.refusal.Refusal.TheVariants as refusal
-use Rattle.cs_shell.specs.ErrorLines.{of_store, of_apply, of_session}
+use Rattle.cs_shell.specs.ErrorLines.{of_store, of_session}
 use Rattle.cs_shell.specs.Replies.{Reply, Silent, Reported, Refused}
 use Rattle.cs_shell.specs.Report.{told_of}
-use Rattle.cs_shell.specs.ShellState.{SlotMap, SessionTable, SessionTables, ShellState, written_to, touch, net_count, put_back}
+use Rattle.cs_shell.specs.ShellState.{SlotMap, SessionTable, ShellState, written_to, touch, net_count, put_back}
 use Rattle.cs_shell.specs.Script.{EditGives, ApplyGives, applied, not_applied, AttachGives, attached, already, no_table, UndoGives}
 use Rattle.cs_shell.specs.Turns.{seen_table, seen_session, seen, IsHere, OrUnable}
 use Rattle.cs_shell.proofs.SeenLemmas.{seen_recorded, seen_same, seen_back, undo_count}
-use Rattle.cs_shell.proofs.TurnLemmas.{or_store, no_memory, unable_as}
+use Rattle.cs_shell.proofs.TurnLemmas.{or_store, no_memory}
 
 -- ---- lists
 
@@ -181,10 +178,14 @@ session_attaches old name notes after done here = (
         ap (λ (ns : Notes). map (seen_table old) ns) done.is ∙ map-append (seen_table old) notes (new ∷ []) in
         λ i. record { tables = old; slots = slots; session = Some (tables i) }
 
+pub session_is_attached : (old : State) (name : List ℕ) (notes : Notes) → Any (λ (t : AttachedTable). t.name ≡ name) notes → (slots : SlotMap)
+    → OrUnable (λ s. AttachGives s name (map (seen_table old) notes)) (seen old slots (Some notes)) (Refused (of_session session.AlreadyAttached)) (seen old slots (Some notes))
+session_is_attached old name notes why slots = inl (already (any_map (λ (t : SessionTable). t.name ≡ name) (seen_table old) notes why))
+
 pub session_refuses_attach : (old : State) (name : List ℕ) (notes : Notes) (fault : SessionFault) → IsState old → RefusesAttach old name notes fault
     → (slots : SlotMap)
     → OrUnable (λ s. AttachGives s name (map (seen_table old) notes)) (seen old slots (Some notes)) (Refused (of_session fault)) (seen old slots (Some notes))
-session_refuses_attach old name notes session.AlreadyAttached is why slots = inl (already (any_map (λ (t : SessionTable). t.name ≡ name) (seen_table old) notes why))
+session_refuses_attach old name notes session.AlreadyAttached is why slots = session_is_attached old name notes why slots
 session_refuses_attach old name notes (session.Store e) is (inl why) slots =
     rw why.1 (inl (no_table (All-map (λ (t : SessionTable). t.name ≢ name) (seen_table old) notes why.0) (no_schema old name is why.2)))
 session_refuses_attach old name notes (session.Store e) is (inr why) slots = or_store (λ s. AttachGives s name (map (seen_table old) notes)) (seen old slots (Some notes)) e (inr (inr why))

@@ -1,10 +1,9 @@
 -- What is done with the session of a script, as its commands.
-use Rattle.std.proofs.Common.{◌≡◌, inl, inr, ℕ, ◌≤◌, List, [], ◌∷◌, map, All, Option, Some, None, IsTrue, codes, refl, sym, ap, subst, ◌∙◌, arith}
+use Rattle.std.proofs.Common.{◌≡◌, ◌⊎◌, inl, inr, ℕ, ◌≤◌, false, List, [], ◌∷◌, map, All, Any, Option, Some, None, IsTrue, codes, refl, sym, ap, subst, ◌∙◌, arith}
 use Rattle.std.specs.List.{AllByRecursion}
 use Rattle.std.specs.FinMap.{insert}
 use Rattle.std.proofs.lemmas.List.Elements.{All-from_recursion, recursion_from_All}
 use Rattle.sqlite_trees.specs.View.{doubt}
-use Rattle.sqlite.specs.Effect.{Database}
 use Rattle.sqlite.specs.State as sqlite
 use Rattle.sqlite.specs.State.{HasCleanDisk, Survives}
 use Rattle.cs_value.specs.State.{State, IsState}
@@ -15,9 +14,10 @@ use Rattle.cs_store.specs.Records.{KeepsContent, KeepsCrash}
 use Rattle.cs_store.specs.Store.{IsAtRest, KeepsStore, tables_in}
 use Rattle.cs_apply.specs.declared.report.Report.{Report}
 use Rattle.cs_session.specs.declared.fault.SessionFault.{SessionFault}
+use Rattle.cs_session.specs.declared.fault.SessionFault.TheVariants as session
 use Rattle.cs_session.specs.FirstImages.{FirstImage, AttachedTable, Notes, IsNotes, recorded_changes}
 use Rattle.cs_session.specs.Attaching.{Attaches, RefusesAttach}
-use Rattle.cs_session.specs.Changes.{RefusesChanges}
+use Rattle.cs_session.specs.Changes.{IsResource, RefusesChanges}
 use Rattle.cs_session.specs.Undoing.{Undoes, MayUndo}
 use Rattle.cs_shell.specs.declared.refusal.Refusal.TheVariants as refusal
 use Rattle.cs_shell.specs.ErrorLines.{of_session}
@@ -25,10 +25,10 @@ use Rattle.cs_shell.specs.Replies.{Reply, Silent, Text, Reported, Refused}
 use Rattle.cs_shell.specs.Report.{told_of}
 use Rattle.cs_shell.specs.Script.{WithSession, AttachGives, ChangesetGives, IsEmptyGives, UndoGives}
 use Rattle.cs_shell.specs.ShellState.{SlotMap, SessionTable, SessionTables, ShellState, net_of}
-use Rattle.cs_shell.specs.Turns.{OrUnable, Works, WorksOn, IsHere, seen, seen_table}
+use Rattle.cs_shell.specs.Turns.{OrUnable, Gave, GaveOn, Works, WorksOn, IsHere, seen, seen_table}
 use Rattle.cs_shell.proofs.SeenLemmas.{seen_net}
-use Rattle.cs_shell.proofs.SessionLemmas.{lacks_no_table, session_attaches, session_refuses_attach, session_undoes}
-use Rattle.cs_shell.proofs.TurnLemmas.{turns_refused, turns_done_at, turns_read_at, works_same, works_refused, works_still, unable_as, no_memory}
+use Rattle.cs_shell.proofs.SessionLemmas.{lacks_no_table, session_attaches, session_is_attached, session_refuses_attach, session_undoes}
+use Rattle.cs_shell.proofs.TurnLemmas.{turns_done, turns_refused, turns_read, turns_still, works_refused, works_still, unable_as, no_memory, resource_of_session}
 
 -- ---- where a session is open, and where none is
 
@@ -49,32 +49,43 @@ module _ (Gives : ShellState → SessionTables → Reply → ShellState → Type
 
   -- where none is open nothing is called
   pub works_none : (store : sqlite.State) → Works store store None None (λ old. WithSession old (Gives old)) (Refused refusal.NoSession)
-  works_none store = works_still (λ old. WithSession old (Gives old)) store None (Refused refusal.NoSession) (λ slots. inl (none_open (tables_in store.now) slots))
+  works_none store = works_still (λ old. WithSession old (Gives old)) None (Refused refusal.NoSession) store (λ t slots. inl (none_open t slots))
 
 -- ---- attaching
 
 clean_before : (old new : sqlite.State) → doubt old.is_clean ≤ doubt new.is_clean → HasCleanDisk new → HasCleanDisk old
 clean_before old new less clean = omega (arith, less, clean)
 
-pub works_attached : (name : List ℕ) (old new : sqlite.State) (notes after : Notes) → KeepsStore old new
+pub works_attached : (name : List ℕ) (old new : sqlite.State) (notes after : Notes) → KeepsStore old new → (HasCleanDisk new → old.is_open ≡ false → ⊥)
     → (HasCleanDisk new → Attaches (tables_in old.now) name notes after)
     → Works old new (Some notes) (Some after) (λ s. WithSession s (AttachGives s name)) Silent
-works_attached name old new notes after kept done =
-    turns_read_at old new kept (λ rest clean same here.
+works_attached name old new notes after kept shut done =
+    turns_read (Gave (Some notes) (Some after) (λ s. WithSession s (AttachGives s name)) Silent) old new kept (λ clean is t. absurd (shut clean is)) (λ clean rest here.
     let gives = session_attaches (tables_in old.now) name notes after (done clean) here in
-    subst (λ (db : Database). IsHere (tables_in db) (Some after) × ((slots : SlotMap) → OrUnable (λ s. WithSession s (AttachGives s name)) (seen (tables_in old.now) slots (Some notes)) Silent (seen (tables_in db) slots (Some after))))
-    (sym same) (gives.0, λ slots. inl (with_notes (λ s. AttachGives s name) (tables_in old.now) slots notes Silent _ (gives.1 slots))))
+    (gives.0, λ slots. inl (with_notes (λ s. AttachGives s name) (tables_in old.now) slots notes Silent _ (gives.1 slots))))
+
+-- where a store is shut, what is refused is refused whatever the tables are
+unattached_shut : (name : List ℕ) (notes : Notes) (e : SessionFault) → ((e ≡ session.AlreadyAttached) × Any (λ (t : AttachedTable). t.name ≡ name) notes) ⊎ IsResource e → (t : State)
+    → Gave (Some notes) (Some notes) (λ s. WithSession s (AttachGives s name)) (Refused (of_session e)) t t
+unattached_shut name notes e (inl why) t here = (
+  here,
+  λ slots.
+      rw why.0 (or_with_notes (λ s. AttachGives s name) t slots notes (Refused (of_session session.AlreadyAttached)) _ (session_is_attached t name notes why.1 slots)),
+)
+unattached_shut name notes e (inr resource) t here = (here, λ slots. unable_as (λ s. WithSession s (AttachGives s name)) (seen t slots (Some notes)) (of_session e) (resource_of_session e resource))
 
 pub works_unattached : (name : List ℕ) (old new : sqlite.State) (notes after : Notes) (e : SessionFault) → KeepsStore old new
     → (HasCleanDisk old → IsTrue old.is_open → IsState (tables_in old.now))
+    → (HasCleanDisk new → old.is_open ≡ false → ((e ≡ session.AlreadyAttached) × Any (λ (t : AttachedTable). t.name ≡ name) notes) ⊎ IsResource e)
     → (HasCleanDisk new → RefusesAttach (tables_in old.now) name notes e) → after ≡ notes
     → Works old new (Some notes) (Some after) (λ s. WithSession s (AttachGives s name)) (Refused (of_session e))
-works_unattached name old new notes after e kept law why same_notes =
+works_unattached name old new notes after e kept law shut why same_notes =
     subst (λ (ns : Notes). Works old new (Some notes) (Some ns) (λ s. WithSession s (AttachGives s name)) (Refused (of_session e))) (sym same_notes)
-    (turns_read_at old new kept (λ rest clean same here.
-    works_same (λ s. WithSession s (AttachGives s name)) old new (Some notes) (Refused (of_session e)) same
-    (λ slots. or_with_notes (λ s. AttachGives s name) (tables_in old.now) slots notes (Refused (of_session e)) _
-    (session_refuses_attach (tables_in old.now) name notes e (law (clean_before old new kept.crash.clean clean) rest.is_open) (why clean) slots)) here))
+    (turns_read (Gave (Some notes) (Some notes) (λ s. WithSession s (AttachGives s name)) (Refused (of_session e))) old new kept (λ clean is. unattached_shut name notes e (shut clean is)) (λ clean rest here. (
+      here,
+      λ slots. or_with_notes (λ s. AttachGives s name) (tables_in old.now) slots notes (Refused (of_session e)) _
+          (session_refuses_attach (tables_in old.now) name notes e (law (clean_before old new kept.crash.clean clean) rest.is_open) (why clean) slots),
+    )))
 
 -- ---- the tables of a session that is here
 
@@ -89,21 +100,18 @@ refused_here Gives tables slots notes e (inr (inr is)) here = rw is (unable_as G
 -- a call that leaves what a store shows, as a command that may change slots
 works_kept : (Gives : ShellState → Reply → ShellState → Type 0) (old new : sqlite.State) (slots filled : SlotMap) (session : Option Notes) (reply : Reply) → KeepsCrash old new
     → (HasCleanDisk new → KeepsContent old new)
+    → (HasCleanDisk new → old.is_open ≡ false → (t : State) → OrUnable Gives (seen t slots session) reply (seen t filled session))
     → (HasCleanDisk new → IsHere (tables_in old.now) session → OrUnable Gives (seen (tables_in old.now) slots session) reply (seen (tables_in old.now) filled session))
     → WorksOn old new slots filled session session Gives reply
-works_kept Gives old new slots filled session reply survives kept gives =
-    turns_refused old new survives kept (λ clean same here.
-    subst (λ (db : Database). IsHere (tables_in db) session × OrUnable Gives (seen (tables_in old.now) slots session) reply (seen (tables_in db) filled session))
-    (sym same) (here, gives clean here))
+works_kept Gives old new slots filled session reply survives kept shut gives =
+    turns_refused (GaveOn slots filled session session Gives reply) old new survives kept (λ clean is t here. (here, shut clean is t)) (λ clean here. (here, gives clean here))
 
 module _ (slot : List ℕ) where
-  pub works_no_changeset : (store : sqlite.State) (slots filled : SlotMap) → filled ≡ slots
-      → WorksOn store store slots filled None None (λ s. WithSession s (ChangesetGives s slot)) (Refused refusal.NoSession)
-  works_no_changeset store slots filled same = rw same (record {
-    clean = omega arith;
-    counts = omega arith;
-    done = λ rest clean none. (rest, λ here. (here, inl (none_open (λ s. ChangesetGives s slot) (tables_in store.now) slots)));
-  })
+  abbrev Changes : ShellState → Reply → ShellState → Type 0
+  Changes s = WithSession s (ChangesetGives s slot)
+
+  pub works_no_changeset : (store : sqlite.State) (slots : SlotMap) → WorksOn store store slots slots None None Changes (Refused refusal.NoSession)
+  works_no_changeset store slots = turns_still (GaveOn slots slots None None Changes (Refused refusal.NoSession)) store (λ t here. (here, inl (none_open (λ s. ChangesetGives s slot) t slots)))
 
   net_gives : (tables : State) (slots filled : SlotMap) (notes : Notes) (file : List ℕ) → IsNotes notes → file ≡ file_bytes (recorded_changes notes tables) → filled ≡ insert slots slot file
       → ChangesetGives (seen tables slots (Some notes)) slot (map (seen_table tables) notes) Silent (seen tables filled (Some notes))
@@ -113,45 +121,45 @@ module _ (slot : List ℕ) where
       (refl, λ i. record { tables = tables; slots = put i; session = Some (map (seen_table tables) notes) })
 
   pub works_changeset : (old new : sqlite.State) (slots filled : SlotMap) (notes : Notes) (changeset : List GroupData) (file : List ℕ) → KeepsCrash old new
-      → (HasCleanDisk new → KeepsContent old new) → IsNotes notes → (HasCleanDisk new → changeset ≡ recorded_changes notes (tables_in old.now))
-      → file ≡ file_bytes changeset → filled ≡ insert slots slot file
-      → WorksOn old new slots filled (Some notes) (Some notes) (λ s. WithSession s (ChangesetGives s slot)) Silent
-  works_changeset old new slots filled notes changeset file survives kept are made is into =
-      works_kept (λ s. WithSession s (ChangesetGives s slot)) old new slots filled (Some notes) Silent survives kept (λ clean here.
+      → (HasCleanDisk new → KeepsContent old new) → (HasCleanDisk new → old.is_open ≡ false → ⊥) → IsNotes notes → (HasCleanDisk new → changeset ≡ recorded_changes notes (tables_in old.now))
+      → file ≡ file_bytes changeset → filled ≡ insert slots slot file → WorksOn old new slots filled (Some notes) (Some notes) Changes Silent
+  works_changeset old new slots filled notes changeset file survives kept shut are made is into =
+      works_kept Changes old new slots filled (Some notes) Silent survives kept (λ clean is t. absurd (shut clean is)) (λ clean here.
       inl (with_notes (λ s. ChangesetGives s slot) (tables_in old.now) slots notes Silent _
       (net_gives (tables_in old.now) slots filled notes file are (is ∙ ap file_bytes (made clean)) into)))
 
   -- it is refused
   pub works_lacking : (old new : sqlite.State) (slots : SlotMap) (notes : Notes) (e : SessionFault) → KeepsCrash old new
-      → (HasCleanDisk new → KeepsContent old new) → (HasCleanDisk new → RefusesChanges (tables_in old.now) notes e)
-      → WorksOn old new slots slots (Some notes) (Some notes) (λ s. WithSession s (ChangesetGives s slot)) (Refused (of_session e))
-  works_lacking old new slots notes e survives kept why =
-      works_kept (λ s. WithSession s (ChangesetGives s slot)) old new slots slots (Some notes) (Refused (of_session e)) survives kept (λ clean here.
-      refused_here (λ s. WithSession s (ChangesetGives s slot)) (tables_in old.now) slots notes e (why clean) here)
+      → (HasCleanDisk new → KeepsContent old new) → (HasCleanDisk new → old.is_open ≡ false → IsResource e) → (HasCleanDisk new → RefusesChanges (tables_in old.now) notes e)
+      → WorksOn old new slots slots (Some notes) (Some notes) Changes (Refused (of_session e))
+  works_lacking old new slots notes e survives kept shut why =
+      works_kept Changes old new slots slots (Some notes) (Refused (of_session e)) survives kept
+      (λ clean is t. unable_as Changes (seen t slots (Some notes)) (of_session e) (resource_of_session e (shut clean is))) (λ clean here.
+      refused_here Changes (tables_in old.now) slots notes e (why clean) here)
 
   pub works_no_memory : (old new : sqlite.State) (slots filled : SlotMap) (notes : Notes) → KeepsCrash old new
-      → (HasCleanDisk new → KeepsContent old new) → filled ≡ slots
-      → WorksOn old new slots filled (Some notes) (Some notes) (λ s. WithSession s (ChangesetGives s slot)) (Refused refusal.NoMemory)
+      → (HasCleanDisk new → KeepsContent old new) → filled ≡ slots → WorksOn old new slots filled (Some notes) (Some notes) Changes (Refused refusal.NoMemory)
   works_no_memory old new slots filled notes survives kept same =
-      rw same (works_kept (λ s. WithSession s (ChangesetGives s slot)) old new slots slots (Some notes) (Refused refusal.NoMemory) survives kept (λ clean here.
-      no_memory (λ s. WithSession s (ChangesetGives s slot)) (seen (tables_in old.now) slots (Some notes))))
+      rw same (works_kept Changes old new slots slots (Some notes) (Refused refusal.NoMemory) survives kept (λ clean is t. no_memory Changes (seen t slots (Some notes)))
+      (λ clean here. no_memory Changes (seen (tables_in old.now) slots (Some notes))))
 
 -- ---- undoing
 
 pub works_undone : (old new : sqlite.State) (notes : Notes) (report : Report) → ChangesetFiles → IsNotes notes → Survives old new (MayUndo notes (tables_in old.now))
-    → (HasCleanDisk old → IsTrue old.is_open → IsState (tables_in old.now)) → (HasCleanDisk new → IsAtRest new)
+    → (HasCleanDisk old → IsTrue old.is_open → IsState (tables_in old.now)) → (HasCleanDisk new → IsAtRest new) → (HasCleanDisk new → old.is_open ≡ false → ⊥)
     → (HasCleanDisk new → Undoes notes (tables_in old.now) report (tables_in new.now))
     → Works old new (Some notes) (Some notes) (λ s. WithSession s (UndoGives s)) (Reported (told_of report))
-works_undone old new notes report files are survives law rests done =
-    turns_done_at old new survives rests (λ rest clean here.
+works_undone old new notes report files are survives law rests shut done =
+    turns_done (Gave (Some notes) (Some notes) (λ s. WithSession s (UndoGives s)) (Reported (told_of report))) old new survives rests shut (λ clean rest here.
     let gives = session_undoes files (tables_in old.now) (tables_in new.now) notes report (law (clean_before old new survives.clean clean) rest.is_open) are (done clean) here in
     (gives.0, λ slots. inl (with_notes UndoGives (tables_in old.now) slots notes (Reported (told_of report)) _ (gives.1 slots))))
 
 pub works_not_undone : (old new : sqlite.State) (notes : Notes) (e : SessionFault) → Survives old new (MayUndo notes (tables_in old.now))
-    → (HasCleanDisk new → KeepsContent old new) → (HasCleanDisk new → RefusesChanges (tables_in old.now) notes e)
+    → (HasCleanDisk new → KeepsContent old new) → (HasCleanDisk new → old.is_open ≡ false → IsResource e) → (HasCleanDisk new → RefusesChanges (tables_in old.now) notes e)
     → Works old new (Some notes) (Some notes) (λ s. WithSession s (UndoGives s)) (Refused (of_session e))
-works_not_undone old new notes e survives kept why =
-    works_refused (λ s. WithSession s (UndoGives s)) old new (Some notes) (Refused (of_session e)) survives kept (λ clean here slots.
+works_not_undone old new notes e survives kept shut why =
+    works_refused (λ s. WithSession s (UndoGives s)) (Some notes) (Refused (of_session e)) old new survives kept
+    (λ clean is state. unable_as (λ s. WithSession s (UndoGives s)) state (of_session e) (resource_of_session e (shut clean is))) (λ clean here slots.
     refused_here (λ s. WithSession s (UndoGives s)) (tables_in old.now) slots notes e (why clean) here)
 
 -- ---- whether keys were written

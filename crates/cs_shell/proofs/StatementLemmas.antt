@@ -1,5 +1,5 @@
 -- What statements give, of what calls of a store and of statements ensure.
-use Rattle.std.proofs.Common.{◌≡◌, ◌≢◌, ◌⊎◌, inl, inr, ℕ, Bool, true≢false, List, [], map, Option, Some, None, option_map, Result, Ok, Err, refl, sym, ap, subst, ◌∙◌}
+use Rattle.std.proofs.Common.{◌≡◌, ◌≢◌, ◌⊎◌, inl, inr, ℕ, Bool, false, true≢false, List, [], map, Option, Some, None, option_map, Result, Ok, Err, refl, sym, ap, subst, ◌∙◌}
 use Rattle.std.specs.Prelude.{IsSome, if◌then◌else◌, string_bytes}
 use Rattle.std.specs.FinMap as map_of
 use Rattle.std.specs.declared.string.String.{String}
@@ -14,7 +14,7 @@ use Rattle.cs_value.specs.State.{SchemaData, TableData, State, schema_at, rows_a
 use Rattle.cs_store.specs.declared.fault.StoreError.{StoreError}
 use Rattle.cs_store.specs.declared.fault.StoreError.TheVariants.{NoTable, NoRow}
 use Rattle.cs_store.specs.Faults as faults
-use Rattle.cs_store.specs.Editing.{Edited, Declares, schema_of, updated, deleted}
+use Rattle.cs_store.specs.Editing.{Declares, schema_of, updated, deleted}
 use Rattle.cs_store.specs.Store.{KeepsStore, tables_in}
 use Rattle.cs_session.specs.FirstImages.{Notes}
 use Rattle.cs_lines.specs.Commands.{AssignmentData}
@@ -22,16 +22,16 @@ use Rattle.cs_statements.specs.declared.fault.UnknownColumn.{UnknownColumn as No
 use Rattle.cs_statements.specs.Columns.{AreColumns, NamesKey, marks_of, columns_of}
 use Rattle.cs_statements.specs.Rows.{with_assigned}
 use Rattle.cs_shell.specs.declared.refusal.Refusal.{Refusal}
-use Rattle.cs_shell.specs.declared.refusal.Refusal.TheVariants.{UnknownColumn, Store, NoMemory}
+use Rattle.cs_shell.specs.declared.refusal.Refusal.TheVariants.{Store, NoMemory}
 use Rattle.cs_shell.specs.declared.statements.Place.{Place}
 use Rattle.cs_shell.specs.ErrorLines.{of_store, of_column}
 use Rattle.cs_shell.specs.Replies.{Reply, Silent, Listed, Refused}
 use Rattle.cs_shell.specs.Script.{CreateGives, unknown_key, declared, not_declared, declared_schema, EditGives, SelectGives, RowPlace, FindsRow}
-use Rattle.cs_shell.specs.Script.{unknown_column, no_table, null_key, found, IsResource, DeleteGives, not_deleted, deletes_row, UpdateGives, not_updated, no_row, updates_row}
+use Rattle.cs_shell.specs.Script.{unknown_column, no_table, null_key, found, DeleteGives, not_deleted, deletes_row, UpdateGives, not_updated, no_row, updates_row}
 use Rattle.cs_shell.specs.ShellState.{SlotMap, ShellState}
 use Rattle.cs_shell.specs.Turns.{OrUnable, Works, Reads, IsHere, Finds, place_of, seen}
 use Rattle.cs_shell.proofs.SessionLemmas.{declares_seen}
-use Rattle.cs_shell.proofs.TurnLemmas.{or_store, no_memory, unable_as, resource_of_store, turns_read, reads_then, works_of_read, works_after_read}
+use Rattle.cs_shell.proofs.TurnLemmas.{or_store, no_memory, unable_as, resource_of_store, reads, reads_then, works_of_read, works_after_read}
 
 -- ---- CREATE TABLE
 
@@ -52,6 +52,13 @@ pub create_refused : (state : ShellState) (name : List ℕ) (columns : List (Str
 create_refused state name columns keys marks e same are (inl why) =
     or_store (λ old. CreateGives old name (map string_bytes columns) keys) state e (inl (not_declared e are (subst (λ (s : SchemaData). Declares state.tables name s (Err e)) (schema_is columns keys marks same) why)))
 create_refused state name columns keys marks e same are (inr resource) = or_store (λ old. CreateGives old name (map string_bytes columns) keys) state e (inr resource)
+
+-- where the store is shut no more is refused than what makes no table
+pub create_shut : (state : ShellState) (name : List ℕ) (columns : List (String Global)) (keys : List (List ℕ)) (marks : List Bool) (e : StoreError)
+    → marks ≡ marks_of (map string_bytes columns) keys → AreColumns (map string_bytes columns) keys
+    → ((t : State) → Declares t name (schema_of columns marks) (Err e) ⊎ faults.IsResource e)
+    → OrUnable (λ old. CreateGives old name (map string_bytes columns) keys) state (Refused (of_store e)) state
+create_shut state name columns keys marks e same are why = create_refused state name columns keys marks e same are (why state.tables)
 
 pub create_declares : (old new : State) (name : List ℕ) (columns : List (String Global)) (keys : List (List ℕ)) (marks : List Bool) (session : Option Notes)
     → marks ≡ marks_of (map string_bytes columns) keys → AreColumns (map string_bytes columns) keys → Declares old name (schema_of columns marks) (Ok new)
@@ -117,8 +124,8 @@ module _ (name : List ℕ) (conditions : List AssignmentData) where
   Deletes old = DeleteGives old name conditions
 
   pub delete_not_found : (a b : Connection) (session : Option Notes) (why : Refusal) → Reads a b (Finds name [] conditions (Err why)) → Works a b session session Deletes (Refused why)
-  delete_not_found a b session why reads =
-      works_of_read (Finds name [] conditions (Err why)) Deletes a b session (Refused why) reads (λ finds slots. at (seen (tables_in a.now) slots session) finds)
+  delete_not_found a b session why read =
+      works_of_read (Finds name [] conditions (Err why)) Deletes a b session (Refused why) read (λ t finds slots. at (seen t slots session) finds)
     where
       at : (state : ShellState) → Finds name [] conditions (Err why) state.tables → OrUnable Deletes state (Refused why) state
       at state (inl finds) = inl (not_deleted why finds)
@@ -126,54 +133,55 @@ module _ (name : List ℕ) (conditions : List AssignmentData) where
 
   pub delete_works : (a b c : Connection) (before after : Option Notes) (place : Place) (reply : Reply) → Reads a b (Finds name [] conditions (Ok place))
       → Works b c before after (λ old. EditGives old (deleted old.tables name place.key)) reply → Works a c before after Deletes reply
-  delete_works a b c before after place reply reads works =
-      works_after_read (Finds name [] conditions (Ok place)) Deletes (λ old. EditGives old (deleted old.tables name place.key)) a b c before after reply reads works
-      (λ finds slots new gives. deletes_row (place_of place) reply new finds gives)
+  delete_works a b c before after place reply read works =
+      works_after_read (Finds name [] conditions (Ok place)) Deletes (λ old. EditGives old (deleted old.tables name place.key)) a b c before after reply read works
+      (λ t finds slots new gives. deletes_row (place_of place) reply new finds gives)
 
 module _ (name : List ℕ) (sets conditions : List AssignmentData) where
   abbrev Updates : ShellState → Reply → ShellState → Type 0
   Updates old = UpdateGives old name sets conditions
 
   pub update_not_found : (a b : Connection) (session : Option Notes) (why : Refusal) → Reads a b (Finds name sets conditions (Err why)) → Works a b session session Updates (Refused why)
-  update_not_found a b session why reads =
-      works_of_read (Finds name sets conditions (Err why)) Updates a b session (Refused why) reads (λ finds slots. at (seen (tables_in a.now) slots session) finds)
+  update_not_found a b session why read =
+      works_of_read (Finds name sets conditions (Err why)) Updates a b session (Refused why) read (λ t finds slots. at (seen t slots session) finds)
     where
       at : (state : ShellState) → Finds name sets conditions (Err why) state.tables → OrUnable Updates state (Refused why) state
       at state (inl finds) = inl (not_updated why finds)
       at state (inr resource) = unable_as Updates state why resource
 
-  module _ (a b c : Connection) (place : Place) (reads : Reads a b (Finds name sets conditions (Ok place))) (kept : KeepsStore b c) where
+  module _ (a b c : Connection) (place : Place) (found_place : Reads a b (Finds name sets conditions (Ok place))) (kept : KeepsStore b c) where
     -- the row is looked up
-    looks_up : (P : State → Type 0) → (HasCleanDisk c → P (tables_in b.now)) → Reads a c (λ t. Finds name sets conditions (Ok place) t × P t)
-    looks_up P holds = reads_then (Finds name sets conditions (Ok place)) P a b c reads (turns_read b c kept (λ clean same. (same, holds clean)))
+    looks_up : (P : State → Type 0) → (HasCleanDisk c → b.is_open ≡ false → (t : State) → P t) → (HasCleanDisk c → P (tables_in b.now)) → Reads a c (λ t. Finds name sets conditions (Ok place) t × P t)
+    looks_up P shut holds = reads_then (Finds name sets conditions (Ok place)) P a b c found_place (reads P b c kept shut holds)
 
-    pub update_no_row : (session : Option Notes) → (HasCleanDisk c → None ≡ row_at (tables_in b.now) name place.key) → Works a c session session Updates (Refused (Store NoRow))
-    update_no_row session none =
-        works_of_read (λ t. Finds name sets conditions (Ok place) t × (None ≡ row_at t name place.key)) Updates a c session (Refused (Store NoRow)) (looks_up (λ t. None ≡ row_at t name place.key) none)
-        (λ read slots. inl (no_row (place_of place) read.0 (sym read.1)))
+    pub update_no_row : (session : Option Notes) → (HasCleanDisk c → b.is_open ≡ false → ⊥) → (HasCleanDisk c → None ≡ row_at (tables_in b.now) name place.key)
+        → Works a c session session Updates (Refused (Store NoRow))
+    update_no_row session shut none =
+        works_of_read (λ t. Finds name sets conditions (Ok place) t × (None ≡ row_at t name place.key)) Updates a c session (Refused (Store NoRow))
+        (looks_up (λ t. None ≡ row_at t name place.key) (λ clean is t. absurd (shut clean is)) none) (λ t read slots. inl (no_row (place_of place) read.0 (sym read.1)))
 
     pub update_no_memory : (session : Option Notes) → Works a c session session Updates (Refused NoMemory)
     update_no_memory session =
-        works_of_read (λ t. Finds name sets conditions (Ok place) t × Unit {0}) Updates a c session (Refused NoMemory) (looks_up (λ t. Unit {0}) (λ clean. tt))
-        (λ read slots. no_memory Updates (seen (tables_in a.now) slots session))
+        works_of_read (λ t. Finds name sets conditions (Ok place) t × Unit {0}) Updates a c session (Refused NoMemory) (looks_up (λ t. Unit {0}) (λ clean is t. tt) (λ clean. tt))
+        (λ t read slots. no_memory Updates (seen t slots session))
 
-    pub update_get_refused : (session : Option Notes) (e : StoreError) → (HasCleanDisk c → ((e ≡ NoTable) × (schema_at (tables_in b.now) name ≡ None)) ⊎ faults.IsResource e)
-        → Works a c session session Updates (Refused (of_store e))
-    update_get_refused session e why =
+    pub update_get_refused : (session : Option Notes) (e : StoreError) → (HasCleanDisk c → b.is_open ≡ false → faults.IsResource e)
+        → (HasCleanDisk c → ((e ≡ NoTable) × (schema_at (tables_in b.now) name ≡ None)) ⊎ faults.IsResource e) → Works a c session session Updates (Refused (of_store e))
+    update_get_refused session e shut why =
         works_of_read (λ t. Finds name sets conditions (Ok place) t × (((e ≡ NoTable) × (schema_at t name ≡ None)) ⊎ faults.IsResource e)) Updates a c session (Refused (of_store e))
-        (looks_up (λ t. ((e ≡ NoTable) × (schema_at t name ≡ None)) ⊎ faults.IsResource e) why)
-        (λ read slots. at (seen (tables_in a.now) slots session) read.0 read.1)
+        (looks_up (λ t. ((e ≡ NoTable) × (schema_at t name ≡ None)) ⊎ faults.IsResource e) (λ clean is t. inr (shut clean is)) why)
+        (λ t read slots. at (seen t slots session) read.0 read.1)
       where
         at : (state : ShellState) → FindsRow state.tables name sets conditions (Ok (place_of place)) → ((e ≡ NoTable) × (schema_at state.tables name ≡ None)) ⊎ faults.IsResource e
             → OrUnable Updates state (Refused (of_store e)) state
         at state finds (inr resource) = or_store Updates state e (inr resource)
         at state finds (inl none) = absurd (none-some place.schema (sym none.1 ∙ found_there state.tables name sets conditions (Ok (place_of place)) finds))
 
-    pub update_works : (d : Connection) (before after : Option Notes) (row made : List OwnedValue) (reply : Reply) → (HasCleanDisk c → Some row ≡ row_at (tables_in b.now) name place.key)
-        → made ≡ with_assigned sets place.schema.columns row → Works c d before after (λ old. EditGives old (updated old.tables name place.key made)) reply
-        → Works a d before after Updates reply
-    update_works d before after row made reply is same works =
+    pub update_works : (d : Connection) (before after : Option Notes) (row made : List OwnedValue) (reply : Reply) → (HasCleanDisk c → b.is_open ≡ false → ⊥)
+        → (HasCleanDisk c → Some row ≡ row_at (tables_in b.now) name place.key) → made ≡ with_assigned sets place.schema.columns row
+        → Works c d before after (λ old. EditGives old (updated old.tables name place.key made)) reply → Works a d before after Updates reply
+    update_works d before after row made reply shut is same works =
         works_after_read (λ t. Finds name sets conditions (Ok place) t × (Some row ≡ row_at t name place.key)) Updates (λ old. EditGives old (updated old.tables name place.key made)) a c d before after reply
-        (looks_up (λ t. Some row ≡ row_at t name place.key) is) works
-        (λ read slots new gives. updates_row (place_of place) row reply new read.0 (sym read.1)
-        (subst (λ (m : List OwnedValue). EditGives (seen (tables_in a.now) slots before) (updated (tables_in a.now) name place.key m) reply new) same gives))
+        (looks_up (λ t. Some row ≡ row_at t name place.key) (λ clean is t. absurd (shut clean is)) is) works
+        (λ t read slots new gives. updates_row (place_of place) row reply new read.0 (sym read.1)
+        (subst (λ (m : List OwnedValue). EditGives (seen t slots before) (updated t name place.key m) reply new) same gives))

@@ -1,5 +1,5 @@
 -- What calls of a store and of a session do, as turns of a script.
-use Rattle.std.proofs.Common.{◌≡◌, ◌⊎◌, inl, inr, ℕ, ◌≤◌, true, false, Option, None, Some, IsTrue, refl, sym, subst, ◌∙◌, arith}
+use Rattle.std.proofs.Common.{◌≡◌, ◌⊎◌, inl, inr, Bool, true, false, Option, IsTrue, refl, sym, ap, subst, ◌∙◌, arith}
 use Rattle.sqlite_disk.specs.Disk.{MoreFaults}
 use Rattle.sqlite_trees.specs.Tree.{Trees}
 use Rattle.sqlite.specs.Effect.{Database}
@@ -10,106 +10,123 @@ use Rattle.cs_store.specs.declared.fault.StoreError.TheVariants as store
 use Rattle.cs_store.specs.Faults as faults
 use Rattle.cs_store.specs.Records.{KeepsContent}
 use Rattle.cs_store.specs.Store.{IsAtRest, KeepsStore, tables_in}
+use Rattle.cs_apply.specs.declared.fault.ApplyFault.{ApplyFault}
+use Rattle.cs_apply.specs.Running as applies
+use Rattle.cs_session.specs.declared.fault.SessionFault.{SessionFault}
+use Rattle.cs_session.specs.Changes as sessions
 use Rattle.cs_session.specs.FirstImages.{Notes}
 use Rattle.cs_shell.specs.declared.refusal.Refusal.{Refusal}
 use Rattle.cs_shell.specs.declared.refusal.Refusal.TheVariants.{NoMemory, Store}
-use Rattle.cs_shell.specs.ErrorLines.{of_store}
+use Rattle.cs_shell.specs.ErrorLines.{of_store, of_apply, of_session}
 use Rattle.cs_shell.specs.Replies.{Reply, Refused}
 use Rattle.cs_shell.specs.Script.{IsResource}
 use Rattle.cs_shell.specs.ShellState.{SlotMap, ShellState}
-use Rattle.cs_shell.specs.Turns.{Turns, Reads, IsUnable, OrUnable, Works, WorksOn, IsHere, seen}
+use Rattle.cs_shell.specs.Stores.{Stands, TellsFailures}
+use Rattle.cs_shell.specs.Turns.{Turns, Reads, OrUnable, Gave, Works, IsHere, seen}
 
--- ---- a store at rest
+-- ---- the tables that a store has
 
-module _ {P : Trees → Type 0} (old new : State) (survives : Survives old new P) (rest : IsAtRest old) (clean : HasCleanDisk new)
-    (none : MoreFaults old.faults new.faults → ⊥) where
-  stays_open : IsTrue new.is_open
-  stays_open = at (survives.closes clean rest.is_open)
-    where
-      at : IsTrue new.is_open ⊎ MoreFaults old.faults new.faults → IsTrue new.is_open
-      at (inl is_open) = is_open
-      at (inr more) = absurd (none more)
+-- where the content is kept
+stands_kept : (old new : State) (t : tables.State) → KeepsContent old new → Stands old t → Stands new t
+stands_kept old new t kept stands is_open =
+    let was = stands (kept.was_open is_open) in (
+      record {
+        is_open = is_open;
+        autocommit = kept.mode ∙ was.0.autocommit;
+        committed = kept.committed is_open ∙ was.0.committed ∙ sym (kept.now is_open);
+      },
+      ap (λ (db : Database). tables_in db) (kept.now is_open) ∙ was.1,
+    )
 
-  -- where its content is kept it is at rest
-  rests_kept : KeepsContent old new → IsAtRest new × (new.now ≡ old.now)
-  rests_kept kept = (
-    record {
-      is_open = stays_open;
-      autocommit = kept.mode ∙ rest.autocommit;
-      committed = kept.committed stays_open ∙ rest.committed ∙ sym (kept.now stays_open);
-    },
-    kept.now stays_open,
-  )
+-- where the store is read
+stands_read : (old new : State) (t : tables.State) → KeepsStore old new → HasCleanDisk new → Stands old t → Stands new t
+stands_read old new t kept clean stands is_open =
+    let rest = (stands ((kept.commit clean).was_open is_open)).0 in
+    stands_kept old new t (kept.outside clean rest.autocommit (λ k. sym rest.committed)) stands is_open
+
+-- what holds of the tables that an open store shows, and of any where it is shut
+holds_of : (old : State) (Holds : tables.State → Type 0) → (IsAtRest old → Holds (tables_in old.now)) → (old.is_open ≡ false → (t : tables.State) → Holds t)
+    → (t : tables.State) → Stands old t → Holds t
+holds_of old Holds shown shut t stands = at old.is_open refl
+  where
+    at : (is_open : Bool) → old.is_open ≡ is_open → Holds t
+    at true is = let was = stands is in subst Holds was.1 (shown was.0)
+    at false is = shut is t
 
 -- ---- turns
 
--- a call that commits, and did
-pub turns_done_at : {P : Trees → Type 0} {Holds : Type 0} (old new : State) → Survives old new P → (HasCleanDisk new → IsAtRest new) → (IsAtRest old → HasCleanDisk new → Holds)
-    → Turns old new Holds
-turns_done_at old new survives rests holds = record {
-  clean = survives.clean;
-  counts = survives.counts;
-  done = λ rest clean none. (rests clean, holds rest clean);
-}
+survives_tells : {P : Trees → Type 0} (old new : State) → Survives old new P → TellsFailures old new
+survives_tells old new survives = record { clean = survives.clean; counts = survives.counts; closes = survives.closes }
 
-pub turns_done : {P : Trees → Type 0} {Holds : Type 0} (old new : State) → Survives old new P → (HasCleanDisk new → IsAtRest new) → (HasCleanDisk new → Holds)
-    → Turns old new Holds
-turns_done old new survives rests holds = turns_done_at old new survives rests (λ rest. holds)
-
--- a call that commits, and was refused
-pub turns_refused : {P : Trees → Type 0} {Holds : Type 0} (old new : State) → Survives old new P → (HasCleanDisk new → KeepsContent old new)
-    → (HasCleanDisk new → new.now ≡ old.now → Holds) → Turns old new Holds
-turns_refused old new survives kept holds = record {
-  clean = survives.clean;
-  counts = survives.counts;
-  done = λ rest clean none. let k = rests_kept old new survives rest clean none (kept clean) in (k.0, holds clean k.1);
-}
-
--- a call that reads
-pub turns_read_at : {Holds : Type 0} (old new : State) → KeepsStore old new → (IsAtRest old → HasCleanDisk new → new.now ≡ old.now → Holds) → Turns old new Holds
-turns_read_at old new kept holds = record {
-  clean = kept.crash.clean;
-  counts = kept.crash.counts;
-  done = λ rest clean none.
-      let k = rests_kept old new kept.crash rest clean none (kept.outside clean rest.autocommit (λ is_open. sym rest.committed)) in
-      (k.0, holds rest clean k.1);
-}
-
-pub turns_read : {Holds : Type 0} (old new : State) → KeepsStore old new → (HasCleanDisk new → new.now ≡ old.now → Holds) → Turns old new Holds
-turns_read old new kept holds = turns_read_at old new kept (λ rest. holds)
-
--- nothing was called
-pub turns_still : {Holds : Type 0} (store : State) → Holds → Turns store store Holds
-turns_still store holds = record { clean = omega arith; counts = omega arith; done = λ rest clean none. (rest, holds) }
-
--- one turn after another
-pub turns_then : {A B C : Type 0} (a b c : State) → Turns a b A → Turns b c B → (A → B → C) → Turns a c C
-turns_then a b c one two both = record {
+tells_then : (a b c : State) → TellsFailures a b → TellsFailures b c → TellsFailures a c
+tells_then a b c one two = record {
   clean = omega (arith, one.clean, two.clean);
   counts = omega (arith, one.counts, two.counts);
-  done = λ rest clean none.
-      let first = one.done rest (omega (arith, two.clean)) (λ more. none (omega (arith, more, two.counts))) in
-      let second = two.done first.0 clean (λ more. none (omega (arith, more, one.counts))) in
-      (second.0, both first.1 second.1);
+  closes = λ clean is_open. on (one.closes (omega (arith, two.clean, clean)) is_open) clean;
+}
+  where
+    after : IsTrue c.is_open ⊎ MoreFaults b.faults c.faults → IsTrue c.is_open ⊎ MoreFaults a.faults c.faults
+    after (inl is_open) = inl is_open
+    after (inr more) = inr (omega (arith, one.counts, more))
+
+    on : IsTrue b.is_open ⊎ MoreFaults a.faults b.faults → HasCleanDisk c → IsTrue c.is_open ⊎ MoreFaults a.faults c.faults
+    on (inl is_open) clean = after (two.closes clean is_open)
+    on (inr more) clean = inr (omega (arith, two.counts, more))
+
+module _ (Holds : tables.State → tables.State → Type 0) where
+  -- a call that commits, and did: a store that is shut does not
+  pub turns_done : {P : Trees → Type 0} (old new : State) → Survives old new P → (HasCleanDisk new → IsAtRest new) → (HasCleanDisk new → old.is_open ≡ false → ⊥)
+      → (HasCleanDisk new → IsAtRest old → Holds (tables_in old.now) (tables_in new.now)) → Turns old new Holds
+  turns_done old new survives rests shut holds = record {
+    disk = survives_tells old new survives;
+    done = λ clean t stands. (
+      tables_in new.now,
+      (λ is_open. (rests clean, refl)),
+      holds_of old (λ before. Holds before (tables_in new.now)) (holds clean) (λ is before. absurd (shut clean is)) t stands,
+    );
+  }
+
+  -- a call that commits, and was refused
+  pub turns_refused : {P : Trees → Type 0} (old new : State) → Survives old new P → (HasCleanDisk new → KeepsContent old new)
+      → (HasCleanDisk new → old.is_open ≡ false → (t : tables.State) → Holds t t) → (HasCleanDisk new → Holds (tables_in old.now) (tables_in old.now)) → Turns old new Holds
+  turns_refused old new survives kept shut holds = record {
+    disk = survives_tells old new survives;
+    done = λ clean t stands. (t, stands_kept old new t (kept clean) stands, holds_of old (λ t. Holds t t) (λ rest. holds clean) (shut clean) t stands);
+  }
+
+  -- a call that reads
+  pub turns_read : (old new : State) → KeepsStore old new → (HasCleanDisk new → old.is_open ≡ false → (t : tables.State) → Holds t t)
+      → (HasCleanDisk new → IsAtRest old → Holds (tables_in old.now) (tables_in old.now)) → Turns old new Holds
+  turns_read old new kept shut holds = record {
+    disk = survives_tells old new kept.crash;
+    done = λ clean t stands. (t, stands_read old new t kept clean stands, holds_of old (λ t. Holds t t) (holds clean) (shut clean) t stands);
+  }
+
+  -- nothing was called
+  pub turns_still : (store : State) → ((t : tables.State) → Holds t t) → Turns store store Holds
+  turns_still store holds = record {
+    disk = record { clean = omega arith; counts = omega arith; closes = λ clean is_open. inl is_open };
+    done = λ clean t stands. (t, stands, holds t);
+  }
+
+-- one turn after another
+pub turns_then : (A B C : tables.State → tables.State → Type 0) (a b c : State) → Turns a b A → Turns b c B
+    → ((t u v : tables.State) → A t u → B u v → C t v) → Turns a c C
+turns_then A B C a b c one two both = record {
+  disk = tells_then a b c one.disk two.disk;
+  done = λ clean t stands.
+      let first = one.done (omega (arith, two.disk.clean, clean)) t stands in
+      let second = two.done clean first.0 first.1 in
+      (second.0, second.1, both t first.0 second.0 first.2 second.2);
 }
 
-pub turns_weaker : {A B : Type 0} (old new : State) → (A → B) → Turns old new A → Turns old new B
-turns_weaker old new weaker turns = record {
-  clean = turns.clean;
-  counts = turns.counts;
-  done = λ rest clean none. let t = turns.done rest clean none in (t.0, weaker t.1);
+pub turns_weaker : (A B : tables.State → tables.State → Type 0) (old new : State) → ((t u : tables.State) → A t u → B t u) → Turns old new A → Turns old new B
+turns_weaker A B old new weaker turns = record {
+  disk = turns.disk;
+  done = λ clean t stands. let done = turns.done clean t stands in (done.0, done.1, weaker t done.0 done.2);
 }
 
 -- ---- what a script sees of them
-
--- what is shown is the same, and so is what a script sees
-pub works_same : (Gives : ShellState → Reply → ShellState → Type 0) (old new : State) (session : Option Notes) (reply : Reply) → new.now ≡ old.now
-    → ((slots : SlotMap) → OrUnable Gives (seen (tables_in old.now) slots session) reply (seen (tables_in old.now) slots session))
-    → IsHere (tables_in old.now) session
-    → IsHere (tables_in new.now) session × ((slots : SlotMap) → OrUnable Gives (seen (tables_in old.now) slots session) reply (seen (tables_in new.now) slots session))
-works_same Gives old new session reply same gives here =
-    subst (λ (db : Database). IsHere (tables_in db) session × ((slots : SlotMap) → OrUnable Gives (seen (tables_in old.now) slots session) reply (seen (tables_in db) slots session)))
-    (sym same) (here, gives)
 
 -- a command that is refused for memory or by the database
 pub unable_as : (Gives : ShellState → Reply → ShellState → Type 0) (state : ShellState) (why : Refusal) → IsResource why → OrUnable Gives state (Refused why) state
@@ -135,6 +152,14 @@ pub resource_of_store : (e : StoreError) → faults.IsResource e → IsResource 
 resource_of_store e (inl is) = rw is (inl refl)
 resource_of_store e (inr is) = rw is (inr refl)
 
+pub resource_of_apply : (e : ApplyFault) → applies.IsResource e → IsResource (of_apply e)
+resource_of_apply e (inl is) = rw is (inl refl)
+resource_of_apply e (inr is) = rw is (inr refl)
+
+pub resource_of_session : (e : SessionFault) → sessions.IsResource e → IsResource (of_session e)
+resource_of_session e (inl is) = rw is (inl refl)
+resource_of_session e (inr is) = rw is (inr refl)
+
 -- a command that a store refuses
 pub or_store : (Gives : ShellState → Reply → ShellState → Type 0) (state : ShellState) (e : StoreError) → Gives state (Refused (Store e)) state ⊎ faults.IsResource e
     → OrUnable Gives state (Refused (of_store e)) state
@@ -147,26 +172,30 @@ or_store Gives state e (inl gives) = at (of_store_cases e)
 
 -- ---- calls, as commands
 
--- a call that reads, and leaves what a script sees
-pub works_read : (Gives : ShellState → Reply → ShellState → Type 0) (old new : State) (session : Option Notes) (reply : Reply) → KeepsStore old new
-    → (HasCleanDisk new → (slots : SlotMap) → OrUnable Gives (seen (tables_in old.now) slots session) reply (seen (tables_in old.now) slots session))
-    → Works old new session session Gives reply
-works_read Gives old new session reply kept gives =
-    turns_read old new kept (λ clean same. works_same Gives old new session reply same (gives clean))
+module _ (Gives : ShellState → Reply → ShellState → Type 0) (session : Option Notes) (reply : Reply) where
+  -- whatever the tables are, for a store that is shut
+  pub gave : ((state : ShellState) → OrUnable Gives state reply state) → (t : tables.State) → Gave session session Gives reply t t
+  gave gives t here = (here, λ slots. gives (seen t slots session))
 
--- a call that commits, and was refused
-pub works_refused : {P : Trees → Type 0} (Gives : ShellState → Reply → ShellState → Type 0) (old new : State) (session : Option Notes) (reply : Reply) → Survives old new P
-    → (HasCleanDisk new → KeepsContent old new)
-    → (HasCleanDisk new → IsHere (tables_in old.now) session → (slots : SlotMap) → OrUnable Gives (seen (tables_in old.now) slots session) reply (seen (tables_in old.now) slots session))
-    → Works old new session session Gives reply
-works_refused Gives old new session reply survives kept gives =
-    turns_refused old new survives kept (λ clean same here. works_same Gives old new session reply same (gives clean here) here)
+  -- a call that reads, and leaves what a script sees
+  pub works_read : (old new : State) → KeepsStore old new → (HasCleanDisk new → old.is_open ≡ false → (state : ShellState) → OrUnable Gives state reply state)
+      → (HasCleanDisk new → (slots : SlotMap) → OrUnable Gives (seen (tables_in old.now) slots session) reply (seen (tables_in old.now) slots session))
+      → Works old new session session Gives reply
+  works_read old new kept shut gives =
+      turns_read (Gave session session Gives reply) old new kept (λ clean is. gave (shut clean is)) (λ clean rest here. (here, gives clean))
 
--- nothing was called
-pub works_still : (Gives : ShellState → Reply → ShellState → Type 0) (store : State) (session : Option Notes) (reply : Reply)
-    → ((slots : SlotMap) → OrUnable Gives (seen (tables_in store.now) slots session) reply (seen (tables_in store.now) slots session))
-    → Works store store session session Gives reply
-works_still Gives store session reply gives = turns_still store (λ here. (here, gives))
+  -- a call that commits, and was refused
+  pub works_refused : {P : Trees → Type 0} (old new : State) → Survives old new P → (HasCleanDisk new → KeepsContent old new)
+      → (HasCleanDisk new → old.is_open ≡ false → (state : ShellState) → OrUnable Gives state reply state)
+      → (HasCleanDisk new → IsHere (tables_in old.now) session → (slots : SlotMap) → OrUnable Gives (seen (tables_in old.now) slots session) reply (seen (tables_in old.now) slots session))
+      → Works old new session session Gives reply
+  works_refused old new survives kept shut gives =
+      turns_refused (Gave session session Gives reply) old new survives kept (λ clean is. gave (shut clean is)) (λ clean here. (here, gives clean here))
+
+  -- nothing was called
+  pub works_still : (store : State) → ((t : tables.State) (slots : SlotMap) → OrUnable Gives (seen t slots session) reply (seen t slots session))
+      → Works store store session session Gives reply
+  works_still store gives = turns_still (Gave session session Gives reply) store (λ t here. (here, gives t))
 
 -- ---- a reading, and then more
 
@@ -175,23 +204,30 @@ pub or_weaker : (Gives More : ShellState → Reply → ShellState → Type 0) (o
 or_weaker Gives More old reply new weaker (inl more) = inl (weaker more)
 or_weaker Gives More old reply new weaker (inr unable) = inr unable
 
+abbrev Read : (tables.State → Type 0) → tables.State → tables.State → Type 0
+Read P before after = (after ≡ before) × P before
+
+-- this holds of what is read, and of any tables where the store is shut
+pub reads : (P : tables.State → Type 0) (old new : State) → KeepsStore old new → (HasCleanDisk new → old.is_open ≡ false → (t : tables.State) → P t)
+    → (HasCleanDisk new → P (tables_in old.now)) → Reads old new P
+reads P old new kept shut holds = turns_read (Read P) old new kept (λ clean is t. (refl, shut clean is t)) (λ clean rest. (refl, holds clean))
+
 pub reads_then : (P Q : tables.State → Type 0) (a b c : State) → Reads a b P → Reads b c Q → Reads a c (λ t. P t × Q t)
 reads_then P Q a b c one two =
-    turns_then a b c one two (λ first second. (second.0 ∙ first.0, (first.1, subst (λ (db : Database). Q (tables_in db)) first.0 second.1)))
+    turns_then (Read P) (Read Q) (Read (λ t. P t × Q t)) a b c one two (λ t u v first second. (second.0 ∙ first.0, (first.1, subst Q first.0 second.1)))
 
 -- what is only read is answered of what was there
 pub works_of_read : (P : tables.State → Type 0) (Gives : ShellState → Reply → ShellState → Type 0) (a b : State) (session : Option Notes) (reply : Reply) → Reads a b P
-    → (P (tables_in a.now) → (slots : SlotMap) → OrUnable Gives (seen (tables_in a.now) slots session) reply (seen (tables_in a.now) slots session))
+    → ((t : tables.State) → P t → (slots : SlotMap) → OrUnable Gives (seen t slots session) reply (seen t slots session))
     → Works a b session session Gives reply
-works_of_read P Gives a b session reply reads gives =
-    turns_weaker a b (λ read. works_same Gives a b session reply read.0 (gives read.1)) reads
+works_of_read P Gives a b session reply read gives =
+    turns_weaker (Read P) (Gave session session Gives reply) a b (λ t u was. subst (λ (s : tables.State). Gave session session Gives reply t s) (sym was.0) (λ here. (here, gives t was.1))) read
 
 pub works_after_read : (P : tables.State → Type 0) (Gives More : ShellState → Reply → ShellState → Type 0) (a b c : State) (before after : Option Notes) (reply : Reply) → Reads a b P
     → Works b c before after More reply
-    → (P (tables_in a.now) → (slots : SlotMap) (new : ShellState) → More (seen (tables_in a.now) slots before) reply new → Gives (seen (tables_in a.now) slots before) reply new)
+    → ((t : tables.State) → P t → (slots : SlotMap) (new : ShellState) → More (seen t slots before) reply new → Gives (seen t slots before) reply new)
     → Works a c before after Gives reply
-works_after_read P Gives More a b c before after reply reads works gives =
-    turns_then a b c reads works (λ read work here.
-    let done = subst (λ (db : Database). IsHere (tables_in db) before → IsHere (tables_in c.now) after
-    × ((slots : SlotMap) → OrUnable More (seen (tables_in db) slots before) reply (seen (tables_in c.now) slots after))) read.0 work here in
-    (done.0, λ slots. or_weaker Gives More (seen (tables_in a.now) slots before) reply (seen (tables_in c.now) slots after) (gives read.1 slots (seen (tables_in c.now) slots after)) (done.1 slots)))
+works_after_read P Gives More a b c before after reply read works gives =
+    turns_then (Read P) (Gave before after More reply) (Gave before after Gives reply) a b c read works (λ t u v was work here.
+    let done = (subst (λ (s : tables.State). Gave before after More reply s v) was.0 work) here in
+    (done.0, λ slots. or_weaker Gives More (seen t slots before) reply (seen v slots after) (gives t was.1 slots (seen v slots after)) (done.1 slots)))

@@ -10,7 +10,6 @@ use Rattle.cs_shell.specs.Turns.{Answers}
 -- memory may be refused for any line, and then nothing changes
 pub loses_line : (store : State) (work : Workspace) (line : List ℕ) → Answers store store work work line (Refused NoMemory)
 loses_line store work line = record {
-  clean = omega arith;
-  counts = omega arith;
-  done = λ rest clean none. (rest, λ here. (here, inl (unanswered _ line NoMemory (inl refl))));
+  disk = record { clean = omega arith; counts = omega arith; closes = λ clean is_open. inl is_open };
+  done = λ clean tables stands. (tables, stands, λ here. (here, inl (unanswered _ line NoMemory (inl refl))));
 }

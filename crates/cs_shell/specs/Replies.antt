@@ -1,5 +1,5 @@
 -- What lines are answered, and what is printed for that.
-use Rattle.std.specs.Prelude.{ℕ, List, [], ◌++◌, map, Bool, true, false}
+use Rattle.std.specs.Prelude.{ℕ, List, [], ◌++◌, Bool, true, false}
 use Rattle.std.specs.Prelude.{Result, Ok, Err, codes, string_bytes}
 use Rattle.std.specs.List.{flat_map}
 use Rattle.cs_value.specs.declared.value.OwnedValue.{OwnedValue}

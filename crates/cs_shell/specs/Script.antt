@@ -15,7 +15,6 @@ use Rattle.cs_group.specs.declared.conflict.Choice.{Choice}
 use Rattle.cs_store.specs.declared.fault.StoreError.{StoreError}
 use Rattle.cs_store.specs.declared.fault.StoreError.TheVariants.{NoTable, NullInKey, NoRow, StoreFault}
 use Rattle.cs_store.specs.Editing.{Edited, Declares, inserted, updated, deleted, written_of}
-use Rattle.cs_apply.specs.declared.policy.Policy.{Policy}
 use Rattle.cs_apply.specs.declared.report.Report.{Report}
 use Rattle.cs_apply.specs.declared.running.Direction.{Direction}
 use Rattle.cs_apply.specs.declared.running.Direction.TheVariants.{Forward, Inverse}
@@ -39,7 +38,7 @@ use Rattle.cs_shell.specs.declared.refusal.Refusal.TheVariants.{LineText, Unknow
 use Rattle.cs_shell.specs.ErrorLines.{of_apply}
 use Rattle.cs_shell.specs.Replies.{Reply, Silent, Text, Dumped, Listed, Reported, Refused}
 use Rattle.cs_shell.specs.Report.{told_of}
-use Rattle.cs_shell.specs.ShellState.{SlotMap, SessionTable, SessionTables, ShellState, written_to, net_of, net_count, put_back}
+use Rattle.cs_shell.specs.ShellState.{SlotMap, SessionTables, ShellState, written_to, net_of, net_count, put_back}
 
 -- ---- slots
 

@@ -1,7 +1,7 @@
 -- What the lines of a script are run on: tables, slots, and at most one session. A session is the one of SQLite's session
 -- extension, said over whole tables: of each that is attached it has the rows as they stood then, and which keys were
 -- written since.
-use Rattle.std.specs.Prelude.{ℕ, if◌then◌else◌, List, [], ◌∷◌, ◌++◌, length, map, filter, filter_map, Option, option_map}
+use Rattle.std.specs.Prelude.{ℕ, if◌then◌else◌, List, [], ◌∷◌, ◌++◌, length, map, filter_map, Option, option_map}
 use Rattle.std.specs.List.{flat_map, list_any}
 use Rattle.std.specs.FinMap as map
 use Rattle.cs_value.specs.Maps.{ByBytes}

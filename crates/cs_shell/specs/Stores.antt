@@ -1,7 +1,8 @@
 -- How a script runs over a store.
-use Rattle.std.specs.Prelude.{◌≡◌, ℕ, List, None, Option}
+use Rattle.std.specs.Prelude.{◌≡◌, ◌⊎◌, ℕ, ◌≤◌, List, None, Option, IsTrue}
 use Rattle.std.specs.FinMap as map
 use Rattle.sqlite_disk.specs.Disk.{MoreFaults}
+use Rattle.sqlite_trees.specs.View.{doubt}
 use Rattle.sqlite.specs.State as sqlite
 use Rattle.sqlite.specs.State.{HasCleanDisk}
 use Rattle.cs_value.specs.State.{State}
@@ -13,21 +14,27 @@ use Rattle.cs_shell.specs.Script.{LineGives}
 use Rattle.cs_shell.specs.ShellState.{ShellState}
 use Rattle.cs_shell.specs.Runs.{Runs}
 
+-- a store stands with these tables: while its connection is open, no transaction is, and these are committed. One whose
+-- connection a failure of the disk has shut shows none, and stands with any
+abbrev pub Stands : sqlite.State → State → Type 0
+Stands store tables = IsTrue store.is_open → IsAtRest store × (tables_in store.now ≡ tables)
+
+-- no failure of the disk is forgotten, and only one that was counted shuts the connection
+pub record TellsFailures (old new : sqlite.State) : Type 0 where
+  pub clean : doubt old.is_clean ≤ doubt new.is_clean
+  pub counts : old.faults ≤ new.faults
+  pub closes : HasCleanDisk new → IsTrue old.is_open → IsTrue new.is_open ⊎ MoreFaults old.faults new.faults
+
 -- a script begins with the tables of the store: no slot is filled, and no session is open
 abbrev pub beginning : State → ShellState
 beginning tables = record { tables = tables; slots = map.empty; session = None }
 
--- the script is run: its lines gave these replies in turn, and the store has the tables that go with them
+-- the script is run: its lines gave these replies in turn, and the store stands with the tables that go with them
 pub record RunsScript {R W : Type 0} (remaining : R → Option (List ℕ)) (contents : W → Option (List ℕ)) (status : Status)
-    (old new : sqlite.State) (input_before input_after : Told R) (before after : Told W) : Type 0 where
+    (input_before input_after : Told R) (before after : Told W) (tables : State) (new : sqlite.State) : Type 0 where
   pub last : ShellState
-  pub runs : Runs remaining contents LineGives status (beginning (tables_in old.now)) last input_before input_after before after
-  pub stands : last.tables ≡ tables_in new.now
-  pub at_rest : IsAtRest new
-
--- of a store that was at rest, while its disk did not fail and has returned what was written
-abbrev pub WhileSound : sqlite.State → sqlite.State → Type 0 → Type 0
-WhileSound old new Holds = IsAtRest old → HasCleanDisk new → (MoreFaults old.faults new.faults → ⊥) → Holds
+  pub runs : Runs remaining contents LineGives status (beginning tables) last input_before input_after before after
+  pub stands : Stands new last.tables
 
 -- a line has a reply, whatever it is
 abbrev pub HasReply : Unit {0} → List ℕ → Reply → Unit {0} → Type 0

@@ -1,11 +1,8 @@
 -- What a command does with a store and a session: the vocabulary of private contracts.
-use Rattle.std.specs.Prelude.{◌≡◌, ◌⊎◌, ℕ, ◌≤◌, List, map, Option, None, Some, option_map, Result, Ok, Err, MatchResult}
-use Rattle.sqlite_disk.specs.Disk.{MoreFaults}
-use Rattle.sqlite_trees.specs.View.{doubt}
+use Rattle.std.specs.Prelude.{◌≡◌, ◌⊎◌, ℕ, List, map, Option, None, Some, option_map, Result, Ok, Err}
 use Rattle.sqlite.specs.State as sqlite
 use Rattle.sqlite.specs.State.{HasCleanDisk}
 use Rattle.cs_value.specs.State.{State}
-use Rattle.cs_store.specs.Store.{IsAtRest, tables_in}
 use Rattle.cs_session.specs.FirstImages.{AttachedTable, Notes, rewound_rows}
 use Rattle.cs_session.specs.Runs.{IsMoment}
 use Rattle.cs_lines.specs.Commands.{AssignmentData}
@@ -16,6 +13,7 @@ use Rattle.cs_shell.specs.declared.workspace.Workspace.{Workspace}
 use Rattle.cs_shell.specs.Script.{RowPlace, FindsRow, IsResource, LineGives}
 use Rattle.cs_shell.specs.ShellState.{SlotMap, SessionTable, SessionTables, ShellState}
 use Rattle.cs_shell.specs.Runs.{Runs}
+use Rattle.cs_shell.specs.Stores.{Stands, TellsFailures}
 use Rattle.cs_shell.specs.declared.script.Status.{Status}
 use Rattle.cs_files.specs.declared.told.Told.{Told}
 
@@ -43,15 +41,15 @@ IsHere tables (Some notes) = IsMoment (record { state = tables; notes = notes })
 
 -- ---- what was done
 
--- a store that was at rest is at rest again, and this holds, if the disk did not fail and has returned what was written
-pub record Turns (old new : sqlite.State) (Holds : Type 0) : Type 0 where
-  pub clean : doubt old.is_clean ≤ doubt new.is_clean
-  pub counts : old.faults ≤ new.faults
-  pub done : IsAtRest old → HasCleanDisk new → (MoreFaults old.faults new.faults → ⊥) → IsAtRest new × Holds
+-- a store that stood with some tables stands with others, and of both this holds, if the disk has returned what was written
+pub record Turns (old new : sqlite.State) (Holds : State → State → Type 0) : Type 0 where
+  pub disk : TellsFailures old new
+  pub done : HasCleanDisk new → (before : State) → Stands old before
+      → (after : State) × Stands new after × Holds before after
 
 -- the tables were read, and this holds of them
 abbrev pub Reads : sqlite.State → sqlite.State → (State → Type 0) → Type 0
-Reads old new Holds = Turns old new ((new.now ≡ old.now) × Holds (tables_in old.now))
+Reads old new Holds = Turns old new (λ before after. (after ≡ before) × Holds before)
 
 -- memory was refused, or the database refused, and nothing changed
 pub record IsUnable (old : ShellState) (reply : Reply) (new : ShellState) : Type 0 where
@@ -63,31 +61,37 @@ pub record IsUnable (old : ShellState) (reply : Reply) (new : ShellState) : Type
 abbrev pub OrUnable : (ShellState → Reply → ShellState → Type 0) → ShellState → Reply → ShellState → Type 0
 OrUnable Gives old reply new = Gives old reply new ⊎ IsUnable old reply new
 
--- a command gave this reply: of what a script saw before and sees now, whatever is in the slots
+-- a command gave this reply, from these tables to those, whatever is in the slots
+abbrev pub Gave : Option Notes → Option Notes → (ShellState → Reply → ShellState → Type 0) → Reply → State → State → Type 0
+Gave noted notes Gives reply before after = IsHere before noted → IsHere after notes
+    × ((slots : SlotMap) → OrUnable Gives (seen before slots noted) reply (seen after slots notes))
+
+-- it gave it over a store
 abbrev pub Works : sqlite.State → sqlite.State → Option Notes → Option Notes → (ShellState → Reply → ShellState → Type 0)
     → Reply → Type 0
-Works old new before after Gives reply = Turns old new (IsHere (tables_in old.now) before
-    → IsHere (tables_in new.now) after
-    × ((slots : SlotMap) → OrUnable Gives (seen (tables_in old.now) slots before) reply (seen (tables_in new.now) slots after)))
+Works old new noted notes Gives reply = Turns old new (Gave noted notes Gives reply)
 
 -- the same of one that may change slots
+abbrev pub GaveOn : SlotMap → SlotMap → Option Notes → Option Notes → (ShellState → Reply → ShellState → Type 0) → Reply
+    → State → State → Type 0
+GaveOn slots filled noted notes Gives reply before after = IsHere before noted → IsHere after notes
+    × OrUnable Gives (seen before slots noted) reply (seen after filled notes)
+
 abbrev pub WorksOn : sqlite.State → sqlite.State → SlotMap → SlotMap → Option Notes → Option Notes
     → (ShellState → Reply → ShellState → Type 0) → Reply → Type 0
-WorksOn old new slots filled before after Gives reply = Turns old new (IsHere (tables_in old.now) before
-    → IsHere (tables_in new.now) after
-    × OrUnable Gives (seen (tables_in old.now) slots before) reply (seen (tables_in new.now) filled after))
+WorksOn old new slots filled noted notes Gives reply = Turns old new (GaveOn slots filled noted notes Gives reply)
 
 -- a line gave this reply
 abbrev pub Answers : sqlite.State → sqlite.State → Workspace → Workspace → List ℕ → Reply → Type 0
 Answers old new before after line reply = WorksOn old new before.slots after.slots before.session after.session
     (λ state. LineGives state line) reply
 
--- a script was run whose session, if one was open, has its tables there
-abbrev pub RunsShell : {R W : Type 0} → (R → Option (List ℕ)) → (W → Option (List ℕ)) → Status → sqlite.State → sqlite.State
-    → Workspace → Workspace → Told R → Told R → Told W → Told W → Type 0
-RunsShell remaining contents status old new before after input_before input_after out_before out_after =
-    IsHere (tables_in old.now) before.session → IsAtRest new × Runs remaining contents LineGives status
-    (seen (tables_in old.now) before.slots before.session) (seen (tables_in new.now) after.slots after.session)
+-- a script was run, from these tables to those, whose session, if one was open, has its tables there
+abbrev pub RunsShell : {R W : Type 0} → (R → Option (List ℕ)) → (W → Option (List ℕ)) → Status
+    → Workspace → Workspace → Told R → Told R → Told W → Told W → State → State → Type 0
+RunsShell remaining contents status work kept input_before input_after out_before out_after before after =
+    IsHere before work.session → Runs remaining contents LineGives status
+    (seen before work.slots work.session) (seen after kept.slots kept.session)
     input_before input_after out_before out_after
 
 -- ---- rows that are found

@@ -1,12 +1,14 @@
 //! Scripts over a store: what answers their lines is the store, slots and a session.
 ghost use Rattle.std.specs.Prelude.{◌≡◌};
 ghost use Rattle.sqlite.specs.Held.{state};
+ghost use Rattle.sqlite.specs.State.{HasCleanDisk};
+ghost use Rattle.cs_value.specs.State.{State};
 ghost use Rattle.cs_lines.specs.Commands.{command_of};
 ghost use Rattle.cs_shell.specs.Replies.{answer_of};
 ghost use Rattle.cs_shell.specs.Script.{CommandGives, LineGives};
 ghost use Rattle.cs_shell.specs.Runs.{Runs};
-ghost use Rattle.cs_shell.specs.Stores.{HasReply, RunsScript, WhileSound};
-ghost use Rattle.cs_shell.specs.Turns.{WorksOn, RunsShell};
+ghost use Rattle.cs_shell.specs.Stores.{HasReply, RunsScript, Stands, TellsFailures};
+ghost use Rattle.cs_shell.specs.Turns.{WorksOn, RunsShell, Turns};
 
 use crate::refusal::Refusal;
 use crate::reply::Reply;
@@ -146,15 +148,16 @@ fn run_shell<S: Alter, R: Read, W: Write>(
 ) -> Status
     ensures kept { shell.new.store.ghost_name ≡ shell.old.store.ghost_name }
     ensures answered { Runs R.remaining W.contents HasReply result tt tt input.old input.new out.old out.new }
-    ensures ran { WhileSound (state S.Store shell.old.store.now) (state S.Store shell.new.store.now)
-        (RunsShell R.remaining W.contents result (state S.Store shell.old.store.now) (state S.Store shell.new.store.now)
-        shell.old.work.now shell.new.work.now input.old input.new out.old out.new) }
+    ensures ran { Turns (state S.Store shell.old.store.now) (state S.Store shell.new.store.now)
+        (RunsShell R.remaining W.contents result shell.old.work.now shell.new.work.now
+        input.old input.new out.old out.new) }
 {
     run_machine(alloc, shell, input, out)
 }
 
 /// Runs a script on a store: reads its lines, answers those that it has before it reads on, and prints the
-/// replies. A line that memory or the database is refused for changes nothing. It reads at most 16777217
+/// replies. A line that memory or the database refuses changes nothing; where a failure of the disk has shut the
+/// store, each line behind it that asks for a table is refused. It reads at most 16777217
 /// bytes: at a byte after 16777216 it stops, once the whole lines of those are run and an error line is
 /// printed. It stops, too, where a read or a write fails; lines that were run stand, and the store has what
 /// they left. The slots and the session, if one is open, end with the script.
@@ -165,9 +168,10 @@ pub fn run_script<S: Alter, R: Read, W: Write>(
     out: &mut Told<W>,
 ) -> Status
     ensures answered { Runs R.remaining W.contents HasReply result tt tt input.old input.new out.old out.new }
-    ensures ran { WhileSound (state S.Store store.old) (state S.Store store.new)
-        (RunsScript R.remaining W.contents result (state S.Store store.old) (state S.Store store.new)
-        input.old input.new out.old out.new) }
+    ensures ran { HasCleanDisk (state S.Store store.new) → (tables : State) → Stands (state S.Store store.old) tables
+        → RunsScript R.remaining W.contents result input.old input.new out.old out.new tables
+        (state S.Store store.new) }
+    ensures disk { TellsFailures (state S.Store store.old) (state S.Store store.new) }
 {
     let mut work = Workspace::new(alloc);
     let mut shell = Shell {

@@ -1,6 +1,6 @@
 -- What a store over a connection holds: a state, as its records stand for it.
 use Rattle.std.specs.Prelude.{◌≡◌, ◌⊎◌, ℕ, List, [], map as map_list, Vec, IsTrue, true, false}
-use Rattle.std.specs.Prelude.{Option, None, Some, IfSome, Result, Ok, Err, string_bytes}
+use Rattle.std.specs.Prelude.{Option, None, Some, IfSome, Result, Ok, Err, IsErrAnd, string_bytes}
 use Rattle.std.specs.List.{AllByRecursion}
 use Rattle.std.specs.FinMap as map
 use Rattle.std.specs.declared.alloc.Global.{Global}
@@ -68,6 +68,10 @@ pub record KeepsStore (old new : State) : Type 0 where
 abbrev pub Recovers : {X : Type 0} → Result X StoreError → X → Type 0
 Recovers (Ok x) stored = x ≡ stored
 Recovers (Err e) stored = IsResource e
+
+-- where a failure of the disk has shut the connection, the call is refused, and for such a reason
+abbrev pub RefusesShut : {X E : Type 0} → State → (E → Type 0) → Result X E → Type 0
+RefusesShut s Why result = s.is_open ≡ false → IsErrAnd result Why
 
 -- a transaction begins with what was committed
 pub record Begins (old new : State) : Type 0 where

@@ -7,7 +7,7 @@ ghost use Rattle.cs_value.specs.State.{schema_at, row_at, rows_at, with_row, wit
 ghost use Rattle.cs_store.specs.declared.fault.StoreError.TheVariants.{TableExists as TakenName};
 ghost use Rattle.cs_store.specs.Faults.{IsResource, IsReadRefusal};
 ghost use Rattle.cs_store.specs.Rows.{IsDeclared, Fits};
-ghost use Rattle.cs_store.specs.Store.{AddsTable, IsSound, KeepsStore, Knows, tables_in};
+ghost use Rattle.cs_store.specs.Store.{AddsTable, IsSound, KeepsStore, Knows, RefusesShut, tables_in};
 ghost use Rattle.sqlite.specs.State.{HasCleanDisk};
 ghost use Rattle.sqlite.specs.Held.{state};
 
@@ -50,6 +50,7 @@ pub(crate) fn find_schema<S: Alter>(
         ≡ (state S.Store conn.old).now) }
     ensures refused { HasCleanDisk (state S.Store conn.new)
         → IfErr result IsResource }
+    ensures shut { HasCleanDisk (state S.Store conn.new) → RefusesShut (state S.Store conn.old) IsResource result }
     ensures named { IfErr result IsReadRefusal }
     ensures knows { Knows (state S.Store conn.new) known.new }
     ensures kept { KeepsStore (state S.Store conn.old) (state S.Store conn.new) }
@@ -81,6 +82,7 @@ pub(crate) fn find_row<S: Alter>(
     ensures same { HasCleanDisk (state S.Store conn.new) → OnOk result ((state S.Store conn.new).now
         ≡ (state S.Store conn.old).now) }
     ensures refused { HasCleanDisk (state S.Store conn.new) → IfErr result IsResource }
+    ensures shut { HasCleanDisk (state S.Store conn.new) → RefusesShut (state S.Store conn.old) IsResource result }
     ensures named { IfErr result IsReadRefusal }
     ensures knows { Knows (state S.Store conn.new) known.new }
     ensures kept { KeepsStore (state S.Store conn.old) (state S.Store conn.new) }
@@ -115,6 +117,7 @@ pub(crate) fn list_rows<S: Alter>(
     ensures same { HasCleanDisk (state S.Store conn.new) → OnOk result ((state S.Store conn.new).now
         ≡ (state S.Store conn.old).now) }
     ensures refused { HasCleanDisk (state S.Store conn.new) → IfErr result IsResource }
+    ensures shut { HasCleanDisk (state S.Store conn.new) → RefusesShut (state S.Store conn.old) IsResource result }
     ensures named { IfErr result IsReadRefusal }
     ensures knows { Knows (state S.Store conn.new) known.new }
     ensures kept { KeepsStore (state S.Store conn.old) (state S.Store conn.new) }
@@ -261,6 +264,7 @@ fn look_up<S: Alter>(
         ≡ (state S.Store conn.old).now) }
     ensures refused { HasCleanDisk (state S.Store conn.new)
         → IfErr result IsResource }
+    ensures shut { HasCleanDisk (state S.Store conn.new) → RefusesShut (state S.Store conn.old) IsResource result }
     ensures named { IfErr result IsReadRefusal }
     ensures knows { Knows (state S.Store conn.new) known.new }
     ensures kept { KeepsStore (state S.Store conn.old) (state S.Store conn.new) }

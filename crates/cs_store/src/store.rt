@@ -17,7 +17,7 @@ ghost use Rattle.sqlite.specs.Files.{file_state};
 ghost use Rattle.sqlite.specs.Steps.{over_memory};
 ghost use Rattle.sqlite_wal.specs.Files.{image_at};
 ghost use Rattle.cs_store.specs.Store.{Adopts, Begins, HoldsTables, IsAtRest, KeepsStore, OpensFiles};
-ghost use Rattle.cs_store.specs.Store.{tables_in};
+ghost use Rattle.cs_store.specs.Store.{RefusesShut, tables_in};
 
 use crate::batch::SqlBatch;
 use crate::edit::{Edit, Written};
@@ -32,7 +32,9 @@ use std::alloc::Global;
 use std::marker::Model;
 use std::rt::HostRuntime;
 
-/// Tables of rows in a database, in memory or in a file.
+/// Tables of rows in a database, in memory or in a file. Where a failure of the disk has shut the connection, each
+/// call that asks the database for anything is refused from then on, with [`StoreFault`](StoreError::StoreFault) or
+/// for memory.
 #[derive(Drop)]
 pub struct Store<S: Alter> {
     pub(crate) conn: Connection<S>,
@@ -189,6 +191,9 @@ impl<S: Alter> Store<S> {
         ensures refused { HasCleanDisk (state S.Store self.new)
             → IfErr result (λ e. (Declares (tables_in (state S.Store self.old).now) name.now
             (schema_of columns.now keys.now) (Err e)) ⊎ IsResource e) }
+        ensures shut { HasCleanDisk (state S.Store self.new) → RefusesShut (state S.Store self.old)
+            (λ e. (held : tables.State) → Declares held name.now (schema_of columns.now keys.now) (Err e)
+            ⊎ IsResource e) result }
         ensures named { IfErr result (λ e. (e ≡ NoSchema) ⊎ (e ≡ TakenName) ⊎ IsReadRefusal e) }
         ensures at_rest { HasCleanDisk (state S.Store self.new) → OnOk result (IsAtRest (state S.Store self.new)) }
         ensures kept { HasCleanDisk (state S.Store self.new)
@@ -213,6 +218,8 @@ impl<S: Alter> Store<S> {
         ensures same { HasCleanDisk (state S.Store self.new) → OnOk result ((state S.Store self.new).now
             ≡ (state S.Store self.old).now) }
         ensures refused { HasCleanDisk (state S.Store self.new) → IfErr result IsResource }
+        ensures shut { HasCleanDisk (state S.Store self.new)
+            → RefusesShut (state S.Store self.old) IsResource result }
         ensures named { IfErr result IsReadRefusal }
         ensures kept { KeepsStore (state S.Store self.old) (state S.Store self.new) }
     {
@@ -227,6 +234,8 @@ impl<S: Alter> Store<S> {
         ensures same { HasCleanDisk (state S.Store self.new) → OnOk result ((state S.Store self.new).now
             ≡ (state S.Store self.old).now) }
         ensures refused { HasCleanDisk (state S.Store self.new) → IfErr result IsResource }
+        ensures shut { HasCleanDisk (state S.Store self.new)
+            → RefusesShut (state S.Store self.old) IsResource result }
         ensures named { IfErr result IsReadRefusal }
         ensures kept { KeepsStore (state S.Store self.old) (state S.Store self.new) }
     {
@@ -246,6 +255,8 @@ impl<S: Alter> Store<S> {
             ≡ (state S.Store self.old).now) }
         ensures refused { HasCleanDisk (state S.Store self.new) → IfErr result (λ e. ((e ≡ NoSuchTable)
             × (schema_at (tables_in (state S.Store self.old).now) name.now ≡ None)) ⊎ IsResource e) }
+        ensures shut { HasCleanDisk (state S.Store self.new)
+            → RefusesShut (state S.Store self.old) IsResource result }
         ensures named { IfErr result (λ e. (e ≡ NoSuchTable) ⊎ IsReadRefusal e) }
         ensures kept { KeepsStore (state S.Store self.old) (state S.Store self.new) }
     {
@@ -270,6 +281,8 @@ impl<S: Alter> Store<S> {
             ≡ (state S.Store self.old).now) }
         ensures refused { HasCleanDisk (state S.Store self.new) → IfErr result (λ e. ((e ≡ NoSuchTable)
             × (schema_at (tables_in (state S.Store self.old).now) name.now ≡ None)) ⊎ IsResource e) }
+        ensures shut { HasCleanDisk (state S.Store self.new)
+            → RefusesShut (state S.Store self.old) IsResource result }
         ensures named { IfErr result (λ e. (e ≡ NoSuchTable) ⊎ IsReadRefusal e) }
         ensures kept { KeepsStore (state S.Store self.old) (state S.Store self.new) }
     {
@@ -288,6 +301,8 @@ impl<S: Alter> Store<S> {
             ≡ Ok (record { state = tables_in (state S.Store self.new).now; written = map_list written_of w.items })) }
         ensures refused { HasCleanDisk (state S.Store self.new) → IfErr result (λ e.
             (edited (tables_in (state S.Store self.old).now) edit.now ≡ Err e) ⊎ IsResource e) }
+        ensures shut { HasCleanDisk (state S.Store self.new)
+            → RefusesShut (state S.Store self.old) IsResource result }
         ensures named { IfErr result IsEditRefusal }
         ensures at_rest { HasCleanDisk (state S.Store self.new) → OnOk result (IsAtRest (state S.Store self.new)) }
         ensures kept { HasCleanDisk (state S.Store self.new)

@@ -16,7 +16,7 @@ ghost use Rattle.sqlite.specs.State.{HasCleanDisk};
 ghost use Rattle.sqlite.specs.Held.{state};
 ghost use Rattle.cs_store.specs.Faults.{IsResource, IsReadRefusal};
 ghost use Rattle.cs_store.specs.Rows.{IsDeclared, Fits};
-ghost use Rattle.cs_store.specs.Store.{IsSound, KeepsStore, Recovers, RecoversList};
+ghost use Rattle.cs_store.specs.Store.{IsSound, KeepsStore, Recovers, RecoversList, RefusesShut};
 ghost use Rattle.cs_store.specs.Store.{AddsTable, AreNamed, AreStored, tables_in};
 
 use crate::check::read_name;
@@ -41,13 +41,15 @@ pub(crate) fn find_schema<S: Alter>(
         ≡ (state S.Store conn.old).now) }
     ensures refused { IsSound (state S.Store conn.old) → HasCleanDisk (state S.Store conn.new)
         → IfErr result IsResource }
+    ensures shut { HasCleanDisk (state S.Store conn.new) → RefusesShut (state S.Store conn.old) IsResource result }
     ensures named { IfErr result IsReadRefusal }
     ensures kept { KeepsStore (state S.Store conn.old) (state S.Store conn.new) }
 {
+    let found = find_record(conn, "", name.as_bytes())?;
     if name.is_empty() {
+        // what stands there is the version of the format
         return Ok(None);
     }
-    let found = find_record(conn, "", name.as_bytes())?;
     schema_in(alloc, found)
 }
 
@@ -190,6 +192,7 @@ pub(crate) fn list_tables<S: Alter>(
         ≡ (state S.Store conn.old).now) }
     ensures refused { IsSound (state S.Store conn.old) → HasCleanDisk (state S.Store conn.new)
         → IfErr result IsResource }
+    ensures shut { HasCleanDisk (state S.Store conn.new) → RefusesShut (state S.Store conn.old) IsResource result }
     ensures named { IfErr result IsReadRefusal }
     ensures kept { KeepsStore (state S.Store conn.old) (state S.Store conn.new) }
 {

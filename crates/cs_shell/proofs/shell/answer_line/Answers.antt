@@ -1,8 +1,7 @@
 -- `shell::answer_line`: what it ensures.
-use Rattle.std.proofs.Common.{inl, subst, sym, IsUtf8}
+use Rattle.std.proofs.Common.{inl}
 use Rattle.std.proofs.lemmas.Result.{err_from_is_err_and}
 use Rattle.sqlite.specs.Held.{state}
-use Rattle.cs_store.specs.Store.{tables_in}
 use Rattle.cs_lines.specs.Commands.{command_of}
 use Rattle.cs_shell.specs.Script.{LineGives, not_text, nothing}
 use Rattle.cs_shell.proofs.CommandLemmas.{works_beside, line_unread, line_answered}
@@ -10,22 +9,22 @@ use Rattle.cs_shell.proofs.shell.answer_line.Goals as goal
 
 pub returns-in_default : goal.returns-in_default
 returns-in_default g c =
-    works_beside (λ old. LineGives old c.args.line.now) (state g.S.Store c.args.store.now) c.args.work.now.slots c.args.work.now.session c.args.work.now.session _ (λ here. here)
-    (inl (not_text _ c.args.line.now c.in_default.ensures.cases.0))
+    works_beside (λ old. LineGives old c.args.line.now) (state g.S.Store c.args.store.now) c.args.work.now.slots c.args.work.now.session c.args.work.now.session _ (λ t here. here)
+    (λ t. inl (not_text _ c.args.line.now c.in_default.ensures.cases.0))
 
 pub returns-in_err-command : goal.returns-in_err-command
 returns-in_err-command g c =
     let p = err_from_is_err_and c.from_residual.result c.from_residual.ensures.1 in
     let same = c.in-Ok.ensures.cases.0 in
     rw (p.1, p.2)
-    (works_beside (λ old. LineGives old c.args.line.now) (state g.S.Store c.args.store.now) c.args.work.now.slots c.args.work.now.session c.args.work.now.session _ (λ here. here)
-    (line_unread _ c.args.line.now c.in_err-command.field-0.0 c.in-Ok.ensures.cases.1 (rw same at c.in_err-command.ensures.refused)))
+    (works_beside (λ old. LineGives old c.args.line.now) (state g.S.Store c.args.store.now) c.args.work.now.slots c.args.work.now.session c.args.work.now.session _ (λ t here. here)
+    (λ t. line_unread _ c.args.line.now c.in_err-command.field-0.0 c.in-Ok.ensures.cases.1 (rw same at c.in_err-command.ensures.refused)))
 
 pub returns-in-None : goal.returns-in-None
 returns-in-None g c =
     let same = c.in-Ok.ensures.cases.0 in
-    works_beside (λ old. LineGives old c.args.line.now) (state g.S.Store c.args.store.now) c.args.work.now.slots c.args.work.now.session c.args.work.now.session _ (λ here. here)
-    (inl (nothing _ c.args.line.now c.in-Ok.ensures.cases.1 (rw (same, c.in-None.is) at c.in_ok-command.ensures.asked)))
+    works_beside (λ old. LineGives old c.args.line.now) (state g.S.Store c.args.store.now) c.args.work.now.slots c.args.work.now.session c.args.work.now.session _ (λ t here. here)
+    (λ t. inl (nothing _ c.args.line.now c.in-Ok.ensures.cases.1 (rw (same, c.in-None.is) at c.in_ok-command.ensures.asked)))
 
 pub returns-in-Some : goal.returns-in-Some
 returns-in-Some g c =

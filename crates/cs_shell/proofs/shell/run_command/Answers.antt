@@ -1,9 +1,6 @@
 -- `shell::run_command`: what it ensures.
-use Rattle.std.proofs.Common.{map}
-use Rattle.std.specs.Prelude.{string_bytes}
 use Rattle.std.proofs.lemmas.Result.{err_from_is_err_and}
 use Rattle.sqlite.specs.Held.{state}
-use Rattle.cs_store.specs.Store.{tables_in}
 use Rattle.cs_shell.proofs.CommandLemmas.{works_on_slots, on_create, on_insert, on_update, on_delete, on_select, on_apply, on_apply_empty, on_revert, on_revert_empty, on_open, on_attach, on_changeset, on_is_empty, on_undo, on_close}
 use Rattle.cs_shell.proofs.shell.run_command.Goals as goal
 
@@ -60,7 +57,7 @@ returns-in_ok-get-in-Revert g c =
     (on_revert (state g.S.Store c.args.store.now) (state g.S.Store c.revert_file.new.store) c.args.work.now.slots c.args.work.now.session c.revert_file.new.session _ _ _ (rw c.as_bytes-in-Revert.ensures.value at c.in_ok-get-in-Revert.ensures) c.revert_file.ensures)
 
 pub returns-in-SessionOpen : goal.returns-in-SessionOpen
-returns-in-SessionOpen g c = rw c.in-SessionOpen.is (on_open (state g.S.Store c.args.store.now) c.args.work.now.slots c.args.work.now.session c.open.new.session _ (c.open.ensures.here (tables_in (state g.S.Store c.args.store.now).now)) (c.open.ensures.gives (tables_in (state g.S.Store c.args.store.now).now) c.args.work.now.slots))
+returns-in-SessionOpen g c = rw c.in-SessionOpen.is (on_open (state g.S.Store c.args.store.now) c.args.work.now.slots c.args.work.now.session c.open.new.session _ (λ t. c.open.ensures.here t) (λ t. c.open.ensures.gives t c.args.work.now.slots))
 
 pub returns-in-SessionAttach : goal.returns-in-SessionAttach
 returns-in-SessionAttach g c = rw c.in-SessionAttach.is (on_attach (state g.S.Store c.args.store.now) (state g.S.Store c.attach.new.store) _ c.args.work.now.session c.attach.new.session _ _ (rw c.as_str-in-SessionAttach.ensures.value at c.attach.ensures))
@@ -69,10 +66,10 @@ pub returns-in-SessionChangeset : goal.returns-in-SessionChangeset
 returns-in-SessionChangeset g c = rw c.in-SessionChangeset.is (on_changeset (state g.S.Store c.args.store.now) (state g.S.Store c.changeset.new.store) c.args.work.now.slots c.args.work.now.session c.args.work.now.session _ c.changeset.new.slots _ (rw c.as_bytes-in-SessionChangeset.ensures.value at c.changeset.ensures))
 
 pub returns-in-SessionIsEmpty : goal.returns-in-SessionIsEmpty
-returns-in-SessionIsEmpty g c = rw c.in-SessionIsEmpty.is (on_is_empty (state g.S.Store c.args.store.now) c.args.work.now.slots c.args.work.now.session _ (c.is_empty.ensures (tables_in (state g.S.Store c.args.store.now).now) c.args.work.now.slots))
+returns-in-SessionIsEmpty g c = rw c.in-SessionIsEmpty.is (on_is_empty (state g.S.Store c.args.store.now) c.args.work.now.slots c.args.work.now.session _ (λ t. c.is_empty.ensures t c.args.work.now.slots))
 
 pub returns-in-SessionUndo : goal.returns-in-SessionUndo
 returns-in-SessionUndo g c = rw c.in-SessionUndo.is (on_undo (state g.S.Store c.args.store.now) (state g.S.Store c.undo.new.store) _ c.args.work.now.session c.args.work.now.session _ c.undo.ensures)
 
 pub returns-in-SessionClose : goal.returns-in-SessionClose
-returns-in-SessionClose g c = rw c.in-SessionClose.is (on_close (state g.S.Store c.args.store.now) c.args.work.now.slots c.args.work.now.session c.close.new.session _ (c.close.ensures.here (tables_in (state g.S.Store c.args.store.now).now)) (c.close.ensures.gives (tables_in (state g.S.Store c.args.store.now).now) c.args.work.now.slots))
+returns-in-SessionClose g c = rw c.in-SessionClose.is (on_close (state g.S.Store c.args.store.now) c.args.work.now.slots c.args.work.now.session c.close.new.session _ (λ t. c.close.ensures.here t) (λ t. c.close.ensures.gives t c.args.work.now.slots))

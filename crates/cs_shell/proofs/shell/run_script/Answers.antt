@@ -1,4 +1,4 @@
--- `shell::run_script`: the clause `ran`.
+-- `shell::run_script`: the clauses `ran` and `disk`.
 use Rattle.std.proofs.Common.{◌≡◌, rules}
 use Rattle.sqlite.specs.Held.{state}
 use Rattle.cs_shell.proofs.LineLemmas.{begins}
@@ -10,3 +10,8 @@ returns-clause-ran g c =
     rw (← same)
     (begins g.R.Read.remaining g.W.Write.contents _ (state g.S.Store c.args.store.now) (state g.S.Store c.run_shell.new.shell.store.now) c.new-work.result c.run_shell.new.shell.work.now _ _ _ _ c.new-work.ensures.slots c.new-work.ensures.session
     c.run_shell.ensures.ran)
+
+pub returns-clause-disk : goal.returns-clause-disk
+returns-clause-disk g c =
+    let same : c.run_shell.new.shell.store.now ≡ c.store-1.given.0 = search rules in
+    rw (← same) c.run_shell.ensures.ran.disk

@@ -19,12 +19,12 @@ returns-in_err-row g c =
     let p = err_from_is_err_and c.from_residual-in_err-row.result c.from_residual-in_err-row.ensures.1 in
     rw (p.1, p.2)
     (update_get_refused (string_bytes c.args.table) (map assignment_of c.args.sets.now) (map assignment_of c.args.conditions.now) (state g.S.Store c.args.store.now) (state g.S.Store c.find_row.new.store) (state g.S.Store c.get.new.self) c.in_ok-schema.field-0
-    (rw c.as_str.ensures.value at c.in_ok-schema.ensures) c.get.ensures.kept c.args.session.now c.in_err-row.field-0.0 (λ clean. rw c.as_str-2.ensures.value at (c.in_err-row.ensures.refused clean)))
+    (rw c.as_str.ensures.value at c.in_ok-schema.ensures) c.get.ensures.kept c.args.session.now c.in_err-row.field-0.0 (λ clean shut. c.in_err-row.ensures.shut clean shut) (λ clean. rw c.as_str-2.ensures.value at (c.in_err-row.ensures.refused clean)))
 
 pub returns-in_default : goal.returns-in_default
 returns-in_default g c =
     update_no_row (string_bytes c.args.table) (map assignment_of c.args.sets.now) (map assignment_of c.args.conditions.now) (state g.S.Store c.args.store.now) (state g.S.Store c.find_row.new.store) (state g.S.Store c.get.new.self) c.in_ok-schema.field-0
-    (rw c.as_str.ensures.value at c.in_ok-schema.ensures) c.get.ensures.kept c.args.session.now
+    (rw c.as_str.ensures.value at c.in_ok-schema.ensures) c.get.ensures.kept c.args.session.now (λ clean shut. c.in_ok-row.ensures.shut clean shut)
     (λ clean. sym c.in_default.is ∙ (rw c.as_str-2.ensures.value at (c.in_ok-row.ensures.found clean)))
 
 pub returns-in_err-row-2 : goal.returns-in_err-row-2
@@ -38,5 +38,5 @@ pub returns : goal.returns
 returns g c =
     update_works (string_bytes c.args.table) (map assignment_of c.args.sets.now) (map assignment_of c.args.conditions.now) (state g.S.Store c.args.store.now) (state g.S.Store c.find_row.new.store) (state g.S.Store c.get.new.self) c.in_ok-schema.field-0
     (rw c.as_str.ensures.value at c.in_ok-schema.ensures) c.get.ensures.kept
-    (state g.S.Store c.edit_row.new.store) c.args.session.now c.edit_row.new.session c.in-Some.row _ _ (λ clean. sym c.in-Some.is ∙ (rw c.as_str-2.ensures.value at (c.in_ok-row.ensures.found clean))) c.in_ok-row-2.ensures
+    (state g.S.Store c.edit_row.new.store) c.args.session.now c.edit_row.new.session c.in-Some.row _ _ (λ clean shut. c.in_ok-row.ensures.shut clean shut) (λ clean. sym c.in-Some.is ∙ (rw c.as_str-2.ensures.value at (c.in_ok-row.ensures.found clean))) c.in_ok-row-2.ensures
     c.edit_row.ensures
