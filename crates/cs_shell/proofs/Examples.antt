@@ -1,4 +1,4 @@
--- The definitions of scripts, on a table `t` of two columns, of which the first is the key.
+-- Lines on slots, and scripts of such lines, worked as examples. The changesets are of a table `t` of two columns, of which the first is the key.
 use Rattle.std.proofs.Common.{◌≡◌, ℕ, true, false, List, [], ◌∷◌, ◌++◌, Option, None, Some}
 use Rattle.std.proofs.Common.{◌==◌, true≢false, codes, refl, sym, ap, ◌∙◌, inl, inr, arith}
 use Rattle.std.specs.List.{list_any}

@@ -1,17 +1,15 @@
-//! Changesets applied to rows in memory and to stores, and reverted.
+//! Changesets applied to rows in memory.
 //!
 //! The table t of these tests has the columns a and b, of which a is the key. The integers of the
 //! files are 1, but where their last byte says otherwise.
 
 use crate::refusals::expect_text;
 use crate::store::{row_of, tables};
-use crate::stores::{end, listed, rows_of, store_with_table};
+use crate::stores::listed;
 use crate::{DELETE, INSERT, UPDATE, WIDER_INSERT};
-use cs_apply::{ApplyFault, Choice, Conflict, Direction, Kind, Report, apply, revert, run_in};
-use cs_shell::{Told, report_text};
-use cs_store::{Rows, Store};
+use cs_apply::{ApplyFault, Choice, Conflict, Direction, Kind, Report, run_in};
+use cs_store::Rows;
 use cs_value::{Fault, Row, Value};
-use sqlite::Alter;
 use std::process::Abort;
 
 /// An INSERT of (1, 'z').
@@ -147,76 +145,11 @@ fn holds_in_memory(rt: &(impl Abort + AllocGlobal), case: &Case) -> bool {
     answer == wanted && (answer[0] > 0 || is_row(rt, &listed(rt, &mut rows), after))
 }
 
-/// What a batch of a store answers to a file. It is committed, or dropped where the file is refused.
-fn run_batch<S: Alter>(
-    rt: &(impl Abort + AllocGlobal),
-    store: &mut Store<S>,
-    file: &[u8],
-    choice: Choice,
-) -> Answer {
-    let mut batch = store.begin().expect(rt, "a batch");
-    let answer = run(rt, &mut batch, file, choice);
-    if answer[0] == 0 {
-        batch.commit().expect(rt, "a commit");
-    } else {
-        drop(batch);
-    }
-    answer
-}
-
-/// What a store answers to a file.
-fn applied<S: Alter>(
-    rt: &(impl Abort + AllocGlobal),
-    store: &mut Store<S>,
-    file: &[u8],
-    choice: Choice,
-) -> Answer {
-    let handler = |_: &Conflict| choice;
-    answer(apply(rt.alloc(), store, file, &handler))
-}
-
-/// Whether a store answers so too, by a batch or by itself.
-fn holds_in_a_store(rt: &(impl Abort + AllocGlobal), case: &Case, by_batch: bool) -> bool {
-    let (before, file, choice, wanted, after) = *case;
-    let mut store = store_with_table(rt);
-    assert!(rt; applied(rt, &mut store, before, Choice::Abort)[0] == 0);
-    let answer = if by_batch {
-        run_batch(rt, &mut store, file, choice)
-    } else {
-        applied(rt, &mut store, file, choice)
-    };
-    let holds = answer == wanted && is_row(rt, &rows_of(rt, &mut store), after);
-    end(store);
-    holds
-}
-
 #[test]
-fn applies_files_over_all_rows(rt: HostRuntime) {
+fn applies_files_in_memory(rt: HostRuntime) {
     for (place, case) in CASES.iter().enumerate() {
         assert!(rt; holds_in_memory(&rt, case), "at {place}");
-        assert!(rt; holds_in_a_store(&rt, case, true), "at {place}");
-        assert!(rt; holds_in_a_store(&rt, case, false), "at {place}");
     }
-}
-
-/// What a store answers to a file that is reverted.
-fn reverted<S: Alter>(
-    rt: &(impl Abort + AllocGlobal),
-    store: &mut Store<S>,
-    file: &[u8],
-) -> Answer {
-    answer(revert(rt.alloc(), store, file))
-}
-
-#[test]
-fn reverts_what_was_applied(rt: HostRuntime) {
-    let mut store = store_with_table(&rt);
-    assert!(rt; applied(&rt, &mut store, INSERT, Choice::Abort)[0] == 0);
-    assert!(rt; applied(&rt, &mut store, UPDATE, Choice::Abort)[0] == 0);
-    assert!(rt; reverted(&rt, &mut store, SAME) == [41, 0, 0, 0]);
-    assert!(rt; reverted(&rt, &mut store, UPDATE) == [0, 0, 0, 1]);
-    assert!(rt; is_row(&rt, &rows_of(&rt, &mut store), "x"));
-    end(store);
 }
 
 /// Replaces rows of t that are in the way, and aborts at other conflicts.
@@ -272,44 +205,5 @@ fn prints_refusals(rt: HostRuntime) {
         ),
     ] {
         expect_text(&rt, &refusal(&rt, choice), text);
-    }
-}
-
-/// What is printed of a file that is applied to what another one leaves in memory, with one choice for
-/// all conflicts.
-fn printed(rt: &(impl Abort + AllocGlobal), before: &[u8], file: &[u8], choice: Choice) -> Vec<u8> {
-    let handler = |_: &Conflict| choice;
-    let mut rows = tables(rt);
-    assert!(rt; run(rt, &mut rows, before, Choice::Abort)[0] == 0);
-    let direction = Direction::Forward;
-    let report = run_in(rt.alloc(), &mut rows, file, direction, &handler).expect(rt, "a report");
-    let mut out = Told::new(Vec::new(rt.alloc()));
-    assert!(rt; report_text(&report, &mut out).is_ok());
-    out.into_inner()
-}
-
-#[test]
-fn prints_conflicts(rt: HostRuntime) {
-    for (before, file, choice, text) in [
-        (
-            OTHER,
-            INSERT,
-            Choice::Omit,
-            "conflict 3 conflict omit 't'\napplied 0\n",
-        ),
-        (
-            OTHER,
-            UPDATE,
-            Choice::Replace,
-            "conflict 1 data replace 't'\napplied 1\n",
-        ),
-        (
-            b"".as_slice(),
-            DELETE,
-            Choice::Omit,
-            "conflict 2 notfound omit 't'\napplied 0\n",
-        ),
-    ] {
-        assert!(rt; printed(&rt, before, file, choice).as_slice() == text.as_bytes());
     }
 }

@@ -2,9 +2,8 @@
 //!
 //! `value`, `wire`, `group`, `lines`, `shell`, `store`, `apply` and `session` have those of a crate each, and `refusals`
 //! the numbers, names and texts of what they refuse with. `stores` has those of stores over SQL,
-//! `adoption` those of what is taken over as a store, `recording` those of applies through sessions,
-//! `recorded` the files of SQLite's own session library that sessions make again, and `calling` the
-//! callers of `CALLING.md`.
+//! `adoption` those of what is taken over as a store, `recorded` the files of SQLite's own session library that
+//! sessions make again, and `calling` the callers of `CALLING.md`.
 #![tactic(auto)]
 
 #[cfg(test)]
@@ -19,8 +18,6 @@ mod group;
 mod lines;
 #[cfg(test)]
 mod recorded;
-#[cfg(test)]
-mod recording;
 #[cfg(test)]
 mod refusals;
 #[cfg(test)]
@@ -43,11 +40,6 @@ const INSERT: &[u8] = b"T\x02\x01\x00t\x00\x12\x00\x01\x00\x00\x00\x00\x00\x00\x
 /// The DELETE of that row.
 #[cfg(test)]
 const DELETE: &[u8] = b"T\x02\x01\x00t\x00\x09\x00\x01\x00\x00\x00\x00\x00\x00\x00\x01\x03\x01x";
-
-/// An INSERT of (1, 'y').
-#[cfg(test)]
-const INSERT_OTHER: &[u8] =
-    b"T\x02\x01\x00t\x00\x12\x00\x01\x00\x00\x00\x00\x00\x00\x00\x01\x03\x01y";
 
 /// The UPDATE of that 'x' to 'y'.
 #[cfg(test)]

@@ -1,11 +1,10 @@
-//! Sessions, and the tables that are attached to them.
+//! Sessions on stores that are not theirs, and on a store in a file.
 //!
 //! The table t of these tests has the columns a and b, of which a is the key.
 
-use crate::store::{deletion, insertion, key_of, names, update};
+use crate::store::{deletion, insertion, names, update};
 use crate::stores::{Call, are, declaration, edit_of, end, rows_of, store_with_table};
-use crate::{DELETE, INSERT, INSERT_OTHER, UPDATE};
-use cs_apply::{Choice, Report, apply};
+use cs_apply::{Choice, apply};
 use cs_session::{Session, SessionFault};
 use cs_store::{Edit, Store};
 use cs_value::{Fault, Value};
@@ -23,20 +22,6 @@ fn number(answer: Result<(), SessionFault>) -> u8 {
 }
 
 #[test]
-fn attaches_a_table_once(rt: HostRuntime) {
-    let mut store = store_with_table(&rt);
-    let mut session = Session::new(rt.alloc());
-    for (name, answer) in [("t", 0), ("t", 50), ("u", 31), ("", 31)] {
-        assert!(rt;
-            number(session.attach(rt.alloc(), &mut store, name)) == answer,
-            "at {name}"
-        );
-    }
-    assert!(rt; session.is_empty());
-    end(store);
-}
-
-#[test]
 fn numbers_session_faults(rt: HostRuntime) {
     let fault = SessionFault::AlreadyAttached;
     assert!(rt; fault.code() == 50 && fault.class() == 1 && fault.name() == "AlreadyAttached");
@@ -45,7 +30,7 @@ fn numbers_session_faults(rt: HostRuntime) {
 }
 
 /// A session to which these tables of a store are attached, in this order.
-pub(crate) fn session_of<S: Alter>(
+fn session_of<S: Alter>(
     rt: &(impl Abort + AllocGlobal),
     store: &mut Store<S>,
     tables: &[&str],
@@ -60,7 +45,7 @@ pub(crate) fn session_of<S: Alter>(
 }
 
 /// What a session answers to an edit: the number of a refusal, or 0.
-pub(crate) fn edited<S: Alter>(
+fn edited<S: Alter>(
     rt: &(impl Abort + AllocGlobal),
     session: &mut Session,
     store: &mut Store<S>,
@@ -85,202 +70,6 @@ pub(crate) fn file_of<S: Alter>(
 pub(crate) fn fill<S: Alter>(rt: &(impl Abort + AllocGlobal), store: &mut Store<S>, file: &[u8]) {
     let report = apply(rt.alloc(), store, file, &|_| Choice::Abort).expect(rt, "no refusal");
     assert!(rt; report.is_clean() && report.skipped.is_empty());
-}
-
-/// The DELETE of (1, 'x'), and an INSERT of (2, 'x').
-const MOVED: &[u8] = b"T\x02\x01\x00t\x00\
-\x09\x00\x01\x00\x00\x00\x00\x00\x00\x00\x01\x03\x01x\
-\x12\x00\x01\x00\x00\x00\x00\x00\x00\x00\x02\x03\x01x";
-
-/// The same, and an INSERT of (3, 'z').
-const MOVED_AND_THIRD: &[u8] = b"T\x02\x01\x00t\x00\
-\x09\x00\x01\x00\x00\x00\x00\x00\x00\x00\x01\x03\x01x\
-\x12\x00\x01\x00\x00\x00\x00\x00\x00\x00\x02\x03\x01x\
-\x12\x00\x01\x00\x00\x00\x00\x00\x00\x00\x03\x03\x01z";
-
-/// An edit, the number of a refusal or 0, and the file of the changeset behind it.
-type Step = (Call, u8, &'static [u8]);
-
-/// A file that gives t its rows, the edits that follow in turn, and whether none of them is noted.
-type Case = (&'static [u8], &'static [Step], bool);
-
-const CASES: &[Case] = &[
-    // A key that had no row, and has none in the end.
-    (
-        b"",
-        &[
-            (
-                Call::Insert("t", &[Value::Int(1), Value::Text("x")]),
-                0,
-                INSERT,
-            ),
-            (
-                Call::Update("t", 1, &[Value::Int(1), Value::Text("y")]),
-                0,
-                INSERT_OTHER,
-            ),
-            (Call::Delete("t", 1), 0, b""),
-        ],
-        false,
-    ),
-    // A row that is moved, and one that is not, since there is a row at its key.
-    (
-        INSERT,
-        &[
-            (
-                Call::Update("t", 1, &[Value::Int(2), Value::Text("x")]),
-                0,
-                MOVED,
-            ),
-            (
-                Call::Insert("t", &[Value::Int(3), Value::Text("z")]),
-                0,
-                MOVED_AND_THIRD,
-            ),
-            (
-                Call::Update("t", 2, &[Value::Int(3), Value::Text("x")]),
-                33,
-                MOVED_AND_THIRD,
-            ),
-        ],
-        false,
-    ),
-    // A row that is moved there and back.
-    (
-        INSERT,
-        &[
-            (
-                Call::Update("t", 1, &[Value::Int(2), Value::Text("x")]),
-                0,
-                MOVED,
-            ),
-            (
-                Call::Update("t", 2, &[Value::Int(1), Value::Text("x")]),
-                0,
-                b"",
-            ),
-            (
-                Call::Update("t", 1, &[Value::Int(1), Value::Text("y")]),
-                0,
-                UPDATE,
-            ),
-        ],
-        false,
-    ),
-    // A row that is deleted and inserted again, as it was and as another.
-    (
-        INSERT,
-        &[
-            (Call::Delete("t", 1), 0, DELETE),
-            (
-                Call::Insert("t", &[Value::Int(1), Value::Text("x")]),
-                0,
-                b"",
-            ),
-            (Call::Delete("t", 1), 0, DELETE),
-            (
-                Call::Insert("t", &[Value::Int(1), Value::Text("y")]),
-                0,
-                UPDATE,
-            ),
-        ],
-        false,
-    ),
-    // A row that is updated to itself.
-    (
-        INSERT,
-        &[(
-            Call::Update("t", 1, &[Value::Int(1), Value::Text("x")]),
-            0,
-            b"",
-        )],
-        false,
-    ),
-    // Edits that are refused, behind one that is not.
-    (
-        INSERT,
-        &[
-            (
-                Call::Update("t", 1, &[Value::Int(1), Value::Text("y")]),
-                0,
-                UPDATE,
-            ),
-            (
-                Call::Insert("t", &[Value::Int(1), Value::Int(7)]),
-                33,
-                UPDATE,
-            ),
-            (Call::Insert("t", &[Value::Null, Value::Null]), 36, UPDATE),
-            (Call::Insert("t", &[Value::Int(3)]), 35, UPDATE),
-            (Call::Insert("u", &[Value::Int(3), Value::Null]), 31, UPDATE),
-            (
-                Call::Update("t", 3, &[Value::Int(4), Value::Null]),
-                34,
-                UPDATE,
-            ),
-            (
-                Call::Update("t", 1, &[Value::Null, Value::Null]),
-                36,
-                UPDATE,
-            ),
-            (Call::Update("t", 1, &[Value::Int(3)]), 35, UPDATE),
-            (
-                Call::Update("u", 1, &[Value::Int(1), Value::Null]),
-                31,
-                UPDATE,
-            ),
-            (Call::Delete("t", 3), 34, UPDATE),
-            (Call::Delete("u", 1), 31, UPDATE),
-        ],
-        false,
-    ),
-    // Edits that are refused, and no other.
-    (
-        INSERT,
-        &[
-            (Call::Insert("t", &[Value::Int(1), Value::Int(7)]), 33, b""),
-            (Call::Update("t", 3, &[Value::Int(4), Value::Null]), 34, b""),
-            (Call::Delete("t", 3), 34, b""),
-        ],
-        true,
-    ),
-];
-
-/// Whether a session answers to edits as it should, and has noted what it should behind each.
-fn are_answered<S: Alter>(
-    rt: &(impl Abort + AllocGlobal),
-    session: &mut Session,
-    store: &mut Store<S>,
-    steps: &[Step],
-) -> bool {
-    for (call, answer, file) in steps {
-        if edited(rt, session, store, *call) != *answer
-            || file_of(rt, session, store).as_slice() != *file
-        {
-            return false;
-        }
-    }
-    true
-}
-
-/// Whether a session with t answers so to the edits of a case.
-fn holds(rt: &(impl Abort + AllocGlobal), case: &Case) -> bool {
-    let (before, steps, is_unwritten) = *case;
-    let mut store = store_with_table(rt);
-    fill(rt, &mut store, before);
-    let mut session = session_of(rt, &mut store, &["t"]);
-    let holds = session.is_empty()
-        && are_answered(rt, &mut session, &mut store, steps)
-        && session.is_empty() == is_unwritten;
-    end(store);
-    holds
-}
-
-#[test]
-fn notes_edits(rt: HostRuntime) {
-    for (place, case) in CASES.iter().enumerate() {
-        assert!(rt; holds(&rt, case), "at {place}");
-    }
 }
 
 /// A store without t, with another table, and with tables t of other columns or another key, and one
@@ -365,89 +154,6 @@ fn refuses_other_stores(rt: HostRuntime) {
         );
         end(store);
     }
-}
-
-/// Whether the keys that were written are these of t, in this order, and nothing else is told.
-fn tells(rt: &(impl Abort + AllocGlobal), report: &Report, keys: &[i64]) -> bool {
-    if !report.is_clean() || !report.skipped.is_empty() || report.written.len() != keys.len() {
-        return false;
-    }
-    for (written, key) in report.written.iter().zip(keys) {
-        if written.table.as_str() != "t" || written.key != key_of(rt, *key) {
-            return false;
-        }
-    }
-    true
-}
-
-/// Whether a session undoes what it has noted, and writes these keys of t.
-pub(crate) fn undoes<S: Alter>(
-    rt: &(impl Abort + AllocGlobal),
-    session: &Session,
-    store: &mut Store<S>,
-    keys: &[i64],
-) -> bool {
-    let report = session.undo(rt.alloc(), store).expect(rt, "no refusal");
-    tells(rt, &report, keys)
-}
-
-#[test]
-fn undoes_a_move(rt: HostRuntime) {
-    let mut store = store_with_table(&rt);
-    fill(&rt, &mut store, INSERT);
-    let mut session = session_of(&rt, &mut store, &["t"]);
-    let call = Call::Update("t", 1, &[Value::Int(2), Value::Text("x")]);
-    assert!(rt; edited(&rt, &mut session, &mut store, call) == 0);
-    assert!(rt; undoes(&rt, &session, &mut store, &[1, 2]));
-    assert!(rt;
-        are(
-            &rt,
-            &rows_of(&rt, &mut store),
-            &[[Value::Int(1), Value::Text("x")]]
-        )
-    );
-    assert!(rt; undoes(&rt, &session, &mut store, &[]) && !session.is_empty());
-    end(store);
-}
-
-/// The edits of three tables, in turn, and the file of the changeset of u and t behind each.
-const OF_TABLES: &[Step] = &[
-    (
-        Call::Insert("v", &[Value::Int(1), Value::Text("x")]),
-        0,
-        b"",
-    ),
-    (
-        Call::Insert("t", &[Value::Int(1), Value::Text("x")]),
-        0,
-        INSERT,
-    ),
-    (
-        Call::Insert("u", &[Value::Int(1), Value::Text("x")]),
-        0,
-        b"T\x02\x01\x00u\x00\x12\x00\x01\x00\x00\x00\x00\x00\x00\x00\x01\x03\x01x\
-T\x02\x01\x00t\x00\x12\x00\x01\x00\x00\x00\x00\x00\x00\x00\x01\x03\x01x",
-    ),
-    (
-        Call::Delete("v", 1),
-        0,
-        b"T\x02\x01\x00u\x00\x12\x00\x01\x00\x00\x00\x00\x00\x00\x00\x01\x03\x01x\
-T\x02\x01\x00t\x00\x12\x00\x01\x00\x00\x00\x00\x00\x00\x00\x01\x03\x01x",
-    ),
-    (Call::Delete("u", 1), 0, INSERT),
-];
-
-#[test]
-fn notes_attached_tables(rt: HostRuntime) {
-    let mut store = store_with_table(&rt);
-    for name in ["u", "v"] {
-        declaration(&rt, &mut store, name, &[true, false]).expect(&rt, "a table");
-    }
-    let mut session = session_of(&rt, &mut store, &["u", "t"]);
-    let (first, rest) = OF_TABLES.split_first().expect(&rt, "an edit");
-    assert!(rt; are_answered(&rt, &mut session, &mut store, &[*first]) && session.is_empty());
-    assert!(rt; are_answered(&rt, &mut session, &mut store, rest));
-    end(store);
 }
 
 /// The file of a store.

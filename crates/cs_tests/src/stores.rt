@@ -266,33 +266,10 @@ fn expect_answers_in_batch<S: Alter>(
     expect_answers(rt, &mut batch, cases);
 }
 
-/// What a store answers to an edit.
-fn edited<S: Alter>(
-    rt: &(impl Abort + AllocGlobal),
-    store: &mut Store<S>,
-    call: Call,
-) -> Result<usize, StoreError> {
-    count(store.edit(rt.alloc(), &edit_of(rt, call)))
-}
-
-/// Asserts it of a store.
-fn expect_answers_of_store<S: Alter>(
-    rt: &(impl Abort + AllocGlobal),
-    store: &mut Store<S>,
-    cases: &[Case],
-) {
-    for (place, case) in cases.iter().enumerate() {
-        let (call, answer, held) = *case;
-        assert!(rt; edited(rt, store, call) == answer, "at {place}");
-        assert!(rt; are(rt, &rows_of(rt, store), held), "at {place}");
-    }
-}
-
 #[test]
-fn answers_edits_over_all_rows(rt: HostRuntime) {
+fn answers_edits_in_memory_and_in_a_batch(rt: HostRuntime) {
     expect_answers(&rt, &mut tables(&rt), CASES);
     let mut store = store_with_table(&rt);
     expect_answers_in_batch(&rt, &mut store, CASES);
-    expect_answers_of_store(&rt, &mut store, CASES);
     end(store);
 }
