@@ -20,8 +20,8 @@ import time
 import unittest
 
 from stores import (
-    RECORDS, UNDEFINED, VERSION, Table, count_changes, delete, header, insert, read_records, read_store, run_schema,
-    run_sql, run_statements, shown, shown_rows, update, write_store,
+    RECORDS, UNDEFINED, VERSION, Table, count_changes, delete, header, insert, literal, read_changeset, read_records,
+    read_store, run_schema, run_sql, run_statements, shown, shown_rows, update, write_store,
 )
 
 HERE = pathlib.Path(__file__).resolve().parent
@@ -649,6 +649,29 @@ def selects(tables):
     return [f'SELECT * FROM "{name}";' for name in names], "".join(shown_rows(tables[name]) for name in names)
 
 
+def edit_line(name, table, old, new):
+    """The line that does to a table what an entry says."""
+    if old is None:
+        return f'INSERT INTO "{name}" VALUES({", ".join(map(literal, new))});'
+    key = [f'"{c}"={literal(v)}' for c, of_key, v in zip(table.columns, table.keys, old) if of_key]
+    where = f'WHERE {" AND ".join(key)};'
+    if new is None:
+        return f'DELETE FROM "{name}" {where}'
+    values = [f'"{c}"={literal(v)}' for c, v in zip(table.columns, new) if v is not UNDEFINED]
+    return f'UPDATE "{name}" SET {", ".join(values)} {where}'
+
+
+def session_file(groups):
+    """The file of groups, as a session writes it: the flag of each column of the key is 1, and no entry is indirect."""
+    def entry(old, new):
+        return insert(*new) if old is None else delete(*old) if new is None else update(old, new)
+
+    return b"".join(
+        header(name, *(min(flag, 1) for flag in flags)) + b"".join(entry(*records) for records in entries)
+        for name, flags, entries in groups
+    )
+
+
 class RecordedByLines(ProgramTest):
     """The same files by lines of a script, on tables that lines made."""
 
@@ -688,6 +711,20 @@ class RecordedByLines(ProgramTest):
                     selects(after),
                     ([".session undo", ".session close"], report),
                     selects(before),
+                )
+
+    def test_files_are_made_by_a_session(self):
+        for case in recorded_cases():
+            with self.subTest(file=case["file"]):
+                tables = run_schema(case["schema"], case["start"])
+                groups = read_changeset((RECORDED / case["file"]).read_bytes())
+                edits = [edit_line(name, tables[name], *records) for name, _, entries in groups for records in entries]
+                attached = [f'.session attach "{name}"' for name, _, _ in groups]
+                self.expect_parts(
+                    (case["lines"] + [".session open"] + attached + edits, ""),
+                    ([".session changeset c", ".hex c"], session_file(groups).hex() + "\n"),
+                    ([".session undo"], f"applied {len(edits)}\n"),
+                    ([".session changeset c", ".hex c"], "\n"),
                 )
 
 

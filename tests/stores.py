@@ -139,6 +139,35 @@ def take_value(data, at):
     return content.decode() if kind == 3 else content, at + count
 
 
+def take_record(data, at, count):
+    """The fields of a record of so many columns, each a value or UNDEFINED, and the place behind them."""
+    fields = []
+    for _ in range(count):
+        field, at = (UNDEFINED, at + 1) if data[at] == 0 else take_value(data, at)
+        fields.append(field)
+    return fields, at
+
+
+def read_changeset(data):
+    """The groups of a changeset: of each the name, the flags and the entries. An entry is the old record and the new
+    one, where it has such."""
+    groups, at = [], 0
+    while at < len(data):
+        assert data[at] == 0x54, data
+        count, at = take_varint(data, at + 1)
+        flags, end = data[at:at + count], data.index(0, at + count)
+        name, entries, at = data[at + count:end].decode(), [], end + 1
+        while at < len(data) and data[at] != 0x54:
+            kind, at, old, new = data[at], at + 2, None, None
+            if kind != 0x12:
+                old, at = take_record(data, at, count)
+            if kind != 0x09:
+                new, at = take_record(data, at, count)
+            entries.append((old, new))
+        groups.append((name, flags, entries))
+    return groups
+
+
 def read_row(data):
     """The values of a row."""
     values, at = [], 0

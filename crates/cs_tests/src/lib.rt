@@ -2,8 +2,7 @@
 //!
 //! `value`, `wire`, `group`, `lines`, `shell`, `store`, `apply` and `session` have those of a crate each, and `refusals`
 //! the numbers, names and texts of what they refuse with. `stores` has those of stores over SQL,
-//! `adoption` those of what is taken over as a store, `recorded` the files of SQLite's own session library that
-//! sessions make again, and `calling` the callers of `CALLING.md`.
+//! `adoption` those of what is taken over as a store, and `calling` the callers of `CALLING.md`.
 #![tactic(auto)]
 
 #[cfg(test)]
@@ -16,8 +15,6 @@ mod calling;
 mod group;
 #[cfg(test)]
 mod lines;
-#[cfg(test)]
-mod recorded;
 #[cfg(test)]
 mod refusals;
 #[cfg(test)]

@@ -4,11 +4,9 @@
 
 use crate::store::{deletion, insertion, names, update};
 use crate::stores::{Call, are, declaration, edit_of, end, rows_of, store_with_table};
-use cs_apply::{Choice, apply};
 use cs_session::{Session, SessionFault};
 use cs_store::{Edit, Store};
 use cs_value::{Fault, Value};
-use cs_wire::write;
 use sqlite::{Alter, MemStore, Unknown};
 use std::fs;
 use std::process::Abort;
@@ -52,24 +50,6 @@ fn edited<S: Alter>(
     call: Call,
 ) -> u8 {
     number(session.edit(rt.alloc(), store, &edit_of(rt, call)))
-}
-
-/// The file of what a session has noted.
-pub(crate) fn file_of<S: Alter>(
-    rt: &(impl Abort + AllocGlobal),
-    session: &Session,
-    store: &mut Store<S>,
-) -> Vec<u8> {
-    let changeset = session
-        .changeset(rt.alloc(), store)
-        .expect(rt, "a changeset");
-    write(rt.alloc(), &changeset).expect(rt, "memory")
-}
-
-/// A file of INSERTs, applied to a store.
-pub(crate) fn fill<S: Alter>(rt: &(impl Abort + AllocGlobal), store: &mut Store<S>, file: &[u8]) {
-    let report = apply(rt.alloc(), store, file, &|_| Choice::Abort).expect(rt, "no refusal");
-    assert!(rt; report.is_clean() && report.skipped.is_empty());
 }
 
 /// A store without t, with another table, and with tables t of other columns or another key, and one
