@@ -1,0 +1,2 @@
+pub mod WordsLemmas
+pub mod Examples
