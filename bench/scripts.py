@@ -1,12 +1,12 @@
 #!/usr/bin/env python3
-"""Times scripts on a store in memory, of 1000, 10000 and 100000 lines.
+"""Times scripts of 1000, 10000 and 100000 lines, on a store in memory and on one in a new file.
 
 INSERT lines alone; lines in a session, of which a half inserts a row each, a quarter updates one and a quarter deletes
 one; `.load` and `.hex` in turn, of files of 24 bytes; and one `.apply`, of as many INSERT entries, in a session: alone,
 with `.session changeset` behind it, and with `.session undo` behind that. Each script has to print what it is known to,
 with no line refused.
 A time is that of the whole process, the shortest of three runs, or that of one that takes more than five seconds. A run
-that takes more than a minute is ended, and `-` is printed for it. Microseconds are those of a line, or of an entry that
+that takes more than a minute is ended, and `-` is printed for it. The file lies in the folder for temporary files, or in that of TMPDIR. Microseconds are those of a line, or of an entry that
 is applied.
 The program has to be built first: `cd crates/changeset && rt run`.
 
@@ -15,6 +15,7 @@ usage: bench/scripts.py [PROGRAM]
 import os
 import subprocess
 import sys
+import tempfile
 import time
 
 from read_write import RUNS
@@ -86,11 +87,11 @@ SHAPES = (
 )
 
 
-def run(program, script, printed):
-    """How many seconds a script takes, or None where that is too many. It has to print this."""
+def run(program, store, script, printed):
+    """How many seconds a script takes on a store, or None where that is too many. It has to print this."""
     start = time.perf_counter()
     try:
-        done = subprocess.run([program], input=script, stdout=subprocess.PIPE, timeout=LONGEST)
+        done = subprocess.run([program, store, "shell"], input=script, stdout=subprocess.PIPE, timeout=LONGEST)
     except subprocess.TimeoutExpired:
         return None
     taken = time.perf_counter() - start
@@ -99,27 +100,42 @@ def run(program, script, printed):
     return taken
 
 
-def measure(program, script, printed):
+def run_on_file(program, script, printed):
+    """The same on the store in a new file."""
+    with tempfile.TemporaryDirectory() as folder:
+        return run(program, os.path.join(folder, "store"), script, printed)
+
+
+def run_in_memory(program, script, printed):
+    """The same on a store in memory."""
+    return run(program, ":memory:", script, printed)
+
+
+STORES = (("memory", run_in_memory), ("file", run_on_file))
+
+
+def measure(run_once, program, script, printed):
     """The shortest of some runs, in seconds, or None where one takes too many."""
-    best = run(program, script, printed)
+    best = run_once(program, script, printed)
     for _ in range(RUNS - 1):
         if best is None or best > LONG:
             break
-        best = min(best, run(program, script, printed) or best)
+        best = min(best, run_once(program, script, printed) or best)
     return best
 
 
 def main():
     program = sys.argv[1] if len(sys.argv) > 1 else os.path.join(TOP, "crates/changeset/out/changeset")
-    print("    lines    seconds    us/line  what")
+    print("    lines    seconds    us/line  store   what")
     for what, shape in SHAPES:
-        for count in COUNTS:
-            lines, printed = shape(count)
-            taken = measure(program, "".join(line + "\n" for line in lines).encode(), printed.encode())
-            if taken is None:
-                print(f"{count:>9} {'-':>10} {'-':>10}  {what}", flush=True)
-                break
-            print(f"{count:>9} {taken:>10.3f} {taken / count * 1e6:>10.2f}  {what}", flush=True)
+        for store, run_once in STORES:
+            for count in COUNTS:
+                lines, printed = shape(count)
+                taken = measure(run_once, program, "".join(line + "\n" for line in lines).encode(), printed.encode())
+                if taken is None:
+                    print(f"{count:>9} {'-':>10} {'-':>10}  {store:<7} {what}", flush=True)
+                    break
+                print(f"{count:>9} {taken:>10.3f} {taken / count * 1e6:>10.2f}  {store:<7} {what}", flush=True)
 
 
 if __name__ == "__main__":

@@ -117,26 +117,80 @@ class ProgramTest(unittest.TestCase):
         self.assertEqual(sorted(os.listdir(self.folder)), sorted(names))
 
 
-class Words(ProgramTest):
-    """Words that fit no command."""
+# The commands, and how many arguments each has.
+COMMANDS = {"apply": 1, "concat": 2, "dump": 0, "invert": 1, "shell": 0, "sql": 0}
 
-    def test_usage(self):
+
+class Words(ProgramTest):
+    """Words that fit no command, ask for help, or choose what is done about conflicts."""
+
+    def expect_usage(self, *words):
+        """Runs the program with words that fit no command."""
+        with self.subTest(words=words):
+            self.expect(words, 2, "", USAGE)
+
+    def test_number_of_arguments(self):
+        self.make("a.cs", INSERT)
+        for command, count in COMMANDS.items():
+            for given in range(4):
+                if given != count:
+                    self.expect_usage("a.cs", command, *"opq"[:given])
+        self.expect_files("a.cs")
+
+    def test_misuse(self):
         self.make("a.cs", INSERT)
         for words in (
             ["a.cs"],
-            ["--help"],
             ["a.cs", "frob"],
             ["a.cs", "frob", "o"],
-            ["a.cs", "invert"],
-            ["a.cs", "invert", "o", "p"],
-            ["a.cs", "concat", "o"],
-            ["a.cs", "dump", "o"],
-            ["a.cs", "apply"],
-            ["a.cs", "apply", "o", "p"],
+            ["a.cs", "DUMP"],
+            ["a.cs", ""],
+            ["--data", "omit"],
+            ["--data", "omit", "a.cs"],
+            ["--data", "maybe", "a.cs", "dump"],
+            ["--data", "Omit", "a.cs", "dump"],
+            ["--data=", "a.cs", "dump"],
+            ["--conflict", "a.cs", "dump"],
+            ["a.cs", "dump", "--notfound"],
+            ["--dta", "omit", "a.cs", "dump"],
+            ["--da", "omit", "a.cs", "dump"],
+            ["-d", "omit", "a.cs", "dump"],
+            ["-", "dump", "x"],
+            ["--version"],
+            ["--data", "omit", "--data", "omit", "a.cs", "dump"],
+            ["--", "--help"],
+        ):
+            self.expect_usage(*words)
+        self.expect_files("a.cs")
+
+    def test_help(self):
+        for words in (["--help"], ["-h"], ["a.cs", "--help"], ["a.cs", "invert", "o", "--help"], ["--data", "omit", "-h"]):
+            with self.subTest(words=words):
+                self.expect(words, 0, USAGE)
+        self.expect_files()
+
+    @NEEDS_FULL
+    def test_help_that_is_not_written(self):
+        self.assertEqual(self.run_full("--help"), (1, "", OUTPUT_FAULT))
+
+    def test_options_with_another_command(self):
+        self.make("a.cs", INSERT)
+        dumped = "table 't' columns 2 flags 1,0\ninsert 0 new 1,'x'\n"
+        for words in (
+            ["--data", "omit", "a.cs", "dump"],
+            ["--data=omit", "a.cs", "dump"],
+            ["a.cs", "--notfound", "replace", "dump"],
+            ["a.cs", "dump", "--conflict=abort"],
+            ["--data=omit", "--notfound=omit", "--conflict=omit", "a.cs", "dump"],
+            ["--", "a.cs", "dump"],
         ):
             with self.subTest(words=words):
-                self.expect(words, 2, "", USAGE)
-        self.expect_files("a.cs")
+                self.expect(words, 0, dumped)
+
+    def test_operands_behind_two_dashes(self):
+        self.make("--help", INSERT)
+        self.expect(["--", "--help", "invert", "-o"], 0)
+        self.assertEqual(self.bytes_of("-o"), DELETE)
 
     def test_words_that_are_not_utf_8(self):
         self.make("a.cs", INSERT)
@@ -225,6 +279,77 @@ class Files(ProgramTest):
             "INSERT INTO \"t\" VALUES(2, X'ff');\n"
             'UPDATE "t" SET c1=3 WHERE c1=3;\n'
         ))
+
+    def test_out_is_the_old_file_or_the_new_one(self):
+        """What stands in OUT where the file that is written beside it cannot be, and where it can."""
+        self.make("a.cs", INSERT)
+        self.make("o.cs", b"old")
+        os.chmod(self.folder / "o.cs", 0o640)
+        self.expect(["a.cs", "invert", "o.cs"], 0)
+        self.assertEqual(self.bytes_of("o.cs"), DELETE)
+        self.assertEqual(os.stat(self.folder / "o.cs").st_mode & 0o777, 0o640)
+        self.expect_files("a.cs", "o.cs")
+        limit = f"ulimit -f 0; trap '' XFSZ; exec '{PROGRAM}' a.cs invert o.cs"
+        self.make("o.cs", b"old")
+        done = subprocess.run(["sh", "-c", limit], cwd=self.folder, capture_output=True, timeout=PATIENCE)
+        self.assertEqual((done.returncode, done.stderr.decode()), (1, OUTPUT_FAULT))
+        self.assertEqual(self.bytes_of("o.cs"), b"old")
+        self.expect_files("a.cs", "o.cs")
+
+    def test_in_place_on_a_disk_that_is_full(self):
+        self.make("a.cs", INSERT)
+        limit = f"ulimit -f 0; trap '' XFSZ; exec '{PROGRAM}' a.cs invert a.cs"
+        done = subprocess.run(["sh", "-c", limit], cwd=self.folder, capture_output=True, timeout=PATIENCE)
+        self.assertEqual((done.returncode, done.stderr.decode()), (1, OUTPUT_FAULT))
+        self.assertEqual(self.bytes_of("a.cs"), INSERT)
+
+    def test_out_through_links(self):
+        (self.folder / "far").mkdir()
+        self.make("a.cs", INSERT)
+        self.make("far/o.cs", b"old")
+        os.symlink("far/o.cs", self.folder / "link")
+        os.symlink("link", self.folder / "again")
+        os.symlink("far/none.cs", self.folder / "dangling")
+        for name, target in (("again", "far/o.cs"), ("dangling", "far/none.cs")):
+            with self.subTest(name=name):
+                self.expect(["a.cs", "invert", name], 0)
+                self.assertEqual(self.bytes_of(target), DELETE)
+                self.assertTrue(os.path.islink(self.folder / name))
+        self.assertEqual(sorted(os.listdir(self.folder / "far")), ["none.cs", "o.cs"])
+
+    def test_out_is_no_plain_file(self):
+        """Bytes are written into a pipe as they are, behind what stands in the standard output, and not into a folder."""
+        self.make("a.cs", INSERT)
+        for out in ("/dev/stdout", "/dev/fd/1"):
+            done = subprocess.run([PROGRAM, "a.cs", "invert", out], cwd=self.folder, capture_output=True, timeout=PATIENCE)
+            self.assertEqual((done.returncode, done.stdout, done.stderr), (0, DELETE, b""))
+        with open(self.folder / "log", "wb") as log:
+            log.write(b"before")
+            log.flush()
+            subprocess.run([PROGRAM, "a.cs", "invert", "/dev/stdout"], cwd=self.folder, stdout=log, timeout=PATIENCE)
+        self.assertEqual(self.bytes_of("log"), b"before" + DELETE)
+        os.mkfifo(self.folder / "pipe")
+        reader = subprocess.Popen(["cat", "pipe"], cwd=self.folder, stdout=subprocess.PIPE)
+        self.expect(["a.cs", "invert", "pipe"], 0)
+        self.assertEqual(reader.communicate(timeout=PATIENCE)[0], DELETE)
+        (self.folder / "folder").mkdir()
+        self.expect(["a.cs", "invert", "folder"], 1, "", OUTPUT_FAULT)
+
+    def test_name_that_is_taken(self):
+        """A file of the name that a new one would have stays."""
+        self.make("a.cs", INSERT)
+        self.make(".changeset-0.new", b"mine")
+        self.expect(["a.cs", "invert", "o.cs"], 0)
+        self.assertEqual(self.bytes_of("o.cs"), DELETE)
+        self.assertEqual(self.bytes_of(".changeset-0.new"), b"mine")
+        self.expect_files("a.cs", "o.cs", ".changeset-0.new")
+
+    def test_longest_file(self):
+        """A file of zero bytes is no changeset; one byte more than it may have, and it is not read."""
+        for length, line in ((1_073_741_824, "error 2 NotTable 0\n"), (1_073_741_825, INPUT_FAULT)):
+            with self.subTest(length=length), open(self.folder / "sparse", "wb") as file:
+                file.truncate(length)
+                self.expect(["sparse", "dump"], 1, "", line)
 
     @NEEDS_FULL
     def test_texts_that_are_not_written(self):
@@ -476,6 +601,163 @@ DAMAGED = (
 )
 
 
+class Policies(StoreTest):
+    """What is done about conflicts, by the words of the command line."""
+
+    def expect_policy(self, rows, changeset, option, status, printed, reported, left):
+        """Applies a changeset under an option to these rows."""
+        with self.case(rows=rows, option=option):
+            self.write(tables_of(*rows))
+            self.make("a.cs", changeset)
+            self.expect([*option, "a.cs", "apply", "store"], status, printed, reported)
+            self.assertEqual(self.read(), tables_of(*left))
+
+    def test_each_policy_and_each_kind(self):
+        # The rows, the changeset, and what its conflict leaves and counts where it is replaced.
+        for kind, number, rows, changeset, replaced in (
+            ("data", 1, [(1, "y")], DELETE, []),
+            ("data", 1, [(1, "z")], UPDATE, [(1, "y")]),
+            ("notfound", 2, [], DELETE, None),
+            ("notfound", 2, [], UPDATE, None),
+            ("conflict", 3, [(1, "z")], INSERT, [(1, "x")]),
+        ):
+            met = f"conflict {number} {kind} %s 't'\napplied %d\n"
+            aborted = (1, "", f"error 41 Abort {kind} 't'\n", rows)
+            misused = (1, "", f"error 42 Misuse {kind} 't'\n", rows)
+            omitted = (0, met % ("omit", 0), "", rows)
+            self.expect_policy(rows, changeset, [f"--{kind}", "abort"], *aborted)
+            self.expect_policy(rows, changeset, [f"--{kind}", "omit"], *omitted)
+            if replaced is None:
+                self.expect_policy(rows, changeset, [f"--{kind}", "replace"], *misused)
+            else:
+                self.expect_policy(rows, changeset, [f"--{kind}=replace"], 0, met % ("replace", 1), "", replaced)
+            # The choices of the other kinds are none of this one.
+            others = [f"--{other}=omit" for other in ("data", "notfound", "conflict") if other != kind]
+            self.expect_policy(rows, changeset, others, *aborted)
+
+    def test_conflicts_of_each_kind_at_once(self):
+        entries = insert(1, "x") + delete(2, "q") + delete(3, "r") + insert(4, "s")
+        self.expect_policy(
+            [(1, "z"), (3, "t")], T + entries, ["--data=replace", "--notfound=omit", "--conflict=replace"], 0,
+            "conflict 3 conflict replace 't'\nconflict 2 notfound omit 't'\nconflict 1 data replace 't'\napplied 3\n", "",
+            [(1, "x"), (4, "s")],
+        )
+
+    def test_store_in_memory(self):
+        """It has no table, and nothing is left of it."""
+        self.make("a.cs", INSERT)
+        self.expect(["a.cs", "apply", ":memory:"], 0, "warning 17 skipped 't'\napplied 0\n")
+        self.expect_files("a.cs")
+
+
+class Shells(StoreTest):
+    """Scripts on the store in a file."""
+
+    def run_shell(self, lines, store="store"):
+        """Runs lines on the store in a file."""
+        return self.run_program(store, "shell", stdin="".join(line + "\n" for line in lines).encode())
+
+    def test_new_store_and_an_existing_one(self):
+        self.assertEqual(self.run_shell([CREATE, "INSERT INTO t VALUES(1, 'x');"]), (0, "", ""))
+        self.expect_files("store")
+        self.assertEqual(self.read(), tables_of((1, "x")))
+        self.assertEqual(self.run_shell(["SELECT * FROM t;", "INSERT INTO t VALUES(1, 'y');"]), (1, "1|'x'\nerror 33 KeyTaken\n", ""))
+        self.expect_files("store")
+
+    def test_store_of_sqlite(self):
+        self.write(tables_of((1, "x")))
+        self.assertEqual(self.run_shell([f".load a {UPDATE.hex()}", ".apply a", "SELECT * FROM t;"]), (0, "applied 1\n1|'y'\n", ""))
+        self.assertEqual(self.read(), tables_of((1, "y")))
+
+    def test_session_on_a_file(self):
+        self.write(tables_of((1, "z")))
+        lines = [
+            ".session open", ".session attach t", "INSERT INTO t VALUES(2, 'w');", f".load a {INSERT.hex()}",
+            ".apply a conflict=replace", ".session undo", "SELECT * FROM t;",
+        ]
+        printed = "conflict 3 conflict replace 't'\napplied 1\napplied 2\n1|'z'\n"
+        self.assertEqual(self.run_shell(lines), (0, printed, ""))
+        self.assertEqual(self.read(), tables_of((1, "z")))
+
+    def test_store_in_memory(self):
+        lines = [CREATE, "INSERT INTO t VALUES(1, 'x');", "SELECT * FROM t;"]
+        self.assertEqual(self.run_shell(lines, ":memory:"), (0, "1|'x'\n", ""))
+        self.expect_files()
+
+    def test_files_that_are_no_stores(self):
+        self.make("text", b"this is no database" * 100)
+        (self.folder / "folder").mkdir()
+        for name in ("text", "folder", "none/store"):
+            with self.subTest(name=name):
+                status, printed, reported = self.run_shell([CREATE], name)
+                self.assertEqual((status, printed), (1, ""))
+                self.assertEqual(reported, STORE_FAULT)
+        self.assertEqual(self.bytes_of("text"), b"this is no database" * 100)
+
+    def test_damaged_store(self):
+        run_sql(self.folder / "store", RECORDS, records=[VERSION, ROW])
+        self.assertEqual(self.run_shell([CREATE]), (1, "", DAMAGED_STORE))
+
+    @NEEDS_FULL
+    def test_answers_that_are_not_written(self):
+        """Lines that were run stand, and the store is closed."""
+        lines = "".join(line + "\n" for line in (CREATE, "INSERT INTO t VALUES(1, 'x');", "SELECT * FROM t;"))
+        self.assertEqual(self.run_full("store", "shell", stdin=lines.encode()), (1, "", OUTPUT_FAULT))
+        self.expect_files("store")
+        self.assertEqual(self.read(), tables_of((1, "x")))
+
+    def closed_pipe(self, *words, stdin=b""):
+        """Runs the program with a standard output that nobody reads any more."""
+        reading, writing = os.pipe()
+        os.close(reading)
+        with os.fdopen(writing, "wb") as pipe:
+            return self.run_program(*words, stdin=stdin, stdout=pipe)
+
+    def test_pipe_that_nobody_reads(self):
+        self.make("a.cs", INSERT)
+        lines = (CREATE + "\n.hex none\n").encode()
+        for words in (["a.cs", "dump"], ["a.cs", "sql"], ["a.cs", "apply", "store"], ["store", "shell"], []):
+            with self.subTest(words=words):
+                self.assertEqual(self.closed_pipe(*words, stdin=lines), (1, "", OUTPUT_FAULT))
+        self.expect_files("a.cs", "store")
+        self.assertEqual(self.read(), tables_of())
+
+    def test_two_programs_on_one_store(self):
+        """While one has the store open another is refused; nothing of the first is lost."""
+        with subprocess.Popen(
+            [PROGRAM, "store", "shell"], cwd=self.folder, stdin=subprocess.PIPE, stdout=subprocess.PIPE, bufsize=0
+        ) as first:
+            first.stdin.write((CREATE + "\nINSERT INTO t VALUES(1, 'x');\nSELECT * FROM t;\n").encode())
+            self.assertEqual(first.stdout.readline(), b"1|'x'\n")
+            self.make("a.cs", T + insert(2, "y"))
+            second = self.run_program("a.cs", "apply", "store")
+            first.stdin.write(b"INSERT INTO t VALUES(3, 'z');\n")
+            first.stdin.close()
+            self.assertEqual(first.wait(timeout=PATIENCE), 0)
+        rows = [(1, "x"), (3, "z")]
+        if second[0] == 0:
+            rows.insert(1, (2, "y"))
+        else:
+            self.assertEqual(second, (1, "", STORE_FAULT))
+        self.assertEqual(self.read(), tables_of(*rows))
+
+    def test_killed_while_it_applies(self):
+        """The store that is opened again is the one before or the one after."""
+        before = tables_of(*((key, "a") for key in range(1000)))
+        after = tables_of(*((key, "b") for key in range(1000)))
+        self.make("a.cs", T + b"".join(update((key, "a"), (UNDEFINED, "b")) for key in range(1000)))
+        for wait in (0.0, 0.01, 0.02, 0.04, 0.08, 0.16):
+            self.write(before)
+            with subprocess.Popen([PROGRAM, "a.cs", "apply", "store"], cwd=self.folder, stdout=subprocess.PIPE) as child:
+                time.sleep(wait)
+                child.kill()
+                child.communicate(timeout=PATIENCE)
+            status, printed, reported = self.run_shell(["SELECT * FROM t;"])
+            self.assertEqual((status, reported), (0, ""), wait)
+            self.assertIn(self.read(), (before, after), wait)
+            (self.folder / "store").unlink()
+
+
 class Stores(StoreTest):
     """Files that are opened as stores, or made, or refused."""
 
@@ -562,6 +844,26 @@ class Stores(StoreTest):
     def test_store_is_opened_before_the_changeset_is_read(self):
         run_sql(self.folder / "store", RECORDS, records=[TABLE])
         self.assertEqual(self.apply(b"P"), (1, "", DAMAGED_STORE))
+
+
+class Readme(ProgramTest):
+    """The commands of the README, as they are printed there."""
+
+    def test_commands(self):
+        text = (HERE.parent / "README.md").read_text()
+        blocks = [block for block in text.split("```") if block.startswith("\n$ ") and not block.startswith("\n$ changeset\n")]
+        self.assertEqual(len(blocks), 2)
+        os.symlink(HERE.parent / "examples", self.folder / "examples")
+        path = {**os.environ, "PATH": f"{PROGRAM.parent}:{os.environ['PATH']}"}
+        for block in blocks:
+            for part in block.strip("\n")[2:].split("\n$ "):
+                command, _, printed = part.partition("\n")
+                with self.subTest(command=command):
+                    done = subprocess.run(
+                        ["sh", "-c", command], cwd=self.folder, env=path, stdout=subprocess.PIPE, stderr=subprocess.STDOUT,
+                        timeout=PATIENCE, text=True,
+                    )
+                    self.assertEqual(done.stdout.rstrip("\n"), printed)
 
 
 # The recorded files that are refused, and how.

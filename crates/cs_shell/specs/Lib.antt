@@ -5,6 +5,7 @@ pub mod Script
 pub mod Turns
 pub mod Laws
 pub mod Stores
+pub mod CommandLine
 pub mod Runs
 pub mod Progress
 pub mod Report
@@ -36,3 +37,4 @@ pub use Rattle.cs_files.specs.Faults
 pub use Rattle.cs_files.specs.Calls
 pub use Rattle.cs_files.specs.Told
 pub use Rattle.cs_files.specs.Texts
+pub use Rattle.cs_words.specs.Words

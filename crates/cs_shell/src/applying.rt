@@ -32,7 +32,7 @@ fn apply_noted<S: Alter>(
 }
 
 /// Applies a file, where no session is open.
-fn apply_unnoted<S: Alter>(
+pub(crate) fn apply_unnoted<S: Alter>(
     alloc: Global,
     store: &mut Store<S>,
     file: &[u8],

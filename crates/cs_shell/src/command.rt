@@ -1,34 +1,23 @@
-//! What is done with a changeset's file.
+//! What the commands of a command line do with files and stores.
 ghost use Rattle.std.specs.Prelude.{◌≤◌, length, IfOk};
 
+use crate::applying::apply_unnoted;
+use crate::output::write_file;
+use crate::print::write_reply;
 use crate::refusal::Refusal;
-use crate::report::report_text;
-use cs_apply::{Choice, apply};
+use crate::reply::Reply;
+use cs_apply::Policy;
 use cs_files::{OutputFault, Told, concat_bytes, dump_text, invert_bytes, sql_text};
 use cs_store::{Store, StoreError};
 use cs_wire::{Changeset, read};
-use sqlite::Unknown;
+use cs_words::IN_MEMORY;
+use sqlite::{FileFrom, FileStore, Unknown};
 use std::fs;
 use std::io::{ErrorKind, Read, Write};
 use std::rt::HostRuntime;
 
 /// The most bytes that a changeset's file has.
 const FILE_LIMIT: usize = 1_073_741_824;
-
-/// What is done with a changeset's file.
-#[derive(Clone, Copy, Debug)]
-pub(crate) enum Command<'a> {
-    /// It is applied to the store in a file, and what that did is printed.
-    Apply { store: &'a str },
-    /// Its join with a second one is written into a file.
-    Concat { second: &'a str, out: &'a str },
-    /// What it holds is printed.
-    Dump,
-    /// Its inverse is written into a file.
-    Invert { out: &'a str },
-    /// It is printed as SQL.
-    Sql,
-}
 
 /// The bytes of a file.
 fn read_file(rt: &HostRuntime, path: &str) -> Result<Vec<u8>, Refusal>
@@ -43,18 +32,32 @@ fn read_file(rt: &HostRuntime, path: &str) -> Result<Vec<u8>, Refusal>
     }
 }
 
+/// Writes bytes into the file OUT.
+fn write_out(rt: &HostRuntime, out: &str, bytes: &[u8]) -> Result<(), Refusal> {
+    match write_file(rt, out, bytes) {
+        Ok(()) => Ok(()),
+        Err(error) if error.kind() == ErrorKind::OutOfMemory => Err(Refusal::NoMemory),
+        Err(_) => Err(Refusal::Output(OutputFault)),
+    }
+}
+
 /// Writes the inverse of one file into another, which is opened once the inverse is there.
-fn invert_file(rt: &HostRuntime, file: &str, out: &str) -> Result<(), Refusal> {
+pub(crate) fn invert_file(rt: &HostRuntime, file: &str, out: &str) -> Result<(), Refusal> {
     let inverse = invert_bytes(rt.alloc(), &read_file(rt, file)?)?;
-    fs::write(rt, out, &inverse).map_err(|_| Refusal::Output(OutputFault))
+    write_out(rt, out, &inverse)
 }
 
 /// Writes the join of two files into another, which is opened once the join is there.
-fn join_files(rt: &HostRuntime, first: &str, second: &str, out: &str) -> Result<(), Refusal> {
+pub(crate) fn join_files(
+    rt: &HostRuntime,
+    first: &str,
+    second: &str,
+    out: &str,
+) -> Result<(), Refusal> {
     let first = read_file(rt, first)?;
     let second = read_file(rt, second)?;
     let joined = concat_bytes(rt.alloc(), &first, &second)?;
-    fs::write(rt, out, &joined).map_err(|_| Refusal::Output(OutputFault))
+    write_out(rt, out, &joined)
 }
 
 /// The changeset of a file.
@@ -62,34 +65,73 @@ fn read_changeset(rt: &HostRuntime, file: &str) -> Result<Changeset, Refusal> {
     Ok(read(rt.alloc(), &read_file(rt, file)?)?)
 }
 
-/// Applies a file to the store in another, which is made where it is missing, and prints what that did.
-/// Each conflict ends it.
-fn apply_file<W: Write>(
+/// Prints what a file holds.
+pub(crate) fn dump_file<W: Write>(
+    rt: &HostRuntime,
+    file: &str,
+    out: &mut Told<W>,
+) -> Result<(), Refusal> {
+    Ok(dump_text(&read_changeset(rt, file)?, out)?)
+}
+
+/// Prints a file as SQL.
+pub(crate) fn sql_file<W: Write>(
+    rt: &HostRuntime,
+    file: &str,
+    out: &mut Told<W>,
+) -> Result<(), Refusal> {
+    Ok(sql_text(&read_changeset(rt, file)?, out)?)
+}
+
+/// Applies a file to a store, and prints what that did once the store is closed.
+pub(crate) fn apply_file<W: Write>(
     rt: &HostRuntime,
     file: &str,
     store: &str,
+    policy: &Policy,
     out: &mut Told<W>,
 ) -> Result<(), Refusal> {
-    let file = read_file(rt, file)?;
-    let mut store = Store::open_from(rt, store, false, Unknown)?;
-    let applied = apply(rt.alloc(), &mut store, &file, &|_| Choice::Abort);
-    let closed = store.into_connection().close();
-    report_text(&applied?, out)?;
-    Ok(closed.map_err(StoreError::from)?)
+    let bytes = read_file(rt, file)?;
+    let reply = if store == IN_MEMORY {
+        apply_unnoted(
+            rt.alloc(),
+            &mut Store::new_memory(rt.alloc())?,
+            &bytes,
+            policy,
+        )?
+    } else {
+        apply_to_file(rt, store, &bytes, policy)?
+    };
+    Ok(write_reply(out, &reply)?)
 }
 
-/// Does what a command asks for with a file.
-pub(crate) fn run_command<W: Write>(
+/// Opens the store in a file, which is made where it is missing.
+pub(crate) fn open_store(
     rt: &HostRuntime,
-    file: &str,
-    command: Command<'_>,
-    out: &mut Told<W>,
-) -> Result<(), Refusal> {
-    match command {
-        Command::Apply { store } => apply_file(rt, file, store, out),
-        Command::Concat { second, out } => join_files(rt, file, second, out),
-        Command::Dump => Ok(dump_text(&read_changeset(rt, file)?, out)?),
-        Command::Invert { out } => invert_file(rt, file, out),
-        Command::Sql => Ok(sql_text(&read_changeset(rt, file)?, out)?),
+    path: &str,
+) -> Result<Store<FileStore<FileFrom<Unknown>>>, Refusal> {
+    Ok(Store::open_from(rt, path, false, Unknown)?)
+}
+
+/// Closes the store in a file, so that the one file stands.
+pub(crate) fn close_store(store: Store<FileStore<FileFrom<Unknown>>>) -> Result<(), Refusal> {
+    match store.into_connection().close() {
+        Ok(()) => Ok(()),
+        Err(error) => Err(Refusal::from(StoreError::from(error))),
     }
+}
+
+/// Applies bytes to the store in a file.
+fn apply_to_file(
+    rt: &HostRuntime,
+    path: &str,
+    bytes: &[u8],
+    policy: &Policy,
+) -> Result<Reply, Refusal> {
+    let mut store = open_store(rt, path)?;
+    let applied = apply_unnoted(rt.alloc(), &mut store, bytes, policy);
+    let closed = close_store(store);
+    let reply = applied?;
+    closed?;
+    Ok(reply)
 }

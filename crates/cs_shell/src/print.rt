@@ -96,7 +96,7 @@ fn write_rows<W: Write>(out: &mut Told<W>, rows: &[Row]) -> Result<(), OutputFau
 
 /// Writes what is printed for a reply, and fails as `write_refusal` does.
 #[tactic(auto, unfolding(crate::specs::Replies::reply_text))]
-fn write_reply<W: Write>(out: &mut Told<W>, reply: &Reply) -> Result<(), OutputFault>
+pub(crate) fn write_reply<W: Write>(out: &mut Told<W>, reply: &Reply) -> Result<(), OutputFault>
     ensures { Writes W.contents result out.old out.new (reply_text (reply_of reply.now)) }
 {
     match reply {

@@ -1,20 +1,22 @@
-//! The words of a command line, and what they are answered.
-ghost use Rattle.std.specs.Prelude.{◌≡◌, ◌≤◌, ◌⊎◌, Some, length, false};
+//! Command lines: what their words are answered.
+ghost use Rattle.std.specs.Prelude.{◌≡◌, ◌≤◌, None, Some, false, map, string_bytes, MatchResult};
 ghost use Rattle.std.specs.Io.KnownBytes.{Appends};
 ghost use Rattle.cs_files.specs.Told.{has_failed, known};
 ghost use Rattle.cs_files.specs.Calls.{AppendsFront};
-ghost use Rattle.std.specs.FinMap as map;
-ghost use Rattle.cs_shell.specs.Runs.{exit_of, RunsInput};
-ghost use Rattle.cs_shell.specs.Script.{LineGives};
-ghost use Rattle.cs_shell.specs.Stores.{beginning};
+ghost use Rattle.cs_words.specs.Words.{Refuses, Shell, asked, asked_of, in_memory};
+ghost use Rattle.cs_words.specs.declared.fault.WordsFault.TheVariants as fault;
+ghost use Rattle.cs_shell.specs.Runs.{exit_of};
+ghost use Rattle.cs_shell.specs.CommandLine.{EndsUnasked, Helps, RunsInMemory};
 
-use crate::command::{Command, run_command};
+use crate::command;
+use crate::command::{close_store, open_store};
 use crate::print::write_refusal;
 use crate::refusal::Refusal;
 use crate::script::Status;
 use crate::shell::run_script;
 use cs_files::{OutputFault, Told, write_whole};
 use cs_store::{Store, memory_law};
+use cs_words::{Action, IN_MEMORY, WordsFault, parse_words};
 use std::alloc::Global;
 use std::io::{Read, Write};
 use std::rt::HostRuntime;
@@ -31,46 +33,6 @@ COMMANDs:
   shell              Run a script from standard input on the store FILE
 C is omit, replace or abort (the default).
 ";
-
-/// What the words of a command line ask for.
-#[derive(Clone, Copy, Debug)]
-enum Action<'a> {
-    /// Runs a script from the input.
-    Script,
-    /// Does something with a changeset's file.
-    OnFile { file: &'a str, command: Command<'a> },
-}
-
-/// What the words ask for, the program's name first, or None where they fit no command.
-fn parse_words(words: &[String]) -> Option<Action<'_>>
-    ensures { length words.now ≤ 1 → result ≡ Some Action.Script }
-{
-    match words {
-        [] | [_] => Some(Action::Script),
-        [_, file, name, arguments @ ..] => Some(Action::OnFile {
-            file: file.as_str(),
-            command: parse_command(name.as_str(), arguments)?,
-        }),
-        _ => None,
-    }
-}
-
-/// What a command's name and its arguments ask for, or None where they fit no command.
-fn parse_command<'a>(name: &str, arguments: &'a [String]) -> Option<Command<'a>> {
-    match arguments {
-        [] if name == "dump" => Some(Command::Dump),
-        [] if name == "sql" => Some(Command::Sql),
-        [store] if name == "apply" => Some(Command::Apply {
-            store: store.as_str(),
-        }),
-        [out] if name == "invert" => Some(Command::Invert { out: out.as_str() }),
-        [second, out] if name == "concat" => Some(Command::Concat {
-            second: second.as_str(),
-            out: out.as_str(),
-        }),
-        _ => None,
-    }
-}
 
 /// Writes the error line of a refusal. Where that fails there is nowhere left to say so.
 fn report<E: Write>(err: &mut Told<E>, refusal: &Refusal) {
@@ -99,8 +61,7 @@ fn run_input<R: Read, W: Write, E: Write>(
     out: &mut Told<W>,
     err: &mut Told<E>,
 ) -> u8
-    ensures ran { RunsInput R.remaining W.contents LineGives (beginning map.empty) result
-        input.old input.new out.old out.new ⊎ ((result ≡ 1) × (input.new ≡ input.old) × (out.new ≡ out.old)) }
+    ensures ran { RunsInMemory R.remaining W.contents result input.old input.new out.old out.new }
     ensures status { result ≤ 1 }
 {
     memory_law();
@@ -125,18 +86,97 @@ pub fn print_usage<E: Write>(err: &mut Told<E>) -> u8
     2
 }
 
+/// Writes the usage text for a command line that asks for it, and answers the exit status.
+fn print_help<W: Write, E: Write>(out: &mut Told<W>, err: &mut Told<E>) -> u8
+    ensures { Helps W.contents USAGE.now result out.old out.new }
+{
+    match write_whole(out, USAGE.as_bytes()) {
+        Ok(()) => 0,
+        Err(fault) => {
+            report(err, &Refusal::Output(fault));
+            1
+        }
+    }
+}
+
+/// Runs the input as a script on the store in a file, and answers the exit status.
+fn run_on_file<R: Read, W: Write, E: Write>(
+    rt: &HostRuntime,
+    path: &str,
+    input: &mut Told<R>,
+    out: &mut Told<W>,
+    err: &mut Told<E>,
+) -> u8
+    ensures status { result ≤ 1 }
+{
+    match open_store(rt, path) {
+        Ok(mut store) => {
+            let status = run_script(rt.alloc(), &mut store, input, out);
+            let closed = end_command(err, close_store(store));
+            end_script(err, status).max(closed)
+        }
+        Err(refusal) => end_command(err, Err(refusal)),
+    }
+}
+
+/// The exit status of a command. Where it is refused the error line is written.
+fn end_command<E: Write>(err: &mut Told<E>, done: Result<(), Refusal>) -> u8
+    ensures { MatchResult done (λ _. result ≡ 0) (λ _. result ≡ 1) }
+{
+    match done {
+        Ok(()) => 0,
+        Err(refusal) => {
+            report(err, &refusal);
+            1
+        }
+    }
+}
+
+/// Does what words ask for, and answers the exit status: 0 where that is done, and 1 where it is refused.
+fn run_action<R: Read, W: Write, E: Write>(
+    rt: &HostRuntime,
+    action: Action<'_>,
+    input: &mut Told<R>,
+    out: &mut Told<W>,
+    err: &mut Told<E>,
+) -> u8
+    ensures status { result ≤ 1 }
+    ensures script { asked_of action.entry ≡ Shell in_memory → RunsInMemory R.remaining W.contents result
+        input.old input.new out.old out.new }
+{
+    let done = match action {
+        Action::Shell { file } if file == IN_MEMORY => {
+            return run_input(rt.alloc(), input, out, err);
+        }
+        Action::Shell { file } => return run_on_file(rt, file, input, out, err),
+        Action::Apply {
+            file,
+            store,
+            policy,
+        } => command::apply_file(rt, file, store, &policy, out),
+        Action::Concat { file, second, out } => command::join_files(rt, file, second, out),
+        Action::Dump { file } => command::dump_file(rt, file, out),
+        Action::Sql { file } => command::sql_file(rt, file, out),
+        Action::Invert { file, out } => command::invert_file(rt, file, out),
+    };
+    end_command(err, done)
+}
+
 /// Does what the words of a command line ask for, the program's name first, and answers the exit
 /// status: 0 where that is done, 1 where it is refused and 2 where the words fit no command.
 ///
-/// With no word behind the name the input is run as a script on a store in memory, as [`run_script`] does,
-/// unless there is no memory for the store. `FILE invert OUT`
-/// writes the inverse of FILE into OUT, `FILE concat FILE2 OUT` the join of FILE and FILE2, and
-/// `FILE dump` and `FILE sql` print FILE. A file may have 1073741824 bytes; OUT is replaced, and may
-/// be one of the others. `FILE apply STORE` applies FILE to the store in the file STORE, which is made
-/// where it is missing, and prints the report, as `report_text` does; each conflict ends it, and then
-/// the store is as it was. A refusal, or the usage text, stands on `err`, and then OUT is not opened,
-/// unless it is a write to it that failed. A report that is not written is refused, too, and then FILE
-/// is applied.
+/// With no word behind the name, and with `:memory: shell`, the input is run as a script on a store in
+/// memory, as [`run_script`] does, unless there is no memory for the store; with `FILE shell`
+/// on the store in FILE, which is made where it is missing. `FILE apply STORE`
+/// applies FILE to the store in the file STORE, and prints the report, as `report_text` does: `--data C`,
+/// `--notfound C` and `--conflict C` say what is done about conflicts of each kind, where C is `omit`, `replace`
+/// or `abort`, which is the default. `FILE invert OUT` writes the inverse of FILE into OUT, `FILE concat FILE2
+/// OUT` the join of FILE and FILE2, and `FILE dump` and `FILE sql` print FILE. A file may have 1073741824 bytes;
+/// OUT is replaced once all of its bytes are there, and may be one of the others. With `--help` the usage text is
+/// printed.
+///
+/// A refusal, or the usage text for words that fit no command, stands on `err`, and then OUT is as it was. A
+/// report that is not written is refused, too, and then FILE is applied.
 pub fn run_words<R: Read, W: Write, E: Write>(
     rt: &HostRuntime,
     words: &[String],
@@ -145,21 +185,19 @@ pub fn run_words<R: Read, W: Write, E: Write>(
     err: &mut Told<E>,
 ) -> u8
     ensures status { result ≤ 2 }
-    ensures script { length words.now ≤ 1 → RunsInput R.remaining W.contents LineGives (beginning map.empty) result
-        input.old input.new out.old out.new ⊎ ((result ≡ 1) × (input.new ≡ input.old) × (out.new ≡ out.old)) }
+    ensures script { asked (map string_bytes words.now) ≡ Some (Shell in_memory) →
+        RunsInMemory R.remaining W.contents result input.old input.new out.old out.new }
+    ensures misfit { result ≡ 2 → Refuses (map string_bytes words.now) fault.Usage }
     ensures usage { result ≡ 2 → has_failed err.new ≡ false →
         Appends (known E.contents err.old) (known E.contents err.new) USAGE.now }
     ensures unprinted { result ≡ 2 → out.new ≡ out.old }
+    ensures unasked { asked (map string_bytes words.now) ≡ None →
+        EndsUnasked W.contents USAGE.now (map string_bytes words.now) result out.old out.new }
 {
-    match parse_words(words) {
-        Some(Action::Script) => run_input(rt.alloc(), input, out, err),
-        Some(Action::OnFile { file, command }) => match run_command(rt, file, command, out) {
-            Ok(()) => 0,
-            Err(refusal) => {
-                report(err, &refusal);
-                1
-            }
-        },
-        None => print_usage(err),
+    match parse_words(rt.alloc(), words) {
+        Ok(action) => run_action(rt, action, input, out, err),
+        Err(WordsFault::Help) => print_help(out, err),
+        Err(WordsFault::Usage) => print_usage(err),
+        Err(WordsFault::NoMemory) => end_command(err, Err(Refusal::NoMemory)),
     }
 }
