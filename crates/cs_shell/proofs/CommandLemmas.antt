@@ -1,5 +1,5 @@
 -- What commands give, of what the functions that do them ensure.
-use Rattle.std.proofs.Common.{◌≡◌, inl, inr, ℕ, List, Option, Some, None, refl, IsUtf8}
+use Rattle.std.proofs.Common.{◌≡◌, inl, inr, ℕ, ◌||◌, Bool, true, List, Option, Some, None, refl, sym, subst, IsUtf8}
 use Rattle.std.specs.FinMap.{get}
 use Rattle.sqlite.specs.State.{State}
 use Rattle.cs_value.specs.declared.value.OwnedValue.{OwnedValue}
@@ -13,14 +13,16 @@ use Rattle.cs_session.specs.FirstImages.{Notes}
 use Rattle.cs_lines.specs.declared.fault.SyntaxFault.{SyntaxFault}
 use Rattle.cs_lines.specs.Commands.{CommandData, AssignmentData, Create, Insert, Update, Delete, Select, Apply, Revert, SessionOpen, SessionAttach, SessionChangeset, SessionIsEmpty, SessionUndo, SessionClose}
 use Rattle.cs_lines.specs.Lines.{RefusesLine, Spelled}
+use Rattle.cs_shell.specs.declared.refusal.Refusal.{Refusal}
 use Rattle.cs_shell.specs.declared.refusal.Refusal.TheVariants.{NoMemory, EmptySlot}
+use Rattle.cs_shell.specs.declared.workspace.Workspace.{Workspace}
 use Rattle.cs_shell.specs.ErrorLines.{of_line}
 use Rattle.cs_shell.specs.Replies.{Reply, Refused}
-use Rattle.cs_shell.specs.Script.{SlotsGive, LineGives, malformed, answered, unanswered, CreateGives, EditGives, UpdateGives, DeleteGives, SelectGives, ApplyGives, ByKind, RevertGives, WithSession, OpenGives, AttachGives, ChangesetGives, IsEmptyGives, UndoGives, CloseGives}
+use Rattle.cs_shell.specs.Script.{IsResource, SlotsGive, LineGives, malformed, answered, unanswered, CreateGives, EditGives, UpdateGives, DeleteGives, SelectGives, ApplyGives, ByKind, RevertGives, WithSession, OpenGives, AttachGives, ChangesetGives, IsEmptyGives, UndoGives, CloseGives}
 use Rattle.cs_shell.specs.Script.{CommandGives, created, inserts, updates, deletes, selects, on_slots, applies, reverts, opens, attaches, changes, tells_empty, undoes, closes}
 use Rattle.cs_shell.specs.ShellState.{SlotMap, ShellState}
-use Rattle.cs_shell.specs.Turns.{OrUnable, Gave, GaveOn, Works, WorksOn, IsHere, seen}
-use Rattle.cs_shell.proofs.TurnLemmas.{turns_still, turns_weaker, or_weaker}
+use Rattle.cs_shell.specs.Turns.{Answers, AreSame, Known, TurnsBetween, OrUnable, Gave, GaveOn, Works, WorksOn, IsHere, seen}
+use Rattle.cs_shell.proofs.TurnLemmas.{between_settled, between_then, between_weaker, turns_still, turns_weaker, or_weaker, unable_as}
 
 -- a command that leaves the slots
 pub works_on : (Gives More : ShellState → Reply → ShellState → Type 0) (old new : State) (slots : SlotMap) (before after : Option Notes) (reply : Reply) → Works old new before after More reply
@@ -146,3 +148,21 @@ line_answered old new slots filled before after line command reply text asks wor
       or_weaker (λ state. LineGives state line) (λ state. CommandGives state command) (seen t slots before) reply (seen u filled after)
           (λ gives. answered (seen t slots before) line command reply (seen u filled after) text asks gives) done.1,
     )) works
+
+-- a line before which the store refused to be settled
+pub line_unsettled : (old new : State) (was is : Bool) (work : Workspace) (line : List ℕ) (why : Refusal) → IsResource why
+    → ((rests : Bool) → TurnsBetween old new (Known (rests || was) old) (Known (rests || is) new) AreSame) → Answers old new was is work work line (Refused why)
+line_unsettled old new was is work line why resource turns = λ rests.
+    between_weaker (Known (rests || was) old) (Known (rests || is) new) AreSame (GaveOn work.slots work.slots work.session work.session (λ state. LineGives state line) (Refused why)) old new
+    (λ t u same. subst (λ (s : Tables). GaveOn work.slots work.slots work.session work.session (λ state. LineGives state line) (Refused why) t s) (sym same)
+    (λ here. (here, unable_as (λ state. LineGives state line) (seen t work.slots work.session) why resource))) (turns rests)
+
+-- a line over a store that is settled
+pub line_settled : (old mid new : State) (was is : Bool) (before after : Workspace) (line : List ℕ) (reply : Reply) → is ≡ true
+    → ((rests : Bool) → TurnsBetween old mid (Known (rests || was) old) (Known (rests || is) mid) AreSame)
+    → WorksOn mid new before.slots after.slots before.session after.session (λ state. LineGives state line) reply → Answers old new was is before after line reply
+line_settled old mid new was is before after line reply settled turns works = λ rests.
+    between_then (Known (rests || was) old) (Known (rests || is) mid) (Known (rests || is) new) AreSame
+    (GaveOn before.slots after.slots before.session after.session (λ state. LineGives state line) reply) (GaveOn before.slots after.slots before.session after.session (λ state. LineGives state line) reply) old mid new (turns rests)
+    (between_settled rests is (GaveOn before.slots after.slots before.session after.session (λ state. LineGives state line) reply) mid new settled works)
+    (λ t u v same work. subst (λ (s : Tables). GaveOn before.slots after.slots before.session after.session (λ state. LineGives state line) reply s v) same work)

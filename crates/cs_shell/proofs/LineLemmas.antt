@@ -1,9 +1,10 @@
 -- Lines that are answered over a store, as a script sees them.
-use Rattle.std.proofs.Common.{◌≡◌, inl, inr, ℕ, List, [], ◌∷◌, Option, None, refl, sym, subst, ◌∙◌}
+use Rattle.std.proofs.Common.{◌≡◌, inl, inr, ℕ, Bool, List, [], ◌∷◌, Option, None, refl, sym, subst, ◌∙◌}
 use Rattle.std.specs.FinMap.{empty}
 use Rattle.sqlite.specs.State as sqlite
 use Rattle.sqlite.specs.State.{HasCleanDisk}
 use Rattle.cs_value.specs.State.{State}
+use Rattle.cs_store.specs.Store.{tables_in}
 use Rattle.cs_files.specs.declared.told.Told.{Told}
 use Rattle.cs_shell.specs.declared.script.Status.{Status}
 use Rattle.cs_shell.specs.declared.workspace.Workspace.{Workspace}
@@ -11,10 +12,10 @@ use Rattle.cs_shell.specs.Replies.{Reply}
 use Rattle.cs_shell.specs.Runs.{LinesGive, Runs}
 use Rattle.cs_shell.specs.Script.{LineGives, unanswered}
 use Rattle.cs_shell.specs.ShellState.{ShellState}
-use Rattle.cs_shell.specs.Stores.{HasReply, RunsScript, Stands, beginning}
-use Rattle.cs_shell.specs.Turns.{Turns, GaveOn, OrUnable, IsHere, Answers, RunsShell, seen, seen_session}
+use Rattle.cs_shell.specs.Stores.{HasReply, IsSettled, RunsScript, Shows, beginning}
+use Rattle.cs_shell.specs.Turns.{Known, Stands, TurnsBetween, GaveOn, OrUnable, IsHere, RunsShell, seen, seen_session}
 use Rattle.cs_shell.proofs.RunLemmas.{Runs-answered}
-use Rattle.cs_shell.proofs.TurnLemmas.{turns_still, turns_then, turns_weaker}
+use Rattle.cs_shell.proofs.TurnLemmas.{between_still, between_then, between_weaker, known_shows}
 
 -- any line may be refused for memory or by the database
 pub line_gives : (line : List ℕ) (old : ShellState) (reply : Reply) (new : ShellState) → OrUnable (λ state. LineGives state line) old reply new → LineGives old line reply new
@@ -33,8 +34,9 @@ module _ {M : Type 0} (gives : M → List ℕ → Reply → M → Type 0) where
   lines_keep name kept (line ∷ lines) (reply ∷ replies) a b given =
       lines_keep name kept lines replies given.0 b given.2 ∙ kept a given.0 line reply given.1
 
-  module _ (conn : M → sqlite.State) (work : M → Workspace)
-      (answers : (a b : M) (line : List ℕ) (reply : Reply) → gives a line reply b → Answers (conn a) (conn b) (work a) (work b) line reply) where
+  module _ (conn : M → sqlite.State) (known : M → State → Type 0) (work : M → Workspace)
+      (answers : (a b : M) (line : List ℕ) (reply : Reply) → gives a line reply b
+      → TurnsBetween (conn a) (conn b) (known a) (known b) (GaveOn (work a).slots (work b).slots (work a).session (work b).session (λ state. LineGives state line) reply)) where
     abbrev sees : State → M → ShellState
     sees t m = seen t (work m).slots (work m).session
 
@@ -43,13 +45,13 @@ module _ {M : Type 0} (gives : M → List ℕ → Reply → M → Type 0) where
     Given lines replies a b t u = IsHere t (work a).session → IsHere u (work b).session × LinesGive LineGives (sees t a) lines replies (sees u b)
 
     -- lines in turn are one turn
-    pub lines_turn : (lines : List (List ℕ)) (replies : List Reply) (a b : M) → LinesGive gives a lines replies b → Turns (conn a) (conn b) (Given lines replies a b)
+    pub lines_turn : (lines : List (List ℕ)) (replies : List Reply) (a b : M) → LinesGive gives a lines replies b → TurnsBetween (conn a) (conn b) (known a) (known b) (Given lines replies a b)
     lines_turn [] [] a b given =
-        subst (λ (m : M). Turns (conn a) (conn m) (Given [] [] a m)) (sym given) (turns_still (Given [] [] a a) (conn a) (λ t here. (here, refl)))
+        subst (λ (m : M). TurnsBetween (conn a) (conn m) (known a) (known m) (Given [] [] a m)) (sym given) (between_still (known a) (Given [] [] a a) (conn a) (λ t here. (here, refl)))
     lines_turn [] (reply ∷ replies) a b given = absurd given
     lines_turn (line ∷ lines) [] a b given = absurd given
     lines_turn (line ∷ lines) (reply ∷ replies) a b given =
-        turns_then (GaveOn (work a).slots (work given.0).slots (work a).session (work given.0).session (λ state. LineGives state line) reply) (Given lines replies given.0 b) (Given (line ∷ lines) (reply ∷ replies) a b)
+        between_then (known a) (known given.0) (known b) (GaveOn (work a).slots (work given.0).slots (work a).session (work given.0).session (λ state. LineGives state line) reply) (Given lines replies given.0 b) (Given (line ∷ lines) (reply ∷ replies) a b)
         (conn a) (conn given.0) (conn b) (answers a given.0 line reply given.1) (lines_turn lines replies given.0 b given.2)
         (λ t u v first others here.
         let one = first here in
@@ -66,27 +68,32 @@ any_replies gives a b [] (reply ∷ replies) given = absurd given
 any_replies gives a b (line ∷ lines) [] given = absurd given
 any_replies gives a b (line ∷ lines) (reply ∷ replies) given = (tt, tt, any_replies gives given.0 b lines replies given.2)
 
-module _ {R W M : Type 0} (remaining : R → Option (List ℕ)) (contents : W → Option (List ℕ)) (gives : M → List ℕ → Reply → M → Type 0) (conn : M → sqlite.State) (work : M → Workspace)
-    (answers : (a b : M) (line : List ℕ) (reply : Reply) → gives a line reply b → Answers (conn a) (conn b) (work a) (work b) line reply) where
+module _ {R W M : Type 0} (remaining : R → Option (List ℕ)) (contents : W → Option (List ℕ)) (gives : M → List ℕ → Reply → M → Type 0) (conn : M → sqlite.State) (known : M → State → Type 0) (work : M → Workspace)
+    (answers : (a b : M) (line : List ℕ) (reply : Reply) → gives a line reply b
+    → TurnsBetween (conn a) (conn b) (known a) (known b) (GaveOn (work a).slots (work b).slots (work a).session (work b).session (λ state. LineGives state line) reply)) where
   -- a run over a store, as a script sees it
   pub shell_runs : (status : Status) (start final : M) (a b : Told R) (x y : Told W) → Runs remaining contents gives status start final a b x y
-      → Turns (conn start) (conn final) (RunsShell remaining contents status (work start) (work final) a b x y)
+      → TurnsBetween (conn start) (conn final) (known start) (known final) (RunsShell remaining contents status (work start) (work final) a b x y)
   shell_runs status start final a b x y runs =
       let some = Runs-answered remaining contents gives LineGives status start final a b x y runs in
-      turns_weaker (Given gives conn work answers some.lines some.replies start final) (RunsShell remaining contents status (work start) (work final) a b x y) (conn start) (conn final)
-      (λ t u holds here. some.seen (sees gives conn work answers t start) (sees gives conn work answers u final) (holds here).1)
-      (lines_turn gives conn work answers some.lines some.replies start final some.given)
+      between_weaker (known start) (known final) (Given gives conn known work answers some.lines some.replies start final) (RunsShell remaining contents status (work start) (work final) a b x y) (conn start) (conn final)
+      (λ t u holds here. some.seen (sees gives conn known work answers t start) (sees gives conn known work answers u final) (holds here).1)
+      (lines_turn gives conn known work answers some.lines some.replies start final some.given)
 
 -- a script begins with no slot and no session
-pub begins : {R W : Type 0} (remaining : R → Option (List ℕ)) (contents : W → Option (List ℕ)) (status : Status) (old new : sqlite.State) (work after : Workspace) (a b : Told R) (x y : Told W)
-    → work.slots ≡ empty → work.session ≡ None → Turns old new (RunsShell remaining contents status work after a b x y)
-    → HasCleanDisk new → (t : State) → Stands old t → RunsScript remaining contents status a b x y t new
-begins remaining contents status old new work after a b x y slots session turns clean t stands =
-    let done = turns.done clean t stands in
+pub begins : {R W : Type 0} (remaining : R → Option (List ℕ)) (contents : W → Option (List ℕ)) (status : Status) (settled : Bool) (old new : sqlite.State) (work after : Workspace) (a b : Told R) (x y : Told W)
+    → work.slots ≡ empty → work.session ≡ None → TurnsBetween old new (Shows old) (Known settled new) (RunsShell remaining contents status work after a b x y)
+    → HasCleanDisk new → (t : State) → Shows old t → RunsScript remaining contents status a b x y t new
+begins remaining contents status settled old new work after a b x y slots session turns clean t shows =
+    let done = turns.done clean t shows in
     let here : IsHere t work.session = rw session tt in
     let start : seen t work.slots work.session ≡ beginning t = λ i. record { tables = t; slots = slots i; session = seen_session t (session i) } in
     record {
       last = seen done.0 after.slots after.session;
       runs = subst (λ (s : ShellState). Runs remaining contents LineGives status s (seen done.0 after.slots after.session) a b x y) start (done.2 here);
-      stands = done.1;
+      shows = known_shows settled new done.0 done.1;
     }
+
+-- a store that was at rest is at rest
+pub stays_at_rest : (old new : sqlite.State) (Holds : State → State → Type 0) → TurnsBetween old new (Stands old) (Stands new) Holds → HasCleanDisk new → IsSettled old → IsSettled new
+stays_at_rest old new Holds turns clean rests = λ is_open. ((turns.done clean (tables_in old.now) (λ was_open. (rests was_open, refl))).1 is_open).0

@@ -1,5 +1,5 @@
 -- What calls of a store and of a session do, as turns of a script.
-use Rattle.std.proofs.Common.{◌≡◌, ◌⊎◌, inl, inr, Bool, true, false, Option, IsTrue, refl, sym, ap, subst, ◌∙◌, arith}
+use Rattle.std.proofs.Common.{◌≡◌, ◌⊎◌, inl, inr, Bool, true, false, ◌||◌, Option, IsTrue, refl, sym, ap, subst, ◌∙◌, arith}
 use Rattle.sqlite_disk.specs.Disk.{MoreFaults}
 use Rattle.sqlite_trees.specs.Tree.{Trees}
 use Rattle.sqlite.specs.Effect.{Database}
@@ -8,8 +8,9 @@ use Rattle.cs_value.specs.State as tables
 use Rattle.cs_store.specs.declared.fault.StoreError.{StoreError}
 use Rattle.cs_store.specs.declared.fault.StoreError.TheVariants as store
 use Rattle.cs_store.specs.Faults as faults
-use Rattle.cs_store.specs.Records.{KeepsContent}
-use Rattle.cs_store.specs.Store.{IsAtRest, KeepsStore, tables_in}
+use Rattle.cs_store.specs.Laws.{was_clean}
+use Rattle.cs_store.specs.Records.{KeepsContent, KeepsCrash, IsUndone}
+use Rattle.cs_store.specs.Store.{Begins, IsAtRest, KeepsStore, tables_in}
 use Rattle.cs_apply.specs.declared.fault.ApplyFault.{ApplyFault}
 use Rattle.cs_apply.specs.Running as applies
 use Rattle.cs_session.specs.declared.fault.SessionFault.{SessionFault}
@@ -21,8 +22,8 @@ use Rattle.cs_shell.specs.ErrorLines.{of_store, of_apply, of_session}
 use Rattle.cs_shell.specs.Replies.{Reply, Refused}
 use Rattle.cs_shell.specs.Script.{IsResource}
 use Rattle.cs_shell.specs.ShellState.{SlotMap, ShellState}
-use Rattle.cs_shell.specs.Stores.{Stands, TellsFailures}
-use Rattle.cs_shell.specs.Turns.{Turns, Reads, OrUnable, Gave, Works, IsHere, seen}
+use Rattle.cs_shell.specs.Stores.{Shows, TellsFailures}
+use Rattle.cs_shell.specs.Turns.{Stands, Known, TurnsBetween, AreSame, Turns, Reads, OrUnable, Gave, Works, IsHere, seen}
 
 -- ---- the tables that a store has
 
@@ -53,6 +54,20 @@ holds_of old Holds shown shut t stands = at old.is_open refl
     at true is = let was = stands is in subst Holds was.1 (shown was.0)
     at false is = shut is t
 
+-- ---- what is known of a store, settled or not
+
+pub known_shows : (settled : Bool) (store : State) (t : tables.State) → Known settled store t → Shows store t
+known_shows true store t stands = λ is_open. (stands is_open).1
+known_shows false store t shows = shows
+
+stands_known : (settled : Bool) (store : State) (t : tables.State) → Stands store t → Known settled store t
+stands_known true store t stands = stands
+stands_known false store t stands = λ is_open. (stands is_open).1
+
+known_kept : (settled : Bool) (old new : State) (t : tables.State) → KeepsContent old new → Known settled old t → Known settled new t
+known_kept true old new t kept stands = stands_kept old new t kept stands
+known_kept false old new t kept shows = λ is_open. ap (λ (db : Database). tables_in db) (kept.now is_open) ∙ shows (kept.was_open is_open)
+
 -- ---- turns
 
 survives_tells : {P : Trees → Type 0} (old new : State) → Survives old new P → TellsFailures old new
@@ -72,6 +87,13 @@ tells_then a b c one two = record {
     on : IsTrue b.is_open ⊎ MoreFaults a.faults b.faults → HasCleanDisk c → IsTrue c.is_open ⊎ MoreFaults a.faults c.faults
     on (inl is_open) clean = after (two.closes clean is_open)
     on (inr more) clean = inr (omega (arith, two.counts, more))
+
+-- nothing was called
+pub between_still : (P : tables.State → Type 0) (Holds : tables.State → tables.State → Type 0) (store : State) → ((t : tables.State) → Holds t t) → TurnsBetween store store P P Holds
+between_still P Holds store holds = record {
+  disk = record { clean = omega arith; counts = omega arith; closes = λ clean is_open. inl is_open };
+  done = λ clean t known. (t, known, holds t);
+}
 
 module _ (Holds : tables.State → tables.State → Type 0) where
   -- a call that commits, and did: a store that is shut does not
@@ -102,28 +124,79 @@ module _ (Holds : tables.State → tables.State → Type 0) where
     done = λ clean t stands. (t, stands_read old new t kept clean stands, holds_of old (λ t. Holds t t) (holds clean) (shut clean) t stands);
   }
 
-  -- nothing was called
   pub turns_still : (store : State) → ((t : tables.State) → Holds t t) → Turns store store Holds
-  turns_still store holds = record {
-    disk = record { clean = omega arith; counts = omega arith; closes = λ clean is_open. inl is_open };
-    done = λ clean t stands. (t, stands, holds t);
-  }
+  turns_still store holds = between_still (Stands store) Holds store holds
 
 -- one turn after another
-pub turns_then : (A B C : tables.State → tables.State → Type 0) (a b c : State) → Turns a b A → Turns b c B
-    → ((t u v : tables.State) → A t u → B u v → C t v) → Turns a c C
-turns_then A B C a b c one two both = record {
+pub between_then : (P Q R : tables.State → Type 0) (A B C : tables.State → tables.State → Type 0) (a b c : State) → TurnsBetween a b P Q A → TurnsBetween b c Q R B
+    → ((t u v : tables.State) → A t u → B u v → C t v) → TurnsBetween a c P R C
+between_then P Q R A B C a b c one two both = record {
   disk = tells_then a b c one.disk two.disk;
-  done = λ clean t stands.
-      let first = one.done (omega (arith, two.disk.clean, clean)) t stands in
+  done = λ clean t known.
+      let first = one.done (omega (arith, two.disk.clean, clean)) t known in
       let second = two.done clean first.0 first.1 in
       (second.0, second.1, both t first.0 second.0 first.2 second.2);
 }
 
-pub turns_weaker : (A B : tables.State → tables.State → Type 0) (old new : State) → ((t u : tables.State) → A t u → B t u) → Turns old new A → Turns old new B
-turns_weaker A B old new weaker turns = record {
+pub turns_then : (A B C : tables.State → tables.State → Type 0) (a b c : State) → Turns a b A → Turns b c B
+    → ((t u v : tables.State) → A t u → B u v → C t v) → Turns a c C
+turns_then A B C a b c one two both = between_then (Stands a) (Stands b) (Stands c) A B C a b c one two both
+
+pub between_weaker : (P Q : tables.State → Type 0) (A B : tables.State → tables.State → Type 0) (old new : State) → ((t u : tables.State) → A t u → B t u) → TurnsBetween old new P Q A
+    → TurnsBetween old new P Q B
+between_weaker P Q A B old new weaker turns = record {
   disk = turns.disk;
-  done = λ clean t stands. let done = turns.done clean t stands in (done.0, done.1, weaker t done.0 done.2);
+  done = λ clean t known. let done = turns.done clean t known in (done.0, done.1, weaker t done.0 done.2);
+}
+
+pub turns_weaker : (A B : tables.State → tables.State → Type 0) (old new : State) → ((t u : tables.State) → A t u → B t u) → Turns old new A → Turns old new B
+turns_weaker A B old new weaker turns = between_weaker (Stands old) (Stands new) A B old new weaker turns
+
+-- ---- an empty batch, which settles a store
+
+-- it is refused
+pub batch_refused : (old new : State) → KeepsCrash old new → (HasCleanDisk new → KeepsContent old new) → (settled : Bool) → TurnsBetween old new (Known settled old) (Known settled new) AreSame
+batch_refused old new survives kept settled = record {
+  disk = survives_tells old new survives;
+  done = λ clean t known. (t, known_kept settled old new t (kept clean) known, refl);
+}
+
+-- it is begun and taken back
+pub batch_undone : (old begun new : State) → KeepsCrash old begun → (HasCleanDisk begun → Begins old begun) → KeepsCrash begun new → (HasCleanDisk new → IsUndone begun new)
+    → TurnsBetween old new (Shows old) (Stands new) AreSame
+batch_undone old begun new begins begun_as drops undone = record {
+  disk = tells_then old begun new (survives_tells old begun begins) (survives_tells begun new drops);
+  done = λ clean t shows.
+      let first = begun_as (was_clean begun new drops clean) in
+      let last = undone clean in (
+        t,
+        (λ is_open. (
+          record { is_open = is_open; autocommit = last.autocommit; committed = last.committed is_open ∙ sym (last.now is_open) },
+          ap (λ (db : Database). tables_in db) (last.now is_open ∙ first.shown.committed_is ∙ sym first.settled) ∙ shows first.shown.was_open,
+        )),
+        refl,
+      );
+}
+
+-- where it is settled, whatever else is known
+known_stands : (rests is : Bool) (store : State) (t : tables.State) → is ≡ true → Known (rests || is) store t → Stands store t
+known_stands true is store t settled known = known
+known_stands false is store t settled known = subst (λ b. Known b store t) settled known
+
+-- a call on a store that is settled
+pub between_settled : (rests is : Bool) (A : tables.State → tables.State → Type 0) (old new : State) → is ≡ true → Turns old new A
+    → TurnsBetween old new (Known (rests || is) old) (Known (rests || is) new) A
+between_settled rests is A old new settled turns = record {
+  disk = turns.disk;
+  done = λ clean t known. let done = turns.done clean t (known_stands rests is old t settled known) in (done.0, stands_known (rests || is) new done.0 done.1, done.2);
+}
+
+-- more was known before, or less is after
+pub between_known : (was is : Bool) (A : tables.State → tables.State → Type 0) (old new : State) → TurnsBetween old new (Shows old) (Stands new) A
+    → TurnsBetween old new (Known was old) (Known is new) A
+between_known was is A old new turns = record {
+  disk = turns.disk;
+  done = λ clean t known. let done = turns.done clean t (known_shows was old t known) in (done.0, stands_known is new done.0 done.1, done.2);
 }
 
 -- ---- what a script sees of them

@@ -1,5 +1,5 @@
 -- What holds of any machine that answers lines over a store.
-use Rattle.std.proofs.Common.{ℕ, List, inl, refl, arith}
+use Rattle.std.proofs.Common.{ℕ, Bool, List, inl, refl, arith}
 use Rattle.sqlite.specs.State.{State}
 use Rattle.cs_shell.specs.declared.workspace.Workspace.{Workspace}
 use Rattle.cs_shell.specs.declared.refusal.Refusal.TheVariants.{NoMemory}
@@ -8,8 +8,9 @@ use Rattle.cs_shell.specs.Script.{unanswered}
 use Rattle.cs_shell.specs.Turns.{Answers}
 
 -- memory may be refused for any line, and then nothing changes
-pub loses_line : (store : State) (work : Workspace) (line : List ℕ) → Answers store store work work line (Refused NoMemory)
-loses_line store work line = record {
+pub loses_line : (store : State) (is_settled : Bool) (work : Workspace) (line : List ℕ)
+    → Answers store store is_settled is_settled work work line (Refused NoMemory)
+loses_line store is_settled work line rests = record {
   disk = record { clean = omega arith; counts = omega arith; closes = λ clean is_open. inl is_open };
-  done = λ clean tables stands. (tables, stands, λ here. (here, inl (unanswered _ line NoMemory (inl refl))));
+  done = λ clean tables known. (tables, known, λ here. (here, inl (unanswered _ line NoMemory (inl refl))));
 }

@@ -14,10 +14,14 @@ use Rattle.cs_shell.specs.Script.{LineGives}
 use Rattle.cs_shell.specs.ShellState.{ShellState}
 use Rattle.cs_shell.specs.Runs.{Runs}
 
--- a store stands with these tables: while its connection is open, no transaction is, and these are committed. One whose
--- connection a failure of the disk has shut shows none, and stands with any
-abbrev pub Stands : sqlite.State → State → Type 0
-Stands store tables = IsTrue store.is_open → IsAtRest store × (tables_in store.now ≡ tables)
+-- a store shows these tables while its connection is open, whatever batch is; one whose connection a failure of the disk
+-- has shut shows none, and any are said to be shown
+abbrev pub Shows : sqlite.State → State → Type 0
+Shows store tables = IsTrue store.is_open → tables_in store.now ≡ tables
+
+-- while its connection is open no batch is, and what it shows is committed
+abbrev pub IsSettled : sqlite.State → Type 0
+IsSettled store = IsTrue store.is_open → IsAtRest store
 
 -- no failure of the disk is forgotten, and only one that was counted shuts the connection
 pub record TellsFailures (old new : sqlite.State) : Type 0 where
@@ -29,12 +33,12 @@ pub record TellsFailures (old new : sqlite.State) : Type 0 where
 abbrev pub beginning : State → ShellState
 beginning tables = record { tables = tables; slots = map.empty; session = None }
 
--- the script is run: its lines gave these replies in turn, and the store stands with the tables that go with them
+-- the script is run: its lines gave these replies in turn, and the store shows the tables that go with them
 pub record RunsScript {R W : Type 0} (remaining : R → Option (List ℕ)) (contents : W → Option (List ℕ)) (status : Status)
     (input_before input_after : Told R) (before after : Told W) (tables : State) (new : sqlite.State) : Type 0 where
   pub last : ShellState
   pub runs : Runs remaining contents LineGives status (beginning tables) last input_before input_after before after
-  pub stands : Stands new last.tables
+  pub shows : Shows new last.tables
 
 -- a line has a reply, whatever it is
 abbrev pub HasReply : Unit {0} → List ℕ → Reply → Unit {0} → Type 0

@@ -1,8 +1,9 @@
 -- What a command does with a store and a session: the vocabulary of private contracts.
-use Rattle.std.specs.Prelude.{◌≡◌, ◌⊎◌, ℕ, List, map, Option, None, Some, option_map, Result, Ok, Err}
+use Rattle.std.specs.Prelude.{◌≡◌, ◌⊎◌, ℕ, ◌||◌, Bool, true, false, IsTrue, List, map, Option, None, Some, option_map, Result, Ok, Err}
 use Rattle.sqlite.specs.State as sqlite
 use Rattle.sqlite.specs.State.{HasCleanDisk}
 use Rattle.cs_value.specs.State.{State}
+use Rattle.cs_store.specs.Store.{IsAtRest, tables_in}
 use Rattle.cs_session.specs.FirstImages.{AttachedTable, Notes, rewound_rows}
 use Rattle.cs_session.specs.Runs.{IsMoment}
 use Rattle.cs_lines.specs.Commands.{AssignmentData}
@@ -13,7 +14,7 @@ use Rattle.cs_shell.specs.declared.workspace.Workspace.{Workspace}
 use Rattle.cs_shell.specs.Script.{RowPlace, FindsRow, IsResource, LineGives}
 use Rattle.cs_shell.specs.ShellState.{SlotMap, SessionTable, SessionTables, ShellState}
 use Rattle.cs_shell.specs.Runs.{Runs}
-use Rattle.cs_shell.specs.Stores.{Stands, TellsFailures}
+use Rattle.cs_shell.specs.Stores.{Shows, TellsFailures}
 use Rattle.cs_shell.specs.declared.script.Status.{Status}
 use Rattle.cs_files.specs.declared.told.Told.{Told}
 
@@ -41,11 +42,29 @@ IsHere tables (Some notes) = IsMoment (record { state = tables; notes = notes })
 
 -- ---- what was done
 
--- a store that stood with some tables stands with others, and of both this holds, if the disk has returned what was written
-pub record Turns (old new : sqlite.State) (Holds : State → State → Type 0) : Type 0 where
+-- a store stands with these tables: while its connection is open, no batch is, and these are committed. One whose
+-- connection a failure of the disk has shut stands with any
+abbrev pub Stands : sqlite.State → State → Type 0
+Stands store tables = IsTrue store.is_open → IsAtRest store × (tables_in store.now ≡ tables)
+
+-- what is known of a store and its tables: that it stands with them, where it is settled, and else that it shows them
+abbrev pub Known : Bool → sqlite.State → State → Type 0
+Known true store tables = Stands store tables
+Known false store tables = Shows store tables
+
+-- what is known of a store with some tables before is known of it with others after, and of both this holds, if the disk has
+-- returned what was written
+pub record TurnsBetween (old new : sqlite.State) (Before After : State → Type 0) (Holds : State → State → Type 0) : Type 0 where
   pub disk : TellsFailures old new
-  pub done : HasCleanDisk new → (before : State) → Stands old before
-      → (after : State) × Stands new after × Holds before after
+  pub done : HasCleanDisk new → (before : State) → Before before → (after : State) × After after × Holds before after
+
+-- a store that stood with some tables stands with others
+abbrev pub Turns : sqlite.State → sqlite.State → (State → State → Type 0) → Type 0
+Turns old new Holds = TurnsBetween old new (Stands old) (Stands new) Holds
+
+-- the tables are the same
+abbrev pub AreSame : State → State → Type 0
+AreSame before after = after ≡ before
 
 -- the tables were read, and this holds of them
 abbrev pub Reads : sqlite.State → sqlite.State → (State → Type 0) → Type 0
@@ -81,10 +100,11 @@ abbrev pub WorksOn : sqlite.State → sqlite.State → SlotMap → SlotMap → O
     → (ShellState → Reply → ShellState → Type 0) → Reply → Type 0
 WorksOn old new slots filled noted notes Gives reply = Turns old new (GaveOn slots filled noted notes Gives reply)
 
--- a line gave this reply
-abbrev pub Answers : sqlite.State → sqlite.State → Workspace → Workspace → List ℕ → Reply → Type 0
-Answers old new before after line reply = WorksOn old new before.slots after.slots before.session after.session
-    (λ state. LineGives state line) reply
+-- a line gave this reply, over a store that was settled, or not, and is, or not; one that is at rest stays so
+abbrev pub Answers : sqlite.State → sqlite.State → Bool → Bool → Workspace → Workspace → List ℕ → Reply → Type 0
+Answers old new was is before after line reply = (rests : Bool)
+    → TurnsBetween old new (Known (rests || was) old) (Known (rests || is) new)
+    (GaveOn before.slots after.slots before.session after.session (λ state. LineGives state line) reply)
 
 -- a script was run, from these tables to those, whose session, if one was open, has its tables there
 abbrev pub RunsShell : {R W : Type 0} → (R → Option (List ℕ)) → (W → Option (List ℕ)) → Status

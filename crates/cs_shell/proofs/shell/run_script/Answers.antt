@@ -1,17 +1,22 @@
--- `shell::run_script`: the clauses `ran` and `disk`.
-use Rattle.std.proofs.Common.{◌≡◌, rules}
+-- `shell::run_script`: the clauses `ran`, `at_rest` and `disk`.
+use Rattle.std.proofs.Common.{◌≡◌, false, true, rules}
 use Rattle.sqlite.specs.Held.{state}
-use Rattle.cs_shell.proofs.LineLemmas.{begins}
+use Rattle.cs_shell.proofs.LineLemmas.{begins, stays_at_rest}
 use Rattle.cs_shell.proofs.shell.run_script.Goals as goal
 
 pub returns-clause-ran : goal.returns-clause-ran
 returns-clause-ran g c =
     let same : c.run_shell.new.shell.store.now ≡ c.store-1.given.0 = search rules in
     rw (← same)
-    (begins g.R.Read.remaining g.W.Write.contents _ (state g.S.Store c.args.store.now) (state g.S.Store c.run_shell.new.shell.store.now) c.new-work.result c.run_shell.new.shell.work.now _ _ _ _ c.new-work.ensures.slots c.new-work.ensures.session
-    c.run_shell.ensures.ran)
+    (begins g.R.Read.remaining g.W.Write.contents _ c.run_shell.new.shell.is_settled (state g.S.Store c.args.store.now) (state g.S.Store c.run_shell.new.shell.store.now) c.new-work.result c.run_shell.new.shell.work.now _ _ _ _ c.new-work.ensures.slots c.new-work.ensures.session
+    (c.run_shell.ensures.ran false))
+
+pub returns-clause-at_rest : goal.returns-clause-at_rest
+returns-clause-at_rest g c =
+    let same : c.run_shell.new.shell.store.now ≡ c.store-1.given.0 = search rules in
+    rw (← same) (stays_at_rest (state g.S.Store c.args.store.now) (state g.S.Store c.run_shell.new.shell.store.now) _ (c.run_shell.ensures.ran true))
 
 pub returns-clause-disk : goal.returns-clause-disk
 returns-clause-disk g c =
     let same : c.run_shell.new.shell.store.now ≡ c.store-1.given.0 = search rules in
-    rw (← same) c.run_shell.ensures.ran.disk
+    rw (← same) (c.run_shell.ensures.ran false).disk

@@ -1,6 +1,8 @@
 -- `shell::run_shell`: what it ensures.
+use Rattle.std.proofs.Common.{◌||◌}
 use Rattle.sqlite.specs.Held.{state}
 use Rattle.cs_shell.specs.Stores.{HasReply}
+use Rattle.cs_shell.specs.Turns.{Known}
 use Rattle.cs_shell.proofs.LineLemmas.{lines_keep, any_replies, shell_runs}
 use Rattle.cs_shell.proofs.RunLemmas.{Runs-answered}
 use Rattle.cs_shell.proofs.shell.run_shell.Goals as goal
@@ -16,5 +18,5 @@ returns-clause-answered g c =
     some.seen tt tt (any_replies _ _ _ some.lines some.replies some.given)
 
 pub returns-clause-ran : goal.returns-clause-ran
-returns-clause-ran g c =
-    shell_runs _ _ _ (λ m. state g.S.Store m.store.now) (λ m. m.work.now) (λ a b line reply gives. gives.1) _ _ _ _ _ _ _ c.run_machine.ensures
+returns-clause-ran g c = λ rests.
+    shell_runs _ _ _ (λ m. state g.S.Store m.store.now) (λ m. Known (rests || m.is_settled) (state g.S.Store m.store.now)) (λ m. m.work.now) (λ a b line reply gives. gives.1 rests) _ _ _ _ _ _ _ c.run_machine.ensures

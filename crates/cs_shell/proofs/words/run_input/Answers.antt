@@ -12,7 +12,7 @@ use Rattle.cs_shell.proofs.words.run_input.Goals as goal
 pub returns-in-Ok-clause-ran : goal.returns-in-Ok-clause-ran
 returns-in-Ok-clause-ran g c =
     let ran : RunsScript g.R.Read.remaining g.W.Write.contents c.run_script.result c.args.input.now c.run_script.new.input c.args.out.now c.run_script.new.out (tables_in (state over_memory c.in-Ok.store).now) (state over_memory c.run_script.new.store) =
-    c.run_script.ensures.ran (c.memory_law.ensures c.run_script.new.store) (tables_in (state over_memory c.in-Ok.store).now) (λ is_open. (c.in-Ok.ensures.at_rest, refl)) in
+    c.run_script.ensures.ran (c.memory_law.ensures c.run_script.new.store) (tables_in (state over_memory c.in-Ok.store).now) (λ is_open. refl) in
     inl (record {
       status = c.run_script.result;
       final = ran.last;
