@@ -12,6 +12,7 @@ import json
 import os
 import pathlib
 import select
+import signal
 import sqlite3
 import subprocess
 import sys
@@ -108,6 +109,21 @@ class ProgramTest(unittest.TestCase):
         with open("/dev/full", "wb") as full:
             return self.run_program(*words, stdin=stdin, stdout=full)
 
+    def run_closed(self, *words, stdin=b""):
+        """Runs the program with a standard output that nobody reads any more."""
+        reading, writing = os.pipe()
+        os.close(reading)
+        with os.fdopen(writing, "wb") as pipe:
+            return self.run_program(*words, stdin=stdin, stdout=pipe)
+
+    def run_cut(self, *words):
+        """Runs the program where no file may grow, as on a disk that is full, and answers as `run_program` does."""
+        limit = "ulimit -f 0; trap '' XFSZ; exec \"$0\" \"$@\""
+        done = subprocess.run(
+            ["sh", "-c", limit, PROGRAM, *words], cwd=self.folder, capture_output=True, timeout=PATIENCE
+        )
+        return done.returncode, done.stdout.decode(), done.stderr.decode()
+
     def expect(self, words, status, printed="", reported=""):
         """Runs the program, and asserts its exit status and what it prints to both streams."""
         self.assertEqual(self.run_program(*words), (status, printed, reported), words)
@@ -159,12 +175,17 @@ class Words(ProgramTest):
             ["--version"],
             ["--data", "omit", "--data", "omit", "a.cs", "dump"],
             ["--", "--help"],
+            ["--dta", "-h"],
+            ["--data", "-h"],
         ):
             self.expect_usage(*words)
         self.expect_files("a.cs")
 
     def test_help(self):
-        for words in (["--help"], ["-h"], ["a.cs", "--help"], ["a.cs", "invert", "o", "--help"], ["--data", "omit", "-h"]):
+        for words in (
+            ["--help"], ["-h"], ["a.cs", "--help"], ["a.cs", "frob", "--help"], ["a.cs", "invert", "o", "--help"],
+            ["--data", "omit", "-h"],
+        ):
             with self.subTest(words=words):
                 self.expect(words, 0, USAGE)
         self.expect_files()
@@ -172,6 +193,9 @@ class Words(ProgramTest):
     @NEEDS_FULL
     def test_help_that_is_not_written(self):
         self.assertEqual(self.run_full("--help"), (1, "", OUTPUT_FAULT))
+
+    def test_help_that_nobody_reads(self):
+        self.assertEqual(self.run_closed("--help"), (1, "", OUTPUT_FAULT))
 
     def test_options_with_another_command(self):
         self.make("a.cs", INSERT)
@@ -239,6 +263,18 @@ class Files(ProgramTest):
                 self.expect(words, 1, "", line)
         self.expect_files("a.cs", "wide.cs", "p.cs")
 
+    def test_out_stays_where_a_file_is_refused(self):
+        self.make("a.cs", INSERT)
+        self.make("p.cs", b"P")
+        for words, line in (
+            (["none", "invert", "o"], INPUT_FAULT), (["p.cs", "invert", "o"], "error 3 Patchset 0\n"),
+            (["a.cs", "concat", "none", "o"], INPUT_FAULT), (["a.cs", "concat", "p.cs", "o"], "error 3 Patchset 0\n"),
+        ):
+            with self.subTest(words=words):
+                self.make("o", b"old")
+                self.expect(words, 1, "", line)
+                self.assertEqual(self.bytes_of("o"), b"old")
+
     def test_file_that_is_missing(self):
         (self.folder / "folder").mkdir()
         for words in (
@@ -289,19 +325,16 @@ class Files(ProgramTest):
         self.assertEqual(self.bytes_of("o.cs"), DELETE)
         self.assertEqual(os.stat(self.folder / "o.cs").st_mode & 0o777, 0o640)
         self.expect_files("a.cs", "o.cs")
-        limit = f"ulimit -f 0; trap '' XFSZ; exec '{PROGRAM}' a.cs invert o.cs"
         self.make("o.cs", b"old")
-        done = subprocess.run(["sh", "-c", limit], cwd=self.folder, capture_output=True, timeout=PATIENCE)
-        self.assertEqual((done.returncode, done.stderr.decode()), (1, OUTPUT_FAULT))
+        self.assertEqual(self.run_cut("a.cs", "invert", "o.cs"), (1, "", OUTPUT_FAULT))
         self.assertEqual(self.bytes_of("o.cs"), b"old")
         self.expect_files("a.cs", "o.cs")
 
     def test_in_place_on_a_disk_that_is_full(self):
         self.make("a.cs", INSERT)
-        limit = f"ulimit -f 0; trap '' XFSZ; exec '{PROGRAM}' a.cs invert a.cs"
-        done = subprocess.run(["sh", "-c", limit], cwd=self.folder, capture_output=True, timeout=PATIENCE)
-        self.assertEqual((done.returncode, done.stderr.decode()), (1, OUTPUT_FAULT))
+        self.assertEqual(self.run_cut("a.cs", "invert", "a.cs"), (1, "", OUTPUT_FAULT))
         self.assertEqual(self.bytes_of("a.cs"), INSERT)
+        self.expect_files("a.cs")
 
     def test_out_through_links(self):
         (self.folder / "far").mkdir()
@@ -316,6 +349,25 @@ class Files(ProgramTest):
                 self.assertEqual(self.bytes_of(target), DELETE)
                 self.assertTrue(os.path.islink(self.folder / name))
         self.assertEqual(sorted(os.listdir(self.folder / "far")), ["none.cs", "o.cs"])
+        os.remove(self.folder / "far/none.cs")
+        for name in ("again", "dangling"):
+            with self.subTest(full=name):
+                self.assertEqual(self.run_cut("a.cs", "concat", "a.cs", name), (1, "", OUTPUT_FAULT))
+        self.assertEqual(sorted(os.listdir(self.folder / "far")), ["o.cs"])
+        self.assertEqual(self.bytes_of("far/o.cs"), DELETE)
+
+    @unittest.skipUnless(os.path.isdir("/dev/shm"), "no /dev/shm")
+    def test_out_is_a_plain_file_below_dev(self):
+        with tempfile.TemporaryDirectory(dir="/dev/shm") as folder:
+            out = pathlib.Path(folder) / "o.cs"
+            self.make("a.cs", INSERT)
+            self.expect(["a.cs", "invert", str(out)], 0)
+            self.assertEqual(out.read_bytes(), DELETE)
+            out.write_bytes(b"\x00" * 10_000)
+            self.expect(["a.cs", "invert", str(out)], 0)
+            self.expect([str(out), "invert", str(out)], 0)
+            self.assertEqual(out.read_bytes(), INSERT)
+            self.assertEqual(os.listdir(folder), ["o.cs"])
 
     def test_out_is_no_plain_file(self):
         """Bytes are written into a pipe as they are, behind what stands in the standard output, and not into a folder."""
@@ -354,8 +406,16 @@ class Files(ProgramTest):
     @NEEDS_FULL
     def test_texts_that_are_not_written(self):
         self.make("a.cs", INSERT)
-        for command in ("dump", "sql"):
-            self.assertEqual(self.run_full("a.cs", command), (1, "", OUTPUT_FAULT))
+        for words in (["dump"], ["sql"], ["invert", "/dev/full"], ["concat", "a.cs", "/dev/full"]):
+            with self.subTest(words=words):
+                self.assertEqual(self.run_full("a.cs", *words), (1, "", OUTPUT_FAULT))
+
+    def test_files_that_nobody_reads(self):
+        self.make("a.cs", INSERT)
+        for words in (["dump"], ["sql"], ["invert", "/dev/stdout"], ["concat", "a.cs", "/dev/stdout"]):
+            with self.subTest(words=words):
+                self.assertEqual(self.run_closed("a.cs", *words), (1, "", OUTPUT_FAULT))
+        self.expect_files("a.cs")
 
 
 class Scripts(ProgramTest):
@@ -458,6 +518,12 @@ class StoreTest(ProgramTest):
         """The tables of the store, as SQLite reads it."""
         return read_store(self.folder / "store")
 
+    def read_alone(self):
+        """The tables of the file alone: the log beside it has nothing that is not in it."""
+        (self.folder / "store-wal").unlink(missing_ok=True)
+        self.assertIn("store", os.listdir(self.folder))
+        return self.read()
+
     def apply(self, changeset):
         """Applies a changeset to the store."""
         self.make("a.cs", changeset)
@@ -551,12 +617,19 @@ class Applies(StoreTest):
         self.expect_refused(INSERT, "error 40 Wider 0\n")
         self.expect_refused(header("z", 1) + insert(1) + INSERT, "error 40 Wider 1\n")
 
-    @NEEDS_FULL
-    def test_report_that_is_not_written(self):
+    def expect_unprinted(self, run):
+        """Applies with a standard output that fails: the apply stands, and the store is closed."""
         self.write(tables_of())
         self.make("a.cs", INSERT)
-        self.assertEqual(self.run_full("a.cs", "apply", "store"), (1, "", OUTPUT_FAULT))
-        self.assertEqual(self.read(), tables_of((1, "x")))
+        self.assertEqual(run("a.cs", "apply", "store"), (1, "", OUTPUT_FAULT))
+        self.assertEqual(self.read_alone(), tables_of((1, "x")))
+
+    @NEEDS_FULL
+    def test_report_that_is_not_written(self):
+        self.expect_unprinted(self.run_full)
+
+    def test_report_that_nobody_reads(self):
+        self.expect_unprinted(self.run_closed)
 
     def test_large_store(self):
         """Thousands of rows, of which some are updated, some deleted and others inserted."""
@@ -653,12 +726,6 @@ class Policies(StoreTest):
 class Shells(StoreTest):
     """Scripts on the store in a file."""
 
-    def read_alone(self):
-        """The tables of the file alone: the log beside it has nothing that is not in it."""
-        (self.folder / "store-wal").unlink(missing_ok=True)
-        self.assertIn("store", os.listdir(self.folder))
-        return self.read()
-
     def run_shell(self, lines, store="store"):
         """Runs lines on the store in a file."""
         return self.run_program(store, "shell", stdin="".join(line + "\n" for line in lines).encode())
@@ -711,20 +778,19 @@ class Shells(StoreTest):
         self.assertEqual(self.run_full("store", "shell", stdin=lines.encode()), (1, "", OUTPUT_FAULT))
         self.assertEqual(self.read_alone(), tables_of((1, "x")))
 
-    def closed_pipe(self, *words, stdin=b""):
-        """Runs the program with a standard output that nobody reads any more."""
-        reading, writing = os.pipe()
-        os.close(reading)
-        with os.fdopen(writing, "wb") as pipe:
-            return self.run_program(*words, stdin=stdin, stdout=pipe)
-
     def test_pipe_that_nobody_reads(self):
-        self.make("a.cs", INSERT)
         lines = (CREATE + "\n.hex none\n").encode()
-        for words in (["a.cs", "dump"], ["a.cs", "sql"], ["a.cs", "apply", "store"], ["store", "shell"], []):
+        for words in (["store", "shell"], []):
             with self.subTest(words=words):
-                self.assertEqual(self.closed_pipe(*words, stdin=lines), (1, "", OUTPUT_FAULT))
+                self.assertEqual(self.run_closed(*words, stdin=lines), (1, "", OUTPUT_FAULT))
         self.assertEqual(self.read_alone(), tables_of())
+
+    @unittest.skipIf(os.geteuid() == 0, "root may write what it may not")
+    def test_file_without_the_right_to_write(self):
+        self.write(tables_of((1, "x")))
+        os.chmod(self.folder / "store", 0o444)
+        self.assertEqual(self.run_shell(["SELECT * FROM t;"]), (1, "", STORE_FAULT))
+        self.assertEqual(self.read(), tables_of((1, "x")))
 
     def test_two_programs_on_one_store(self):
         """While one has the store open another is refused; nothing of the first is lost."""
@@ -734,16 +800,12 @@ class Shells(StoreTest):
             first.stdin.write((CREATE + "\nINSERT INTO t VALUES(1, 'x');\nSELECT * FROM t;\n").encode())
             self.assertEqual(first.stdout.readline(), b"1|'x'\n")
             self.make("a.cs", T + insert(2, "y"))
-            second = self.run_program("a.cs", "apply", "store")
+            self.expect(["a.cs", "apply", "store"], 1, "", STORE_FAULT)
+            self.assertEqual(self.run_shell(["SELECT * FROM t;"]), (1, "", STORE_FAULT))
             first.stdin.write(b"INSERT INTO t VALUES(3, 'z');\n")
             first.stdin.close()
             self.assertEqual(first.wait(timeout=PATIENCE), 0)
-        rows = [(1, "x"), (3, "z")]
-        if second[0] == 0:
-            rows.insert(1, (2, "y"))
-        else:
-            self.assertEqual(second, (1, "", STORE_FAULT))
-        self.assertEqual(self.read(), tables_of(*rows))
+        self.assertEqual(self.read_alone(), tables_of((1, "x"), (3, "z")))
 
     def test_killed_while_it_applies(self):
         """The store that is opened again is the one before or the one after."""
@@ -751,18 +813,21 @@ class Shells(StoreTest):
         self.make("a.cs", T + b"".join(update((key, "a"), (UNDEFINED, "b")) for key in keys))
         self.write(tables_of(*((key, "a") for key in keys)))
         before = self.bytes_of("store")
+        endings = set()
         for wait in (0.1, 0.5, 1.0, 2.0, 3.0):
             self.make("store", before)
             with subprocess.Popen([PROGRAM, "a.cs", "apply", "store"], cwd=self.folder, stdout=subprocess.PIPE) as child:
                 time.sleep(wait)
                 child.kill()
                 child.communicate(timeout=PATIENCE)
+            endings.add(child.returncode)
             status, printed, reported = self.run_shell(["SELECT * FROM t;"])
             self.assertEqual((status, reported), (0, ""), wait)
             rows = ["".join(f"{key}|'{text}'\n" for key in keys) for text in "ab"]
             # assertIn would show where such texts differ, which takes it minutes.
             self.assertTrue(printed in rows, wait)
             (self.folder / "store-wal").unlink(missing_ok=True)
+        self.assertIn(-signal.SIGKILL, endings)
 
 
 class Stores(StoreTest):

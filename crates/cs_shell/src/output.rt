@@ -10,9 +10,9 @@ use std::{fs, io};
 /// How many names are tried for a new file.
 const NAME_COUNT: u32 = 1000;
 
-/// Whether a path names a device, or what a process has open, whatever that leads to.
-fn is_device(path: &str) -> bool {
-    path.starts_with("/dev/") || path.starts_with("/proc/")
+/// Whether a path names a standard stream, or what a process has open, whatever that leads to.
+fn is_open_stream(path: &str) -> bool {
+    path.starts_with("/dev/std") || path.starts_with("/dev/fd/") || path.starts_with("/proc/")
 }
 
 /// Writes bytes behind those that are there: into a pipe, a device or a standard stream.
@@ -51,7 +51,7 @@ fn fill(mut file: File, bytes: &[u8], permissions: Option<Permissions>) -> io::R
     file.sync_all()
 }
 
-/// Puts a new file of these bytes in the place of what is at a path, which is no link.
+/// Puts a new file of these bytes in the place of what is at a path, or where nothing is. The path is no link.
 fn replace(
     rt: &HostRuntime,
     path: &str,
@@ -79,24 +79,40 @@ fn write_present(
 ) -> io::Result<()> {
     // A file that may not be written is not replaced either.
     OpenOptions::new().write(true).open(rt, path)?;
-    let found = fs::canonicalize(rt, path)?;
-    replace(rt, found.as_str(), bytes, Some(permissions))
+    if fs::symlink_metadata(rt, path)?.is_symlink() {
+        let found = fs::canonicalize(rt, path)?;
+        return replace(rt, found.as_str(), bytes, Some(permissions));
+    }
+    replace(rt, path, bytes, Some(permissions))
 }
 
-/// Writes bytes into a file that is not there. It is made where a link leads that leads to nothing.
-fn write_missing(rt: &HostRuntime, path: &str, bytes: &[u8]) -> io::Result<()> {
-    if fs::symlink_metadata(rt, path).is_ok() {
-        return fs::write(rt, path, bytes);
+/// Writes bytes into a file that is not there, and which a link leads to. An empty one is made first, since
+/// nothing else tells where that is.
+fn write_linked(rt: &HostRuntime, path: &str, bytes: &[u8]) -> io::Result<()> {
+    File::create(rt, path)?;
+    let found = fs::canonicalize(rt, path)?;
+    let replaced = replace(rt, found.as_str(), bytes, None);
+    if replaced.is_err() {
+        let _ = fs::remove_file(rt, found.as_str());
     }
-    replace(rt, path, bytes, None)
+    replaced
+}
+
+/// Writes bytes into a file that is not there.
+fn write_missing(rt: &HostRuntime, path: &str, bytes: &[u8]) -> io::Result<()> {
+    match fs::symlink_metadata(rt, path) {
+        Ok(_) => write_linked(rt, path, bytes),
+        Err(_) => replace(rt, path, bytes, None),
+    }
 }
 
 /// Writes bytes into the file at a path, which is made where it is missing. It holds what it held or these
 /// bytes, also where this fails or the machine stops: they are written into a new file beside it, which then
-/// takes its place. Links are followed, and permissions are kept. Into what is no plain file the bytes are
-/// written as it is.
+/// takes its place. Links are followed, and permissions are kept; of a link to a file that is missing an empty one
+/// may stay where the machine stops. What is no plain file, and a standard stream, has the bytes written behind
+/// what it has.
 pub(crate) fn write_file(rt: &HostRuntime, path: &str, bytes: &[u8]) -> io::Result<()> {
-    if is_device(path) {
+    if is_open_stream(path) {
         return append(rt, path, bytes);
     }
     match fs::metadata(rt, path) {

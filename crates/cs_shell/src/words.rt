@@ -1,12 +1,13 @@
 //! Command lines: what their words are answered.
-ghost use Rattle.std.specs.Prelude.{◌≡◌, ◌≤◌, None, Some, false, map, string_bytes, MatchResult};
+ghost use Rattle.std.specs.Prelude.{◌≡◌, ◌≤◌, None, Some, false, map, string_bytes};
 ghost use Rattle.std.specs.Io.KnownBytes.{Appends};
 ghost use Rattle.cs_files.specs.Told.{has_failed, known};
 ghost use Rattle.cs_files.specs.Calls.{AppendsFront};
-ghost use Rattle.cs_words.specs.Words.{Refuses, Shell, asked, asked_of, in_memory};
+ghost use Rattle.cs_words.specs.Words.{Asked, Refuses, Shell, asked, asked_of, in_memory};
 ghost use Rattle.cs_words.specs.declared.fault.WordsFault.TheVariants as fault;
 ghost use Rattle.cs_shell.specs.Runs.{exit_of};
-ghost use Rattle.cs_shell.specs.CommandLine.{EndsUnasked, Helps, RunsInMemory};
+ghost use Rattle.cs_shell.specs.CommandLine.{EndsCommand, EndsUnasked, Helps, IsCommand};
+ghost use Rattle.cs_shell.specs.CommandLine.{Reports, ReportsStatus, RunsInMemory};
 
 use crate::command;
 use crate::command::{close_store, open_store};
@@ -35,14 +36,17 @@ C is omit, replace or abort (the default).
 ";
 
 /// Writes the error line of a refusal. Where that fails there is nowhere left to say so.
-fn report<E: Write>(err: &mut Told<E>, refusal: &Refusal) {
+fn report<E: Write>(err: &mut Told<E>, refusal: &Refusal)
+    ensures { Reports E.contents refusal.now err.old err.new }
+{
     let _ = write_refusal(err, refusal);
 }
 
 /// The exit status of a script, whose own errors are already written. A stream that failed is
 /// reported.
 fn end_script<E: Write>(err: &mut Told<E>, status: Status) -> u8
-    ensures { result ≡ exit_of status }
+    ensures exit { result ≡ exit_of status }
+    ensures told { ReportsStatus E.contents status err.old err.new }
 {
     match status {
         Status::Done => return 0,
@@ -54,14 +58,15 @@ fn end_script<E: Write>(err: &mut Told<E>, status: Status) -> u8
 }
 
 /// Runs the input as a script on a store in memory, and answers the exit status. Where there is no memory
-/// for the store, nothing is read.
+/// for the store that is reported, and nothing is read.
 fn run_input<R: Read, W: Write, E: Write>(
     alloc: Global,
     input: &mut Told<R>,
     out: &mut Told<W>,
     err: &mut Told<E>,
 ) -> u8
-    ensures ran { RunsInMemory R.remaining W.contents result input.old input.new out.old out.new }
+    ensures ran { RunsInMemory R.remaining W.contents E.contents result input.old input.new out.old out.new
+        err.old err.new }
     ensures status { result ≤ 1 }
 {
     memory_law();
@@ -121,7 +126,7 @@ fn run_on_file<R: Read, W: Write, E: Write>(
 
 /// The exit status of a command. Where it is refused the error line is written.
 fn end_command<E: Write>(err: &mut Told<E>, done: Result<(), Refusal>) -> u8
-    ensures { MatchResult done (λ _. result ≡ 0) (λ _. result ≡ 1) }
+    ensures { EndsCommand E.contents result err.old err.new }
 {
     match done {
         Ok(()) => 0,
@@ -141,8 +146,9 @@ fn run_action<R: Read, W: Write, E: Write>(
     err: &mut Told<E>,
 ) -> u8
     ensures status { result ≤ 1 }
-    ensures script { asked_of action.entry ≡ Shell in_memory → RunsInMemory R.remaining W.contents result
-        input.old input.new out.old out.new }
+    ensures script { asked_of action.entry ≡ Shell in_memory → RunsInMemory R.remaining W.contents E.contents result
+        input.old input.new out.old out.new err.old err.new }
+    ensures command { IsCommand (asked_of action.entry) → EndsCommand E.contents result err.old err.new }
 {
     let done = match action {
         Action::Shell { file } if file == IN_MEMORY => {
@@ -175,7 +181,8 @@ fn run_action<R: Read, W: Write, E: Write>(
 /// OUT is replaced once all of its bytes are there, and may be one of the others. With `--help` the usage text is
 /// printed.
 ///
-/// A refusal, or the usage text for words that fit no command, stands on `err`, and then OUT is as it was. A
+/// A refusal of a command, or the usage text for words that fit no command, stands on `err`, and then OUT, where
+/// it is a plain file or none, is as it was. Lines of a script that are refused stand on `out`. A
 /// report that is not written is refused, too, and then FILE is applied.
 pub fn run_words<R: Read, W: Write, E: Write>(
     rt: &HostRuntime,
@@ -186,18 +193,25 @@ pub fn run_words<R: Read, W: Write, E: Write>(
 ) -> u8
     ensures status { result ≤ 2 }
     ensures script { asked (map string_bytes words.now) ≡ Some (Shell in_memory) →
-        RunsInMemory R.remaining W.contents result input.old input.new out.old out.new }
+        RunsInMemory R.remaining W.contents E.contents result input.old input.new out.old out.new err.old err.new }
+    ensures command { (action : Asked) → asked (map string_bytes words.now) ≡ Some action → IsCommand action →
+        EndsCommand E.contents result err.old err.new }
     ensures misfit { result ≡ 2 → Refuses (map string_bytes words.now) fault.Usage }
     ensures usage { result ≡ 2 → has_failed err.new ≡ false →
         Appends (known E.contents err.old) (known E.contents err.new) USAGE.now }
     ensures unprinted { result ≡ 2 → out.new ≡ out.old }
     ensures unasked { asked (map string_bytes words.now) ≡ None →
-        EndsUnasked W.contents USAGE.now (map string_bytes words.now) result out.old out.new }
+        EndsUnasked W.contents E.contents USAGE.now (map string_bytes words.now) result out.old out.new
+        err.old err.new }
+    ensures unread { asked (map string_bytes words.now) ≡ None → input.new ≡ input.old }
 {
     match parse_words(rt.alloc(), words) {
         Ok(action) => run_action(rt, action, input, out, err),
         Err(WordsFault::Help) => print_help(out, err),
         Err(WordsFault::Usage) => print_usage(err),
-        Err(WordsFault::NoMemory) => end_command(err, Err(Refusal::NoMemory)),
+        Err(WordsFault::NoMemory) => {
+            report(err, &Refusal::NoMemory);
+            1
+        }
     }
 }

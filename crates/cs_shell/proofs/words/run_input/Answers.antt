@@ -13,10 +13,13 @@ pub returns-in-Ok-clause-ran : goal.returns-in-Ok-clause-ran
 returns-in-Ok-clause-ran g c =
     let ran : RunsScript g.R.Read.remaining g.W.Write.contents c.run_script.result c.args.input.now c.run_script.new.input c.args.out.now c.run_script.new.out (tables_in (state over_memory c.in-Ok.store).now) (state over_memory c.run_script.new.store) =
     c.run_script.ensures.ran (c.memory_law.ensures c.run_script.new.store) (tables_in (state over_memory c.in-Ok.store).now) (λ is_open. refl) in
-    inl (record {
-      status = c.run_script.result;
-      final = ran.last;
-      exit_is = c.end_script.ensures;
-      runs = subst (λ (t : State). Runs g.R.Read.remaining g.W.Write.contents LineGives c.run_script.result (beginning t) ran.last c.args.input.now c.run_script.new.input c.args.out.now c.run_script.new.out)
-          c.in-Ok.ensures.empty ran.runs;
-    })
+    inl (
+      record {
+        status = c.run_script.result;
+        final = ran.last;
+        exit_is = c.end_script.ensures.exit;
+        runs = subst (λ (t : State). Runs g.R.Read.remaining g.W.Write.contents LineGives c.run_script.result (beginning t) ran.last c.args.input.now c.run_script.new.input c.args.out.now c.run_script.new.out)
+            c.in-Ok.ensures.empty ran.runs;
+      },
+      c.end_script.ensures.told,
+    )

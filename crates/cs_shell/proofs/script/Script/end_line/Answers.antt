@@ -1,5 +1,5 @@
 -- `script::Script::end_line`: what it ensures.
-use Rattle.std.proofs.Common.{◌≡◌, ◌||◌, Bool, Result, Ok, Err, refl, ap, ◌∙◌}
+use Rattle.std.proofs.Common.{◌≡◌, ◌||◌, Bool, Result, Ok, Err, refl, ap, ◌∙◌, rules}
 use Rattle.std.specs.Prelude.{is_err}
 use Rattle.cs_shell.specs.declared.refusal.Refusal.{Refusal}
 use Rattle.cs_shell.specs.declared.reply.Reply.{Reply}
@@ -17,10 +17,11 @@ refused (Ok (Report report)) = refl
 refused (Err refusal) = refl
 
 pub returns : goal.returns
-returns g c = record {
-  reply = answer_of c.answer_line-answer.result;
-  given = c.answer_line-answer.ensures;
-  writes = c.write_answer.ensures;
-  has_refused = ap (λ (b : Bool). c.args.self.now.has_refused || b) (c.is_err.ensures.value ∙ refused c.answer_line-answer.result);
-  at_start = c.restart.ensures;
-}
+returns g c =
+  let same = c.is_err.ensures.value ∙ refused c.answer_line-answer.result in record {
+    reply = answer_of c.answer_line-answer.result;
+    given = search rules;
+    writes = search rules;
+    has_refused = search rules;
+    at_start = search rules;
+  }
