@@ -36,9 +36,9 @@ abbrev pub RunsInMemory : {R W E : Type 0} → (R → Option (List ℕ)) → (W 
     → Told R → Told R → Told W → Told W → Told E → Told E → Type 0
 RunsInMemory remaining contents errors exit input_before input_after before after err_before err_after =
     ((run : RunsInput remaining contents LineGives (beginning map.empty) exit input_before input_after before after)
-        × ReportsStatus errors run.status err_before err_after)
+    × ReportsStatus errors run.status err_before err_after)
     ⊎ ((exit ≡ 1) × (input_after ≡ input_before) × (after ≡ before)
-        × ((why : Refusal) × IsResource why × Reports errors why err_before err_after))
+    × ((why : Refusal) × IsResource why × Reports errors why err_before err_after))
 
 -- the text is printed, or a write of it fails
 abbrev pub Helps : {W : Type 0} → (W → Option (List ℕ)) → List ℕ → ℕ → Told W → Told W → Type 0

@@ -18,10 +18,10 @@ refused (Err refusal) = refl
 
 pub returns : goal.returns
 returns g c =
-  let same = c.is_err.ensures.value ∙ refused c.answer_line-answer.result in record {
-    reply = answer_of c.answer_line-answer.result;
-    given = search rules;
-    writes = search rules;
-    has_refused = search rules;
-    at_start = search rules;
-  }
+    let same = c.is_err.ensures.value ∙ refused c.answer_line-answer.result in record {
+      reply = answer_of c.answer_line-answer.result;
+      given = search rules;
+      writes = search rules;
+      has_refused = search rules;
+      at_start = search rules;
+    }
