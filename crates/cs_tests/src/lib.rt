@@ -1,6 +1,6 @@
 //! Tests of the public calls, of what no contract and no line of a script says.
 //!
-//! `value`, `wire`, `group`, `lines`, `shell`, `store`, `apply` and `session` have those of a crate each, and `refusals`
+//! `value`, `wire`, `group`, `lines`, `files`, `store`, `apply` and `session` have those of a crate each, and `refusals`
 //! the numbers, names and texts of what they refuse with. `stores` has those of stores over SQL,
 //! `adoption` those of what is taken over as a store, and `calling` the callers of `CALLING.md`.
 #![tactic(auto)]
@@ -12,6 +12,8 @@ mod apply;
 #[cfg(test)]
 mod calling;
 #[cfg(test)]
+mod files;
+#[cfg(test)]
 mod group;
 #[cfg(test)]
 mod lines;
@@ -19,8 +21,6 @@ mod lines;
 mod refusals;
 #[cfg(test)]
 mod session;
-#[cfg(test)]
-mod shell;
 #[cfg(test)]
 mod store;
 #[cfg(test)]

@@ -1,7 +1,8 @@
 //! Numbers, classes, names and texts of what calls refuse with.
 
 use cs_apply::ApplyFault;
-use cs_shell::{FileFault, OutputFault, SchemaFault, ToolFault};
+use cs_files::{FileFault, OutputFault, ToolFault};
+use cs_group::SchemaFault;
 use cs_store::StoreError;
 use cs_value::{Fault, FieldFault, FieldFaultKind, ImageFault, NoMemory};
 use cs_wire::{ReadError, ReadFault, ReadFaultKind};

@@ -1,8 +1,10 @@
 //! The parts of changesets. Changesets and their files are in `calling`.
 
-use cs_value::{OwnedValue, Row};
+use crate::{INSERT, UPDATE};
+use cs_value::{Field, OwnedValue, Row, Value};
 use cs_wire::{
-    Change, Entry, Group, Header, changeset_files_law, entry_inverses_law, row_keys_law,
+    Change, Cursor, Entry, EntryRef, Group, Header, Item, ReadError, changeset_files_law,
+    entry_inverses_law, read, row_keys_law,
 };
 use std::process::Abort;
 
@@ -72,6 +74,64 @@ fn inverts_a_group(rt: HostRuntime) {
             })
         )
     );
+}
+
+/// What a cursor answered.
+fn word_of(next: &Result<Option<Item<'_>>, ReadError>) -> &'static str {
+    match next {
+        Ok(Some(Item::Table(_))) => "table",
+        Ok(Some(Item::Entry(_))) => "entry",
+        Ok(None) => "end",
+        Err(ReadError::Fault(_)) => "fault",
+        Err(ReadError::NoMemory) => "no memory",
+    }
+}
+
+/// Asserts what a cursor over a file answers in turn.
+fn expect_items(rt: &(impl Abort + AllocGlobal), file: &[u8], wanted: &[&str]) {
+    let mut cursor = Cursor::new(rt.alloc(), file);
+    for word in wanted {
+        assert!(rt; word_of(&cursor.next()) == *word);
+    }
+}
+
+#[test]
+fn hands_out_items_and_then_an_end(rt: HostRuntime) {
+    expect_items(&rt, UPDATE, &["table", "entry", "end", "end", "end"]);
+    let cut = b"T\x02\x01\x00t\x00\x12";
+    expect_items(&rt, cut, &["table", "fault", "fault", "fault"]);
+    expect_items(&rt, b"", &["end", "end", "end"]);
+}
+
+/// The entry of a file of one.
+fn entry_of<'a>(rt: &(impl Abort + AllocGlobal), file: &'a [u8]) -> EntryRef<'a> {
+    let mut cursor = Cursor::new(rt.alloc(), file);
+    let _table = cursor.next();
+    match cursor.next() {
+        Ok(Some(Item::Entry(entry))) => entry,
+        _ => panic!(rt; "no entry"),
+    }
+}
+
+#[test]
+fn shows_an_entry_where_it_stands(rt: HostRuntime) {
+    let entry = entry_of(&rt, UPDATE);
+    assert!(rt; entry.column_count() == 2 && !entry.is_indirect());
+    assert!(rt; entry.old_field(0) == Some(Field::Defined(Value::Int(1))));
+    assert!(rt; entry.old_field(1) == Some(Field::Defined(Value::Text("x"))));
+    assert!(rt; entry.new_field(0) == Some(Field::Undefined));
+    assert!(rt; entry.new_field(1) == Some(Field::Defined(Value::Text("y"))));
+}
+
+#[test]
+fn copies_an_entry_from_where_it_stands(rt: HostRuntime) {
+    let entry = entry_of(&rt, INSERT);
+    assert!(rt; entry.operation() == 0x12 && entry.column_count() == 2);
+    assert!(rt; entry.old_field(0).is_none());
+    let copy = entry.to_entry(rt.alloc()).expect(&rt, "memory");
+    let whole = read(rt.alloc(), INSERT).expect(&rt, "a changeset");
+    let group = whole.groups().first().expect(&rt, "a group");
+    assert!(rt; group.entries().first() == Some(&copy));
 }
 
 /// They do nothing, and are called for their contracts alone.

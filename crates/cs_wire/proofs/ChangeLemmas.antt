@@ -15,6 +15,7 @@ use Rattle.cs_wire.specs.declared.entry.Change.TheVariants.{Insert, Delete, Upda
 use Rattle.cs_wire.specs.declared.fault.ReadFaultKind.{ReadFaultKind}
 use Rattle.cs_value.specs.Table.{IsKeyedRow}
 use Rattle.cs_wire.specs.Entry.{IsPaired, IsKeyPair, IsKeyedUpdate, IsChange, operation, fields_of}
+use Rattle.cs_wire.specs.Items.{value_in}
 use Rattle.cs_wire.specs.ReadFaults.{Stands}
 use Rattle.cs_wire.specs.Reading.{Want, KeyValue, AnyValue, AnyField, NewValue, Nothing, refusal, is_key_flag, in_row, in_old, in_new, is_modified, row_wants, old_wants, new_wants, wants_of, Meets, IsRecordAt, RecordRefused, ChangeRefused}
 use Rattle.cs_wire.proofs.ReadingLemmas.{Stands-then, rest_is}
@@ -69,6 +70,14 @@ row_of (flag ∷ flags) (Defined v ∷ fields) h =
 row_of (flag ∷ flags) (Undefined ∷ fields) h = absurd (undefined_refused (is_key_flag flag) h.0)
 row_of [] (f ∷ fields) h = absurd h
 row_of (flag ∷ flags) [] h = absurd h
+
+-- the fields of a row are its values
+pub row_values : (flags : List ℕ) (fields : List OwnedField) → Meets (row_wants flags) fields → map Defined (map value_in fields) ≡ fields
+row_values [] [] h = refl
+row_values (flag ∷ flags) (Defined v ∷ fields) h = ap (λ (fs : List OwnedField). Defined v ∷ fs) (row_values flags fields h.1)
+row_values (flag ∷ flags) (Undefined ∷ fields) h = absurd (undefined_refused (is_key_flag flag) h.0)
+row_values [] (f ∷ fields) h = absurd h
+row_values (flag ∷ flags) [] h = absurd h
 
 -- ---- updates
 

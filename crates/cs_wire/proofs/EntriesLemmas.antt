@@ -33,7 +33,7 @@ operation_no_header (Insert row) = (λ e. omega arith, λ e. omega arith)
 operation_no_header (Delete row) = (λ e. omega arith, λ e. omega arith)
 operation_no_header (Update old new) = (λ e. omega arith, λ e. omega arith)
 
-HasEntry-entry : (file : List ℕ) (at : ℕ) (entry : Entry) (tail : List ℕ) → at ≤ length file → drop at file ≡ entry_bytes entry ++ tail → HasEntry file at
+pub HasEntry-entry : (file : List ℕ) (at : ℕ) (entry : Entry) (tail : List ℕ) → at ≤ length file → drop at file ≡ entry_bytes entry ++ tail → HasEntry file at
 HasEntry-entry file at entry tail le e =
     let spelled = e ∙ entry_bytes-append entry tail in
     let within : at < length file = omega (arith, ap length spelled, length-drop at file) in
@@ -41,7 +41,7 @@ HasEntry-entry file at entry tail le e =
     record { within = within; no_table = λ h. (operation_no_header entry.change).0 (sym first ∙ h); no_patchset = λ h. (operation_no_header entry.change).1 (sym first ∙ h) }
 
 -- where an entry is to be read, the group does not end
-not_ended : (file : List ℕ) (at : ℕ) → HasEntry file at → EndsGroup (drop at file) → ⊥
+pub not_ended : (file : List ℕ) (at : ℕ) → HasEntry file at → EndsGroup (drop at file) → ⊥
 not_ended file at h (inl none) = omega (arith, h.within, ap length none, length-drop at file)
 not_ended file at h (inr table) = h.no_table (sym (ap (λ (n : ℕ). get_or file n 0) (add-zero at)) ∙ sym (get_or-drop at file 0 0) ∙ get_or_from_slice_get (drop at file) 0 0x54 0 table)
 

@@ -1,6 +1,6 @@
 -- Records that are read field by field.
-use Rattle.std.proofs.Common.{◌≡◌, ℕ, zero, suc, ◌+◌, ◌<◌, ◌≤◌, List, [], ◌∷◌, ◌++◌, length, map, take, drop, get_or, None, refl, sym, ap, ◌∙◌, append_assoc, arith, length-append}
-use Rattle.std.proofs.lemmas.List.{append-nil, nil_from_length, take_all, get_or-map, length-map}
+use Rattle.std.proofs.Common.{◌≡◌, ℕ, zero, suc, ◌+◌, ◌<◌, ◌≤◌, List, [], ◌∷◌, ◌++◌, length, map, take, drop, get_or, None, refl, sym, ap, ◌∙◌, append_assoc, arith, length-append, add-zero}
+use Rattle.std.proofs.lemmas.List.{append-nil, nil_from_length, take_all, get_or-map, length-drop, get_or-drop, drop-drop}
 use Rattle.std.proofs.lemmas.List.Concat.{flat_map-append}
 use Rattle.cs_value.specs.declared.value.OwnedField.{OwnedField}
 use Rattle.cs_value.specs.declared.value.OwnedField.TheVariants.{Undefined}
@@ -8,10 +8,8 @@ use Rattle.cs_value.specs.Value.{IsField, IsRecord}
 use Rattle.cs_value.specs.Spelling.{field_bytes, record_bytes}
 use Rattle.cs_value.proofs.ListLemmas.{AllByRecursion-push, AllByRecursion-append_right}
 use Rattle.cs_wire.specs.declared.fault.ReadFaultKind.{ReadFaultKind}
-use Rattle.cs_wire.specs.declared.reader.record.Columns.{Columns}
-use Rattle.cs_wire.specs.declared.reader.record.Columns.TheVariants.{Row, Old, New}
 use Rattle.cs_wire.specs.ReadFaults.{Stands}
-use Rattle.cs_wire.specs.Reading.{Want, AnyField, is_key_flag, in_row, in_old, in_new, is_modified, new_wants, want_in, wants_in, refusal, Meets, IsFieldAt, IsRecordAt, FieldRefused, RecordRefused}
+use Rattle.cs_wire.specs.Reading.{Want, AnyField, in_new, is_modified, new_wants, refusal, Meets, IsFieldAt, IsRecordAt, FieldRefused, RecordRefused}
 use Rattle.cs_wire.proofs.ReadingLemmas.{Stands-then, rest_is}
 
 -- ---- what is wanted
@@ -48,22 +46,17 @@ new_want_at (flag ∷ flags) [] i lt = absurd (omega arith)
 new_want_at (flag ∷ flags) (o ∷ old) zero lt = refl
 new_want_at (flag ∷ flags) (o ∷ old) (suc i) lt = new_want_at flags old i (omega arith)
 
-want_in_at : (columns : Columns) (flags : List ℕ) (i : ℕ) → i < length (wants_in columns flags) → get_or (wants_in columns flags) i AnyField ≡ want_in columns i (get_or flags i 0)
-want_in_at Row flags i lt = want_at (λ (flag : ℕ). in_row (is_key_flag flag)) flags i (rw length-map at lt)
-want_in_at Old flags i lt = want_at (λ (flag : ℕ). in_old (is_key_flag flag)) flags i (rw length-map at lt)
-want_in_at (New old) flags i lt = new_want_at flags old.now i lt
-
 -- this is wanted in the column
 pub record Wants (wants : List Want) (i : ℕ) (want : Want) : Type 0 where
   pub within : i < length wants
   pub is : get_or wants i AnyField ≡ want
 
--- what is wanted in a column, by its flag
-pub Wants-in : (columns : Columns) (flags : List ℕ) (i : ℕ) (want : Want) → length (wants_in columns flags) ≡ length flags → i < length flags → want ≡ want_in columns i (get_or flags i 0)
-    → Wants (wants_in columns flags) i want
-Wants-in columns flags i want width lt is =
-    let within : i < length (wants_in columns flags) = rw width lt in
-    record { within = within; is = want_in_at columns flags i within ∙ sym is }
+-- the first of what is wanted from there on
+pub Wants-next : (wants : List Want) (i : ℕ) (want : Want) (others : List Want) → drop i wants ≡ want ∷ others → Wants wants i want
+Wants-next wants i want others e = record {
+  within = omega (arith, ap length e, length-drop i wants);
+  is = sym (ap (λ (n : ℕ). get_or wants n AnyField) (add-zero i)) ∙ sym (get_or-drop i wants 0 AnyField) ∙ ap (λ (x : List Want). get_or x 0 AnyField) e;
+}
 
 pub length-new_wants : (flags : List ℕ) (old : List OwnedField) → length flags ≡ length old → length (new_wants flags old) ≡ length flags
 length-new_wants [] old same = refl
@@ -175,3 +168,43 @@ module _ {wants : List Want} {file : List ℕ} {at i : ℕ} {fields : List Owned
     wanted = rw (take_all i wants all_read) at so.met;
     stands = so.stands;
   }
+
+-- ---- columns that are passed one by one
+
+-- as many columns are passed as there were flags, and for the others this is wanted
+pub record Passed (wants : List Want) (file : List ℕ) (at i : ℕ) (left : List Want) (end : ℕ) : Type 0 where
+  pub fields : List OwnedField
+  pub so_far : FieldsSoFar wants file at i fields end
+  pub left_is : drop i wants ≡ left
+
+pub Passed-none : (wants : List Want) (file : List ℕ) (at : ℕ) → at ≤ length file → Passed wants file at 0 wants at
+Passed-none wants file at le = record { fields = []; so_far = FieldsSoFar-none wants file at le; left_is = refl }
+
+module _ {wants : List Want} {file : List ℕ} {at i : ℕ} {left : List Want} {end : ℕ} (so : Passed wants file at i left end) where
+  pub Passed-wants : (want : Want) (others : List Want) → left ≡ want ∷ others → Wants wants i want
+  Passed-wants want others e = Wants-next wants i want others (so.left_is ∙ e)
+
+  pub Passed-next : (want : Want) (others : List Want) → left ≡ want ∷ others → (field : OwnedField) (to : ℕ) → IsFieldAt want file end field to
+      → ((f : OwnedField) (rest : List ℕ) → IsField f → refusal want f ≡ None → drop end file ≡ field_bytes f ++ rest → field ≡ f)
+      → Passed wants file at (i + 1) others to
+  Passed-next want others e field to read only = record {
+    fields = so.fields ++ field ∷ [];
+    so_far = FieldsSoFar-push so.so_far (Passed-wants want others e) field to read only;
+    left_is = sym (drop-drop 1 i wants) ∙ ap (drop 1) (so.left_is ∙ e);
+  }
+
+  -- all of the record is passed
+  pub Passed-found : left ≡ [] → (fields : List OwnedField) × IsRecordAt wants file at fields end
+  Passed-found e = (so.fields, FieldsSoFar-record so.so_far (none_left e))
+    where
+      none_left : left ≡ [] → length wants ≤ i
+      none_left e = omega (arith, ap length (so.left_is ∙ e), length-drop i wants)
+
+  pub Passed-only : left ≡ [] → (all : List OwnedField) (rest : List ℕ) → IsRecord all → Meets wants all → drop at file ≡ record_bytes all ++ rest → Stands file at (record_bytes all) end
+  Passed-only e all rest h m spelled =
+      let none : length wants ≤ i = omega (arith, ap length (so.left_is ∙ e), length-drop i wants) in
+      let same = FieldsSoFar-all so.so_far none all rest h m spelled in
+      rw (← same) so.so_far.stands
+
+  pub Passed-forward : at ≤ length file → (at ≤ end) × (end ≤ length file)
+  Passed-forward le = (omega (arith, le, ap length so.so_far.stands.spelled, length-append (record_bytes so.fields) (drop end file), length-drop at file, length-drop end file, so.so_far.stands.within), so.so_far.stands.within)

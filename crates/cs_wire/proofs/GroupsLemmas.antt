@@ -40,7 +40,7 @@ pub not_new_table : (changeset : List GroupData) (name : List ℕ) (place : ℕ)
 not_new_table changeset name place group same found fresh = not_new_name changeset name place group.header same found fresh
 
 -- a group begins with the byte of a header
-group_first : (group : GroupData) (tail : List ℕ) → slice_get (group_bytes group ++ tail) 0 ≡ Some 0x54
+pub group_first : (group : GroupData) (tail : List ℕ) → slice_get (group_bytes group ++ tail) 0 ≡ Some 0x54
 unfolding group_bytes header_bytes
 group_first group tail = refl
 
@@ -147,7 +147,7 @@ module _ (file : List ℕ) (changeset : List GroupData) (end : ℕ) (so : Groups
   }
 
 -- behind the header of a new table its entries begin
-pub EntryStart-none : (file : List ℕ) (at end : ℕ) (groups : List GroupData) (header : HeaderData) → TableStart file at groups → IsHeader header → All (λ g. g.header.name ≢ header.name) groups
+abbrev pub EntryStart-none : (file : List ℕ) (at end : ℕ) (groups : List GroupData) (header : HeaderData) → TableStart file at groups → IsHeader header → All (λ g. g.header.name ≢ header.name) groups
     → Stands file at (header_bytes header) end → EntryStart file end header []
 EntryStart-none file at end groups header start is new stands = record {
   from = at;

@@ -11,6 +11,7 @@ use Rattle.std.proofs.lemmas.List.{map-append, take_more, get_or-take, get_or_de
 use Rattle.std.proofs.lemmas.Option.{none-some, same_Some, slice_get_within, slice_get-get_or, get_or_from_slice_get}
 use Rattle.cs_value.specs.Maps.{ByBytes}
 use Rattle.cs_wire.specs.Views.{IsPlaceOf, IsIndex}
+use Rattle.cs_wire.specs.Walk.{Knows}
 
 -- whether two texts are one
 abbrev same : List ℕ → List ℕ → Bool
@@ -115,3 +116,47 @@ IsIndex-more text_of places new xs x i once lt is index grown =
 pub found_or_new : (found : Option ℕ) → is_some found ≡ true → IsTrue (is_none found) → ⊥
 found_or_new None some none = cc
 found_or_new (Some place) some none = cc
+
+-- ---- texts that are known
+
+pub Knows-none : Knows empty []
+Knows-none = record {
+  known = λ text e. absurd (none_is_some (ap is_some (sym (get-empty (slice_cmp nat_cmp) text)) ∙ e));
+  absent = λ text e. All-nil (λ t. t ≢ text);
+}
+  where
+    no_place : Option ℕ
+    no_place = None
+
+    none_is_some : is_some no_place ≡ true → ⊥
+    none_is_some e = cc
+
+-- one more text is known
+pub Knows-push : (places : ByBytes ℕ) (texts : List (List ℕ)) (last : List ℕ) (place : ℕ) → Knows places texts → Knows (insert places last place) (texts ++ last ∷ [])
+Knows-push places texts last place so = record {
+  known = λ text e. known_by text (same text last) refl (ap is_some (sym (got text)) ∙ e);
+  absent = λ text e. absent_by text (same text last) refl (sym (got text) ∙ e);
+}
+  where
+    got : (text : List ℕ) → get (insert places last place) text ≡ cond (same text last) (Some place) (get places text)
+    got text = get-insert nat_list_cmp_total places last place text
+
+    known_by : (text : List ℕ) (b : Bool) → same text last ≡ b → is_some (cond b (Some place) (get places text)) ≡ true → All (λ t. t ≢ text) (texts ++ last ∷ []) → ⊥
+    known_by text true is e new = new (length texts) last (omega (arith, length-append texts (last ∷ []))) (get_or_at texts last [] last (length texts) refl ∙ sym (same_is text last is))
+    known_by text false is e new = so.known text e (λ k d lt here. new k d (omega (arith, lt, length-append texts (last ∷ []))) (get_or_append_left texts (last ∷ []) d k lt ∙ here))
+
+    absent_by : (text : List ℕ) (b : Bool) → same text last ≡ b → cond b (Some place) (get places text) ≡ None → All (λ t. t ≢ text) (texts ++ last ∷ [])
+    absent_by text true is e = absurd (none-some place (sym e))
+    absent_by text false is e = All-push (λ (t : List ℕ). t ≢ text) texts last (so.absent text e) (not_same text last is)
+
+-- what has a place among things that are known by a text
+module _ {X : Type 0} (text_of : X → List ℕ) (places : ByBytes ℕ) (xs : List X) (text : List ℕ) (so : Knows places (map text_of xs)) where
+  pub Knows-is : is_some (get places text) ≡ true → All (λ x. text_of x ≢ text) xs → ⊥
+  Knows-is there new = so.known text there (All-map (λ (t : List ℕ). t ≢ text) text_of xs new)
+
+  pub Knows-new : is_some (get places text) ≡ false → All (λ x. text_of x ≢ text) xs
+  Knows-new none = by (get places text) refl none
+    where
+      by : (found : Option ℕ) → get places text ≡ found → is_some found ≡ false → All (λ x. text_of x ≢ text) xs
+      by None e none = λ k d lt known. so.absent text e k [] (omega (arith, length-map xs text_of, lt)) (get_or-map text_of xs k d [] lt ∙ known)
+      by (Some place) e none = absurd cc

@@ -1,5 +1,6 @@
 pub mod AdmitLemmas
 pub mod ChangeLemmas
+pub mod CursorLemmas
 pub mod EntriesLemmas
 pub mod EntryFaults
 pub mod EntryInverses
@@ -14,5 +15,7 @@ pub mod HeaderFaults
 pub mod ImageExamples
 pub mod IndexLemmas
 pub mod InverseLemmas
+pub mod ItemLemmas
 pub mod KeyLemmas
 pub mod ReadingLemmas
+pub mod RecordLemmas

@@ -63,6 +63,10 @@ group_bytes group = header_bytes group.header ++ entries_bytes group.entries
 abbrev pub file_bytes : List GroupData → List ℕ
 file_bytes changeset = flat_map group_bytes changeset
 
+-- the bytes are the file of this changeset
+abbrev pub IsFileOf : List ℕ → List GroupData → Type 0
+IsFileOf bytes changeset = IsChangeset changeset × (bytes ≡ file_bytes changeset)
+
 -- the bytes are the file of a changeset
 abbrev pub IsAccepted : List ℕ → Type 0
 IsAccepted bytes = (changeset : List GroupData) × IsChangeset changeset × (bytes ≡ file_bytes changeset)

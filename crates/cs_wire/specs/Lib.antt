@@ -4,6 +4,9 @@ pub mod Inverse
 pub mod Laws
 pub mod ReadFaults
 pub mod Views
+pub mod Items
+pub mod Cursor
+pub mod Walk
 pub mod Reading
 pub use Rattle.cs_value.specs.Value
 pub use Rattle.cs_value.specs.Varint

@@ -23,13 +23,19 @@ use Rattle.cs_wire.specs.declared.fault.ReadFaultKind.{ReadFaultKind}
 use Rattle.cs_wire.specs.declared.fault.ReadFaultKind.TheVariants.{Truncated, BadFlag, BadOp}
 use Rattle.cs_wire.specs.declared.fault.ReadFaultKind.TheVariants.{UndefinedField, Unpaired, NullKey}
 use Rattle.cs_wire.specs.Entry.{IsChange, operation, fields_of}
+use Rattle.cs_wire.specs.Items.{fields_in}
 use Rattle.cs_wire.specs.ReadFaults.{kind_of, Stands, IsOperation}
+
+-- a fault is as Why says of its kind and place
+abbrev pub FaultIs : {X : Type 0} → Result X ReadFault → (ReadFaultKind → ℕ → Type 0) → Type 0
+FaultIs (Ok x) Why = Unit {0}
+FaultIs (Err fault) Why = Why fault.kind fault.place
 
 -- memory is refused, or Why holds of the fault's kind and place
 abbrev pub IsBecause : OrNoMemory ReadFault → (ReadFaultKind → ℕ → Type 0) → Type 0
 IsBecause refusal Why = Refuses (λ f. Why f.kind f.place) refusal
 
--- a fault is as Why says of its kind and place
+-- the same where memory may be refused
 abbrev pub Fails : {X : Type 0} → Result X (OrNoMemory ReadFault) → (ReadFaultKind → ℕ → Type 0) → Type 0
 Fails (Ok x) Why = Unit {0}
 Fails (Err e) Why = IsBecause e Why
@@ -90,17 +96,11 @@ new_wants [] old = []
 new_wants (flag ∷ flags) [] = []
 new_wants (flag ∷ flags) (o ∷ old) = in_new (is_modified flag o) ∷ new_wants flags old
 
--- what is wanted in a column with this flag
-abbrev pub want_in : Columns → ℕ → ℕ → Want
-want_in Row column flag = in_row (is_key_flag flag)
-want_in Old column flag = in_old (is_key_flag flag)
-want_in (New old) column flag = in_new (is_modified flag (slice_index_or old.now column Undefined))
-
 -- what is wanted in the columns with these flags
 abbrev pub wants_in : Columns → List ℕ → List Want
 wants_in Row flags = row_wants flags
 wants_in Old flags = old_wants flags
-wants_in (New old) flags = new_wants flags old.now
+wants_in (New old) flags = new_wants flags (fields_in (length flags) old.now)
 
 -- what the records of a change have in their columns
 abbrev pub wants_of : List ℕ → Change → List Want

@@ -1,5 +1,6 @@
 //! Why a file is refused.
 ghost use Rattle.std.specs.Prelude.{◌≡◌, ◌+◌, ◌≤◌, ◌<◌, ◌^◌};
+ghost use Rattle.cs_value.specs.declared.refusal.OrNoMemory.TheVariants as tool;
 ghost use Rattle.cs_wire.specs.ReadFaults.{code_of, name_of, kind_of};
 
 use cs_value::{Fault, FieldFault, FieldFaultKind, OrNoMemory};
@@ -132,17 +133,25 @@ impl Fault for ReadFault {
 /// Why a file is not read: it is no changeset's, or memory was refused.
 pub type ReadError = OrNoMemory<ReadFault>;
 
+impl From<ReadFault> for ReadError {
+    ghost from_gives = { λ fault e. e ≡ tool.Fault fault };
+
+    fn from(fault: ReadFault) -> ReadError {
+        ReadError::Fault(fault)
+    }
+}
+
 /// A fault at a place of the file.
-pub(crate) fn fault_at(kind: ReadFaultKind, place: usize) -> ReadError
-    ensures { result ≡ OrNoMemory.Fault (record { kind = kind; place = place }) }
+pub(crate) fn fault_at(kind: ReadFaultKind, place: usize) -> ReadFault
+    ensures { result ≡ record { kind = kind; place = place } }
 {
-    ReadError::Fault(ReadFault { kind, place })
+    ReadFault { kind, place }
 }
 
 /// The fault of a field or a varint that was read from `start` on.
-pub(crate) fn fault_behind(start: usize, fault: FieldFault) -> ReadError
+pub(crate) fn fault_behind(start: usize, fault: FieldFault) -> ReadFault
     requires { start + fault.place < 2 ^ 64 }
-    ensures { result ≡ OrNoMemory.Fault (record { kind = kind_of fault.kind; place = start + fault.place }) }
+    ensures { result ≡ record { kind = kind_of fault.kind; place = start + fault.place } }
 {
     let kind = match fault.kind {
         FieldFaultKind::Truncated => ReadFaultKind::Truncated,

@@ -121,6 +121,30 @@ impl Eq for Header {
     ghost laws = { Prim.search (comparing, rules) };
 }
 
+/// The name and the flags of a table, where they stand in a file.
+#[derive(Clone, Copy, Debug)]
+pub struct HeaderRef<'a> {
+    /// The table's name.
+    pub name: &'a str,
+    /// The flags, one for each column.
+    pub flags: &'a [u8],
+}
+
+impl HeaderRef<'_> {
+    ghost use Rattle.cs_wire.specs.Items.{header_of};
+
+    /// A copy of the header, in memory of its own. Its name and its flags make one ([`Header::fits`]).
+    pub fn to_header(&self, alloc: Global) -> Result<Header, NoMemory>
+        requires { IsHeader (header_of self.now) }
+        ensures { IfOk result (λ h. h ≡ header_of self.now) }
+    {
+        Ok(Header {
+            name: String::from_str(alloc, self.name)?,
+            flags: Vec::from_slice(alloc, self.flags)?,
+        })
+    }
+}
+
 /// Whether the records of an update have a field for each flag: in a key column a value other than
 /// NULL and nothing, elsewhere two values or nothing twice.
 fn admits_update(flags: &[u8], old: &[OwnedField], new: &[OwnedField]) -> bool

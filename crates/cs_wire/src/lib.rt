@@ -11,31 +11,51 @@
 //! let changeset = read(alloc, file)?;
 //! assert_eq!(rt; changeset.groups().len(), 1);
 //! assert_eq!(rt; write(alloc, &changeset)?, file);
+//!
+//! // The same file, one item after another.
+//! let mut cursor = Cursor::new(alloc, file);
+//! while let Some(item) = cursor.next()? {
+//!     match item {
+//!         Item::Table(header) => assert_eq!(rt; header.name, "t"),
+//!         Item::Entry(entry) => assert_eq!(rt; entry.old_field(0), None),
+//!     }
+//! }
 //! ```
 //!
 //! `header`, `entry`, `group` and `changeset` are what a file holds, `reader` and `writer` go from
 //! bytes to that and back, `fault` says why a file is refused, and `format` has the bytes that tell
-//! its parts apart. `places` finds entries and groups, `inverse` undoes entries, and `laws` has what
-//! holds of all changesets. `CALLING.md`, beside this folder, shows a caller.
+//! its parts apart. A `cursor` goes through a file by a `walk`, until its `ending`, and hands out
+//! each `item` where it stands, an `entry_ref` over fields that are `spelled` there. `places` finds
+//! entries and groups, `inverse` undoes entries, and `laws` has what holds of all changesets.
+//! `CALLING.md`, beside this folder, shows a caller.
 #![tactic(auto)]
 
 mod changeset;
+mod cursor;
+mod ending;
 mod entry;
+mod entry_ref;
 mod fault;
 mod format;
 mod group;
 mod header;
 mod inverse;
+mod item;
 mod laws;
 mod places;
 mod reader;
+mod spelled;
+mod walk;
 mod writer;
 
 pub use changeset::Changeset;
+pub use cursor::Cursor;
 pub use entry::{Change, Entry};
+pub use entry_ref::EntryRef;
 pub use fault::{ReadError, ReadFault, ReadFaultKind};
 pub use group::Group;
-pub use header::Header;
+pub use header::{Header, HeaderRef};
+pub use item::Item;
 pub use laws::{changeset_files_law, entry_inverses_law, row_keys_law};
 pub use reader::read;
 pub use writer::write;

@@ -3,7 +3,7 @@
 //! Each reader takes the file and the place where to begin, and answers what stands there and the
 //! place behind it. A fault has the place that section "Read faults" of `docs/FORMAT.md` gives it.
 ghost use Rattle.std.specs.Prelude.{◌≡◌, ◌≢◌, ◌≤◌, ◌<◌, ◌++◌, ◌∷◌, ◌↔◌, ◌+◌, [], ℕ};
-ghost use Rattle.std.specs.Prelude.{List, Bool, length, drop, All, IfOk, IfErr, OnOk, IsTrue, if◌then◌else◌};
+ghost use Rattle.std.specs.Prelude.{List, Bool, length, drop, All, Err, IfOk, IfErr, IsOkAnd, OnOk, IsTrue, if◌then◌else◌};
 ghost use Rattle.cs_value.specs.Spelling.{record_bytes};
 ghost use Rattle.cs_wire.specs.declared.entry.Change.{Change as ChangeData};
 ghost use Rattle.cs_wire.specs.declared.entry.Entry.{Entry as EntryData};
@@ -12,20 +12,23 @@ ghost use Rattle.cs_wire.specs.Changeset.{HeaderData, GroupData, IsNewKey, IsNew
 ghost use Rattle.cs_wire.specs.Changeset.{IsChangeset, entries_bytes, group_bytes, file_bytes};
 ghost use Rattle.cs_wire.specs.ReadFaults.{Stands, HasEntry, TableStart, EntryStart, ReadCase, ReadFails};
 ghost use Rattle.cs_wire.specs.Views.{byte_of};
+ghost use Rattle.cs_value.specs.declared.refusal.OrNoMemory.TheVariants as tool;
 ghost use Rattle.cs_value.specs.Refusals.{Answers, Refuses};
-ghost use Rattle.cs_wire.specs.Reading.{Fails, EndsGroup, ChangeRefused, NoOperation, NoFlag};
+ghost use Rattle.cs_wire.specs.Items.{IsFirst, change_in};
+ghost use Rattle.cs_wire.specs.Reading.{Fails, FaultIs, EndsGroup, ChangeRefused, NoOperation, NoFlag};
 
-mod header;
+pub(crate) mod header;
 mod record;
 
 use crate::changeset::Changeset;
-use crate::entry::{Change, Entry, Operation};
-use crate::fault::{ReadError, ReadFaultKind, fault_at};
+use crate::entry::Operation;
+use crate::entry_ref::EntryRef;
+use crate::fault::{ReadError, ReadFault, ReadFaultKind, fault_at};
 use crate::format::{DELETE, INSERT, PATCHSET, TABLE, UPDATE};
 use crate::group::Group;
 use crate::header::Header;
 use header::read_header;
-use record::{read_new, read_old, read_row};
+use record::{Columns, read_record};
 use std::alloc::Global;
 
 /// The changeset whose file this is.
@@ -74,11 +77,11 @@ fn push_group(
         → Fails result (ReadCase file.now) }
     ensures well_formed { OnOk result (IsChangeset changeset.new) }
 {
-    let (header, start) = read_header(alloc, file, at)?;
-    if changeset.find(header.name()).is_some() {
-        return Err(fault_at(ReadFaultKind::DuplicateTable, at));
+    let (seen, start) = read_header(file, at)?;
+    if changeset.find(seen.name).is_some() {
+        return refuse(ReadFaultKind::DuplicateTable, at);
     }
-    let (group, end) = read_group(alloc, file, start, header)?;
+    let (group, end) = read_group(alloc, file, start, seen.to_header(alloc)?)?;
     changeset.push(group)?;
     Ok(end)
 }
@@ -100,9 +103,10 @@ fn read_group(
     ensures fault { EntryStart file.now at header [] → Fails result (ReadCase file.now) }
 {
     if !has_entry(file, at) {
-        return Err(fault_at(ReadFaultKind::EmptyGroup, at));
+        return refuse(ReadFaultKind::EmptyGroup, at);
     }
-    let (first, next) = read_entry(alloc, file, at, header.flags())?;
+    let (seen, next) = read_entry(file, at, header.flags())?;
+    let first = seen.to_entry(alloc)?;
     let mut group = Group::new(alloc, header, first)?;
     let mut end = next;
     'entries: while has_entry(file, end) {
@@ -112,7 +116,7 @@ fn read_group(
 }
 
 /// Whether an entry is to be read, and no header.
-fn has_entry(file: &[u8], at: usize) -> bool
+pub(crate) fn has_entry(file: &[u8], at: usize) -> bool
     ensures { IsTrue result ↔ HasEntry file.now at }
 {
     at < file.len() && file[at] != TABLE && file[at] != PATCHSET
@@ -131,42 +135,53 @@ fn push_entry(alloc: Global, file: &[u8], at: usize, group: &mut Group) -> Resul
     ensures header { group.new.header ≡ group.old.header }
     ensures well_formed { OnOk result (IsGroup group.new) }
 {
-    let (entry, end) = read_entry(alloc, file, at, group.flags())?;
+    let (seen, end) = read_entry(file, at, group.flags())?;
+    let entry = seen.to_entry(alloc)?;
     let key = group.key_of(alloc, &entry)?;
     if group.find(&key).is_some() {
-        return Err(fault_at(ReadFaultKind::DuplicateKey, at));
+        return refuse(ReadFaultKind::DuplicateKey, at);
     }
     group.push_with_key(key, entry)?;
     Ok(end)
 }
 
-/// An entry of a table with these flags.
-fn read_entry(
-    alloc: Global,
-    file: &[u8],
+/// Refuses the file for what stands at a place.
+pub(crate) fn refuse<T: Drop>(kind: ReadFaultKind, place: usize) -> Result<T, ReadError>
+    ensures { result ≡ Err (tool.Fault (record { kind = kind; place = place })) }
+{
+    Err(ReadError::Fault(fault_at(kind, place)))
+}
+
+/// An entry of a table with these flags, and the place behind it.
+pub(crate) fn read_entry<'a>(
+    file: &'a [u8],
     at: usize,
-    flags: &[u8],
-) -> Result<(Entry, usize), ReadError>
+    flags: &'a [u8],
+) -> Result<(EntryRef<'a>, usize), ReadFault>
     requires { HasEntry file.now at }
-    ensures found { IfOk result (λ r. IsEntry flags.now r.0 × Stands file.now at (entry_bytes r.0) r.1) }
+    ensures found { IfOk result (λ r. (r.0.flags ≡ flags.now) × IsEntry flags.now r.0.entry
+        × Stands file.now at (entry_bytes r.0.entry) r.1) }
     ensures only { (entry : EntryData) (rest : List ℕ) → IsEntry flags.now entry
-        → drop at file.now ≡ entry_bytes entry ++ rest → Answers result (λ r. r.0 ≡ entry) }
+        → drop at file.now ≡ entry_bytes entry ++ rest → IsOkAnd result (λ r. r.0.entry ≡ entry) }
     ensures fault { (header : HeaderData) (entries : List EntryData) → flags.now ≡ header.flags
-        → EntryStart file.now at header entries → Fails result (ReadCase file.now) }
+        → EntryStart file.now at header entries → FaultIs result (ReadCase file.now) }
 {
     let (operation, start) = read_operation(file, at)?;
     let (indirect, start) = read_indirect(file, start)?;
-    let (change, end) = read_change(alloc, file, start, flags, operation)?;
-    Ok((Entry { indirect, change }, end))
+    let (first, second, end) = read_records(file, start, flags, operation)?;
+    Ok((
+        EntryRef::new(flags, operation, indirect, first, second),
+        end,
+    ))
 }
 
 /// What an entry does.
-fn read_operation(file: &[u8], at: usize) -> Result<(Operation, usize), ReadError>
+fn read_operation(file: &[u8], at: usize) -> Result<(Operation, usize), ReadFault>
     requires { at < length file.now }
     ensures found { IfOk result (λ r. Stands file.now at (byte_of r.0 ∷ []) r.1) }
     ensures only { (change : ChangeData) (rest : List ℕ) → drop at file.now ≡ operation change ∷ rest
-        → Answers result (λ r. byte_of r.0 ≡ operation change) }
-    ensures fault { Fails result (NoOperation file.now at) }
+        → IsOkAnd result (λ r. byte_of r.0 ≡ operation change) }
+    ensures fault { FaultIs result (NoOperation file.now at) }
 {
     match file[at] {
         INSERT => Ok((Operation::Insert, at + 1)),
@@ -177,12 +192,12 @@ fn read_operation(file: &[u8], at: usize) -> Result<(Operation, usize), ReadErro
 }
 
 /// The indirect flag of an entry.
-fn read_indirect(file: &[u8], at: usize) -> Result<(bool, usize), ReadError>
+fn read_indirect(file: &[u8], at: usize) -> Result<(bool, usize), ReadFault>
     requires { at ≤ length file.now }
     ensures found { IfOk result (λ r. Stands file.now at ((if r.0 then 1 else 0) ∷ []) r.1) }
     ensures only { (indirect : Bool) (rest : List ℕ) → drop at file.now ≡ (if indirect then 1 else 0) ∷ rest
-        → Answers result (λ r. r.0 ≡ indirect) }
-    ensures fault { Fails result (NoFlag file.now at) }
+        → IsOkAnd result (λ r. r.0 ≡ indirect) }
+    ensures fault { FaultIs result (NoFlag file.now at) }
 {
     match file.get(at) {
         Some(0) => Ok((false, at + 1)),
@@ -192,34 +207,33 @@ fn read_indirect(file: &[u8], at: usize) -> Result<(bool, usize), ReadError>
     }
 }
 
-/// The records of a change with this operation.
-fn read_change(
-    alloc: Global,
-    file: &[u8],
+/// The records of a change with this operation: the bytes of the row, or of an update's old record; and of its new
+/// one; and the place behind them.
+fn read_records<'a>(
+    file: &'a [u8],
     at: usize,
     flags: &[u8],
     what: Operation,
-) -> Result<(Change, usize), ReadError>
+) -> Result<(&'a [u8], &'a [u8], usize), ReadFault>
     requires { at ≤ length file.now }
-    ensures found { IfOk result (λ r. IsChange flags.now r.0 × (operation r.0 ≡ byte_of what)
-        × Stands file.now at (record_bytes (fields_of r.0)) r.1) }
+    ensures found { IfOk result (λ r. IsChange flags.now (change_in (length flags.now) what r.0.now r.1.now)
+        × (r.0.now ++ r.1.now ≡ record_bytes (fields_of (change_in (length flags.now) what r.0.now r.1.now)))
+        × Stands file.now at (r.0.now ++ r.1.now) r.2
+        × IsFirst flags.now (change_in (length flags.now) what r.0.now r.1.now) r.0.now) }
     ensures only { (change : ChangeData) (rest : List ℕ) → IsChange flags.now change → operation change ≡ byte_of what
-        → drop at file.now ≡ record_bytes (fields_of change) ++ rest → Answers result (λ r. r.0 ≡ change) }
-    ensures fault { Fails result (ChangeRefused (byte_of what) flags.now file.now at) }
+        → drop at file.now ≡ record_bytes (fields_of change) ++ rest
+        → IsOkAnd result (λ r. change_in (length flags.now) what r.0.now r.1.now ≡ change) }
+    ensures fault { FaultIs result (ChangeRefused (byte_of what) flags.now file.now at) }
 {
     match what {
-        Operation::Insert => {
-            let (row, end) = read_row(alloc, file, at, flags)?;
-            Ok((Change::Insert(row), end))
-        }
-        Operation::Delete => {
-            let (row, end) = read_row(alloc, file, at, flags)?;
-            Ok((Change::Delete(row), end))
+        Operation::Insert | Operation::Delete => {
+            let (row, end) = read_record(file, at, flags, Columns::Row)?;
+            Ok((row, &[], end))
         }
         Operation::Update => {
-            let (old, middle) = read_old(alloc, file, at, flags)?;
-            let (new, end) = read_new(alloc, file, middle, flags, &old)?;
-            Ok((Change::Update { old, new }, end))
+            let (old, middle) = read_record(file, at, flags, Columns::Old)?;
+            let (new, end) = read_record(file, middle, flags, Columns::New(old))?;
+            Ok((old, new, end))
         }
     }
 }

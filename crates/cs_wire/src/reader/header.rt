@@ -1,35 +1,30 @@
 //! Reading the headers of tables.
 ghost use Rattle.std.specs.Prelude.{◌≡◌, ◌≢◌, ◌≤◌, ◌<◌, ◌++◌, ◌∷◌, ◌+◌, [], ℕ};
-ghost use Rattle.std.specs.Prelude.{List, length, drop, IfOk, IfSome, IfNone, EachIndex, slice_index, string_bytes};
+ghost use Rattle.std.specs.Prelude.{List, length, drop, IfOk, IsOkAnd, IfSome, IfNone, EachIndex, slice_index};
 ghost use Rattle.cs_value.specs.declared.TheConstants.{MAX_CONTENT_LEN};
 ghost use Rattle.cs_value.specs.Varint.{varint};
 ghost use Rattle.cs_value.specs.Table.{IsFlags};
 ghost use Rattle.cs_value.specs.Table.{IsName};
 ghost use Rattle.cs_wire.specs.Changeset.{HeaderData, GroupData, IsHeader, flags_bytes, header_bytes};
+ghost use Rattle.cs_wire.specs.Items.{header_of};
 ghost use Rattle.cs_wire.specs.ReadFaults.{Stands, HasEntry, TableStart, HeaderPart, ReadCase};
-ghost use Rattle.cs_value.specs.Refusals.{Answers};
-ghost use Rattle.cs_wire.specs.Reading.{Fails, CountFails};
+ghost use Rattle.cs_wire.specs.Reading.{FaultIs, CountFails};
 
-use crate::fault::{ReadError, ReadFaultKind, fault_at, fault_behind};
+use crate::fault::{ReadFault, ReadFaultKind, fault_at, fault_behind};
 use crate::format::{PATCHSET, TABLE};
-use crate::header::{Header, has_key};
+use crate::header::{HeaderRef, has_key};
 use crate::reader::rest_from;
 use cs_value::{MAX_COLUMNS, varint_read};
-use std::alloc::Global;
 use std::str;
 
 /// The header of a table.
-pub(crate) fn read_header(
-    alloc: Global,
-    file: &[u8],
-    at: usize,
-) -> Result<(Header, usize), ReadError>
+pub(crate) fn read_header(file: &[u8], at: usize) -> Result<(HeaderRef<'_>, usize), ReadFault>
     requires { at < length file.now }
-    ensures found { IfOk result (λ r. IsHeader r.0 × Stands file.now at (header_bytes r.0) r.1) }
+    ensures found { IfOk result (λ r. IsHeader (header_of r.0) × Stands file.now at (header_bytes (header_of r.0)) r.1) }
     ensures only { (header : HeaderData) (rest : List ℕ) → IsHeader header
-        → drop at file.now ≡ header_bytes header ++ rest → Answers result (λ r. r.0 ≡ header) }
+        → drop at file.now ≡ header_bytes header ++ rest → IsOkAnd result (λ r. header_of r.0 ≡ header) }
     ensures fault { (groups : List GroupData) → TableStart file.now at groups → (HasEntry file.now at → at ≡ 0)
-        → Fails result (ReadCase file.now) }
+        → FaultIs result (ReadCase file.now) }
 {
     if file[at] == PATCHSET {
         return Err(fault_at(ReadFaultKind::Patchset, at));
@@ -37,18 +32,18 @@ pub(crate) fn read_header(
     if file[at] != TABLE {
         return Err(fault_at(ReadFaultKind::NotTable, at));
     }
-    let (flags, at) = read_flags(alloc, file, at + 1)?;
-    let (name, at) = read_name(alloc, file, at)?;
-    Ok((Header::new(name, flags), at))
+    let (flags, at) = read_flags(file, at + 1)?;
+    let (name, at) = read_name(file, at)?;
+    Ok((HeaderRef { name, flags }, at))
 }
 
 /// The count of columns, and a flag for each.
-fn read_flags(alloc: Global, file: &[u8], at: usize) -> Result<(Vec<u8>, usize), ReadError>
+fn read_flags(file: &[u8], at: usize) -> Result<(&[u8], usize), ReadFault>
     requires { at ≤ length file.now }
-    ensures found { IfOk result (λ r. IsFlags r.0.items × Stands file.now at (flags_bytes r.0.items) r.1) }
+    ensures found { IfOk result (λ r. IsFlags r.0.now × Stands file.now at (flags_bytes r.0.now) r.1) }
     ensures only { (flags rest : List ℕ) → IsFlags flags → drop at file.now ≡ flags_bytes flags ++ rest
-        → Answers result (λ r. r.0.items ≡ flags) }
-    ensures fault { HeaderPart file.now [] at → Fails result (ReadCase file.now) }
+        → IsOkAnd result (λ r. r.0.now ≡ flags) }
+    ensures fault { HeaderPart file.now [] at → FaultIs result (ReadCase file.now) }
 {
     let (count, start) = read_count(file, at)?;
     if count == 0 || count > MAX_COLUMNS {
@@ -62,16 +57,16 @@ fn read_flags(alloc: Global, file: &[u8], at: usize) -> Result<(Vec<u8>, usize),
     if !has_key(flags) {
         return Err(fault_at(ReadFaultKind::NoKey, start));
     }
-    Ok((Vec::from_slice(alloc, flags)?, start + count))
+    Ok((flags, start + count))
 }
 
 /// A varint.
-fn read_count(file: &[u8], at: usize) -> Result<(usize, usize), ReadError>
+fn read_count(file: &[u8], at: usize) -> Result<(usize, usize), ReadFault>
     requires { at ≤ length file.now }
     ensures found { IfOk result (λ r. (r.0 ≤ MAX_CONTENT_LEN) × Stands file.now at (varint r.0) r.1) }
     ensures only { (n : ℕ) (rest : List ℕ) → n ≤ MAX_CONTENT_LEN → drop at file.now ≡ varint n ++ rest
-        → Answers result (λ r. r.0 ≡ n) }
-    ensures fault { Fails result (CountFails file.now at) }
+        → IsOkAnd result (λ r. r.0 ≡ n) }
+    ensures fault { FaultIs result (CountFails file.now at) }
 {
     match varint_read(rest_from(file, at)) {
         Ok((count, used)) => Ok((count as usize, at + used)),
@@ -80,13 +75,13 @@ fn read_count(file: &[u8], at: usize) -> Result<(usize, usize), ReadError>
 }
 
 /// The name of a table, and the zero byte behind it.
-fn read_name(alloc: Global, file: &[u8], at: usize) -> Result<(String, usize), ReadError>
+fn read_name(file: &[u8], at: usize) -> Result<(&str, usize), ReadFault>
     requires { at ≤ length file.now }
-    ensures found { IfOk result (λ r. IsName (string_bytes r.0) × Stands file.now at (string_bytes r.0 ++ 0 ∷ []) r.1) }
+    ensures found { IfOk result (λ r. IsName r.0.now × Stands file.now at (r.0.now ++ 0 ∷ []) r.1) }
     ensures only { (name rest : List ℕ) → IsName name → drop at file.now ≡ name ++ 0 ∷ rest
-        → Answers result (λ r. string_bytes r.0 ≡ name) }
+        → IsOkAnd result (λ r. r.0.now ≡ name) }
     ensures fault { (flags : List ℕ) → IsFlags flags → HeaderPart file.now (flags_bytes flags) at
-        → Fails result (ReadCase file.now) }
+        → FaultIs result (ReadCase file.now) }
 {
     let rest = rest_from(file, at);
     let Some(len) = zero_at(rest) else {
@@ -97,7 +92,7 @@ fn read_name(alloc: Global, file: &[u8], at: usize) -> Result<(String, usize), R
         return Err(fault_at(ReadFaultKind::BadName, at));
     }
     match str::from_utf8(bytes) {
-        Ok(name) => Ok((String::from_str(alloc, name)?, at + len + 1)),
+        Ok(name) => Ok((name, at + len + 1)),
         Err(_) => Err(fault_at(ReadFaultKind::BadName, at)),
     }
 }

@@ -1,5 +1,5 @@
 -- `reader::read_group`: the clause `fault`, what it ensures.
-use Rattle.std.proofs.Common.{[], arith}
+use Rattle.std.proofs.Common.{[], ◌∙◌, arith}
 use Rattle.std.proofs.lemmas.Result.{err_from_is_err_and}
 use Rattle.std.proofs.lemmas.Bool.{iff_false}
 use Rattle.cs_value.proofs.RefusalLemmas.{Answers-err}
@@ -12,17 +12,15 @@ pub returns-then-not-has_entry-clause-only : goal.returns-then-not-has_entry-cla
 returns-then-not-has_entry-clause-only c = λ all rest g ends e.
     absurd (iff_false c.has_entry.ensures c.if-not-has_entry.true (has_first c.args.file.now c.args.at c.args.header all rest c.requires g e))
 
-pub returns-in_err-first-clause-only : goal.returns-in_err-first-clause-only
-returns-in_err-first-clause-only c =
-    let p = err_from_is_err_and c.from_residual.result c.from_residual.ensures.1 in
-    λ all rest g ends e.
+pub returns-in_err-seen-clause-only : goal.returns-in_err-seen-clause-only
+returns-in_err-seen-clause-only c = λ all rest g ends e.
     let n = first_entry c.args.file.now c.args.at c.args.header all rest c.requires g e in
-    rw (p.1, p.2) (Answers-err c.in_err-first.field-0.0 _ _ (c.in_err-first.ensures.only n.entry n.rest (rw c.flags.ensures.same n.is_entry) n.spelled))
+    absurd (c.in_err-seen.ensures.only n.entry n.rest (rw c.flags.ensures.same n.is_entry) n.spelled)
 
 pub entries-init : goal.entries-init
 entries-init c =
-    EntriesSoFar-one c.args.file.now c.args.at c.args.header c.in_ok-group.group c.in_ok-first.first c.in_ok-first.next c.requires c.in_ok-group.ensures.made c.in_ok-group.ensures.well_formed
-    c.in_ok-first.ensures.found.1 (λ entry rest h e. c.in_ok-first.ensures.only entry rest (rw c.flags.ensures.same h) e)
+    EntriesSoFar-one c.args.file.now c.args.at c.args.header c.in_ok-group.group c.in_ok-first.first c.in_ok-seen.next c.requires c.in_ok-group.ensures.made c.in_ok-group.ensures.well_formed
+    (rw c.in_ok-first.ensures.same c.in_ok-seen.ensures.found.2) (λ entry rest h e. c.in_ok-first.ensures.same ∙ c.in_ok-seen.ensures.only entry rest (rw c.flags.ensures.same h) e)
 
 pub returns-in_err-end-clause-only : goal.returns-in_err-end-clause-only
 returns-in_err-end-clause-only c =
@@ -53,7 +51,7 @@ returns-in_err-end-clause-fault c = λ start.
     let p = err_from_is_err_and c.from_residual-in_err-end.result c.from_residual-in_err-end.ensures.1 in
     rw (p.1, p.2) (c.in_err-end.ensures.fault (EntryStart-more c.args.file.now c.args.at c.args.header c.entries.group c.entries.end c.entries.invariant start))
 
-pub returns-in_err-first-clause-fault : goal.returns-in_err-first-clause-fault
-returns-in_err-first-clause-fault c = λ start.
+pub returns-in_err-seen-clause-fault : goal.returns-in_err-seen-clause-fault
+returns-in_err-seen-clause-fault c = λ start.
     let p = err_from_is_err_and c.from_residual.result c.from_residual.ensures.1 in
-    rw (p.1, p.2) (c.in_err-first.ensures.fault c.args.header [] c.flags.ensures.same start)
+    rw (p.1, p.2) (c.in_err-seen.ensures.fault c.args.header [] c.flags.ensures.same start)

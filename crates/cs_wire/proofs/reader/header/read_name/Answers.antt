@@ -1,7 +1,6 @@
 -- `reader::header::read_name`: the clauses `found` and `fault`, what it ensures.
-use Rattle.std.proofs.Common.{◌≡◌, ◌<◌, length, take, drop, sym, ◌∙◌, arith}
+use Rattle.std.proofs.Common.{◌<◌, length, take, drop, sym, ◌∙◌, arith}
 use Rattle.std.proofs.lemmas.Bool.{eqb-false, eqb-true}
-use Rattle.std.specs.Prelude.{string_bytes}
 use Rattle.cs_wire.proofs.HeaderFaults.{empty_name, bad_name}
 use Rattle.cs_wire.proofs.ReadingLemmas.{name_has_end, IsName-read, name_taken, Stands-ended}
 use Rattle.cs_wire.proofs.reader.header.read_name.Goals as goal
@@ -11,13 +10,13 @@ returns-in_default-clause-only c = λ name rest h e.
     let end = name_has_end c.rest_from-rest.result.now name rest (c.rest_from-rest.ensures ∙ e) in
     absurd (c.in_default.ensures.none (length name) end.0 end.1)
 
-pub returns-in_ok-from_str-in-Ok-clause-found : goal.returns-in_ok-from_str-in-Ok-clause-found
-returns-in_ok-from_str-in-Ok-clause-found c =
+pub returns-in-Ok-clause-found : goal.returns-in-Ok-clause-found
+returns-in-Ok-clause-found c =
     let file = c.args.file.now in
     let at = c.args.at in
     let n = c.in-Some.len in
     let left = c.rest_from-rest.result.now in
-    let text : string_bytes c.in_ok-from_str-in-Ok.field-0 ≡ take n left = c.in_ok-from_str-in-Ok.ensures.ok ∙ c.in-Ok.ensures.cases.0 in
+    let text = c.in-Ok.ensures.cases.0 in
     let within : n < length left = c.in-Some.ensures.found.0 in
     let none = eqb-false (length (take n left)) 0 (sym c.is_empty.ensures ∙ c.if-is_empty.false) in
     let some : 0 < length (take n left) = omega arith in (
@@ -25,9 +24,9 @@ returns-in_ok-from_str-in-Ok-clause-found c =
       rw (text, c.rest_from-rest.ensures) (Stands-ended file at n (rw c.rest_from-rest.ensures at within) (rw c.rest_from-rest.ensures at c.in-Some.ensures.found.1)),
     )
 
-pub returns-in_ok-from_str-in-Ok-clause-only : goal.returns-in_ok-from_str-in-Ok-clause-only
-returns-in_ok-from_str-in-Ok-clause-only c = λ name rest h e.
-    c.in_ok-from_str-in-Ok.ensures.ok ∙ c.in-Ok.ensures.cases.0
+pub returns-in-Ok-clause-only : goal.returns-in-Ok-clause-only
+returns-in-Ok-clause-only c = λ name rest h e.
+    c.in-Ok.ensures.cases.0
     ∙ name_taken c.rest_from-rest.result.now name rest c.in-Some.len h (c.rest_from-rest.ensures ∙ e) c.in-Some.ensures.found.0 c.in-Some.ensures.found.1 c.in-Some.ensures.found.2
 
 pub returns-in-Err-clause-only : goal.returns-in-Err-clause-only

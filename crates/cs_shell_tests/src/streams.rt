@@ -1,41 +1,10 @@
-//! Calls on files, texts, scripts and command lines.
+//! Scripts whose streams fail.
 
-use crate::stores::end;
-use crate::{DELETE, INSERT, UPDATE};
-use cs_shell::{
-    FileFault, Status, Told, ToolFault, concat_bytes, dump_text, invert_bytes, print_usage,
-    run_script, run_words, sql_text,
-};
+use cs_shell::{Status, Told, run_script};
 use cs_store::Store;
-use cs_wire::read;
+use std::io;
 use std::io::{ErrorKind, Read, Write};
 use std::process::Abort;
-use std::{fs, io};
-
-#[test]
-fn joins_an_update_and_its_inverse(rt: HostRuntime) {
-    let inverse = invert_bytes(rt.alloc(), UPDATE).expect(&rt, "a changeset");
-    let joined = concat_bytes(rt.alloc(), UPDATE, &inverse).expect(&rt, "a join");
-    assert!(rt; joined.is_empty());
-}
-
-#[test]
-fn says_which_file_is_refused(rt: HostRuntime) {
-    let first = concat_bytes(rt.alloc(), b"\x54", b"\x41");
-    assert!(rt; matches!(&first, Err(ToolFault::Fault(FileFault::First(_)))));
-    let second = concat_bytes(rt.alloc(), UPDATE, b"\x41");
-    assert!(rt; matches!(&second, Err(ToolFault::Fault(FileFault::Second(_)))));
-}
-
-#[test]
-fn prints_readable_text_and_sql(rt: HostRuntime) {
-    let changeset = read(rt.alloc(), DELETE).expect(&rt, "a changeset");
-    let mut out = Told::new(Vec::new(rt.alloc()));
-    assert!(rt; dump_text(&changeset, &mut out).is_ok() && sql_text(&changeset, &mut out).is_ok());
-    let printed =
-        b"table 't' columns 2 flags 1,0\ndelete 0 old 1,'x'\nDELETE FROM \"t\" WHERE c1=1 AND c2='x';\n";
-    assert!(rt; out.into_inner().as_slice() == printed.as_slice());
-}
 
 /// A reader of some bytes, a few at once, that fails once behind so many reads, and then reads on.
 #[derive(Drop)]
@@ -103,7 +72,7 @@ fn expect_run(rt: &(impl Abort + AllocGlobal), script: Script, printed: Narrow, 
     let mut input = Told::new(script);
     let mut out = Told::new(printed);
     assert!(rt; run_script(rt.alloc(), &mut store, &mut input, &mut out) == status);
-    end(store);
+    let _conn = store.into_connection();
     assert!(rt; input.failed() == (status == Status::InputFault));
     assert!(rt; out.failed() == (status == Status::OutputFault));
     assert!(rt; out.into_inner().wanted.is_empty());
@@ -192,7 +161,7 @@ fn runs_no_line_behind_a_failed_write(rt: HostRuntime) {
         let status = run_script(rt.alloc(), &mut store, &mut input, &mut out);
         assert!(rt; status == Status::OutputFault && out.failed());
         assert!(rt; matches!(store.schema(rt.alloc(), "t"), Ok(None)));
-        end(store);
+        let _conn = store.into_connection();
     }
 }
 
@@ -202,46 +171,4 @@ fn hands_a_flush_on(rt: HostRuntime) {
     out.flush().expect(&rt, "a flush");
     assert!(rt; !out.failed());
     assert!(rt; out.into_inner().flushed);
-}
-
-/// These words, of which the first is the program's name.
-fn words_of(rt: &(impl Abort + AllocGlobal), words: &[&str]) -> Vec<String> {
-    let mut all = Vec::new(rt.alloc());
-    for word in words {
-        let word = String::from_str(rt.alloc(), word).expect(rt, "memory");
-        all.push(word).expect(rt, "memory");
-    }
-    all
-}
-
-/// Runs words without a line of script, and answers the exit status and how many bytes are reported.
-fn end_of(rt: &HostRuntime, words: &[String]) -> (u8, usize) {
-    let mut err = Vec::new(rt.alloc());
-    let status = run_words(
-        rt,
-        words,
-        &mut Told::new(b"".as_slice()),
-        &mut Told::new(narrow_writer(b"", true)),
-        &mut Told::new(&mut err),
-    );
-    (status, err.len())
-}
-
-#[test]
-fn writes_the_inverse(rt: HostRuntime) {
-    fs::write(&rt, "in_place.cs", INSERT).expect(&rt, "a file");
-    let words = words_of(&rt, &["changeset", "in_place.cs", "invert", "in_place.cs"]);
-    assert!(rt; end_of(&rt, &words) == (0, 0));
-    let held = fs::read(&rt, "in_place.cs").expect(&rt, "a file");
-    fs::remove_file(&rt, "in_place.cs").expect(&rt, "a file");
-    assert!(rt; held.as_slice() == DELETE);
-}
-
-#[test]
-fn prints_the_usage(rt: HostRuntime) {
-    let mut err = Vec::new(rt.alloc());
-    assert!(rt; print_usage(&mut Told::new(&mut err)) == 2);
-    assert!(rt; err.starts_with(b"Usage: changeset "));
-    let words = words_of(&rt, &["changeset", "a.cs", "frob"]);
-    assert!(rt; end_of(&rt, &words) == (2, err.len()));
 }

@@ -1,0 +1,95 @@
+-- What is seen of a file where it stands: its headers and entries, as they show themselves in the file's bytes; this
+-- project's own.
+use Rattle.std.specs.Prelude.{◌≡◌, ℕ, zero, suc, List, [], ◌∷◌, ◌++◌, length, map, drop, slice_index_or, Option, Some, None, Result, Ok, Err, Bool}
+use Rattle.cs_value.specs.declared.fault.FieldFault.{FieldFault}
+use Rattle.cs_value.specs.declared.value.OwnedValue.{OwnedValue}
+use Rattle.cs_value.specs.declared.value.OwnedValue.TheVariants.{Null}
+use Rattle.cs_value.specs.declared.value.OwnedField.{OwnedField}
+use Rattle.cs_value.specs.declared.value.OwnedField.TheVariants.{Undefined, Defined}
+use Rattle.cs_value.specs.Value.{IsRecord}
+use Rattle.cs_value.specs.Key.{image_key}
+use Rattle.cs_value.specs.Spelling.{record_bytes}
+use Rattle.cs_value.specs.Reading.{field_at}
+use Rattle.cs_wire.specs.declared.entry.Change.{Change}
+use Rattle.cs_wire.specs.declared.entry.Change.TheVariants as change
+use Rattle.cs_wire.specs.declared.entry.Entry.{Entry}
+use Rattle.cs_wire.specs.declared.entry.Operation.{Operation}
+use Rattle.cs_wire.specs.declared.entry.Operation.TheVariants.{Insert, Delete, Update}
+use Rattle.cs_wire.specs.declared.header.HeaderRef.{HeaderRef}
+use Rattle.cs_wire.specs.Entry.{IsEntry, key_of, fields_of}
+use Rattle.cs_wire.specs.Changeset.{HeaderData}
+
+-- the field that was read and the count of its bytes; an undefined one, of no byte, where none was
+abbrev pub read_or_undefined : Result (OwnedField × ℕ) FieldFault → OwnedField × ℕ
+read_or_undefined (Ok read) = read
+read_or_undefined (Err fault) = (Undefined, 0)
+
+-- the field at the front, and the count of its bytes
+abbrev pub front_of : List ℕ → OwnedField × ℕ
+front_of bytes = read_or_undefined (field_at bytes)
+
+-- so many fields, one behind the other
+unfoldable pub fields_in : ℕ → List ℕ → List OwnedField
+fields_in zero bytes = []
+fields_in (suc count) bytes = (front_of bytes).0 ∷ fields_in count (drop (front_of bytes).1 bytes)
+
+-- the value of a field, which is NULL where that is undefined
+abbrev pub value_in : OwnedField → OwnedValue
+value_in Undefined = Null
+value_in (Defined v) = v
+
+-- the values of so many fields
+abbrev pub values_in : ℕ → List ℕ → List OwnedValue
+values_in count bytes = map value_in (fields_in count bytes)
+
+-- the change of a table with so many columns whose records are these bytes
+abbrev pub change_in : ℕ → Operation → List ℕ → List ℕ → Change
+change_in columns Insert first second = change.Insert (values_in columns first)
+change_in columns Delete first second = change.Delete (values_in columns first)
+change_in columns Update first second = change.Update (fields_in columns first) (fields_in columns second)
+
+-- the header that is shown
+abbrev pub header_of : HeaderRef → HeaderData
+header_of h = record { name = h.name.now; flags = h.flags.now }
+
+-- an entry, and the flags of its table
+pub record FlaggedEntry : Type 0 where
+  pub flags : List ℕ
+  pub entry : Entry
+
+-- the entry of a table with these flags whose records are these bytes
+abbrev pub entry_in : List ℕ → Operation → Bool → List ℕ → List ℕ → FlaggedEntry
+entry_in flags what indirect first second = record {
+  flags = flags;
+  entry = record { indirect = indirect; change = change_in (length flags) what first second };
+}
+
+-- the row of a change, or the old record of an update
+abbrev pub first_record : Change → List OwnedField
+first_record (change.Insert row) = map Defined row
+first_record (change.Delete row) = map Defined row
+first_record (change.Update old new) = old
+
+-- what an entry says of a column before the change, and after it: nothing where it has no such record
+abbrev pub old_field : Change → ℕ → Option OwnedField
+old_field (change.Insert row) column = None
+old_field (change.Delete row) column = Some (slice_index_or (map Defined row) column Undefined)
+old_field (change.Update old new) column = Some (slice_index_or old column Undefined)
+
+abbrev pub new_field : Change → ℕ → Option OwnedField
+new_field (change.Insert row) column = Some (slice_index_or (map Defined row) column Undefined)
+new_field (change.Delete row) column = None
+new_field (change.Update old new) column = Some (slice_index_or new column Undefined)
+
+-- the bytes of a change's first record, which is a row or an update's old record, and has the key
+pub record IsFirst (flags : List ℕ) (change : Change) (first : List ℕ) : Type 0 where
+  pub is_record : IsRecord (fields_in (length flags) first)
+  pub spelled : first ≡ record_bytes (fields_in (length flags) first)
+  pub fields : fields_in (length flags) first ≡ first_record change
+  pub key : key_of flags change ≡ image_key flags (fields_in (length flags) first)
+
+-- the entry is one of its table, and its records are spelled so
+pub record IsSpelled (seen : FlaggedEntry) (first second : List ℕ) : Type 0 where
+  pub is_entry : IsEntry seen.flags seen.entry
+  pub spelled : first ++ second ≡ record_bytes (fields_of seen.entry.change)
+  pub has_first : IsFirst seen.flags seen.entry.change first
