@@ -58,6 +58,13 @@ impl Key {
         Ok(Key { bytes })
     }
 
+    /// The key whose values are spelled by these bytes, one behind the other. It takes no memory.
+    pub fn from_bytes(bytes: Vec<u8>) -> Key
+        ensures { result ≡ bytes.items }
+    {
+        Key { bytes }
+    }
+
     /// The bytes of the key's values.
     pub fn bytes(&self) -> &[u8]
         ensures { result.now ≡ self.now }

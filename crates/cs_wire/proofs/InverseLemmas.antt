@@ -16,6 +16,7 @@ use Rattle.cs_wire.specs.declared.entry.Entry.{Entry}
 use Rattle.cs_wire.specs.Entry.{IsPaired, IsKeyedUpdate, IsChange, IsEntry, key_of, with_key}
 use Rattle.cs_wire.specs.Changeset.{GroupData, IsGroup, image_of}
 use Rattle.cs_wire.specs.Inverse.{exchanged, IsInverseEntry, IsInverseGroup}
+use Rattle.cs_wire.proofs.EntryLemmas.{length-IsKeyedUpdate}
 use Rattle.cs_wire.specs.Views.{group_keys, IsIndex, inverse_change, inverse_entry}
 
 -- ---- the two records of an update
@@ -33,16 +34,13 @@ key_with_key (zero ∷ flags) (o ∷ old) [] h = absurd h
 key_with_key (suc flag ∷ flags) (o ∷ old) [] h = absurd h
 
 -- exchanged twice, the first image is back
-with_key_twice : (flags : List ℕ) (old new : List OwnedField) → IsKeyedUpdate flags old new → with_key flags (with_key flags old new) (with_key flags new old) ≡ old
-with_key_twice [] [] [] h = refl
-with_key_twice (zero ∷ flags) (o ∷ old) (n ∷ new) h = ap (λ (fs : List OwnedField). o ∷ fs) (with_key_twice flags old new h.1)
-with_key_twice (suc flag ∷ flags) (o ∷ old) (n ∷ new) h = ap (λ (fs : List OwnedField). o ∷ fs) (with_key_twice flags old new h.1)
-with_key_twice [] [] (n ∷ new) h = absurd h
-with_key_twice [] (o ∷ old) new h = absurd h
-with_key_twice (zero ∷ flags) [] new h = absurd h
-with_key_twice (suc flag ∷ flags) [] new h = absurd h
-with_key_twice (zero ∷ flags) (o ∷ old) [] h = absurd h
-with_key_twice (suc flag ∷ flags) (o ∷ old) [] h = absurd h
+pub with_key_twice : (flags : List ℕ) (a b : List OwnedField) → length flags ≡ length a → length flags ≡ length b → with_key flags (with_key flags a b) (with_key flags b a) ≡ a
+with_key_twice [] [] b p q = refl
+with_key_twice [] (x ∷ a) b p q = absurd (omega arith)
+with_key_twice (flag ∷ flags) [] b p q = absurd (omega arith)
+with_key_twice (flag ∷ flags) (x ∷ a) [] p q = absurd (omega arith)
+with_key_twice (zero ∷ flags) (x ∷ a) (y ∷ b) p q = ap (λ (fs : List OwnedField). x ∷ fs) (with_key_twice flags a b (omega arith) (omega arith))
+with_key_twice (suc flag ∷ flags) (x ∷ a) (y ∷ b) p q = ap (λ (fs : List OwnedField). x ∷ fs) (with_key_twice flags a b (omega arith) (omega arith))
 
 paired_back : (o n : OwnedField) → IsPaired o n → IsPaired n o
 paired_back Undefined Undefined h = tt
@@ -71,7 +69,7 @@ IsRecord-with_key (zero ∷ flags) (x ∷ a) (y ∷ b) h k = (k.0, IsRecord-with
 IsRecord-with_key (suc flag ∷ flags) (x ∷ a) (y ∷ b) h k = (h.0, IsRecord-with_key flags a b h.1 k.1)
 
 -- one more field of an image that is made of two
-with_key_in : (flags : List ℕ) (a b : List OwnedField) (i : ℕ) (f : OwnedField) → length flags ≡ length a → length flags ≡ length b → i < length flags → (get_or flags i 0 ≡ 0 → ⊥) → get_or a i f ≡ f
+pub with_key_in : (flags : List ℕ) (a b : List OwnedField) (i : ℕ) (f : OwnedField) → length flags ≡ length a → length flags ≡ length b → i < length flags → (get_or flags i 0 ≡ 0 → ⊥) → get_or a i f ≡ f
     → with_key (drop i flags) (drop i a) (drop i b) ≡ f ∷ with_key (drop (suc i) flags) (drop (suc i) a) (drop (suc i) b)
 with_key_in [] a b i f p q lt key here = absurd (omega arith)
 with_key_in (flag ∷ flags) [] b i f p q lt key here = absurd (omega arith)
@@ -80,7 +78,7 @@ with_key_in (zero ∷ flags) (x ∷ a) (y ∷ b) zero f p q lt key here = absurd
 with_key_in (suc flag ∷ flags) (x ∷ a) (y ∷ b) zero f p q lt key here = ap (λ (g : OwnedField). g ∷ with_key flags a b) here
 with_key_in (flag ∷ flags) (x ∷ a) (y ∷ b) (suc i) f p q lt key here = with_key_in flags a b i f (omega arith) (omega arith) (omega arith) key here
 
-with_key_out : (flags : List ℕ) (a b : List OwnedField) (i : ℕ) (f : OwnedField) → length flags ≡ length a → length flags ≡ length b → i < length flags → get_or flags i 0 ≡ 0 → get_or b i f ≡ f
+pub with_key_out : (flags : List ℕ) (a b : List OwnedField) (i : ℕ) (f : OwnedField) → length flags ≡ length a → length flags ≡ length b → i < length flags → get_or flags i 0 ≡ 0 → get_or b i f ≡ f
     → with_key (drop i flags) (drop i a) (drop i b) ≡ f ∷ with_key (drop (suc i) flags) (drop (suc i) a) (drop (suc i) b)
 with_key_out [] a b i f p q lt none here = absurd (omega arith)
 with_key_out (flag ∷ flags) [] b i f p q lt none here = absurd (omega arith)
@@ -147,12 +145,12 @@ pub record Exchanging (flags : List ℕ) (a b : List OwnedField) (i : ℕ) (x y 
 -- ---- changes
 
 -- a change and its inverse are of one key
-key_of-inverse : (flags : List ℕ) (change : Change) → IsChange flags change → key_of flags (inverse_change flags change) ≡ key_of flags change
+pub key_of-inverse : (flags : List ℕ) (change : Change) → IsChange flags change → key_of flags (inverse_change flags change) ≡ key_of flags change
 key_of-inverse flags (Insert row) h = refl
 key_of-inverse flags (Delete row) h = refl
 key_of-inverse flags (Update old new) h = ap record_bytes (key_with_key flags old new h.2)
 
-IsChange-inverse : (flags : List ℕ) (change : Change) → IsChange flags change → IsChange flags (inverse_change flags change)
+pub IsChange-inverse : (flags : List ℕ) (change : Change) → IsChange flags change → IsChange flags (inverse_change flags change)
 IsChange-inverse flags (Insert row) h = h
 IsChange-inverse flags (Delete row) h = h
 IsChange-inverse flags (Update old new) h = (IsRecord-with_key flags old new h.0 h.1, IsRecord-with_key flags new old h.1 h.0, keyed_back flags old new h.2)
@@ -164,7 +162,9 @@ image_of-inverse : (flags : List ℕ) (indirect : Bool) (change : Change) → Is
     → image_of flags (record { indirect = indirect; change = inverse_change flags change }) ≡ exchanged (image_of flags (record { indirect = indirect; change = change }))
 image_of-inverse flags indirect (Insert row) h = refl
 image_of-inverse flags indirect (Delete row) h = refl
-image_of-inverse flags indirect (Update old new) h = cc (with_key_twice flags old new h.2)
+image_of-inverse flags indirect (Update old new) h =
+    let width = length-IsKeyedUpdate flags old new h.2 in
+    cc (with_key_twice flags old new width.0 width.1)
 
 -- the inverse of an entry is one
 pub inverse_entry_is : (flags : List ℕ) (entry : Entry) → IsEntry flags entry → IsInverseEntry flags entry (inverse_entry flags entry)

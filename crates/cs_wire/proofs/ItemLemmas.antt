@@ -126,7 +126,7 @@ pub KeySoFar-none : (flags : List ℕ) (fields : List OwnedField) (record_is : L
 KeySoFar-none flags fields record_is spelled = record { left_is = spelled; key_is = refl }
 
 -- the field at the front of what is left
-front_left : (fields : List OwnedField) (i : ℕ) (left : List ℕ) → IsRecord fields → i < length fields → left ≡ record_bytes (drop i fields)
+pub front_left : (fields : List OwnedField) (i : ℕ) (left : List ℕ) → IsRecord fields → i < length fields → left ≡ record_bytes (drop i fields)
     → (f : OwnedField) × (f ≡ get_or fields i f) × (take (front_of left).1 left ≡ field_bytes f) × (drop (front_of left).1 left ≡ record_bytes (drop (i + 1) fields))
 front_left fields i left are lt e =
     let f = get_or fields i Undefined in

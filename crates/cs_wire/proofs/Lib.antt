@@ -19,3 +19,4 @@ pub mod ItemLemmas
 pub mod KeyLemmas
 pub mod ReadingLemmas
 pub mod RecordLemmas
+pub mod ShownLemmas

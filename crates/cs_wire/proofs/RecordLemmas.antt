@@ -31,7 +31,7 @@ Stands-bytes file at bytes text end same h = subst (λ (x : List ℕ). Stands fi
 abbrev pub IsOfRow : Operation → Type 0
 IsOfRow what = (what ≡ Insert) ⊎ (what ≡ Delete)
 
-update_is_none : IsOfRow Update → ⊥
+pub update_is_none : IsOfRow Update → ⊥
 update_is_none (inl e) = cc
 update_is_none (inr e) = cc
 

@@ -1,6 +1,6 @@
 -- What is seen of a file where it stands: its headers and entries, as they show themselves in the file's bytes; this
 -- project's own.
-use Rattle.std.specs.Prelude.{◌≡◌, ℕ, zero, suc, List, [], ◌∷◌, ◌++◌, length, map, drop, slice_index_or, Option, Some, None, Result, Ok, Err, Bool}
+use Rattle.std.specs.Prelude.{◌≡◌, ℕ, zero, suc, List, [], ◌∷◌, ◌++◌, length, map, drop, slice_index_or, Option, Some, None, Result, Ok, Err, Bool, true, false}
 use Rattle.cs_value.specs.declared.fault.FieldFault.{FieldFault}
 use Rattle.cs_value.specs.declared.value.OwnedValue.{OwnedValue}
 use Rattle.cs_value.specs.declared.value.OwnedValue.TheVariants.{Null}
@@ -16,7 +16,7 @@ use Rattle.cs_wire.specs.declared.entry.Entry.{Entry}
 use Rattle.cs_wire.specs.declared.entry.Operation.{Operation}
 use Rattle.cs_wire.specs.declared.entry.Operation.TheVariants.{Insert, Delete, Update}
 use Rattle.cs_wire.specs.declared.header.HeaderRef.{HeaderRef}
-use Rattle.cs_wire.specs.Entry.{IsEntry, key_of, fields_of}
+use Rattle.cs_wire.specs.Entry.{IsEntry, key_of, fields_of, with_key}
 use Rattle.cs_wire.specs.Changeset.{HeaderData}
 
 -- the field that was read and the count of its bytes; an undefined one, of no byte, where none was
@@ -48,6 +48,23 @@ change_in columns Insert first second = change.Insert (values_in columns first)
 change_in columns Delete first second = change.Delete (values_in columns first)
 change_in columns Update first second = change.Update (fields_in columns first) (fields_in columns second)
 
+-- a record of an update as it is shown: as it stands, or with the fields of the other record outside the key
+abbrev pub shown_record : Bool → List ℕ → List OwnedField → List OwnedField → List OwnedField
+shown_record false flags record_is other = record_is
+shown_record true flags record_is other = with_key flags record_is other
+
+-- a change as it is shown
+abbrev pub shown : Bool → List ℕ → Change → Change
+shown exchanged flags (change.Insert row) = change.Insert row
+shown exchanged flags (change.Delete row) = change.Delete row
+shown exchanged flags (change.Update old new) =
+    change.Update (shown_record exchanged flags old new) (shown_record exchanged flags new old)
+
+-- the bytes of so many fields, and no other
+pub record IsRecordIn (count : ℕ) (bytes : List ℕ) : Type 0 where
+  pub is_record : IsRecord (fields_in count bytes)
+  pub spelled : bytes ≡ record_bytes (fields_in count bytes)
+
 -- the header that is shown
 abbrev pub header_of : HeaderRef → HeaderData
 header_of h = record { name = h.name.now; flags = h.flags.now }
@@ -62,6 +79,13 @@ abbrev pub entry_in : List ℕ → Operation → Bool → List ℕ → List ℕ 
 entry_in flags what indirect first second = record {
   flags = flags;
   entry = record { indirect = indirect; change = change_in (length flags) what first second };
+}
+
+-- an entry as it is shown
+abbrev pub shown_entry : Bool → FlaggedEntry → FlaggedEntry
+shown_entry exchanged seen = record {
+  flags = seen.flags;
+  entry = record { indirect = seen.entry.indirect; change = shown exchanged seen.flags seen.entry.change };
 }
 
 -- the row of a change, or the old record of an update
@@ -93,3 +117,10 @@ pub record IsSpelled (seen : FlaggedEntry) (first second : List ℕ) : Type 0 wh
   pub is_entry : IsEntry seen.flags seen.entry
   pub spelled : first ++ second ≡ record_bytes (fields_of seen.entry.change)
   pub has_first : IsFirst seen.flags seen.entry.change first
+
+-- it is spelled so, and shown so it is one of its table too, with the same key
+pub record IsShown (exchanged : Bool) (seen : FlaggedEntry) (first second : List ℕ) : Type 0 where
+  pub is_spelled : IsSpelled seen first second
+  pub is_entry : IsEntry seen.flags (shown_entry exchanged seen).entry
+  pub key : key_of seen.flags (shown exchanged seen.flags seen.entry.change)
+      ≡ image_key seen.flags (fields_in (length seen.flags) first)

@@ -34,6 +34,12 @@ pub record IsPlaceOf {X : Type 0} (P : X → Type 0) (xs : List X) (place : ℕ)
   pub within : place < length xs
   pub holds : HoldsAt P xs place
 
+-- what undoes what an entry does
+abbrev pub inverse_operation : Operation → Operation
+inverse_operation Insert = Delete
+inverse_operation Delete = Insert
+inverse_operation Update = Update
+
 -- what the code makes of an entry to undo it: what that is for is said by Inverse
 abbrev pub inverse_change : List ℕ → Change → Change
 inverse_change flags (change.Insert row) = change.Delete row

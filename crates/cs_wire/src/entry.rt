@@ -59,3 +59,18 @@ pub(crate) enum Operation {
     Delete,
     Update,
 }
+
+impl Operation {
+    ghost use Rattle.cs_wire.specs.Views.{inverse_operation};
+
+    /// What undoes it.
+    pub(crate) fn inverse(self) -> Operation
+        ensures { result ≡ inverse_operation self }
+    {
+        match self {
+            Operation::Insert => Operation::Delete,
+            Operation::Delete => Operation::Insert,
+            Operation::Update => Operation::Update,
+        }
+    }
+}

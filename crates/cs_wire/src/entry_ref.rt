@@ -1,40 +1,45 @@
 //! Entries where they stand in a file.
-ghost use Rattle.std.specs.Prelude.{◌≡◌, ◌<◌, IfOk, IfSome, option_map};
+ghost use Rattle.std.specs.Prelude.{◌≡◌, ◌<◌, ◌++◌, IfOk, IfSome, OnOk, length, option_map};
+ghost use Rattle.cs_value.specs.Spelling.{record_bytes};
+ghost use Rattle.cs_wire.specs.Items.{IsRecordIn, fields_in, shown_record};
 
 use crate::entry::{Change, Entry, Operation};
 use crate::format::{DELETE, INSERT, UPDATE};
-use crate::spelled::{copy_cells, field_in, key_bytes};
-use cs_value::{Field, Image, NoMemory, Row};
+use crate::inverse::shown_images;
+use crate::spelled::{copy_cells, field_in, key_bytes, shown_field, write_shown};
+use crate::writer::write_operation;
+use cs_value::{Field, Image, Key, NoMemory, Row};
 use std::alloc::Global;
 use std::marker::Model;
 
-/// An entry where it stands in a file: what is seen of it borrows from that, and takes no memory.
-/// Contracts see the entry, and the flags of its table.
+/// An entry where it stands in a file, or the one that undoes it: what is seen of it borrows from the
+/// file, and takes no memory. Contracts see the entry, and the flags of its table.
 #[derive(Debug, Drop)]
 pub struct EntryRef<'a> {
     flags: &'a [u8],
     operation: Operation,
     indirect: bool,
-    // The bytes of the row, or of an update's old record.
+    // The bytes of the row, or of an update's old record in the file.
     first: &'a [u8],
-    // Those of an update's new record.
+    // Those of an update's new record there.
     second: &'a [u8],
+    // Whether an update shows its records with the fields outside the key exchanged.
+    exchanged: bool,
 }
 
 impl<'a> Model for EntryRef<'a> {
-    ghost use Rattle.std.specs.Prelude.{length};
-    ghost use Rattle.cs_wire.specs.Items.{FlaggedEntry, IsSpelled, entry_in};
+    ghost use Rattle.cs_wire.specs.Items.{FlaggedEntry, IsShown, entry_in, shown_entry};
 
     ghost Value = { FlaggedEntry };
 
-    ghost view = { λ e. entry_in e.flags.now e.operation e.indirect e.first.now e.second.now };
+    ghost view = { λ e. shown_entry e.exchanged (entry_in e.flags.now e.operation e.indirect e.first.now e.second.now) };
 
-    ghost invariant = { λ e. IsSpelled (entry_in e.flags.now e.operation e.indirect e.first.now e.second.now) e.first.now e.second.now };
+    ghost invariant = { λ e. IsShown e.exchanged (entry_in e.flags.now e.operation e.indirect e.first.now e.second.now) e.first.now e.second.now };
 }
 
 impl<'a> EntryRef<'a> {
-    ghost use Rattle.std.specs.Prelude.{length};
-    ghost use Rattle.cs_wire.specs.Entry.{IsEntry, key_of, operation};
+    ghost use Rattle.cs_wire.specs.Entry.{IsEntry, entry_bytes, key_of, operation};
+    ghost use Rattle.cs_wire.specs.Inverse.{IsInverseEntry};
     ghost use Rattle.cs_value.specs.Value.{FieldFits, field_of};
     ghost use Rattle.cs_wire.specs.Items.{IsSpelled, entry_in, new_field as field_after, old_field as field_before};
 
@@ -55,6 +60,7 @@ impl<'a> EntryRef<'a> {
             indirect,
             first,
             second,
+            exchanged: false,
         }
     }
 
@@ -94,9 +100,14 @@ impl<'a> EntryRef<'a> {
     {
         match self.operation {
             Operation::Insert => None,
-            Operation::Delete | Operation::Update => {
-                Some(field_in(self.flags.len(), self.first, column))
-            }
+            Operation::Delete => Some(field_in(self.flags.len(), self.first, column)),
+            Operation::Update => Some(shown_field(
+                self.exchanged,
+                self.flags,
+                self.first,
+                self.second,
+                column,
+            )),
         }
     }
 
@@ -111,7 +122,45 @@ impl<'a> EntryRef<'a> {
         match self.operation {
             Operation::Insert => Some(field_in(self.flags.len(), self.first, column)),
             Operation::Delete => None,
-            Operation::Update => Some(field_in(self.flags.len(), self.second, column)),
+            Operation::Update => Some(shown_field(
+                self.exchanged,
+                self.flags,
+                self.second,
+                self.first,
+                column,
+            )),
+        }
+    }
+
+    /// The key of the entry.
+    pub fn key(&self, alloc: Global) -> Result<Key, NoMemory>
+        ensures { IfOk result (λ key. key ≡ key_of self.now.flags self.now.entry.change) }
+    {
+        Ok(Key::from_bytes(self.key_bytes(alloc)?))
+    }
+
+    /// The entry that undoes this one: the delete of the row that it inserts, the insert of the row that it
+    /// deletes, or an update with the two values of each modified column exchanged. It takes no memory.
+    pub fn inverted(self) -> EntryRef<'a>
+        ensures flags { result.flags ≡ self.entry.flags }
+        ensures inverse { IsInverseEntry self.entry.flags self.entry.entry result.entry }
+        ensures well_formed { IsEntry result.flags result.entry }
+    {
+        let EntryRef {
+            flags,
+            operation,
+            indirect,
+            first,
+            second,
+            exchanged,
+        } = self;
+        EntryRef {
+            flags,
+            operation: operation.inverse(),
+            indirect,
+            first,
+            second,
+            exchanged: !exchanged,
         }
     }
 
@@ -120,6 +169,19 @@ impl<'a> EntryRef<'a> {
         ensures { IfOk result (λ key. key.items ≡ key_of self.now.flags self.now.entry.change) }
     {
         key_bytes(alloc, self.flags, self.first)
+    }
+
+    /// Appends the entry's bytes.
+    pub fn write_to(&self, out: &mut Vec<u8>) -> Result<(), NoMemory>
+        ensures { OnOk result (out.new.items ≡ out.old.items ++ entry_bytes self.now.entry) }
+    {
+        write_operation(out, self.operation(), self.indirect)?;
+        match self.operation {
+            Operation::Insert | Operation::Delete => Ok(out.extend_from_slice(self.first)?),
+            Operation::Update => {
+                write_update(out, self.exchanged, self.flags, self.first, self.second)
+            }
+        }
     }
 
     /// A copy of the entry, in memory of its own.
@@ -131,14 +193,34 @@ impl<'a> EntryRef<'a> {
         let change = match self.operation {
             Operation::Insert => Change::Insert(Row::new(copy_cells(alloc, count, self.first)?)),
             Operation::Delete => Change::Delete(Row::new(copy_cells(alloc, count, self.first)?)),
-            Operation::Update => Change::Update {
-                old: Image::new(copy_cells(alloc, count, self.first)?),
-                new: Image::new(copy_cells(alloc, count, self.second)?),
-            },
+            Operation::Update => {
+                let old = Image::new(copy_cells(alloc, count, self.first)?);
+                let new = Image::new(copy_cells(alloc, count, self.second)?);
+                let (old, new) = shown_images(self.exchanged, self.flags, old, new);
+                Change::Update { old, new }
+            }
         };
         Ok(Entry {
             indirect: self.indirect,
             change,
         })
     }
+}
+
+/// Appends the records of an update as they are shown.
+fn write_update(
+    out: &mut Vec<u8>,
+    exchanged: bool,
+    flags: &[u8],
+    old: &[u8],
+    new: &[u8],
+) -> Result<(), NoMemory>
+    requires old { IsRecordIn (length flags.now) old.now }
+    requires new { IsRecordIn (length flags.now) new.now }
+    ensures { OnOk result (out.new.items ≡ out.old.items
+        ++ record_bytes (shown_record exchanged flags.now (fields_in (length flags.now) old.now) (fields_in (length flags.now) new.now)
+        ++ shown_record exchanged flags.now (fields_in (length flags.now) new.now) (fields_in (length flags.now) old.now))) }
+{
+    write_shown(out, exchanged, flags, old, new)?;
+    write_shown(out, exchanged, flags, new, old)
 }

@@ -6,6 +6,7 @@ ghost use Rattle.cs_wire.specs.Entry.{IsKeyedUpdate};
 ghost use Rattle.cs_wire.specs.Changeset.{HeaderData, IsHeader};
 
 use crate::entry::{Change, Entry};
+use crate::writer::write_header;
 use cs_value::{Field, Key, MAX_COLUMNS, NoMemory, OwnedField, Value, is_table_name};
 use std::alloc::Global;
 use std::marker::Model;
@@ -131,6 +132,8 @@ pub struct HeaderRef<'a> {
 }
 
 impl HeaderRef<'_> {
+    ghost use Rattle.std.specs.Prelude.{◌++◌, OnOk};
+    ghost use Rattle.cs_wire.specs.Changeset.{header_bytes};
     ghost use Rattle.cs_wire.specs.Items.{header_of};
 
     /// A copy of the header, in memory of its own. Its name and its flags make one ([`Header::fits`]).
@@ -142,6 +145,14 @@ impl HeaderRef<'_> {
             name: String::from_str(alloc, self.name)?,
             flags: Vec::from_slice(alloc, self.flags)?,
         })
+    }
+
+    /// Appends the header's bytes. Its name and its flags make one ([`Header::fits`]).
+    pub fn write_to(&self, out: &mut Vec<u8>) -> Result<(), NoMemory>
+        requires { IsHeader (header_of self.now) }
+        ensures { OnOk result (out.new.items ≡ out.old.items ++ header_bytes (header_of self.now)) }
+    {
+        write_header(out, self.name, self.flags)
     }
 }
 

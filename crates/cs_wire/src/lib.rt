@@ -32,6 +32,7 @@
 
 mod changeset;
 mod cursor;
+mod draft;
 mod ending;
 mod entry;
 mod entry_ref;

@@ -21,13 +21,11 @@ pub(crate) mod header;
 mod record;
 
 use crate::changeset::Changeset;
+use crate::draft::{groups_of, read_drafts};
 use crate::entry::Operation;
 use crate::entry_ref::EntryRef;
 use crate::fault::{ReadError, ReadFault, ReadFaultKind, fault_at};
 use crate::format::{DELETE, INSERT, PATCHSET, TABLE, UPDATE};
-use crate::group::Group;
-use crate::header::Header;
-use header::read_header;
 use record::{Columns, read_record};
 use std::alloc::Global;
 
@@ -41,78 +39,9 @@ pub fn read(alloc: Global, file: &[u8]) -> Result<Changeset, ReadError>
     ensures found { IfOk result (λ c. IsChangeset c × (file.now ≡ file_bytes c)) }
     ensures refused { IfErr result (Refuses (λ f. ReadFails file.now f.kind f.place)) }
 {
-    read_groups(alloc, file)
-}
-
-/// The groups of a file.
-fn read_groups(alloc: Global, file: &[u8]) -> Result<Changeset, ReadError>
-    ensures found { IfOk result (λ c. IsChangeset c × (file.now ≡ file_bytes c)) }
-    ensures only { (c : List GroupData) → IsChangeset c → file.now ≡ file_bytes c → Answers result (λ r. r ≡ c) }
-    ensures fault { Fails result (ReadCase file.now) }
-{
-    let mut changeset = Changeset::new(alloc);
-    let mut end = 0;
-    'groups: while end < file.len() {
-        end = push_group(alloc, file, end, &mut changeset)?;
-    }
-    Ok(changeset)
-}
-
-/// Reads a group and appends it, which is of a table that is not yet there.
-fn push_group(
-    alloc: Global,
-    file: &[u8],
-    at: usize,
-    changeset: &mut Changeset,
-) -> Result<usize, ReadError>
-    requires { at < length file.now }
-    ensures found { IfOk result (λ end. (group : GroupData) × IsGroup group
-        × Stands file.now at (group_bytes group) end × (changeset.new ≡ changeset.old ++ group ∷ [])) }
-    ensures only { (group : GroupData) (rest : List ℕ) → IsGroup group
-        → IsNewName changeset.old group.header.name → EndsGroup rest
-        → drop at file.now ≡ group_bytes group ++ rest
-        → Answers result (λ _. changeset.new ≡ changeset.old ++ group ∷ []) }
-    ensures ends { IfOk result (λ end. HasEntry file.now end → ⊥) }
-    ensures fault { TableStart file.now at changeset.old → (HasEntry file.now at → at ≡ 0)
-        → Fails result (ReadCase file.now) }
-    ensures well_formed { OnOk result (IsChangeset changeset.new) }
-{
-    let (seen, start) = read_header(file, at)?;
-    if changeset.find(seen.name).is_some() {
-        return refuse(ReadFaultKind::DuplicateTable, at);
-    }
-    let (group, end) = read_group(alloc, file, start, seen.to_header(alloc)?)?;
-    changeset.push(group)?;
-    Ok(end)
-}
-
-/// The entries of a table, one at least.
-fn read_group(
-    alloc: Global,
-    file: &[u8],
-    at: usize,
-    header: Header,
-) -> Result<(Group, usize), ReadError>
-    requires { at ≤ length file.now }
-    ensures found { IfOk result (λ r. (r.0.header ≡ header) × IsGroup r.0
-        × Stands file.now at (entries_bytes r.0.entries) r.1) }
-    ensures only { (entries : List EntryData) (rest : List ℕ) → IsGroup (record { header = header; entries = entries })
-        → EndsGroup rest → drop at file.now ≡ entries_bytes entries ++ rest
-        → Answers result (λ r. r.0.entries ≡ entries) }
-    ensures ends { IfOk result (λ r. HasEntry file.now r.1 → ⊥) }
-    ensures fault { EntryStart file.now at header [] → Fails result (ReadCase file.now) }
-{
-    if !has_entry(file, at) {
-        return refuse(ReadFaultKind::EmptyGroup, at);
-    }
-    let (seen, next) = read_entry(file, at, header.flags())?;
-    let first = seen.to_entry(alloc)?;
-    let mut group = Group::new(alloc, header, first)?;
-    let mut end = next;
-    'entries: while has_entry(file, end) {
-        end = push_entry(alloc, file, end, &mut group)?;
-    }
-    Ok((group, end))
+    let drafts = read_drafts(alloc, file)?;
+    let groups = groups_of(alloc, drafts)?;
+    Ok(Changeset::from_groups(alloc, groups)?)
 }
 
 /// Whether an entry is to be read, and no header.
@@ -120,29 +49,6 @@ pub(crate) fn has_entry(file: &[u8], at: usize) -> bool
     ensures { IsTrue result ↔ HasEntry file.now at }
 {
     at < file.len() && file[at] != TABLE && file[at] != PATCHSET
-}
-
-/// Reads an entry and appends it, whose key is not yet there.
-fn push_entry(alloc: Global, file: &[u8], at: usize, group: &mut Group) -> Result<usize, ReadError>
-    requires { HasEntry file.now at }
-    ensures found { IfOk result (λ end. (entry : EntryData) × Stands file.now at (entry_bytes entry) end
-        × (group.new.entries ≡ group.old.entries ++ entry ∷ [])) }
-    ensures only { (entry : EntryData) (rest : List ℕ) → IsEntry group.old.header.flags entry
-        → IsNewKey group.old.header.flags group.old.entries (key_of group.old.header.flags entry.change)
-        → drop at file.now ≡ entry_bytes entry ++ rest
-        → Answers result (λ _. group.new.entries ≡ group.old.entries ++ entry ∷ []) }
-    ensures fault { EntryStart file.now at group.old.header group.old.entries → Fails result (ReadCase file.now) }
-    ensures header { group.new.header ≡ group.old.header }
-    ensures well_formed { OnOk result (IsGroup group.new) }
-{
-    let (seen, end) = read_entry(file, at, group.flags())?;
-    let entry = seen.to_entry(alloc)?;
-    let key = group.key_of(alloc, &entry)?;
-    if group.find(&key).is_some() {
-        return refuse(ReadFaultKind::DuplicateKey, at);
-    }
-    group.push_with_key(key, entry)?;
-    Ok(end)
 }
 
 /// Refuses the file for what stands at a place.

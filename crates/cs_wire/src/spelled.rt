@@ -5,7 +5,8 @@ ghost use Rattle.cs_value.specs.declared.value.OwnedField.TheVariants.{Undefined
 ghost use Rattle.cs_value.specs.Value.{FieldFits, IsRecord, field_of};
 ghost use Rattle.cs_value.specs.Key.{image_key};
 ghost use Rattle.cs_value.specs.Spelling.{record_bytes};
-ghost use Rattle.cs_wire.specs.Items.{front_of, fields_in, value_in};
+ghost use Rattle.cs_wire.specs.Entry.{with_key};
+ghost use Rattle.cs_wire.specs.Items.{IsRecordIn, front_of, fields_in, shown_record, value_in};
 
 use cs_value::{Field, NoMemory, OwnedField, OwnedValue, field_read};
 use std::alloc::Global;
@@ -103,6 +104,79 @@ pub(crate) fn copy_cells<C: Cell>(
         rest = others;
     }
     Ok(cells)
+}
+
+/// Appends a record of an update as it is shown: as it stands, or with the fields of the other record outside the
+/// key.
+pub(crate) fn write_shown(
+    out: &mut Vec<u8>,
+    exchanged: bool,
+    flags: &[u8],
+    bytes: &[u8],
+    other: &[u8],
+) -> Result<(), NoMemory>
+    requires bytes { IsRecordIn (length flags.now) bytes.now }
+    requires other { IsRecordIn (length flags.now) other.now }
+    ensures { OnOk result (out.new.items ≡ out.old.items ++ record_bytes (shown_record exchanged flags.now
+        (fields_in (length flags.now) bytes.now) (fields_in (length flags.now) other.now))) }
+{
+    if exchanged {
+        return write_exchanged(out, flags, bytes, other);
+    }
+    out.extend_from_slice(bytes)?;
+    Ok(())
+}
+
+/// Appends a record with the fields of another outside the key.
+fn write_exchanged(
+    out: &mut Vec<u8>,
+    flags: &[u8],
+    bytes: &[u8],
+    other: &[u8],
+) -> Result<(), NoMemory>
+    requires bytes { IsRecordIn (length flags.now) bytes.now }
+    requires other { IsRecordIn (length flags.now) other.now }
+    ensures { OnOk result (out.new.items ≡ out.old.items ++ record_bytes (with_key flags.now
+        (fields_in (length flags.now) bytes.now) (fields_in (length flags.now) other.now))) }
+{
+    let mut left = bytes;
+    let mut other_left = other;
+    for flag in flags {
+        let (field, rest) = split_front(left);
+        let (other_field, other_rest) = split_front(other_left);
+        out.extend_from_slice(by_key(*flag, field, other_field))?;
+        left = rest;
+        other_left = other_rest;
+    }
+    Ok(())
+}
+
+/// The bytes for a column with this flag: those for one of the key, or the others.
+fn by_key<'a>(flag: u8, key: &'a [u8], other: &'a [u8]) -> &'a [u8]
+    ensures key { 0 < flag → result.now ≡ key.now }
+    ensures other { flag ≡ 0 → result.now ≡ other.now }
+{
+    if flag == 0 { other } else { key }
+}
+
+/// What a record of an update shows in a column: outside the key what stands in the other, where those fields are
+/// exchanged.
+pub(crate) fn shown_field<'a>(
+    exchanged: bool,
+    flags: &[u8],
+    bytes: &'a [u8],
+    other: &'a [u8],
+    column: usize,
+) -> Field<'a>
+    requires { column < length flags.now }
+    ensures field { field_of result ≡ slice_index_or (shown_record exchanged flags.now
+        (fields_in (length flags.now) bytes.now) (fields_in (length flags.now) other.now)) column Undefined }
+    ensures fits { FieldFits result }
+{
+    if !exchanged {
+        return field_in(flags.len(), bytes, column);
+    }
+    field_in(flags.len(), by_key(flags[column], bytes, other), column)
 }
 
 /// The field of a column, from 0, of which there are so many.

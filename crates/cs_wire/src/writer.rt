@@ -1,13 +1,12 @@
 //! Writing the files of changesets.
 ghost use Rattle.std.specs.Prelude.{◌≡◌, ◌++◌, ◌∷◌, [], if◌then◌else◌, IfOk, OnOk};
 ghost use Rattle.cs_wire.specs.Entry.{entry_bytes};
-ghost use Rattle.cs_wire.specs.Changeset.{header_bytes, group_bytes, file_bytes};
+ghost use Rattle.cs_wire.specs.Changeset.{IsHeader, header_bytes, group_bytes, file_bytes};
 
 use crate::changeset::Changeset;
 use crate::entry::{Change, Entry};
 use crate::format::{DELETE, INSERT, TABLE, UPDATE};
 use crate::group::Group;
-use crate::header::Header;
 use cs_value::{NoMemory, image_write, row_write, varint_write};
 use std::alloc::Global;
 
@@ -29,7 +28,7 @@ pub fn write(alloc: Global, changeset: &Changeset) -> Result<Vec<u8>, NoMemory>
 fn write_group(out: &mut Vec<u8>, group: &Group) -> Result<(), NoMemory>
     ensures { OnOk result (out.new.items ≡ out.old.items ++ group_bytes group.now) }
 {
-    write_header(out, group.header())?;
+    write_header(out, group.header().name(), group.flags())?;
     for entry in group.entries() {
         write_entry(out, entry)?;
     }
@@ -37,14 +36,14 @@ fn write_group(out: &mut Vec<u8>, group: &Group) -> Result<(), NoMemory>
 }
 
 #[tactic(auto, unfolding(crate::specs::Changeset::header_bytes, crate::specs::Changeset::flags_bytes))]
-fn write_header(out: &mut Vec<u8>, header: &Header) -> Result<(), NoMemory>
-    ensures { OnOk result (out.new.items ≡ out.old.items ++ header_bytes header.now) }
+pub(crate) fn write_header(out: &mut Vec<u8>, name: &str, flags: &[u8]) -> Result<(), NoMemory>
+    requires { IsHeader (record { name = name.now; flags = flags.now }) }
+    ensures { OnOk result (out.new.items ≡ out.old.items ++ header_bytes (record { name = name.now; flags = flags.now })) }
 {
-    let flags = header.flags();
     out.push(TABLE)?;
     varint_write(out, flags.len() as u32)?;
     out.extend_from_slice(flags)?;
-    out.extend_from_slice(header.name().as_bytes())?;
+    out.extend_from_slice(name.as_bytes())?;
     out.push(0)?;
     Ok(())
 }
@@ -70,7 +69,12 @@ fn write_entry(out: &mut Vec<u8>, entry: &Entry) -> Result<(), NoMemory>
     }
 }
 
-fn write_operation(out: &mut Vec<u8>, operation: u8, indirect: bool) -> Result<(), NoMemory>
+/// Appends the operation and the indirect flag of an entry.
+pub(crate) fn write_operation(
+    out: &mut Vec<u8>,
+    operation: u8,
+    indirect: bool,
+) -> Result<(), NoMemory>
     ensures { OnOk result (out.new.items ≡ out.old.items ++ operation ∷ (if indirect then 1 else 0) ∷ []) }
 {
     out.push(operation)?;
