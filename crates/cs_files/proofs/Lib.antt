@@ -1,5 +1,6 @@
 pub mod Examples
 pub mod GatherLemmas
+pub mod InvertLemmas
 pub mod SeparatedLemmas
 pub mod TermLemmas
 pub mod TextExamples

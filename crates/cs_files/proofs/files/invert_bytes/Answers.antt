@@ -1,0 +1,25 @@
+-- `files::invert_bytes`: the invariant of the loop, the clauses `inverted` and `length`.
+use Rattle.std.proofs.Common.{Option, Ok, ap, ◌∙◌}
+use Rattle.cs_wire.specs.declared.item.Item.{Item}
+use Rattle.cs_files.proofs.InvertLemmas.{InvertsFront-next, inverted}
+use Rattle.cs_files.proofs.files.invert_bytes.Goals as goal
+
+pub items-preserved : goal.items-preserved
+items-preserved c =
+    let so = c.items.invariant.1 in
+    let handed = rw c.in-Some.is at c.in_ok-item.ensures.item so.groups so.begins in
+    (c.in_ok-item.ensures.file ∙ c.items.invariant.0, InvertsFront-next c.items.cursor.file c.items.cursor.place c.items.out.items so c.in-Some.item c.next.new.self.file c.next.new.self.place _ handed.0 handed.1 c.in_ok-write_inverse.ensures)
+
+pub returns-clause-inverted : goal.returns-clause-inverted
+returns-clause-inverted c =
+    let so = c.items.invariant.1 in
+    let file = c.in_ok-item.ensures.file ∙ c.items.invariant.0 in
+    let whole = rw file at c.in_ok-item.ensures.end so.groups so.begins (ap (λ (next : Option Item). Ok next) c.in_default.is) in
+    (inverted c.args.file.now c.items.out.items so.groups whole so.written).0
+
+pub returns-clause-length : goal.returns-clause-length
+returns-clause-length c =
+    let so = c.items.invariant.1 in
+    let file = c.in_ok-item.ensures.file ∙ c.items.invariant.0 in
+    let whole = rw file at c.in_ok-item.ensures.end so.groups so.begins (ap (λ (next : Option Item). Ok next) c.in_default.is) in
+    (inverted c.args.file.now c.items.out.items so.groups whole so.written).1
