@@ -35,12 +35,12 @@ pub update_is_none : IsOfRow Update → ⊥
 update_is_none (inl e) = cc
 update_is_none (inr e) = cc
 
-values_of : (row : List OwnedValue) → map value_in (map Defined row) ≡ row
+pub values_of : (row : List OwnedValue) → map value_in (map Defined row) ≡ row
 values_of [] = refl
 values_of (v ∷ row) = ap (λ (vs : List OwnedValue). v ∷ vs) (values_of row)
 
 -- the key of a row is that of the image that it is
-image_key-map : (flags : List ℕ) (row : List OwnedValue) → image_key flags (map Defined row) ≡ row_key flags row
+pub image_key-map : (flags : List ℕ) (row : List OwnedValue) → image_key flags (map Defined row) ≡ row_key flags row
 unfolding field_bytes
 image_key-map [] row = refl
 image_key-map (flag ∷ flags) [] = refl

@@ -1,191 +1,228 @@
--- Entries as they are shown: as they stand in a file, or what undoes them.
-use Rattle.std.proofs.Common.{◌≡◌, ℕ, zero, suc, ◌+◌, ◌<◌, ◌≤◌, Bool, true, false, not, cond, ap₂, List, [], ◌∷◌, ◌++◌, length, take, drop, get_or, refl, sym, ap, ◌∙◌, append_assoc, arith}
-use Rattle.std.proofs.lemmas.List.{append-nil, drop_all, append_cancel_left}
+-- Entries as they are shown, and their fields one after another.
+use Rattle.std.proofs.Common.{◌≡◌, ℕ, zero, suc, ◌+◌, ◌<◌, ◌≤◌, Bool, true, false, not, cond, ap₂, List, [], ◌∷◌, ◌++◌, length, map, drop, get_or, Option, Some, None, refl, sym, ap, ◌∙◌, append_assoc, arith, inl, inr}
+use Rattle.std.specs.Borrow.{Bor}
+use Rattle.std.proofs.lemmas.List.{append-nil, drop_all, drop_more, append_cancel_left, length-map}
 use Rattle.std.proofs.lemmas.List.Concat.{flat_map-append}
+use Rattle.std.specs.List.{flat_map}
+use Rattle.cs_value.specs.declared.value.Field.{Field}
 use Rattle.cs_value.specs.declared.value.OwnedField.{OwnedField}
-use Rattle.cs_value.specs.declared.value.OwnedField.TheVariants.{Undefined}
-use Rattle.cs_value.specs.Value.{IsRecord}
+use Rattle.cs_value.specs.declared.value.OwnedField.TheVariants.{Undefined, Defined}
+use Rattle.cs_value.specs.Value.{field_of}
+use Rattle.cs_value.specs.Key.{image_key}
 use Rattle.cs_value.specs.Spelling.{field_bytes, record_bytes}
+use Rattle.cs_value.specs.declared.value.OwnedValue.{OwnedValue}
+use Rattle.cs_value.specs.Value.{IsRow}
+use Rattle.cs_value.specs.Table.{IsKeyedRow}
+use Rattle.cs_value.proofs.RowImages.{IsRecord-map}
+use Rattle.cs_value.proofs.KeyedRows.{length-IsKeyedRow}
 use Rattle.cs_wire.specs.declared.entry.Change.{Change}
 use Rattle.cs_wire.specs.declared.entry.Change.TheVariants as change
 use Rattle.cs_wire.specs.declared.entry.Operation.{Operation}
 use Rattle.cs_wire.specs.declared.entry.Operation.TheVariants.{Insert, Delete, Update}
-use Rattle.cs_wire.specs.Entry.{entry_bytes, key_of, operation, with_key}
+use Rattle.cs_wire.specs.declared.record_ref.RecordRef.{RecordRef}
+use Rattle.cs_wire.specs.declared.record_ref.RecordRef.TheVariants.{Spelled, Values, Fields as FieldsOf}
+use Rattle.cs_wire.specs.Entry.{IsChange, IsEntry, entry_bytes, key_of, operation, with_key}
 use Rattle.cs_wire.specs.Inverse.{IsInverseEntry}
 use Rattle.cs_wire.specs.Views.{inverse_operation, inverse_change}
-use Rattle.cs_wire.specs.Items.{FlaggedEntry, IsRecordIn, IsShown, IsSpelled, change_in, entry_in, fields_in, front_of, shown, shown_entry, shown_record}
-use Rattle.cs_wire.proofs.InverseLemmas.{inverse_entry_is, IsChange-inverse, key_of-inverse, with_key_twice, with_key_in, with_key_out}
-use Rattle.cs_wire.proofs.ItemLemmas.{length-fields_in, front_left}
-use Rattle.cs_wire.proofs.RecordLemmas.{IsOfRow, update_is_none}
+use Rattle.cs_wire.specs.Items.{IsSpelled, change_of, entry_in, entry_of, fields_in, first_record, shown, shown_entry, shown_record}
+use Rattle.cs_wire.specs.Records.{IsNextField, IsRowOperation, IsShown, IsWhole, fields_at, row_change}
+use Rattle.cs_wire.proofs.EntryLemmas.{length-IsKeyedUpdate}
+use Rattle.cs_wire.proofs.InverseLemmas.{inverse_entry_is, IsChange-inverse, key_of-inverse, with_key_twice}
+use Rattle.cs_wire.proofs.ItemLemmas.{length-fields_in}
+use Rattle.cs_wire.proofs.RecordLemmas.{IsOfRow, image_key-map, update_is_none, values_of}
 
--- ---- as it stands
+-- ---- fields that are handed out one after another
+
+-- the field of a column, of those that are left
+pub record AtColumn (left : List OwnedField) (column : ℕ) (f : OwnedField) : Type 0 where
+  pub within : column < length left
+  pub is : get_or left column Undefined ≡ f
+
+pub AtColumn-next : (left after : List OwnedField) (next : Option Field) (column : ℕ) (f : OwnedField) → AtColumn left (suc column) f → IsNextField left next after → AtColumn after column f
+AtColumn-next left after None column f so none = absurd (omega (arith, so.within, ap length none))
+AtColumn-next left after (Some field) column f so step = record {
+  within = omega (arith, so.within, ap length step.0);
+  is = ap (λ (fs : List OwnedField). get_or fs (suc column) Undefined) (sym step.0) ∙ so.is;
+}
+
+pub AtColumn-here : (left after : List OwnedField) (field : Field) (f : OwnedField) → AtColumn left 0 f → IsNextField left (Some field) after → field_of field ≡ f
+AtColumn-here left after field f so step = ap (λ (fs : List OwnedField). get_or fs 0 Undefined) (sym step.0) ∙ so.is
+
+-- what was made of those that were handed out
+pub made-next : {X : Type 0} (of : OwnedField → List X) (made grown all : List X) (left after : List OwnedField) (f : OwnedField) → left ≡ f ∷ after → grown ≡ made ++ of f
+    → made ++ flat_map of left ≡ all → grown ++ flat_map of after ≡ all
+made-next of made grown all left after f is more so = rw more (append_assoc made (of f) (flat_map of after)) ∙ rw is at so
+
+pub cells-next : {X : Type 0} (of : OwnedField → X) (cells grown all : List X) (left after : List OwnedField) (f : OwnedField) (cell : X) → left ≡ f ∷ after → cell ≡ of f → grown ≡ cells ++ cell ∷ []
+    → cells ++ map of left ≡ all → grown ++ map of after ≡ all
+cells-next of cells grown all left after f cell is cell_is more so = rw (more, cell_is) (append_assoc cells (of f ∷ []) (map of after)) ∙ rw is at so
+
+-- the key of those that were handed out, and what is left
+pub record KeyLeft (flags : List ℕ) (i : ℕ) (key : List ℕ) (left : List OwnedField) (all : List ℕ) : Type 0 where
+  pub width : length flags ≡ i + length left
+  pub is : key ++ image_key (drop i flags) left ≡ all
+
+pub KeyLeft-next : (flags : List ℕ) (i : ℕ) (key grown : List ℕ) (left after : List OwnedField) (f : OwnedField) (all : List ℕ) → KeyLeft flags i key left all → i < length flags → left ≡ f ∷ after
+    → (0 < get_or flags i 0 → grown ≡ key ++ field_bytes f) → (get_or flags i 0 ≡ 0 → grown ≡ key) → KeyLeft flags (i + 1) grown after all
+KeyLeft-next flags i key grown left after f all so lt is in_key other = record {
+  width = so.width ∙ ap (λ (fs : List OwnedField). i + length fs) is ∙ omega arith;
+  is = by_flag (get_or flags i 0) refl;
+}
+  where
+    here : key ++ image_key (get_or flags i 0 ∷ drop (i + 1) flags) (f ∷ after) ≡ all
+    here = rw (drop_more flags i 0 lt, is) at so.is
+
+    by_flag : (flag : ℕ) → get_or flags i 0 ≡ flag → grown ++ image_key (drop (i + 1) flags) after ≡ all
+    by_flag zero e = rw (other e) (rw e at here)
+    by_flag (suc flag) e = rw (in_key (rw e (omega arith))) (append_assoc key (field_bytes f) (image_key (drop (i + 1) flags) after)) ∙ rw e at here
+
+pub KeyLeft-end : (flags : List ℕ) (i : ℕ) (key : List ℕ) (left : List OwnedField) (all : List ℕ) → KeyLeft flags i key left all → length flags ≤ i → key ≡ all
+KeyLeft-end flags i key left all so le = sym (append-nil key) ∙ rw (drop_all i flags le) at so.is
+
+-- ---- as it lies
 
 pub shown-as_is : (flags : List ℕ) (c : Change) → shown false flags c ≡ c
 shown-as_is flags (change.Insert row) = refl
 shown-as_is flags (change.Delete row) = refl
 shown-as_is flags (change.Update old new) = refl
 
-pub IsShown-as_is : (seen : FlaggedEntry) (first second : List ℕ) → IsSpelled seen first second → IsShown false seen first second
-IsShown-as_is seen first second is =
-    let same = shown-as_is seen.flags seen.entry.change in record {
-      is_spelled = is;
-      is_entry = rw same is.is_entry;
-      key = ap (key_of seen.flags) same ∙ is.has_first.key;
+-- an entry that is shown as it lies
+IsShown-as_is : (flags : List ℕ) (what : Operation) (indirect : Bool) (first second : RecordRef)
+    → let seen = entry_of flags what indirect (fields_at (length flags) first) (fields_at (length flags) second) in
+    IsEntry flags seen.entry → key_of flags seen.entry.change ≡ image_key flags (fields_at (length flags) first) → IsWhole (length flags) first → fields_at (length flags) first ≡ first_record seen.entry.change
+    → (what ≡ Update → IsWhole (length flags) second) → IsShown false seen what first second
+IsShown-as_is flags what indirect first second is key first_is fields second_is =
+    let same = shown-as_is flags (change_of what (fields_at (length flags) first) (fields_at (length flags) second)) in record {
+      is_entry = is;
+      is_shown = rw same is;
+      key = ap (key_of flags) same ∙ key;
+      first_is = first_is;
+      fields = fields;
+      second_is = second_is;
     }
+
+-- its records are spelled in a file
+second_in : (flags : List ℕ) (what : Operation) (indirect : Bool) (first second : Bor (List ℕ)) → what ≡ Update → IsSpelled (entry_in flags what indirect first.now second.now) first.now second.now
+    → IsWhole (length flags) (Spelled second)
+second_in flags Insert indirect first second e is = absurd (update_is_none (inl (sym e)))
+second_in flags Delete indirect first second e is = absurd (update_is_none (inr (sym e)))
+second_in flags Update indirect first second e is =
+    let old = fields_in (length flags) first.now in
+    let new = fields_in (length flags) second.now in record {
+      width = length-fields_in (length flags) second.now;
+      is_record = is.is_entry.1;
+      spelled = append_cancel_left first.now second.now (record_bytes new)
+          (is.spelled ∙ flat_map-append field_bytes old new ∙ ap (λ (x : List ℕ). x ++ record_bytes new) (sym is.has_first.spelled));
+    }
+
+pub IsShown-spelled : (flags : List ℕ) (what : Operation) (indirect : Bool) (first second : Bor (List ℕ)) → IsSpelled (entry_in flags what indirect first.now second.now) first.now second.now
+    → IsShown false (entry_in flags what indirect first.now second.now) what (Spelled first) (Spelled second)
+IsShown-spelled flags what indirect first second is =
+    let f = is.has_first in
+    IsShown-as_is flags what indirect (Spelled first) (Spelled second) is.is_entry f.key (record { width = length-fields_in (length flags) first.now; is_record = f.is_record; spelled = f.spelled }) f.fields
+    (λ e. second_in flags what indirect first second e is)
+
+-- it is of a row that is owned
+pub IsShown-row : (flags : List ℕ) (what : Operation) (indirect : Bool) (values : Bor (List OwnedValue)) → IsRowOperation what → IsRow values.now → IsKeyedRow flags values.now
+    → IsShown false (entry_of flags what indirect (map Defined values.now) (map Defined values.now)) what (Values values) (Values values)
+IsShown-row flags Insert indirect values of_row is keyed =
+    let same = values_of values.now in
+    IsShown-as_is flags Insert indirect (Values values) (Values values) (rw same (is, keyed)) (rw same (sym (image_key-map flags values.now)))
+    (record { width = length-map values.now _ ∙ sym (length-IsKeyedRow flags values.now keyed); is_record = IsRecord-map values.now is; spelled = tt }) (ap (map Defined) (sym same)) (λ e. absurd (update_is_none (inl (sym e))))
+IsShown-row flags Delete indirect values of_row is keyed =
+    let same = values_of values.now in
+    IsShown-as_is flags Delete indirect (Values values) (Values values) (rw same (is, keyed)) (rw same (sym (image_key-map flags values.now)))
+    (record { width = length-map values.now _ ∙ sym (length-IsKeyedRow flags values.now keyed); is_record = IsRecord-map values.now is; spelled = tt }) (ap (map Defined) (sym same)) (λ e. absurd (update_is_none (inr (sym e))))
+IsShown-row flags Update indirect values of_row is keyed = absurd of_row
+
+pub row_is_shown : (flags : List ℕ) (what : Operation) (indirect : Bool) (row : List OwnedValue) → IsRowOperation what → shown_entry false (entry_of flags what indirect (map Defined row) (map Defined row)) ≡ record { flags = flags; entry = record { indirect = indirect; change = row_change what row } }
+row_is_shown flags Insert indirect row of_row = rw (values_of row) refl
+row_is_shown flags Delete indirect row of_row = rw (values_of row) refl
+row_is_shown flags Update indirect row of_row = absurd of_row
+
+-- it is an update that is owned
+pub IsShown-images : (flags : List ℕ) (indirect : Bool) (old new : Bor (List OwnedField)) → IsChange flags (change.Update old.now new.now) → IsShown false (entry_of flags Update indirect old.now new.now) Update (FieldsOf old) (FieldsOf new)
+IsShown-images flags indirect old new is =
+    let width = length-IsKeyedUpdate flags old.now new.now is.2 in
+    IsShown-as_is flags Update indirect (FieldsOf old) (FieldsOf new) is refl (record { width = sym width.0; is_record = is.0; spelled = tt }) refl (λ e. record { width = sym width.1; is_record = is.1; spelled = tt })
 
 -- ---- what undoes it
 
--- the operation that undoes an entry's has the same records
-IsSpelled-inverse : (flags : List ℕ) (what : Operation) (indirect : Bool) (first second : List ℕ) → IsSpelled (entry_in flags what indirect first second) first second
-    → IsSpelled (entry_in flags (inverse_operation what) indirect first second) first second
-IsSpelled-inverse flags Insert indirect first second is =
-    let f = is.has_first in
-    record { is_entry = is.is_entry; spelled = is.spelled; has_first = record { is_record = f.is_record; spelled = f.spelled; fields = f.fields; key = f.key } }
-IsSpelled-inverse flags Delete indirect first second is =
-    let f = is.has_first in
-    record { is_entry = is.is_entry; spelled = is.spelled; has_first = record { is_record = f.is_record; spelled = f.spelled; fields = f.fields; key = f.key } }
-IsSpelled-inverse flags Update indirect first second is = is
-
-pub shown-inverse : (flags : List ℕ) (what : Operation) (exchanged : Bool) (first second : List ℕ)
-    → shown (not exchanged) flags (change_in (length flags) (inverse_operation what) first second) ≡ inverse_change flags (shown exchanged flags (change_in (length flags) what first second))
-shown-inverse flags Insert exchanged first second = refl
-shown-inverse flags Delete exchanged first second = refl
-shown-inverse flags Update false first second = refl
-shown-inverse flags Update true first second =
-    let old = fields_in (length flags) first in
-    let new = fields_in (length flags) second in
-    let old_width = sym (length-fields_in (length flags) first) in
-    let new_width = sym (length-fields_in (length flags) second) in
-    let one = with_key_twice flags old new old_width new_width in
-    let two = with_key_twice flags new old new_width old_width in
+pub shown-inverse : (flags : List ℕ) (what : Operation) (exchanged : Bool) (first second : List OwnedField) → length flags ≡ length first → (what ≡ Update → length flags ≡ length second)
+    → shown (not exchanged) flags (change_of (inverse_operation what) first second) ≡ inverse_change flags (shown exchanged flags (change_of what first second))
+shown-inverse flags Insert exchanged first second p q = refl
+shown-inverse flags Delete exchanged first second p q = refl
+shown-inverse flags Update false first second p q = refl
+shown-inverse flags Update true first second p q =
+    let one = with_key_twice flags first second p (q refl) in
+    let two = with_key_twice flags second first (q refl) p in
     cc (one, two)
 
-module _ (flags : List ℕ) (what : Operation) (exchanged indirect : Bool) (first second : List ℕ) (is : IsShown exchanged (entry_in flags what indirect first second) first second) where
-  shown_change : Change
-  shown_change = shown exchanged flags (change_in (length flags) what first second)
+-- the operation that undoes an entry's has the same records
+inverse_plain : (flags : List ℕ) (what : Operation) (first second : List OwnedField) → IsChange flags (change_of what first second) → IsChange flags (change_of (inverse_operation what) first second)
+inverse_plain flags Insert first second is = is
+inverse_plain flags Delete first second is = is
+inverse_plain flags Update first second is = is
 
-  pub IsShown-inverse : IsShown (not exchanged) (entry_in flags (inverse_operation what) indirect first second) first second
-  unfolding shown_change
+inverse_first : (what : Operation) (first second : List OwnedField) → first ≡ first_record (change_of what first second) → first ≡ first_record (change_of (inverse_operation what) first second)
+inverse_first Insert first second is = is
+inverse_first Delete first second is = is
+inverse_first Update first second is = is
+
+inverse_update : (what : Operation) → inverse_operation what ≡ Update → what ≡ Update
+inverse_update Insert e = absurd (update_is_none (inr (sym e)))
+inverse_update Delete e = absurd (update_is_none (inl (sym e)))
+inverse_update Update e = refl
+
+module _ (flags : List ℕ) (what : Operation) (exchanged indirect : Bool) (first second : RecordRef)
+    (is : IsShown exchanged (entry_of flags what indirect (fields_at (length flags) first) (fields_at (length flags) second)) what first second) where
+  same_change : shown (not exchanged) flags (change_of (inverse_operation what) (fields_at (length flags) first) (fields_at (length flags) second))
+      ≡ inverse_change flags (shown exchanged flags (change_of what (fields_at (length flags) first) (fields_at (length flags) second)))
+  same_change = shown-inverse flags what exchanged (fields_at (length flags) first) (fields_at (length flags) second) (sym is.first_is.width) (λ e. sym (is.second_is e).width)
+
+  pub IsShown-inverse : IsShown (not exchanged) (entry_of flags (inverse_operation what) indirect (fields_at (length flags) first) (fields_at (length flags) second)) (inverse_operation what) first second
   IsShown-inverse =
-      let same = shown-inverse flags what exchanged first second in record {
-        is_spelled = IsSpelled-inverse flags what indirect first second is.is_spelled;
-        is_entry = rw same (IsChange-inverse flags shown_change is.is_entry);
-        key = ap (key_of flags) same ∙ key_of-inverse flags shown_change is.is_entry ∙ is.key;
+      let change = shown exchanged flags (change_of what (fields_at (length flags) first) (fields_at (length flags) second)) in record {
+        is_entry = inverse_plain flags what (fields_at (length flags) first) (fields_at (length flags) second) is.is_entry;
+        is_shown = rw same_change (IsChange-inverse flags change is.is_shown);
+        key = ap (key_of flags) same_change ∙ key_of-inverse flags change is.is_shown ∙ is.key;
+        first_is = is.first_is;
+        fields = inverse_first what (fields_at (length flags) first) (fields_at (length flags) second) is.fields;
+        second_is = λ e. is.second_is (inverse_update what e);
       }
 
-  pub shown_inverse_entry : IsInverseEntry flags (shown_entry exchanged (entry_in flags what indirect first second)).entry (shown_entry (not exchanged) (entry_in flags (inverse_operation what) indirect first second)).entry
-  unfolding shown_change
-  shown_inverse_entry = rw (shown-inverse flags what exchanged first second) (inverse_entry_is flags (shown_entry exchanged (entry_in flags what indirect first second)).entry is.is_entry)
-
--- ---- the records of an update
-
-pub first_in : (seen : FlaggedEntry) (first second : List ℕ) → IsSpelled seen first second → IsRecordIn (length seen.flags) first
-first_in seen first second is = record { is_record = is.has_first.is_record; spelled = is.has_first.spelled }
-
-pub second_in : (flags : List ℕ) (indirect : Bool) (first second : List ℕ) → IsSpelled (entry_in flags Update indirect first second) first second → IsRecordIn (length flags) second
-second_in flags indirect first second is =
-    let old = fields_in (length flags) first in
-    let new = fields_in (length flags) second in record {
-      is_record = is.is_entry.1;
-      spelled = append_cancel_left first second (record_bytes new)
-          (is.spelled ∙ flat_map-append field_bytes old new ∙ ap (λ (x : List ℕ). x ++ record_bytes new) (sym is.has_first.spelled));
-    }
+  pub shown_inverse_entry : IsInverseEntry flags (shown_entry exchanged (entry_of flags what indirect (fields_at (length flags) first) (fields_at (length flags) second))).entry
+      (shown_entry (not exchanged) (entry_of flags (inverse_operation what) indirect (fields_at (length flags) first) (fields_at (length flags) second))).entry
+  shown_inverse_entry =
+      rw same_change (inverse_entry_is flags (shown_entry exchanged (entry_of flags what indirect (fields_at (length flags) first) (fields_at (length flags) second))).entry is.is_shown)
 
 -- ---- the bytes of an entry
 
 -- an insert, or a delete: the operation, the indirect flag, the row
-pub entry_bytes-row : (flags : List ℕ) (what : Operation) (exchanged indirect : Bool) (first second : List ℕ) → IsSpelled (entry_in flags what indirect first second) first second
-    → (byte : ℕ) → IsOfRow what → byte ≡ operation (shown exchanged flags (change_in (length flags) what first second))
-    → byte ∷ cond indirect 1 0 ∷ first ≡ entry_bytes (shown_entry exchanged (entry_in flags what indirect first second)).entry
+pub entry_bytes-row : (flags : List ℕ) (what : Operation) (exchanged indirect : Bool) (first second : List OwnedField) → IsOfRow what → first ≡ first_record (change_of what first second)
+    → (byte : ℕ) → byte ≡ operation (shown exchanged flags (change_of what first second))
+    → byte ∷ cond indirect 1 0 ∷ record_bytes first ≡ entry_bytes (shown_entry exchanged (entry_of flags what indirect first second)).entry
 unfolding entry_bytes
-entry_bytes-row flags Insert exchanged indirect first second is byte so same =
-    ap₂ (λ (b : ℕ) (row : List ℕ). b ∷ cond indirect 1 0 ∷ row) same (is.has_first.spelled ∙ ap record_bytes is.has_first.fields)
-entry_bytes-row flags Delete exchanged indirect first second is byte so same =
-    ap₂ (λ (b : ℕ) (row : List ℕ). b ∷ cond indirect 1 0 ∷ row) same (is.has_first.spelled ∙ ap record_bytes is.has_first.fields)
-entry_bytes-row flags Update exchanged indirect first second is byte so same = absurd (update_is_none so)
+entry_bytes-row flags Insert exchanged indirect first second so is byte same = ap₂ (λ (b : ℕ) (fs : List OwnedField). b ∷ cond indirect 1 0 ∷ record_bytes fs) same is
+entry_bytes-row flags Delete exchanged indirect first second so is byte same = ap₂ (λ (b : ℕ) (fs : List OwnedField). b ∷ cond indirect 1 0 ∷ record_bytes fs) same is
+entry_bytes-row flags Update exchanged indirect first second so is byte same = absurd (update_is_none so)
 
 -- an update: the operation, the indirect flag, the two records
-pub entry_bytes-update : (flags : List ℕ) (what : Operation) (exchanged indirect : Bool) (first second : List ℕ) (byte : ℕ) → what ≡ Update → byte ≡ operation (shown exchanged flags (change_in (length flags) what first second))
-    → byte ∷ cond indirect 1 0
-    ∷ record_bytes (shown_record exchanged flags (fields_in (length flags) first) (fields_in (length flags) second) ++ shown_record exchanged flags (fields_in (length flags) second) (fields_in (length flags) first))
-    ≡ entry_bytes (shown_entry exchanged (entry_in flags what indirect first second)).entry
+pub entry_bytes-update : (flags : List ℕ) (what : Operation) (exchanged indirect : Bool) (first second : List OwnedField) (byte : ℕ) → what ≡ Update → byte ≡ operation (shown exchanged flags (change_of what first second))
+    → byte ∷ cond indirect 1 0 ∷ (record_bytes (shown_record exchanged flags first second) ++ record_bytes (shown_record exchanged flags second first))
+    ≡ entry_bytes (shown_entry exchanged (entry_of flags what indirect first second)).entry
 unfolding entry_bytes
-entry_bytes-update flags what exchanged indirect first second byte e same = rw (same, e) refl
+entry_bytes-update flags what exchanged indirect first second byte e same =
+    rw (same, e) (ap (λ (x : List ℕ). 0x17 ∷ cond indirect 1 0 ∷ x) (sym (flat_map-append field_bytes (shown_record exchanged flags first second) (shown_record exchanged flags second first))))
 
--- ---- a record with the fields of another outside the key
-
--- what stands in a column
-pub with_key-key : (flags : List ℕ) (a b : List OwnedField) (i : ℕ) → length flags ≡ length a → length flags ≡ length b → i < length flags → (get_or flags i 0 ≡ 0 → ⊥) → get_or (with_key flags a b) i Undefined ≡ get_or a i Undefined
-with_key-key [] a b i p q lt key = absurd (omega arith)
-with_key-key (flag ∷ flags) [] b i p q lt key = absurd (omega arith)
-with_key-key (flag ∷ flags) (x ∷ a) [] i p q lt key = absurd (omega arith)
-with_key-key (zero ∷ flags) (x ∷ a) (y ∷ b) zero p q lt key = absurd (key refl)
-with_key-key (suc flag ∷ flags) (x ∷ a) (y ∷ b) zero p q lt key = refl
-with_key-key (zero ∷ flags) (x ∷ a) (y ∷ b) (suc i) p q lt key = with_key-key flags a b i (omega arith) (omega arith) (omega arith) key
-with_key-key (suc flag ∷ flags) (x ∷ a) (y ∷ b) (suc i) p q lt key = with_key-key flags a b i (omega arith) (omega arith) (omega arith) key
-
-pub with_key-other : (flags : List ℕ) (a b : List OwnedField) (i : ℕ) → length flags ≡ length a → length flags ≡ length b → i < length flags → get_or flags i 0 ≡ 0 → get_or (with_key flags a b) i Undefined ≡ get_or b i Undefined
-with_key-other [] a b i p q lt none = absurd (omega arith)
-with_key-other (flag ∷ flags) [] b i p q lt none = absurd (omega arith)
-with_key-other (flag ∷ flags) (x ∷ a) [] i p q lt none = absurd (omega arith)
-with_key-other (zero ∷ flags) (x ∷ a) (y ∷ b) zero p q lt none = refl
-with_key-other (suc flag ∷ flags) (x ∷ a) (y ∷ b) zero p q lt none = absurd (omega arith)
-with_key-other (zero ∷ flags) (x ∷ a) (y ∷ b) (suc i) p q lt none = with_key-other flags a b i (omega arith) (omega arith) (omega arith) none
-with_key-other (suc flag ∷ flags) (x ∷ a) (y ∷ b) (suc i) p q lt none = with_key-other flags a b i (omega arith) (omega arith) (omega arith) none
-
--- what stands in a column of the bytes that were picked for its flag
-pub picked_column : (flags bytes other picked : List ℕ) (i flag : ℕ) → i < length flags → flag ≡ get_or flags i 0 → (0 < flag → picked ≡ bytes) → (flag ≡ 0 → picked ≡ other)
-    → get_or (fields_in (length flags) picked) i Undefined ≡ get_or (with_key flags (fields_in (length flags) bytes) (fields_in (length flags) other)) i Undefined
-picked_column flags bytes other picked i flag lt is key no_key = by_flag flag refl
+-- a record has as many fields as it is shown
+pub length-shown_record : (exchanged : Bool) (flags : List ℕ) (own other : List OwnedField) → length own ≡ length flags → (exchanged ≡ true → length other ≡ length flags) → length (shown_record exchanged flags own other) ≡ length flags
+length-shown_record false flags own other p q = p
+length-shown_record true flags own other p q = length-with_key flags own other p (q refl)
   where
-    width : (text : List ℕ) → length flags ≡ length (fields_in (length flags) text)
-    width text = sym (length-fields_in (length flags) text)
-
-    by_flag : (f : ℕ) → flag ≡ f → get_or (fields_in (length flags) picked) i Undefined ≡ get_or (with_key flags (fields_in (length flags) bytes) (fields_in (length flags) other)) i Undefined
-    by_flag zero e =
-        ap (λ (text : List ℕ). get_or (fields_in (length flags) text) i Undefined) (no_key e)
-        ∙ sym (with_key-other flags (fields_in (length flags) bytes) (fields_in (length flags) other) i (width bytes) (width other) lt (sym is ∙ e))
-    by_flag (suc f) e =
-        ap (λ (text : List ℕ). get_or (fields_in (length flags) text) i Undefined) (key (rw e (omega arith)))
-        ∙ sym (with_key-key flags (fields_in (length flags) bytes) (fields_in (length flags) other) i (width bytes) (width other) lt (λ none. absurd (omega (arith, is, e, none))))
-
--- as many columns were passed as there were flags: these bytes are left of both records, and those were written
-pub record WrittenSoFar (flags : List ℕ) (a b : List OwnedField) (i : ℕ) (left other written all : List ℕ) : Type 0 where
-  pub left_is : left ≡ record_bytes (drop i a)
-  pub other_is : other ≡ record_bytes (drop i b)
-  pub whole : written ++ record_bytes (with_key (drop i flags) (drop i a) (drop i b)) ≡ all
-
-pub WrittenSoFar-none : (flags : List ℕ) (a b : List OwnedField) (left other written : List ℕ) → left ≡ record_bytes a → other ≡ record_bytes b
-    → WrittenSoFar flags a b 0 left other written (written ++ record_bytes (with_key flags a b))
-WrittenSoFar-none flags a b left other written left_is other_is = record { left_is = left_is; other_is = other_is; whole = refl }
-
-module _ (flags : List ℕ) (a b : List OwnedField) (i : ℕ) (left other written all : List ℕ) (so : WrittenSoFar flags a b i left other written all) where
-  pub WrittenSoFar-next : IsRecord a → IsRecord b → length flags ≡ length a → length flags ≡ length b → i < length flags
-      → (field rest other_field other_rest piece grown : List ℕ) → field ≡ take (front_of left).1 left → rest ≡ drop (front_of left).1 left → other_field ≡ take (front_of other).1 other → other_rest ≡ drop (front_of other).1 other
-      → (0 < get_or flags i 0 → piece ≡ field) → (get_or flags i 0 ≡ 0 → piece ≡ other_field) → grown ≡ written ++ piece → WrittenSoFar flags a b (i + 1) rest other_rest grown all
-  WrittenSoFar-next a_is b_is p q lt field rest other_field other_rest piece grown field_is rest_is other_field_is other_rest_is is_key no_key grown_is =
-      let n : i + 1 ≡ suc i = omega arith in
-      let x = front_left a i left a_is (omega (arith, p, lt)) so.left_is in
-      let y = front_left b i other b_is (omega (arith, q, lt)) so.other_is in record {
-        left_is = rest_is ∙ x.3;
-        other_is = other_rest_is ∙ y.3;
-        whole = by_flag (get_or flags i 0) refl x.0 (sym x.1) (field_is ∙ x.2) y.0 (sym y.1) (other_field_is ∙ y.2);
-      }
-    where
-      grows : (f : OwnedField) → piece ≡ field_bytes f → with_key (drop i flags) (drop i a) (drop i b) ≡ f ∷ with_key (drop (suc i) flags) (drop (suc i) a) (drop (suc i) b)
-          → grown ++ record_bytes (with_key (drop (i + 1) flags) (drop (i + 1) a) (drop (i + 1) b)) ≡ all
-      grows f piece_is next =
-          let behind = with_key (drop (suc i) flags) (drop (suc i) a) (drop (suc i) b) in
-          let n : i + 1 ≡ suc i = omega arith in
-          rw (n, grown_is, piece_is) (append_assoc written (field_bytes f) (record_bytes behind) ∙ ap (λ (fs : List OwnedField). written ++ record_bytes fs) (sym next) ∙ so.whole)
-
-      by_flag : (flag : ℕ) → get_or flags i 0 ≡ flag → (f : OwnedField) → get_or a i f ≡ f → field ≡ field_bytes f → (g : OwnedField) → get_or b i g ≡ g → other_field ≡ field_bytes g
-          → grown ++ record_bytes (with_key (drop (i + 1) flags) (drop (i + 1) a) (drop (i + 1) b)) ≡ all
-      by_flag zero is f f_is f_spelled g g_is g_spelled = grows g (no_key is ∙ g_spelled) (with_key_out flags a b i g p q lt is g_is)
-      by_flag (suc flag) is f f_is f_spelled g g_is g_spelled =
-          grows f (is_key (rw is (omega arith)) ∙ f_spelled) (with_key_in flags a b i f p q lt (λ none. absurd (omega (arith, is, none))) f_is)
-
-  pub WrittenSoFar-end : length flags ≤ i → written ≡ all
-  WrittenSoFar-end le =
-      let none : with_key (drop i flags) (drop i a) (drop i b) ≡ [] = ap (λ (fs : List ℕ). with_key fs (drop i a) (drop i b)) (drop_all i flags le) in
-      sym (append-nil written) ∙ ap (λ (fs : List OwnedField). written ++ record_bytes fs) (sym none) ∙ so.whole
+    length-with_key : (flags : List ℕ) (a b : List OwnedField) → length a ≡ length flags → length b ≡ length flags → length (with_key flags a b) ≡ length flags
+    length-with_key [] a b p q = refl
+    length-with_key (flag ∷ flags) [] b p q = absurd (omega arith)
+    length-with_key (flag ∷ flags) (x ∷ a) [] p q = absurd (omega arith)
+    length-with_key (zero ∷ flags) (x ∷ a) (y ∷ b) p q = ap suc (length-with_key flags a b (omega arith) (omega arith))
+    length-with_key (suc flag ∷ flags) (x ∷ a) (y ∷ b) p q = ap suc (length-with_key flags a b (omega arith) (omega arith))

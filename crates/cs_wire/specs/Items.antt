@@ -42,11 +42,15 @@ value_in (Defined v) = v
 abbrev pub values_in : ℕ → List ℕ → List OwnedValue
 values_in count bytes = map value_in (fields_in count bytes)
 
+-- the change with these records, of which a row has the first alone
+abbrev pub change_of : Operation → List OwnedField → List OwnedField → Change
+change_of Insert first second = change.Insert (map value_in first)
+change_of Delete first second = change.Delete (map value_in first)
+change_of Update first second = change.Update first second
+
 -- the change of a table with so many columns whose records are these bytes
 abbrev pub change_in : ℕ → Operation → List ℕ → List ℕ → Change
-change_in columns Insert first second = change.Insert (values_in columns first)
-change_in columns Delete first second = change.Delete (values_in columns first)
-change_in columns Update first second = change.Update (fields_in columns first) (fields_in columns second)
+change_in columns what first second = change_of what (fields_in columns first) (fields_in columns second)
 
 -- a record of an update as it is shown: as it stands, or with the fields of the other record outside the key
 abbrev pub shown_record : Bool → List ℕ → List OwnedField → List OwnedField → List OwnedField
@@ -60,11 +64,6 @@ shown exchanged flags (change.Delete row) = change.Delete row
 shown exchanged flags (change.Update old new) =
     change.Update (shown_record exchanged flags old new) (shown_record exchanged flags new old)
 
--- the bytes of so many fields, and no other
-pub record IsRecordIn (count : ℕ) (bytes : List ℕ) : Type 0 where
-  pub is_record : IsRecord (fields_in count bytes)
-  pub spelled : bytes ≡ record_bytes (fields_in count bytes)
-
 -- the header that is shown
 abbrev pub header_of : HeaderRef → HeaderData
 header_of h = record { name = h.name.now; flags = h.flags.now }
@@ -74,12 +73,17 @@ pub record FlaggedEntry : Type 0 where
   pub flags : List ℕ
   pub entry : Entry
 
--- the entry of a table with these flags whose records are these bytes
-abbrev pub entry_in : List ℕ → Operation → Bool → List ℕ → List ℕ → FlaggedEntry
-entry_in flags what indirect first second = record {
+-- the entry of a table with these flags that has these records
+abbrev pub entry_of : List ℕ → Operation → Bool → List OwnedField → List OwnedField → FlaggedEntry
+entry_of flags what indirect first second = record {
   flags = flags;
-  entry = record { indirect = indirect; change = change_in (length flags) what first second };
+  entry = record { indirect = indirect; change = change_of what first second };
 }
+
+-- the one whose records are these bytes
+abbrev pub entry_in : List ℕ → Operation → Bool → List ℕ → List ℕ → FlaggedEntry
+entry_in flags what indirect first second =
+    entry_of flags what indirect (fields_in (length flags) first) (fields_in (length flags) second)
 
 -- an entry as it is shown
 abbrev pub shown_entry : Bool → FlaggedEntry → FlaggedEntry
@@ -118,9 +122,8 @@ pub record IsSpelled (seen : FlaggedEntry) (first second : List ℕ) : Type 0 wh
   pub spelled : first ++ second ≡ record_bytes (fields_of seen.entry.change)
   pub has_first : IsFirst seen.flags seen.entry.change first
 
--- it is spelled so, and shown so it is one of its table too, with the same key
-pub record IsShown (exchanged : Bool) (seen : FlaggedEntry) (first second : List ℕ) : Type 0 where
-  pub is_spelled : IsSpelled seen first second
-  pub is_entry : IsEntry seen.flags (shown_entry exchanged seen).entry
-  pub key : key_of seen.flags (shown exchanged seen.flags seen.entry.change)
-      ≡ image_key seen.flags (fields_in (length seen.flags) first)
+-- what stands in the columns, after the change: of an update the new record
+abbrev pub new_record : Change → Option (List OwnedField)
+new_record (change.Insert row) = Some (map Defined row)
+new_record (change.Delete row) = None
+new_record (change.Update old new) = Some new

@@ -5,6 +5,7 @@ pub mod Laws
 pub mod ReadFaults
 pub mod Views
 pub mod Items
+pub mod Records
 pub mod Cursor
 pub mod Walk
 pub mod Reading

@@ -1,50 +1,58 @@
-//! Entries where they stand in a file.
-ghost use Rattle.std.specs.Prelude.{◌≡◌, ◌<◌, ◌++◌, IfOk, IfSome, OnOk, length, option_map};
+//! Entries where they lie, in a file or owned.
+ghost use Rattle.std.specs.Prelude.{◌≡◌, ◌<◌, ◌++◌, IfOk, IfSome, OnOk, length, map, option_map};
 ghost use Rattle.cs_value.specs.Spelling.{record_bytes};
-ghost use Rattle.cs_wire.specs.Items.{IsRecordIn, fields_in, shown_record};
+ghost use Rattle.cs_wire.specs.Items.{shown_record, value_in};
+ghost use Rattle.cs_wire.specs.Records.{HasWidth, IsWhole, fields_at};
 
 use crate::entry::{Change, Entry, Operation};
+use crate::fields::{Fields, copy_cells, key_of_fields, write_fields};
 use crate::format::{DELETE, INSERT, UPDATE};
-use crate::inverse::shown_images;
-use crate::spelled::{copy_cells, field_in, key_bytes, shown_field, write_shown};
+use crate::record_ref::RecordRef;
+use crate::spelled::key_bytes;
 use crate::writer::write_operation;
-use cs_value::{Field, Image, Key, NoMemory, Row};
+use cs_value::{Field, Image, Key, NoMemory, OwnedField, OwnedValue, Row};
 use std::alloc::Global;
 use std::marker::Model;
 
-/// An entry where it stands in a file, or the one that undoes it: what is seen of it borrows from the
-/// file, and takes no memory. Contracts see the entry, and the flags of its table.
+/// An entry where it lies, in a file or owned, or the one that undoes it: what is seen of it borrows from there,
+/// and takes no memory. Contracts see the entry, and the flags of its table.
 #[derive(Debug, Drop)]
 pub struct EntryRef<'a> {
     flags: &'a [u8],
     operation: Operation,
     indirect: bool,
-    // The bytes of the row, or of an update's old record in the file.
-    first: &'a [u8],
-    // Those of an update's new record there.
-    second: &'a [u8],
+    // The row, or an update's old record where it lies.
+    first: RecordRef<'a>,
+    // An update's new record there.
+    second: RecordRef<'a>,
     // Whether an update shows its records with the fields outside the key exchanged.
     exchanged: bool,
 }
 
 impl<'a> Model for EntryRef<'a> {
-    ghost use Rattle.cs_wire.specs.Items.{FlaggedEntry, IsShown, entry_in, shown_entry};
+    ghost use Rattle.std.specs.Prelude.{length};
+    ghost use Rattle.cs_wire.specs.Items.{FlaggedEntry, entry_of, shown_entry};
+    ghost use Rattle.cs_wire.specs.Records.{IsShown, fields_at};
 
     ghost Value = { FlaggedEntry };
 
-    ghost view = { λ e. shown_entry e.exchanged (entry_in e.flags.now e.operation e.indirect e.first.now e.second.now) };
+    ghost view = { λ e. shown_entry e.exchanged (entry_of e.flags.now e.operation e.indirect (fields_at (length e.flags.now) e.first) (fields_at (length e.flags.now) e.second)) };
 
-    ghost invariant = { λ e. IsShown e.exchanged (entry_in e.flags.now e.operation e.indirect e.first.now e.second.now) e.first.now e.second.now };
+    ghost invariant = { λ e. IsShown e.exchanged (entry_of e.flags.now e.operation e.indirect (fields_at (length e.flags.now) e.first) (fields_at (length e.flags.now) e.second)) e.operation e.first e.second };
 }
 
 impl<'a> EntryRef<'a> {
-    ghost use Rattle.cs_wire.specs.Entry.{IsEntry, entry_bytes, key_of, operation};
+    ghost use Rattle.cs_value.specs.Value.{IsRow};
+    ghost use Rattle.cs_value.specs.Table.{IsKeyedRow};
+    ghost use Rattle.cs_wire.specs.declared.entry.Change.TheVariants.{Update};
+    ghost use Rattle.cs_wire.specs.Records.{IsRowOperation, row_change};
+    ghost use Rattle.cs_wire.specs.Entry.{IsChange, IsEntry, before_image, entry_bytes, key_of, operation};
     ghost use Rattle.cs_wire.specs.Inverse.{IsInverseEntry};
     ghost use Rattle.cs_value.specs.Value.{FieldFits, field_of};
-    ghost use Rattle.cs_wire.specs.Items.{IsSpelled, entry_in, new_field as field_after, old_field as field_before};
+    ghost use Rattle.cs_wire.specs.Items.{IsSpelled, entry_in, new_record, new_field as field_after, old_field as field_before};
 
     /// The entry of a table with these flags whose records are these bytes.
-    pub(crate) fn new(
+    pub(crate) fn from_bytes(
         flags: &'a [u8],
         operation: Operation,
         indirect: bool,
@@ -58,10 +66,78 @@ impl<'a> EntryRef<'a> {
             flags,
             operation,
             indirect,
-            first,
-            second,
+            first: RecordRef::Spelled(first),
+            second: RecordRef::Spelled(second),
             exchanged: false,
         }
+    }
+
+    /// An entry that is owned, and fits these flags ([`Header::admits`](crate::Header::admits)).
+    pub fn from_entry(flags: &'a [u8], entry: &'a Entry) -> EntryRef<'a>
+        requires { IsEntry flags.now entry.now }
+        ensures { result ≡ record { flags = flags.now; entry = entry.now } }
+    {
+        let indirect = entry.indirect;
+        match &entry.change {
+            Change::Insert(row) => {
+                EntryRef::from_row(flags, Operation::Insert, indirect, row.values())
+            }
+            Change::Delete(row) => {
+                EntryRef::from_row(flags, Operation::Delete, indirect, row.values())
+            }
+            Change::Update { old, new } => {
+                EntryRef::from_images(flags, indirect, old.fields(), new.fields())
+            }
+        }
+    }
+
+    /// The insert or the delete of a row that is owned.
+    fn from_row(
+        flags: &'a [u8],
+        operation: Operation,
+        indirect: bool,
+        values: &'a [OwnedValue],
+    ) -> EntryRef<'a>
+        requires operation { IsRowOperation operation }
+        requires row { IsRow values.now × IsKeyedRow flags.now values.now }
+        ensures { result ≡ record { flags = flags.now; entry = record { indirect = indirect; change = row_change operation values.now } } }
+    {
+        EntryRef {
+            flags,
+            operation,
+            indirect,
+            first: RecordRef::Values(values),
+            second: RecordRef::Values(values),
+            exchanged: false,
+        }
+    }
+
+    /// The update that has these records, which are owned.
+    fn from_images(
+        flags: &'a [u8],
+        indirect: bool,
+        old: &'a [OwnedField],
+        new: &'a [OwnedField],
+    ) -> EntryRef<'a>
+        requires { IsChange flags.now (Update old.now new.now) }
+        ensures { result ≡ record { flags = flags.now; entry = record { indirect = indirect; change = Update old.now new.now } } }
+    {
+        EntryRef {
+            flags,
+            operation: Operation::Update,
+            indirect,
+            first: RecordRef::Fields(old),
+            second: RecordRef::Fields(new),
+            exchanged: false,
+        }
+    }
+
+    /// The flags of its table, one for each column.
+    pub fn flags(&self) -> &'a [u8]
+        ensures flags { result.now ≡ self.now.flags }
+        ensures well_formed { IsEntry self.now.flags self.now.entry }
+    {
+        self.flags
     }
 
     /// How many columns its table has.
@@ -90,45 +166,65 @@ impl<'a> EntryRef<'a> {
         self.indirect
     }
 
-    /// What stood in a column, from 0 and below [`EntryRef::column_count`], before the change: None for an
-    /// insert. Of an update that is an undefined field where the column is neither of the key nor modified.
-    /// It takes no memory, and time in proportion to the bytes of the record up to that column.
+    /// What stood in the columns before the change: None for an insert. Of an update the fields of the columns that
+    /// are neither of the key nor modified are undefined.
+    pub fn old_fields(&self) -> Option<Fields<'a>>
+        ensures fields { result ≡ before_image self.now.entry.change }
+        ensures width { IfSome result (λ fields. length fields ≡ length self.now.flags) }
+    {
+        match self.operation {
+            Operation::Insert => None,
+            Operation::Delete => Some(Fields::new(self.flags, self.first, self.first, false)),
+            Operation::Update => Some(Fields::new(
+                self.flags,
+                self.first,
+                self.second,
+                self.exchanged,
+            )),
+        }
+    }
+
+    /// What stands in the columns after the change: None for a delete. Of an update the fields of the columns that
+    /// are of the key, or not modified, are undefined.
+    pub fn new_fields(&self) -> Option<Fields<'a>>
+        ensures fields { result ≡ new_record self.now.entry.change }
+        ensures width { IfSome result (λ fields. length fields ≡ length self.now.flags) }
+    {
+        match self.operation {
+            Operation::Insert => Some(Fields::new(self.flags, self.first, self.first, false)),
+            Operation::Delete => None,
+            Operation::Update => Some(Fields::new(
+                self.flags,
+                self.second,
+                self.first,
+                self.exchanged,
+            )),
+        }
+    }
+
+    /// What stood in a column, from 0 and below [`EntryRef::column_count`], before the change, as
+    /// [`EntryRef::old_fields`] has it. It takes time in proportion to the bytes of the record up to that column.
     pub fn old_field(&self, column: usize) -> Option<Field<'a>>
         requires { column < length self.now.flags }
         ensures field { option_map field_of result ≡ field_before self.now.entry.change column }
         ensures fits { IfSome result FieldFits }
     {
-        match self.operation {
-            Operation::Insert => None,
-            Operation::Delete => Some(field_in(self.flags.len(), self.first, column)),
-            Operation::Update => Some(shown_field(
-                self.exchanged,
-                self.flags,
-                self.first,
-                self.second,
-                column,
-            )),
+        match self.old_fields() {
+            Some(fields) => Some(fields.at(column)),
+            None => None,
         }
     }
 
-    /// What stands in a column, from 0 and below [`EntryRef::column_count`], after the change: None for a
-    /// delete. Of an update that is an undefined field where the column is of the key, or not modified. It
-    /// takes no memory, and time as [`EntryRef::old_field`] does.
+    /// What stands in a column, from 0 and below [`EntryRef::column_count`], after the change, as
+    /// [`EntryRef::new_fields`] has it. It takes time as [`EntryRef::old_field`] does.
     pub fn new_field(&self, column: usize) -> Option<Field<'a>>
         requires { column < length self.now.flags }
         ensures field { option_map field_of result ≡ field_after self.now.entry.change column }
         ensures fits { IfSome result FieldFits }
     {
-        match self.operation {
-            Operation::Insert => Some(field_in(self.flags.len(), self.first, column)),
-            Operation::Delete => None,
-            Operation::Update => Some(shown_field(
-                self.exchanged,
-                self.flags,
-                self.second,
-                self.first,
-                column,
-            )),
+        match self.new_fields() {
+            Some(fields) => Some(fields.at(column)),
+            None => None,
         }
     }
 
@@ -137,6 +233,19 @@ impl<'a> EntryRef<'a> {
         ensures { IfOk result (λ key. key ≡ key_of self.now.flags self.now.entry.change) }
     {
         Ok(Key::from_bytes(self.key_bytes(alloc)?))
+    }
+
+    /// The bytes of the entry's key.
+    pub(crate) fn key_bytes(&self, alloc: Global) -> Result<Vec<u8>, NoMemory>
+        ensures { IfOk result (λ key. key.items ≡ key_of self.now.flags self.now.entry.change) }
+    {
+        match self.first {
+            RecordRef::Spelled(bytes) => key_bytes(alloc, self.flags, bytes),
+            first => {
+                let fields = Fields::new(self.flags, first, first, false);
+                key_of_fields(alloc, self.flags, fields)
+            }
+        }
     }
 
     /// The entry that undoes this one: the delete of the row that it inserts, the insert of the row that it
@@ -164,22 +273,19 @@ impl<'a> EntryRef<'a> {
         }
     }
 
-    /// The bytes of the entry's key.
-    pub(crate) fn key_bytes(&self, alloc: Global) -> Result<Vec<u8>, NoMemory>
-        ensures { IfOk result (λ key. key.items ≡ key_of self.now.flags self.now.entry.change) }
-    {
-        key_bytes(alloc, self.flags, self.first)
-    }
-
     /// Appends the entry's bytes.
     pub fn write_to(&self, out: &mut Vec<u8>) -> Result<(), NoMemory>
         ensures { OnOk result (out.new.items ≡ out.old.items ++ entry_bytes self.now.entry) }
     {
         write_operation(out, self.operation(), self.indirect)?;
         match self.operation {
-            Operation::Insert | Operation::Delete => Ok(out.extend_from_slice(self.first)?),
+            Operation::Insert | Operation::Delete => {
+                write_record(out, self.flags, self.first, self.first, false)
+            }
             Operation::Update => {
-                write_update(out, self.exchanged, self.flags, self.first, self.second)
+                let exchanged = self.exchanged;
+                write_record(out, self.flags, self.first, self.second, exchanged)?;
+                write_record(out, self.flags, self.second, self.first, exchanged)
             }
         }
     }
@@ -189,16 +295,13 @@ impl<'a> EntryRef<'a> {
         ensures same { IfOk result (λ e. e ≡ self.now.entry) }
         ensures well_formed { IsEntry self.now.flags self.now.entry }
     {
-        let count = self.flags.len();
         let change = match self.operation {
-            Operation::Insert => Change::Insert(Row::new(copy_cells(alloc, count, self.first)?)),
-            Operation::Delete => Change::Delete(Row::new(copy_cells(alloc, count, self.first)?)),
-            Operation::Update => {
-                let old = Image::new(copy_cells(alloc, count, self.first)?);
-                let new = Image::new(copy_cells(alloc, count, self.second)?);
-                let (old, new) = shown_images(self.exchanged, self.flags, old, new);
-                Change::Update { old, new }
-            }
+            Operation::Insert => Change::Insert(copy_row(alloc, self.flags, self.first)?),
+            Operation::Delete => Change::Delete(copy_row(alloc, self.flags, self.first)?),
+            Operation::Update => Change::Update {
+                old: copy_image(alloc, self.flags, self.first, self.second, self.exchanged)?,
+                new: copy_image(alloc, self.flags, self.second, self.first, self.exchanged)?,
+            },
         };
         Ok(Entry {
             indirect: self.indirect,
@@ -207,20 +310,45 @@ impl<'a> EntryRef<'a> {
     }
 }
 
-/// Appends the records of an update as they are shown.
-fn write_update(
+/// Appends a record as it is shown: as it lies, or with the fields of another outside the key.
+fn write_record(
     out: &mut Vec<u8>,
-    exchanged: bool,
     flags: &[u8],
-    old: &[u8],
-    new: &[u8],
+    own: RecordRef<'_>,
+    other: RecordRef<'_>,
+    exchanged: bool,
 ) -> Result<(), NoMemory>
-    requires old { IsRecordIn (length flags.now) old.now }
-    requires new { IsRecordIn (length flags.now) new.now }
-    ensures { OnOk result (out.new.items ≡ out.old.items
-        ++ record_bytes (shown_record exchanged flags.now (fields_in (length flags.now) old.now) (fields_in (length flags.now) new.now)
-        ++ shown_record exchanged flags.now (fields_in (length flags.now) new.now) (fields_in (length flags.now) old.now))) }
+    requires own { IsWhole (length flags.now) own }
+    requires other { HasWidth (length flags.now) other }
+    ensures { OnOk result (out.new.items ≡ out.old.items ++ record_bytes (shown_record exchanged flags.now
+        (fields_at (length flags.now) own.entry) (fields_at (length flags.now) other.entry))) }
 {
-    write_shown(out, exchanged, flags, old, new)?;
-    write_shown(out, exchanged, flags, new, old)
+    match own {
+        RecordRef::Spelled(bytes) if !exchanged => Ok(out.extend_from_slice(bytes)?),
+        _ => write_fields(out, Fields::new(flags, own, other, exchanged)),
+    }
+}
+
+/// A copy of a row.
+fn copy_row(alloc: Global, flags: &[u8], row: RecordRef<'_>) -> Result<Row, NoMemory>
+    requires { HasWidth (length flags.now) row }
+    ensures { IfOk result (λ r. r ≡ map value_in (fields_at (length flags.now) row.entry)) }
+{
+    Ok(Row::new(copy_cells(alloc, Fields::new(flags, row, row, false))?))
+}
+
+/// A copy of a record as it is shown: as it lies, or with the fields of another outside the key.
+fn copy_image(
+    alloc: Global,
+    flags: &[u8],
+    own: RecordRef<'_>,
+    other: RecordRef<'_>,
+    exchanged: bool,
+) -> Result<Image, NoMemory>
+    requires own { HasWidth (length flags.now) own }
+    requires other { HasWidth (length flags.now) other }
+    ensures { IfOk result (λ image. image ≡ shown_record exchanged flags.now
+        (fields_at (length flags.now) own.entry) (fields_at (length flags.now) other.entry)) }
+{
+    Ok(Image::new(copy_cells(alloc, Fields::new(flags, own, other, exchanged))?))
 }

@@ -2,7 +2,6 @@
 ghost use Rattle.std.specs.Prelude.{◌≡◌, length, map};
 ghost use Rattle.std.specs.List.{AllByRecursion};
 ghost use Rattle.cs_wire.specs.Entry.{IsChange, IsEntry, with_key};
-ghost use Rattle.cs_wire.specs.Items.{shown_record};
 ghost use Rattle.cs_wire.specs.Views.{inverse_change as inverse_change_of, inverse_entry as inverse_entry_of};
 
 use crate::entry::{Change, Entry};
@@ -42,20 +41,6 @@ fn inverse_change(flags: &[u8], change: Change) -> Change
             let (old, new) = exchange(flags, old, new);
             Change::Update { old, new }
         }
-    }
-}
-
-/// The two images of an update as they are shown: as they are, or with their fields exchanged but those of the key.
-pub(crate) fn shown_images(exchanged: bool, flags: &[u8], old: Image, new: Image) -> (Image, Image)
-    requires old { length flags.now ≡ length old }
-    requires new { length flags.now ≡ length new }
-    ensures old { result.0 ≡ shown_record exchanged flags.now old new }
-    ensures new { result.1 ≡ shown_record exchanged flags.now new old }
-{
-    if exchanged {
-        exchange(flags, old, new)
-    } else {
-        (old, new)
     }
 }
 

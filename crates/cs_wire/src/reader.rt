@@ -76,7 +76,7 @@ pub(crate) fn read_entry<'a>(
     let (indirect, start) = read_indirect(file, start)?;
     let (first, second, end) = read_records(file, start, flags, operation)?;
     Ok((
-        EntryRef::new(flags, operation, indirect, first, second),
+        EntryRef::from_bytes(flags, operation, indirect, first, second),
         end,
     ))
 }

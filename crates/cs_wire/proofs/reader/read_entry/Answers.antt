@@ -38,8 +38,8 @@ returns-in_err-first-clause-fault c =
     λ header entries same start. rw (p.1, p.2)
     (change_case file c.args.at c.in_ok-indirect.start header entries _ c.in_ok-indirect.indirect c.args.flags.now same start head _ _ c.in_err-first.ensures.fault)
 
-pub new-requires : goal.new-requires
-new-requires c =
+pub from_bytes-requires : goal.from_bytes-requires
+from_bytes-requires c =
     let found = c.in_ok-first.ensures.found in
     record { is_entry = found.0; spelled = found.1; has_first = found.3 }
 
@@ -50,7 +50,7 @@ returns-clause-found c =
     let records = Stands-bytes file c.in_ok-indirect.start _ _ c.in_ok-first.end (sym found.1) found.2 in
     let parts = Stands-then file c.args.at c.in_ok-operation.start c.in_ok-first.end _ _ c.in_ok-operation.ensures.found
     (Stands-then file c.in_ok-operation.start c.in_ok-indirect.start c.in_ok-first.end _ _ c.in_ok-indirect.ensures.found records) in
-    rw c.new.ensures (refl, found.0, Stands-entry file c.args.at c.in_ok-first.end c.in_ok-indirect.indirect _ _ (operation_in _ c.in_ok-operation.operation _ _) parts)
+    rw c.from_bytes.ensures (refl, found.0, Stands-entry file c.args.at c.in_ok-first.end c.in_ok-indirect.indirect _ _ (operation_in _ c.in_ok-operation.operation _ _) parts)
 
 pub returns-clause-only : goal.returns-clause-only
 returns-clause-only c = λ entry rest h e.
@@ -59,4 +59,4 @@ returns-clause-only c = λ entry rest h e.
     let behind = behind_byte c.args.file.now c.args.at c.in_ok-operation.start _ _ _ c.in_ok-operation.ensures.found same whole in
     let flag = c.in_ok-indirect.ensures.only entry.indirect _ behind in
     let records = behind_byte c.args.file.now c.in_ok-operation.start c.in_ok-indirect.start _ _ _ c.in_ok-indirect.ensures.found (ap (λ (b : Bool). cond b 1 0) flag) behind in
-    ap (λ (seen : FlaggedEntry). seen.entry) c.new.ensures ∙ same_entry c.in_ok-indirect.indirect _ entry flag (c.in_ok-first.ensures.only entry.change rest h (sym same) records)
+    ap (λ (seen : FlaggedEntry). seen.entry) c.from_bytes.ensures ∙ same_entry c.in_ok-indirect.indirect _ entry flag (c.in_ok-first.ensures.only entry.change rest h (sym same) records)
