@@ -1,12 +1,11 @@
 -- What a file begins with, one item after another.
 use Rattle.std.proofs.Common.{◌≡◌, ◌≢◌, ℕ, suc, ◌-◌, ◌<◌, ◌≤◌, set, Bool, true, false, List, [], ◌∷◌, ◌++◌, length, drop, get_or, refl, sym, ap, subst, ◌∙◌, append_assoc, arith, length-append, inl, inr}
-use Rattle.std.specs.Prelude.{slice_get, nat_eq, Option, Some, None, Result, Ok, Err, IfErr, OnOk}
+use Rattle.std.specs.Prelude.{All, slice_get, nat_eq, Option, Some, None, Result, Ok, Err, IfErr, OnOk}
 use Rattle.cs_value.specs.Refusals.{Refuses}
 use Rattle.cs_value.specs.declared.refusal.OrNoMemory.{OrNoMemory}
 use Rattle.cs_value.specs.declared.refusal.OrNoMemory.TheVariants.{Fault, NoMemory}
 use Rattle.cs_wire.specs.declared.fault.ReadFault.{ReadFault}
 use Rattle.cs_wire.specs.declared.item.Item.{Item}
-use Rattle.std.specs.FinMap.{insert, empty}
 use Rattle.std.proofs.lemmas.Bool.{ne_eqb, eqb-true}
 use Rattle.std.proofs.lemmas.List.{append-nil, drop_all, get_or_at, get_or_append_left, length-drop, map-append, nil_from_length}
 use Rattle.std.proofs.lemmas.List.Concat.{flat_map-append}
@@ -18,10 +17,9 @@ use Rattle.cs_wire.specs.Changeset.{HeaderData, GroupData, IsNewKey, IsNewName, 
 use Rattle.cs_wire.specs.ReadFaults.{Stands, HasEntry, EntryStart, ReadFails}
 use Rattle.cs_wire.specs.declared.fault.ReadFaultKind.TheVariants.{EmptyGroup}
 use Rattle.cs_wire.specs.Cursor.{IsBegun, IsEnd, IsOpen, Begins, ending_of, with_entry, last_flags}
-use Rattle.cs_value.specs.Maps.{ByBytes}
 use Rattle.cs_wire.specs.Views.{group_keys, group_names}
 use Rattle.cs_wire.specs.Walk.{WalkData, Knows, GoesOn, IsInTable, IsWalk}
-use Rattle.cs_wire.proofs.IndexLemmas.{Knows-none, Knows-push}
+use Rattle.cs_wire.proofs.IndexLemmas.{Adds, Knows-again, Knows-none, Knows-push}
 use Rattle.cs_wire.proofs.ReadingLemmas.{Stands-then, Stands-moves, rest_is, flags_some}
 use Rattle.cs_wire.proofs.EntriesLemmas.{HasEntry-entry, not_ended}
 use Rattle.cs_wire.proofs.EntryLemmas.{entry_bytes_some}
@@ -350,7 +348,7 @@ module _ (file : List ℕ) (place : ℕ) (header : HeaderData) (entries : List E
 -- ---- a step of a walk
 
 -- between tables, where no header is open, or one that has an entry, and no other stands here
-pub between : (file : List ℕ) (place : ℕ) (flags : List ℕ) (is_bare : Bool) (names keys : ByBytes ℕ) → IsWalk file place flags is_bare names keys → is_bare ≡ false → (0 < length flags → HasEntry file place → ⊥)
+pub between : (file : List ℕ) (place : ℕ) (flags : List ℕ) (is_bare : Bool) (names keys : List (List ℕ)) → IsWalk file place flags is_bare names keys → is_bare ≡ false → (0 < length flags → HasEntry file place → ⊥)
     → (groups : List GroupData) × IsBetween file place groups × Knows names (group_names groups)
 between file place flags is_bare names keys (inl start) bare none = ([], rw start.place_is (between_start file), start.knows_names)
 between file place flags is_bare names keys (inr table) bare none =
@@ -367,10 +365,10 @@ between file place flags is_bare names keys (inr table) bare none =
     not_empty (entry ∷ entries) e = omega arith
 
 -- a header that is passed opens its table
-pub pass_header : (file : List ℕ) (place : ℕ) (names new keys : ByBytes ℕ) (groups : List GroupData) → IsBetween file place groups → Knows names (group_names groups)
+pub pass_header : (file : List ℕ) (place : ℕ) (names new keys : List (List ℕ)) (groups : List GroupData) → IsBetween file place groups → Knows names (group_names groups)
     → (header : HeaderData) (next : ℕ) → IsHeader header → Stands file place (header_bytes header) next → place < next
     → ((h : HeaderData) (rest : List ℕ) → IsHeader h → drop place file ≡ header_bytes h ++ rest → header ≡ h)
-    → IsNewName groups header.name → new ≡ insert names header.name place → keys ≡ empty
+    → IsNewName groups header.name → Adds header.name names new → keys ≡ []
     → IsInTable file next header.flags true new keys
 pass_header file place names new keys groups so knows header next is stands moves only fresh new_is keys_are = record {
   header = header;
@@ -378,7 +376,7 @@ pass_header file place names new keys groups so knows header next is stands move
   start = EntryStart-none file place next groups header (record { are = so.are; stand = so.stand }) is fresh stands;
   flags_are = refl;
   bare = refl;
-  knows_names = rw new_is (Knows-push names (group_names groups) header.name place knows);
+  knows_names = Knows-push names new (group_names groups) header.name knows new_is;
   knows_keys = rw keys_are Knows-none;
   begins = λ all to b le. table_goes_on file place groups so header only all to b (omega (arith, moves, le));
 }
@@ -391,15 +389,15 @@ header_moves file place next header stands within = Stands-moves file place next
 -- ---- a step inside a table
 
 -- the table that is open
-pub in_table : (file : List ℕ) (place : ℕ) (flags : List ℕ) (is_bare : Bool) (names keys : ByBytes ℕ) → IsWalk file place flags is_bare names keys → 0 < length flags → IsInTable file place flags is_bare names keys
+pub in_table : (file : List ℕ) (place : ℕ) (flags : List ℕ) (is_bare : Bool) (names keys : List (List ℕ)) → IsWalk file place flags is_bare names keys → 0 < length flags → IsInTable file place flags is_bare names keys
 in_table file place flags is_bare names keys (inl start) some = absurd (omega (arith, some, ap length start.no_table))
 in_table file place flags is_bare names keys (inr table) some = table
 
-module _ (file : List ℕ) (place : ℕ) (flags : List ℕ) (is_bare : Bool) (names keys : ByBytes ℕ) (so : IsInTable file place flags is_bare names keys) where
+module _ (file : List ℕ) (place : ℕ) (flags : List ℕ) (is_bare : Bool) (names keys : List (List ℕ)) (so : IsInTable file place flags is_bare names keys) where
   -- an entry that is passed is the last of the table
-  pub pass_entry : (entry : Entry) (next : ℕ) (new : ByBytes ℕ) → HasEntry file place → IsEntry flags entry → Stands file place (entry_bytes entry) next
+  pub pass_entry : (entry : Entry) (next : ℕ) (new : List (List ℕ)) → HasEntry file place → IsEntry flags entry → Stands file place (entry_bytes entry) next
       → ((e : Entry) (rest : List ℕ) → IsEntry flags e → drop place file ≡ entry_bytes e ++ rest → entry ≡ e)
-      → IsNewKey so.header.flags so.entries (key_of so.header.flags entry.change) → new ≡ insert keys (key_of flags entry.change) place → IsInTable file next flags false names new
+      → IsNewKey so.header.flags so.entries (key_of so.header.flags entry.change) → Adds (key_of flags entry.change) keys new → IsInTable file next flags false names new
   pass_entry entry next new here is stands only fresh new_is =
       let moves = Stands-moves file place next (entry_bytes entry) stands (entry_bytes_some entry) here.within in
       let under = so.flags_are in record {
@@ -409,7 +407,7 @@ module _ (file : List ℕ) (place : ℕ) (flags : List ℕ) (is_bare : Bool) (na
         flags_are = under;
         bare = not_bare so.entries;
         knows_names = so.knows_names;
-        knows_keys = rw (map-append (λ (e : Entry). key_of so.header.flags e.change) so.entries (entry ∷ []), new_is, under) (Knows-push keys (group_keys so.header.flags so.entries) (key_of so.header.flags entry.change) place so.knows_keys);
+        knows_keys = rw (map-append (λ (e : Entry). key_of so.header.flags e.change) so.entries (entry ∷ [])) (Knows-push keys new (group_keys so.header.flags so.entries) (key_of so.header.flags entry.change) so.knows_keys (rw under at new_is));
         begins = λ all to b le. entry_goes_on file place so.header so.entries so.start so.begins entry (rw under at only) here all to b (omega (arith, moves, le));
       }
     where
@@ -431,10 +429,46 @@ module _ (file : List ℕ) (place : ℕ) (flags : List ℕ) (is_bare : Bool) (na
         subst (λ (gs : List GroupData). Begins file next gs) (sym grown) (Begins-open file next so.header (so.entries ++ entry ∷ []) start),
       )
 
+-- ---- what was met before
+
+-- a table whose name was met
+pub name_again : (file : List ℕ) (place : ℕ) (flags : List ℕ) (is_bare : Bool) (names keys grown : List (List ℕ)) (name : List ℕ) → IsWalk file place flags is_bare names keys
+    → Adds name names grown → (All (λ t. t ≢ name) names → ⊥) → IsWalk file place flags is_bare grown keys
+name_again file place flags is_bare names keys grown name (inl start) adds known = inl (record {
+  place_is = start.place_is;
+  no_table = start.no_table;
+  no_bare = start.no_bare;
+  knows_names = Knows-again names grown [] name start.knows_names adds known;
+})
+name_again file place flags is_bare names keys grown name (inr table) adds known = inr (record {
+  header = table.header;
+  entries = table.entries;
+  start = table.start;
+  flags_are = table.flags_are;
+  bare = table.bare;
+  knows_names = Knows-again names grown (group_names table.start.groups ++ table.header.name ∷ []) name table.knows_names adds known;
+  knows_keys = table.knows_keys;
+  begins = table.begins;
+})
+
+-- an entry whose key was met
+pub key_again : (file : List ℕ) (place : ℕ) (flags : List ℕ) (is_bare : Bool) (names keys grown : List (List ℕ)) (key : List ℕ) → IsInTable file place flags is_bare names keys
+    → Adds key keys grown → (All (λ t. t ≢ key) keys → ⊥) → IsInTable file place flags is_bare names grown
+key_again file place flags is_bare names keys grown key table adds known = record {
+  header = table.header;
+  entries = table.entries;
+  start = table.start;
+  flags_are = table.flags_are;
+  bare = table.bare;
+  knows_names = table.knows_names;
+  knows_keys = Knows-again keys grown (group_keys table.header.flags table.entries) key table.knows_keys adds known;
+  begins = table.begins;
+}
+
 -- ---- where a walk ends
 
 -- a table without an entry
-pub bare_fails : (file : List ℕ) (place : ℕ) (flags : List ℕ) (is_bare : Bool) (names keys : ByBytes ℕ) → IsWalk file place flags is_bare names keys → is_bare ≡ true → (0 < length flags → HasEntry file place → ⊥)
+pub bare_fails : (file : List ℕ) (place : ℕ) (flags : List ℕ) (is_bare : Bool) (names keys : List (List ℕ)) → IsWalk file place flags is_bare names keys → is_bare ≡ true → (0 < length flags → HasEntry file place → ⊥)
     → ReadFails file EmptyGroup place
 bare_fails file place flags is_bare names keys (inl start) bare none = absurd (not_both (sym start.no_bare ∙ bare))
   where
@@ -450,7 +484,7 @@ bare_fails file place flags is_bare names keys (inr table) bare none =
     }
 
 -- the end of the file
-pub ends_whole : (file : List ℕ) (place : ℕ) (flags : List ℕ) (is_bare : Bool) (names keys : ByBytes ℕ) → IsWalk file place flags is_bare names keys → is_bare ≡ false → (0 < length flags → HasEntry file place → ⊥)
+pub ends_whole : (file : List ℕ) (place : ℕ) (flags : List ℕ) (is_bare : Bool) (names keys : List (List ℕ)) → IsWalk file place flags is_bare names keys → is_bare ≡ false → (0 < length flags → HasEntry file place → ⊥)
     → length file ≤ place → (groups : List GroupData) → Begins file place groups → IsFileOf file groups
 ends_whole file place flags is_bare names keys so bare none le groups begins =
     let b = between file place flags is_bare names keys so bare none in

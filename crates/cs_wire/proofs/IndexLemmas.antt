@@ -119,44 +119,37 @@ found_or_new (Some place) some none = cc
 
 -- ---- texts that are known
 
-pub Knows-none : Knows empty []
-Knows-none = record {
-  known = λ text e. absurd (none_is_some (ap is_some (sym (get-empty (slice_cmp nat_cmp) text)) ∙ e));
-  absent = λ text e. All-nil (λ t. t ≢ text);
-}
-  where
-    no_place : Option ℕ
-    no_place = None
+-- what adding a text does to those that were met
+abbrev pub Adds : List ℕ → List (List ℕ) → List (List ℕ) → Type 0
+Adds text seen grown = (t : List ℕ) → All (λ s. s ≢ t) grown ↔ ((text ≢ t) × All (λ s. s ≢ t) seen)
 
-    none_is_some : is_some no_place ≡ true → ⊥
-    none_is_some e = cc
+pub Knows-none : Knows [] []
+Knows-none = λ text. (λ h. h, λ h. h)
 
 -- one more text is known
-pub Knows-push : (places : ByBytes ℕ) (texts : List (List ℕ)) (last : List ℕ) (place : ℕ) → Knows places texts → Knows (insert places last place) (texts ++ last ∷ [])
-Knows-push places texts last place so = record {
-  known = λ text e. known_by text (same text last) refl (ap is_some (sym (got text)) ∙ e);
-  absent = λ text e. absent_by text (same text last) refl (sym (got text) ∙ e);
-}
-  where
-    got : (text : List ℕ) → get (insert places last place) text ≡ cond (same text last) (Some place) (get places text)
-    got text = get-insert nat_list_cmp_total places last place text
+pub Knows-push : (seen grown texts : List (List ℕ)) (last : List ℕ) → Knows seen texts → Adds last seen grown → Knows grown (texts ++ last ∷ [])
+Knows-push seen grown texts last so adds = λ text. (
+  λ new.
+      let parts = (adds text).0 new in
+      All-push (λ (t : List ℕ). t ≢ text) texts last ((so text).0 parts.1) parts.0,
+  λ new.
+      let before : All (λ t. t ≢ text) texts = λ k d lt here. new k d (omega (arith, lt, length-append texts (last ∷ []))) (get_or_append_left texts (last ∷ []) d k lt ∙ here) in
+      (adds text).1 ((λ here. new (length texts) last (omega (arith, length-append texts (last ∷ []))) (get_or_at texts last [] last (length texts) refl ∙ here)), (so text).1 before),
+)
 
-    known_by : (text : List ℕ) (b : Bool) → same text last ≡ b → is_some (cond b (Some place) (get places text)) ≡ true → All (λ t. t ≢ text) (texts ++ last ∷ []) → ⊥
-    known_by text true is e new = new (length texts) last (omega (arith, length-append texts (last ∷ []))) (get_or_at texts last [] last (length texts) refl ∙ sym (same_is text last is))
-    known_by text false is e new = so.known text e (λ k d lt here. new k d (omega (arith, lt, length-append texts (last ∷ []))) (get_or_append_left texts (last ∷ []) d k lt ∙ here))
+-- one that was known already is known no more than before
+pub Knows-again : (seen grown texts : List (List ℕ)) (text : List ℕ) → Knows seen texts → Adds text seen grown → (All (λ t. t ≢ text) seen → ⊥) → Knows grown texts
+Knows-again seen grown texts text so adds known = λ t. (
+  λ new. (so t).0 ((adds t).0 new).1,
+  λ new.
+      let before = (so t).1 new in
+      (adds t).1 ((λ same. known (subst (λ (x : List ℕ). All (λ s. s ≢ x) seen) (sym same) before)), before),
+)
 
-    absent_by : (text : List ℕ) (b : Bool) → same text last ≡ b → cond b (Some place) (get places text) ≡ None → All (λ t. t ≢ text) (texts ++ last ∷ [])
-    absent_by text true is e = absurd (none-some place (sym e))
-    absent_by text false is e = All-push (λ (t : List ℕ). t ≢ text) texts last (so.absent text e) (not_same text last is)
+-- what is new among things that are known by a text
+module _ {X : Type 0} (text_of : X → List ℕ) (seen : List (List ℕ)) (xs : List X) (text : List ℕ) (so : Knows seen (map text_of xs)) where
+  pub Knows-is : (All (λ t. t ≢ text) seen → ⊥) → All (λ x. text_of x ≢ text) xs → ⊥
+  Knows-is there new = there ((so text).1 (All-map (λ (t : List ℕ). t ≢ text) text_of xs new))
 
--- what has a place among things that are known by a text
-module _ {X : Type 0} (text_of : X → List ℕ) (places : ByBytes ℕ) (xs : List X) (text : List ℕ) (so : Knows places (map text_of xs)) where
-  pub Knows-is : is_some (get places text) ≡ true → All (λ x. text_of x ≢ text) xs → ⊥
-  Knows-is there new = so.known text there (All-map (λ (t : List ℕ). t ≢ text) text_of xs new)
-
-  pub Knows-new : is_some (get places text) ≡ false → All (λ x. text_of x ≢ text) xs
-  Knows-new none = by (get places text) refl none
-    where
-      by : (found : Option ℕ) → get places text ≡ found → is_some found ≡ false → All (λ x. text_of x ≢ text) xs
-      by None e none = λ k d lt known. so.absent text e k [] (omega (arith, length-map xs text_of, lt)) (get_or-map text_of xs k d [] lt ∙ known)
-      by (Some place) e none = absurd cc
+  pub Knows-new : All (λ t. t ≢ text) seen → All (λ x. text_of x ≢ text) xs
+  Knows-new none = λ k d lt known. (so text).0 none k [] (omega (arith, length-map xs text_of, lt)) (get_or-map text_of xs k d [] lt ∙ known)

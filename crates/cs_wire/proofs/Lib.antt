@@ -19,4 +19,6 @@ pub mod ItemLemmas
 pub mod KeyLemmas
 pub mod ReadingLemmas
 pub mod RecordLemmas
+pub mod SeenLemmas
 pub mod ShownLemmas
+pub mod TablesLemmas

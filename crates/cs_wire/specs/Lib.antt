@@ -7,7 +7,9 @@ pub mod Views
 pub mod Items
 pub mod Records
 pub mod Cursor
+pub mod Seen
 pub mod Walk
+pub mod Tables
 pub mod Reading
 pub use Rattle.cs_value.specs.Value
 pub use Rattle.cs_value.specs.Varint

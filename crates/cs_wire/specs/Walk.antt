@@ -1,7 +1,5 @@
 -- What a walk through a file knows. No public contract names this.
-use Rattle.std.specs.Prelude.{◌≡◌, ◌≢◌, ℕ, ◌≤◌, ◌==◌, ◌⊎◌, Bool, true, false, List, [], ◌∷◌, ◌++◌, length, All, None, is_some}
-use Rattle.std.specs.FinMap.{get}
-use Rattle.cs_value.specs.Maps.{ByBytes}
+use Rattle.std.specs.Prelude.{◌≡◌, ◌≢◌, ◌↔◌, ℕ, ◌≤◌, ◌==◌, ◌⊎◌, Bool, false, List, [], ◌∷◌, ◌++◌, length, All}
 use Rattle.cs_wire.specs.declared.entry.Entry.{Entry}
 use Rattle.cs_wire.specs.Changeset.{HeaderData, GroupData}
 use Rattle.cs_wire.specs.Cursor.{Begins}
@@ -15,10 +13,9 @@ pub record WalkData : Type 0 where
   pub flags : List ℕ
   pub is_bare : Bool
 
--- these texts have places, and no other
-pub record Knows (places : ByBytes ℕ) (texts : List (List ℕ)) : Type 0 where
-  pub known : (text : List ℕ) → is_some (get places text) ≡ true → All (λ t. t ≢ text) texts → ⊥
-  pub absent : (text : List ℕ) → get places text ≡ None → All (λ t. t ≢ text) texts
+-- a text is new to those that were met where it is new to these
+abbrev pub Knows : List (List ℕ) → List (List ℕ) → Type 0
+Knows seen texts = (text : List ℕ) → All (λ t. t ≢ text) seen ↔ All (λ t. t ≢ text) texts
 
 -- behind these tables and a header there are these entries, and then perhaps more, and other tables
 pub record GoesOn (all closed : List GroupData) (header : HeaderData) (entries : List Entry) : Type 0 where
@@ -27,14 +24,14 @@ pub record GoesOn (all closed : List GroupData) (header : HeaderData) (entries :
   pub is : all ≡ closed ++ record { header = header; entries = entries ++ more } ∷ others
 
 -- nothing was passed yet
-pub record IsAtStart (place : ℕ) (flags : List ℕ) (is_bare : Bool) (names : ByBytes ℕ) : Type 0 where
+pub record IsAtStart (place : ℕ) (flags : List ℕ) (is_bare : Bool) (names : List (List ℕ)) : Type 0 where
   pub place_is : place ≡ 0
   pub no_table : flags ≡ []
   pub no_bare : is_bare ≡ false
   pub knows_names : Knows names []
 
 -- a table is open, and some of its entries were passed
-pub record IsInTable (file : List ℕ) (place : ℕ) (flags : List ℕ) (is_bare : Bool) (names keys : ByBytes ℕ) : Type 0 where
+pub record IsInTable (file : List ℕ) (place : ℕ) (flags : List ℕ) (is_bare : Bool) (names keys : List (List ℕ)) : Type 0 where
   pub header : HeaderData
   pub entries : List Entry
   pub start : EntryStart file place header entries
@@ -45,6 +42,6 @@ pub record IsInTable (file : List ℕ) (place : ℕ) (flags : List ℕ) (is_bare
   -- whatever the file begins with, up to this place or another behind it, begins with them
   pub begins : (all : List GroupData) (to : ℕ) → Begins file to all → place ≤ to → GoesOn all start.groups header entries
 
-abbrev pub IsWalk : List ℕ → ℕ → List ℕ → Bool → ByBytes ℕ → ByBytes ℕ → Type 0
+abbrev pub IsWalk : List ℕ → ℕ → List ℕ → Bool → List (List ℕ) → List (List ℕ) → Type 0
 IsWalk file place flags is_bare names keys =
     IsAtStart place flags is_bare names ⊎ IsInTable file place flags is_bare names keys

@@ -47,7 +47,9 @@ mod laws;
 mod places;
 mod reader;
 mod record_ref;
+mod seen;
 mod spelled;
+mod tables;
 mod walk;
 mod writer;
 
@@ -62,4 +64,5 @@ pub use header::{Header, HeaderRef};
 pub use item::Item;
 pub use laws::{changeset_files_law, entry_inverses_law, row_keys_law};
 pub use reader::read;
+pub use tables::Tables;
 pub use writer::write;

@@ -10,10 +10,11 @@ use crate::entry_ref::EntryRef;
 use crate::fault::{ReadError, ReadFaultKind};
 use crate::header::HeaderRef;
 use crate::item::Item;
-use crate::places::Places;
 use crate::reader::header::read_header;
 use crate::reader::{has_entry, read_entry, refuse};
+use crate::seen::Seen;
 use std::alloc::Global;
+use std::borrow::CowSlice;
 use std::marker::Model;
 
 /// A place in a file, and what is known of what stands before it.
@@ -25,9 +26,9 @@ pub(crate) struct Walk<'a> {
     flags: &'a [u8],
     // Whether that has no entry yet.
     is_bare: bool,
-    // Where the tables stand, by name, and the entries of the one that is open, by key.
-    names: Places,
-    keys: Places,
+    // The names of the tables, and the keys of the entries of the one that is open.
+    names: Seen<'a>,
+    keys: Seen<'a>,
     alloc: Global,
 }
 
@@ -53,8 +54,8 @@ impl<'a> Walk<'a> {
             place: 0,
             flags: &[],
             is_bare: false,
-            names: Places::new(alloc),
-            keys: Places::new(alloc),
+            names: Seen::new(alloc),
+            keys: Seen::new(alloc),
             alloc,
         }
     }
@@ -108,12 +109,11 @@ impl<'a> Walk<'a> {
         ensures fault { IfErr result (Refuses (λ f. ReadFails self.old.file f.kind f.place)) }
     {
         let (header, end) = read_header(self.file, self.place)?;
-        if self.names.get(header.name.as_bytes()).is_some() {
+        let name = CowSlice::Borrowed(header.name.as_bytes());
+        if !self.names.insert(name)? {
             return refuse(ReadFaultKind::DuplicateTable, self.place);
         }
-        let name = Vec::from_slice(self.alloc, header.name.as_bytes())?;
-        self.names.insert(name, self.place)?;
-        self.keys = Places::new(self.alloc);
+        self.keys.clear();
         self.place = end;
         self.flags = header.flags;
         self.is_bare = true;
@@ -134,11 +134,10 @@ impl<'a> Walk<'a> {
         ensures fault { IfErr result (Refuses (λ f. ReadFails self.old.file f.kind f.place)) }
     {
         let (seen, end) = read_entry(self.file, self.place, self.flags)?;
-        let key = seen.key_bytes(self.alloc)?;
-        if self.keys.get(&key).is_some() {
+        let key = CowSlice::Owned(seen.key_bytes(self.alloc)?);
+        if !self.keys.insert(key)? {
             return refuse(ReadFaultKind::DuplicateKey, self.place);
         }
-        self.keys.insert(key, self.place)?;
         self.place = end;
         self.is_bare = false;
         Ok(seen)

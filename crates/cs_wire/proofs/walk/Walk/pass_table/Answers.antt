@@ -1,7 +1,7 @@
 -- `walk::Walk::pass_table`: the invariant, the clauses `fault` and `item`.
-use Rattle.std.proofs.Common.{List, ℕ, [], ◌∷◌, ◌++◌, ◌<◌, length, ap, sym, subst, ◌∙◌, inr}
-use Rattle.std.specs.Prelude.{IfErr, is_some}
-use Rattle.std.specs.FinMap.{get, insert}
+use Rattle.std.proofs.Common.{List, ℕ, All, ◌≢◌, [], ◌∷◌, ◌++◌, ◌<◌, length, ap, sym, subst, ◌∙◌, inr}
+use Rattle.std.specs.Prelude.{IfErr}
+use Rattle.std.proofs.lemmas.Bool.{iff_false}
 use Rattle.std.proofs.lemmas.Result.{err_from_is_err_and}
 use Rattle.cs_value.specs.Refusals.{Refuses}
 use Rattle.cs_wire.specs.Changeset.{GroupData, IsNewName}
@@ -11,7 +11,7 @@ use Rattle.cs_wire.specs.Cursor.{Begins}
 use Rattle.cs_wire.specs.Walk.{WalkData}
 use Rattle.cs_wire.proofs.IndexLemmas.{Knows-is, Knows-new}
 use Rattle.cs_wire.proofs.GroupsLemmas.{EntryStart-none}
-use Rattle.cs_wire.proofs.CursorLemmas.{between, pass_header, table_refused, table_again, same_between, Begins-open, header_moves}
+use Rattle.cs_wire.proofs.CursorLemmas.{between, name_again, pass_header, table_refused, table_again, same_between, Begins-open, header_moves}
 use Rattle.cs_wire.proofs.walk.Walk.pass_table.Goals as goal
 
 pub returns-in_err-header-clause-fault : goal.returns-in_err-header-clause-fault
@@ -28,15 +28,30 @@ returns-in_err-header-clause-fault c =
       case = c.in_err-header.ensures.fault b.0 (record { are = b.1.are; stand = b.1.stand }) b.1.none_before;
     }))
 
-pub returns-then-is_some-clause-fault : goal.returns-then-is_some-clause-fault
-returns-then-is_some-clause-fault c =
+pub returns-clause-forward : goal.returns-clause-forward
+returns-clause-forward c =
+    let v = c.self.view_is in
+    let i = c.self.inside in
+    let within = subst (λ (w : WalkData). w.place < length w.file) (sym v) c.requires.within in
+    let found = c.in_ok-header.ensures.found in (
+      subst (λ (w : WalkData). w.place < c.in_ok-header.end) v (header_moves i.file.now i.place c.in_ok-header.end (header_of c.in_ok-header.header) found.1 within),
+      found.1.within,
+    )
+
+pub invariant_of-self-then-not-branch : goal.invariant_of-self-then-not-branch
+invariant_of-self-then-not-branch c =
+    let i = c.self.inside in
+    name_again i.file.now i.place i.flags.now i.is_bare i.names i.keys c.insert.new.self c.as_bytes.result.now c.self.invariant c.in_ok-insert.ensures.added (iff_false c.in_ok-insert.ensures.is_new c.if-not-branch.true)
+
+pub returns-then-not-branch-clause-fault : goal.returns-then-not-branch-clause-fault
+returns-then-not-branch-clause-fault c =
     let v = c.self.view_is in
     let i = c.self.inside in
     let b = between i.file.now i.place i.flags.now i.is_bare i.names i.keys c.self.invariant (ap (λ (w : WalkData). w.is_bare) v ∙ c.requires.bare)
     (subst (λ (w : WalkData). 0 < length w.flags → HasEntry w.file w.place → ⊥) (sym v) c.requires.no_entry) in
     let within = subst (λ (w : WalkData). w.place < length w.file) (sym v) c.requires.within in
-    let there = ap (λ (t : List ℕ). is_some (get i.names t)) (sym c.as_bytes.ensures.value) ∙ ap is_some (sym c.get.ensures) ∙ sym c.is_some.ensures ∙ c.if-is_some.true in
-    let old = Knows-is (λ (g : GroupData). g.header.name) i.names b.0 c.in_ok-header.header.name.now b.2 there in
+    let old = Knows-is (λ (g : GroupData). g.header.name) i.names b.0 c.in_ok-header.header.name.now b.2
+    (λ new. iff_false c.in_ok-insert.ensures.is_new c.if-not-branch.true (subst (λ (name : List ℕ). All (λ t. t ≢ name) i.names) (sym c.as_bytes.ensures.value) new)) in
     subst (λ (w : WalkData). IfErr c.refuse.result (Refuses (λ f. ReadFails w.file f.kind f.place))) v
     (rw c.refuse.ensures (record {
       refused = table_again i.file.now i.place b.0 b.1 (header_of c.in_ok-header.header) c.in_ok-header.ensures.only within old;
@@ -58,13 +73,12 @@ invariant_of-self-2 c =
     let b = between i.file.now i.place i.flags.now i.is_bare i.names i.keys c.self.invariant (ap (λ (w : WalkData). w.is_bare) v ∙ c.requires.bare)
     (subst (λ (w : WalkData). 0 < length w.flags → HasEntry w.file w.place → ⊥) (sym v) c.requires.no_entry) in
     let within = subst (λ (w : WalkData). w.place < length w.file) (sym v) c.requires.within in
-    let none = ap (λ (t : List ℕ). is_some (get i.names t)) (sym c.as_bytes.ensures.value) ∙ ap is_some (sym c.get.ensures) ∙ sym c.is_some.ensures ∙ c.if-is_some.false in
-    let fresh = Knows-new (λ (g : GroupData). g.header.name) i.names b.0 c.in_ok-header.header.name.now b.2 none in
+    let name_is = c.as_bytes.ensures.value in
+    let fresh = Knows-new (λ (g : GroupData). g.header.name) i.names b.0 c.in_ok-header.header.name.now b.2 (rw name_is at c.in_ok-insert.ensures.is_new.0 c.if-not-branch.false) in
     let header = header_of c.in_ok-header.header in
     let found = c.in_ok-header.ensures.found in
     let moves = header_moves i.file.now i.place c.in_ok-header.end header found.1 within in
-    inr (pass_header i.file.now i.place i.names _ _ b.0 b.1 b.2 header c.in_ok-header.end found.0 found.1 moves c.in_ok-header.ensures.only fresh
-    (c.in_ok-insert.ensures.ok ∙ ap (λ (t : List ℕ). insert i.names t i.place) (c.in_ok-name.ensures.items ∙ c.as_bytes-2.ensures.value)) c.new.ensures)
+    inr (pass_header i.file.now i.place i.names c.insert.new.self c.clear.new.self b.0 b.1 b.2 header c.in_ok-header.end found.0 found.1 moves c.in_ok-header.ensures.only fresh (rw name_is at c.in_ok-insert.ensures.added) c.clear.ensures)
 
 pub returns-clause-item : goal.returns-clause-item
 returns-clause-item c = λ groups begins.
@@ -72,22 +86,11 @@ returns-clause-item c = λ groups begins.
     let i = c.self.inside in
     let b = between i.file.now i.place i.flags.now i.is_bare i.names i.keys c.self.invariant (ap (λ (w : WalkData). w.is_bare) v ∙ c.requires.bare)
     (subst (λ (w : WalkData). 0 < length w.flags → HasEntry w.file w.place → ⊥) (sym v) c.requires.no_entry) in
-    let none = ap (λ (t : List ℕ). is_some (get i.names t)) (sym c.as_bytes.ensures.value) ∙ ap is_some (sym c.get.ensures) ∙ sym c.is_some.ensures ∙ c.if-is_some.false in
-    let fresh = Knows-new (λ (g : GroupData). g.header.name) i.names b.0 c.in_ok-header.header.name.now b.2 none in
+    let fresh = Knows-new (λ (g : GroupData). g.header.name) i.names b.0 c.in_ok-header.header.name.now b.2 (rw c.as_bytes.ensures.value at c.in_ok-insert.ensures.is_new.0 c.if-not-branch.false) in
     let header = header_of c.in_ok-header.header in
     let found = c.in_ok-header.ensures.found in
     let same = same_between i.file.now i.place b.0 b.1 groups (subst (λ (w : WalkData). Begins w.file w.place groups) (sym v) begins) in
     let start = EntryStart-none i.file.now i.place c.in_ok-header.end b.0 header (record { are = b.1.are; stand = b.1.stand }) found.0 fresh found.1 in (
       subst (λ (gs : List GroupData). IsNewName gs header.name) (sym same) fresh,
       subst (λ (gs : List GroupData). Begins i.file.now c.in_ok-header.end (gs ++ record { header = header; entries = [] } ∷ [])) (sym same) (Begins-open i.file.now c.in_ok-header.end header [] start),
-    )
-
-pub returns-clause-forward : goal.returns-clause-forward
-returns-clause-forward c =
-    let v = c.self.view_is in
-    let i = c.self.inside in
-    let within = subst (λ (w : WalkData). w.place < length w.file) (sym v) c.requires.within in
-    let found = c.in_ok-header.ensures.found in (
-      subst (λ (w : WalkData). w.place < c.in_ok-header.end) v (header_moves i.file.now i.place c.in_ok-header.end (header_of c.in_ok-header.header) found.1 within),
-      found.1.within,
     )

@@ -1,0 +1,84 @@
+//! A changeset's file, gone through once it was read to its end.
+ghost use Rattle.std.specs.Prelude.{[], List, IfErr, IfOk};
+ghost use Rattle.cs_value.specs.Refusals.{Refuses};
+ghost use Rattle.cs_wire.specs.declared.entry.Entry.{Entry as EntryData};
+ghost use Rattle.cs_wire.specs.Changeset.{GroupData, IsFileOf};
+ghost use Rattle.cs_wire.specs.ReadFaults.{ReadFails};
+ghost use Rattle.cs_wire.specs.Tables.{AreLeft, NextEntry, NextTable};
+
+use crate::cursor::Cursor;
+use crate::entry_ref::EntryRef;
+use crate::fault::ReadError;
+use crate::header::HeaderRef;
+use crate::reader::header::read_header;
+use crate::reader::{has_entry, read_entry};
+use std::alloc::Global;
+use std::marker::Model;
+
+/// The tables of a changeset's file, one after another, with their entries. They were all seen before, so that
+/// none is refused. It takes no memory but for the pass before.
+#[derive(Debug, Drop)]
+pub struct Tables<'a> {
+    file: &'a [u8],
+    place: usize,
+    // Those of the table that is open: none before the first.
+    flags: &'a [u8],
+}
+
+impl<'a> Model for Tables<'a> {
+    ghost use Rattle.cs_wire.specs.Tables.{TablesData};
+
+    ghost Value = { TablesData };
+
+    ghost view = { λ t. record { file = t.file.now; place = t.place; flags = t.flags.now } };
+}
+
+impl<'a> Tables<'a> {
+    /// Reads a file to its end, and stands before its first table then.
+    ///
+    /// # Errors
+    ///
+    /// `Fault` where the file is that of no changeset: the first fault that is met, in the order of the file.
+    /// `NoMemory` where memory is refused.
+    pub fn read(alloc: Global, file: &'a [u8]) -> Result<Tables<'a>, ReadError>
+        ensures found { IfOk result (λ tables. (groups : List GroupData) × IsFileOf file.now groups × AreLeft tables [] groups) }
+        ensures refused { IfErr result (Refuses (λ f. ReadFails file.now f.kind f.place)) }
+    {
+        let mut cursor = Cursor::new(alloc, file);
+        'items: while let Some(_) = cursor.next()? {}
+        Ok(Tables {
+            file,
+            place: 0,
+            flags: &[],
+        })
+    }
+
+    /// The header of the next table, where no entry of the one before it is left.
+    pub fn next_table(&mut self) -> Option<HeaderRef<'a>>
+        ensures { (groups : List GroupData) → AreLeft self.old [] groups → NextTable groups result self.new }
+    {
+        if self.place >= self.file.len() {
+            return None;
+        }
+        let Ok((header, end)) = read_header(self.file, self.place) else {
+            return None;
+        };
+        self.place = end;
+        self.flags = header.flags;
+        Some(header)
+    }
+
+    /// The next entry of the table that is open, if another is left.
+    pub fn next_entry(&mut self) -> Option<EntryRef<'a>>
+        ensures { (entries : List EntryData) (groups : List GroupData) → AreLeft self.old entries groups → NextEntry self.old.flags entries groups result self.new }
+    {
+        if !has_entry(self.file, self.place) {
+            return None;
+        }
+        let Ok((seen, end)) = read_entry(self.file, self.place, self.flags) else {
+            return None;
+        };
+        self.place = end;
+        Some(seen)
+    }
+}
