@@ -19,6 +19,7 @@ pub mod ItemLemmas
 pub mod KeyLemmas
 pub mod ReadingLemmas
 pub mod RecordLemmas
+pub mod RunLemmas
 pub mod SeenLemmas
 pub mod ShownLemmas
 pub mod TablesLemmas

@@ -1,5 +1,6 @@
 //! Entries where they lie, in a file or owned.
 ghost use Rattle.std.specs.Prelude.{◌≡◌, ◌<◌, ◌++◌, IfOk, IfSome, OnOk, length, map, option_map};
+ghost use Rattle.std.specs.Cow.{cow_slice_items};
 ghost use Rattle.cs_value.specs.Spelling.{record_bytes};
 ghost use Rattle.cs_wire.specs.Items.{shown_record, value_in};
 ghost use Rattle.cs_wire.specs.Records.{HasWidth, IsWhole, fields_at};
@@ -8,10 +9,11 @@ use crate::entry::{Change, Entry, Operation};
 use crate::fields::{Fields, copy_cells, key_of_fields, write_fields};
 use crate::format::{DELETE, INSERT, UPDATE};
 use crate::record_ref::RecordRef;
-use crate::spelled::key_bytes;
+use crate::spelled::{key_bytes, key_text};
 use crate::writer::write_operation;
 use cs_value::{Field, Image, Key, NoMemory, OwnedField, OwnedValue, Row};
 use std::alloc::Global;
+use std::borrow::CowSlice;
 use std::marker::Model;
 
 /// An entry where it lies, in a file or owned, or the one that undoes it: what is seen of it borrows from there,
@@ -233,6 +235,16 @@ impl<'a> EntryRef<'a> {
         ensures { IfOk result (λ key. key ≡ key_of self.now.flags self.now.entry.change) }
     {
         Ok(Key::from_bytes(self.key_bytes(alloc)?))
+    }
+
+    /// The bytes of the entry's key: where they lie, if they do side by side, and else a copy.
+    pub(crate) fn key_text(&self, alloc: Global) -> Result<CowSlice<'a, u8, Global>, NoMemory>
+        ensures { IfOk result (λ key. cow_slice_items key ≡ key_of self.now.flags self.now.entry.change) }
+    {
+        match self.first {
+            RecordRef::Spelled(bytes) => key_text(alloc, self.flags, bytes),
+            _ => Ok(CowSlice::Owned(self.key_bytes(alloc)?)),
+        }
     }
 
     /// The bytes of the entry's key.
