@@ -3,7 +3,7 @@
 use crate::{INSERT, UPDATE};
 use cs_value::{Field, OwnedValue, Row, Value};
 use cs_wire::{
-    Change, Cursor, Entry, EntryRef, Group, Header, Item, ReadError, changeset_files_law,
+    Change, Cursor, Entry, EntryRef, Group, Header, Item, ReadError, Tables, changeset_files_law,
     entry_inverses_law, read, row_keys_law,
 };
 use std::process::Abort;
@@ -132,6 +132,36 @@ fn copies_an_entry_from_where_it_stands(rt: HostRuntime) {
     let whole = read(rt.alloc(), INSERT).expect(&rt, "a changeset");
     let group = whole.groups().first().expect(&rt, "a group");
     assert!(rt; group.entries().first() == Some(&copy));
+}
+
+#[test]
+fn undoes_an_entry_where_it_stands(rt: HostRuntime) {
+    let entry = entry_of(&rt, UPDATE).inverted();
+    assert!(rt; entry.old_field(0) == Some(Field::Defined(Value::Int(1))));
+    assert!(rt; entry.old_field(1) == Some(Field::Defined(Value::Text("y"))));
+    assert!(rt; entry.new_field(0) == Some(Field::Undefined));
+    assert!(rt; entry.new_field(1) == Some(Field::Defined(Value::Text("x"))));
+}
+
+#[test]
+fn has_the_key_of_an_entry_where_it_stands(rt: HostRuntime) {
+    let key = entry_of(&rt, UPDATE).key(rt.alloc()).expect(&rt, "memory");
+    assert!(rt; key.bytes() == b"\x01\0\0\0\0\0\0\0\x01".as_slice());
+}
+
+#[test]
+fn knows_keys_of_columns_that_stand_apart(rt: HostRuntime) {
+    let file =
+        b"T\x03\x01\0\x01t\0\x12\0\x03\x01a\x05\x03\x01b\x12\0\x03\x01a\x05\x03\x01c\x09\0\x03\x01a\x05\x03\x01b";
+    expect_items(&rt, file, &["table", "entry", "entry", "fault"]);
+}
+
+#[test]
+fn goes_through_a_file_that_was_read(rt: HostRuntime) {
+    let mut tables = Tables::read(rt.alloc(), UPDATE).expect(&rt, "a changeset");
+    assert!(rt; matches!(tables.next_table(), Some(header) if header.name == "t"));
+    assert!(rt; tables.next_entry().is_some() && tables.next_entry().is_none());
+    assert!(rt; tables.next_table().is_none());
 }
 
 /// They do nothing, and are called for their contracts alone.

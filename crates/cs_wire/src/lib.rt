@@ -25,7 +25,9 @@
 //! `header`, `entry`, `group` and `changeset` are what a file holds, `reader` and `writer` go from
 //! bytes to that and back, `fault` says why a file is refused, and `format` has the bytes that tell
 //! its parts apart. A `cursor` goes through a file by a `walk`, until its `ending`, and hands out
-//! each `item` where it stands, an `entry_ref` over fields that are `spelled` there. `places` finds
+//! each `item` where it stands; what it has `seen` before refuses the file. A `draft` is what `reader`
+//! has of a table so far, and `tables` go through a file once more that was read to its end. An
+//! `entry_ref` has `fields`, of a `record_ref` that is `spelled` in a file, or owned. `places` finds
 //! entries and groups, `inverse` undoes entries, and `laws` has what holds of all changesets.
 //! `CALLING.md`, beside this folder, shows a caller.
 #![tactic(auto)]
