@@ -89,7 +89,7 @@ IsChangeset-inverse groups are =
     }
 
 -- the whole is inverted
-pub inverted : (file out : List ℕ) (groups : List GroupData) → IsFileOf file groups → out ≡ file_bytes (map inverse_group groups) → Inverts file out × (length out ≡ length file)
+inverted : (file out : List ℕ) (groups : List GroupData) → IsFileOf file groups → out ≡ file_bytes (map inverse_group groups) → Inverts file out × (length out ≡ length file)
 inverted file out groups is written =
     let inverse = map inverse_group groups in
     let is_inverse = (groups_inverse groups (recursion_from_All IsGroup groups is.0.each)).1 in
@@ -105,3 +105,8 @@ inverted file out groups is written =
       },
       ap length written ∙ inverse_length groups inverse is.0 is_changeset is_inverse ∙ sym (ap length is.1),
     )
+
+-- where a front of the file is the whole
+pub front_inverted : (file to : List ℕ) (place : ℕ) (out : List ℕ) → InvertsFront file place out → to ≡ file → ((groups : List GroupData) → Begins file place groups → IsFileOf to groups)
+    → Inverts file out × (length out ≡ length file)
+front_inverted file to place out so same whole = inverted file out so.groups (rw same at whole so.groups so.begins) so.written

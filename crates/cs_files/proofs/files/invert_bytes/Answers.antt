@@ -1,7 +1,7 @@
 -- `files::invert_bytes`: the invariant of the loop, the clauses `inverted` and `length`.
 use Rattle.std.proofs.Common.{Option, Ok, ap, ◌∙◌}
 use Rattle.cs_wire.specs.declared.item.Item.{Item}
-use Rattle.cs_files.proofs.InvertLemmas.{InvertsFront-next, inverted}
+use Rattle.cs_files.proofs.InvertLemmas.{InvertsFront-next, front_inverted}
 use Rattle.cs_files.proofs.files.invert_bytes.Goals as goal
 
 pub items-preserved : goal.items-preserved
@@ -12,14 +12,10 @@ items-preserved c =
 
 pub returns-clause-inverted : goal.returns-clause-inverted
 returns-clause-inverted c =
-    let so = c.items.invariant.1 in
-    let file = c.in_ok-item.ensures.file ∙ c.items.invariant.0 in
-    let whole = rw file at c.in_ok-item.ensures.end so.groups so.begins (ap (λ (next : Option Item). Ok next) c.in_default.is) in
-    (inverted c.args.file.now c.items.out.items so.groups whole so.written).0
+    rw c.items.invariant.0 at (front_inverted c.items.cursor.file _ c.items.cursor.place c.items.out.items c.items.invariant.1 c.in_ok-item.ensures.file
+    (λ groups begins. c.in_ok-item.ensures.end groups begins (ap (λ (next : Option Item). Ok next) c.in_default.is))).0
 
 pub returns-clause-length : goal.returns-clause-length
 returns-clause-length c =
-    let so = c.items.invariant.1 in
-    let file = c.in_ok-item.ensures.file ∙ c.items.invariant.0 in
-    let whole = rw file at c.in_ok-item.ensures.end so.groups so.begins (ap (λ (next : Option Item). Ok next) c.in_default.is) in
-    (inverted c.args.file.now c.items.out.items so.groups whole so.written).1
+    rw c.items.invariant.0 at (front_inverted c.items.cursor.file _ c.items.cursor.place c.items.out.items c.items.invariant.1 c.in_ok-item.ensures.file
+    (λ groups begins. c.in_ok-item.ensures.end groups begins (ap (λ (next : Option Item). Ok next) c.in_default.is))).1
