@@ -1,39 +1,83 @@
 #!/usr/bin/env python3
-"""Times calls of the library from C, in one process: `vollikash_invert` of a file and `vollikash_concat` of two.
+"""Times calls of the library from C, in one process: `vollikash_invert` of a file and `vollikash_concat` of two; and beside
+each the call of SQLite's own session extension that does the same, on the same files.
 
 A time is the shortest of five calls in one process, with the files in memory and a buffer that is long enough. The files are
-those of `read_write.py`, of 1000, 10000 and 100000 entries: all in one table, and ten in each table; half of the
-keys of the second file of a join are the first one's too. The library has to be built first: `make -C bindings/c`.
+those of `read_write.py`, of 1000, 10000, 100000 and 1000000 entries: all in one table, with keys that rise and with keys in
+no order, as a session writes them; and ten in each table. Half of the keys of the second file of a join are the first one's too.
+SQLite's join takes time in proportion to the square of the count of tables, and is left out for more than some thousand of them.
+The library has to be built first: `make -C bindings/c`. Where there is no SQLite with its session extension to compile
+against, its columns are left out.
 
 usage: bench/calls.py
 """
 import os
+import random
 import subprocess
 import tempfile
 
-from read_write import fill, one_table, one_table_more, tables_of_ten, tables_of_ten_more
+from read_write import entry, fill, header, one_table, one_table_more, tables_of_ten, tables_of_ten_more
 
-COUNTS = (1_000, 10_000, 100_000)
+COUNTS = (1_000, 10_000, 100_000, 1_000_000)
+MOST_IN_TABLES = 10_000
 TOP = os.path.dirname(os.path.dirname(os.path.abspath(__file__)))
 BINDINGS = os.path.join(TOP, "bindings/c")
 
 
+def in_no_order(first, count):
+    """So many keys from a first one on, in an order that is the same each time."""
+    keys = list(range(first, first + count))
+    random.Random(1).shuffle(keys)
+    return keys
+
+
+def shuffled_table(entries):
+    yield header(b"t")
+    for key in in_no_order(0, entries):
+        yield entry(key, key)
+
+
+def shuffled_table_more(entries):
+    """A second file, whose first half has the keys of the second half of the first."""
+    yield header(b"t")
+    for key in in_no_order(entries // 2, entries):
+        yield entry(key // 3, key)
+
+
+SHAPES = ((one_table, one_table_more), (shuffled_table, shuffled_table_more), (tables_of_ten, tables_of_ten_more))
+
+
+def seconds(program, files):
+    ran = subprocess.run([program, *files], capture_output=True, text=True, check=True)
+    return float(ran.stdout.split()[0])
+
+
+def compiled(source, program, *words):
+    """Compiles a program of this folder, and answers whether that went well."""
+    command = ["cc", "-O2", os.path.join(TOP, "bench", source), *words, "-o", program]
+    return subprocess.run(command, capture_output=True).returncode == 0
+
+
 def main():
     with tempfile.TemporaryDirectory() as folder:
-        program, file, more = (os.path.join(folder, name) for name in ("calls", "file.cs", "more.cs"))
-        source, library = os.path.join(TOP, "bench/calls.c"), os.path.join(BINDINGS, "out/libvollikash.a")
-        subprocess.run(["cc", "-O2", "-I", BINDINGS, source, library, "-o", program], check=True)
-        for shape, shape_more in ((one_table, one_table_more), (tables_of_ten, tables_of_ten_more)):
+        calls, library, file, more = (os.path.join(folder, name) for name in ("calls", "library", "file.cs", "more.cs"))
+        if not compiled("calls.c", calls, "-I", BINDINGS, os.path.join(BINDINGS, "out/libvollikash.a")):
+            raise SystemExit("bench/calls.py: bench/calls.c does not compile: build the library first")
+        beside = compiled("library.c", library, "-lsqlite3")
+        for shape, shape_more in SHAPES:
             print(shape.__name__.replace("_", " "))
-            print("  entries  call         bytes   seconds   us/entry")
+            print("  entries  call         bytes   seconds   us/entry" + ("    SQLite    times" if beside else ""))
             for entries in COUNTS:
                 fill(file, shape(entries))
                 fill(more, shape_more(entries))
                 for call, files in (("invert", [file]), ("concat", [file, more])):
-                    ran = subprocess.run([program, *files], capture_output=True, text=True, check=True)
-                    taken = float(ran.stdout.split()[0])
+                    taken = seconds(calls, files)
                     size = sum(os.path.getsize(name) for name in files)
-                    print(f"{entries:>9}  {call:<7} {size:>10} {taken:>9.4f} {taken / entries * 1e6:>10.3f}")
+                    line = f"{entries:>9}  {call:<7} {size:>10} {taken:>9.4f} {taken / entries * 1e6:>10.3f}"
+                    if beside and not (call == "concat" and shape is tables_of_ten and entries > MOST_IN_TABLES):
+                        theirs = seconds(library, files)
+                        line += f" {theirs:>9.4f} {taken / theirs:>8.2f}"
+                    print(line, flush=True)
 
 
 if __name__ == "__main__":
