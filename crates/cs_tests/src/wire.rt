@@ -137,6 +137,7 @@ fn copies_an_entry_from_where_it_stands(rt: HostRuntime) {
 #[test]
 fn undoes_an_entry_where_it_stands(rt: HostRuntime) {
     let entry = entry_of(&rt, UPDATE).inverted();
+    assert!(rt; entry.column_count() == 2 && !entry.is_indirect());
     assert!(rt; entry.old_field(0) == Some(Field::Defined(Value::Int(1))));
     assert!(rt; entry.old_field(1) == Some(Field::Defined(Value::Text("y"))));
     assert!(rt; entry.new_field(0) == Some(Field::Undefined));
