@@ -1,9 +1,7 @@
 -- Fields where they stand in a file.
 use Rattle.std.proofs.Common.{◌≡◌, ℕ, zero, suc, ◌+◌, ◌-◌, ◌<◌, ◌≤◌, List, [], ◌∷◌, ◌++◌, length, map, take, drop, get_or, Result, Ok, Err, refl, sym, ap, ◌∙◌, append_assoc, arith}
-use Rattle.std.proofs.lemmas.List.{append-nil, drop_at, drop_all, drop_more, length-map, take_at, take_all, get_or_default}
+use Rattle.std.proofs.lemmas.List.{append-nil, drop_at, drop_all, drop_more, length-map, take_at, get_or_default}
 use Rattle.std.proofs.lemmas.List.Elements.{All-from_recursion}
-use Rattle.cs_value.specs.Key.{key_columns, image_key}
-use Rattle.cs_value.proofs.KeyColumns.{is_key_column, no_key_column}
 use Rattle.cs_value.specs.declared.fault.FieldFault.{FieldFault}
 use Rattle.cs_value.specs.declared.value.OwnedField.{OwnedField}
 use Rattle.cs_value.specs.declared.value.OwnedField.TheVariants.{Undefined}
@@ -115,15 +113,7 @@ fields_in-record columns flags file at end fields bytes r same =
     let width : length flags ≡ length fields = sym (length-wants_in columns flags) ∙ length-Meets (wants_in columns flags) fields r.wanted in
     rw (width, same, ← append-nil (record_bytes fields)) (fields_in-spelled fields [] r.is_record)
 
--- ---- what stands in the key columns
-
--- as many columns were passed as there were flags: these bytes are left of the record, and those were copied
-pub record KeySoFar (flags : List ℕ) (fields : List OwnedField) (i : ℕ) (left key : List ℕ) : Type 0 where
-  pub left_is : left ≡ record_bytes (drop i fields)
-  pub key_is : key ≡ record_bytes (key_columns (take i flags) (take i fields))
-
-pub KeySoFar-none : (flags : List ℕ) (fields : List OwnedField) (record_is : List ℕ) → record_is ≡ record_bytes fields → KeySoFar flags fields 0 record_is []
-KeySoFar-none flags fields record_is spelled = record { left_is = spelled; key_is = refl }
+-- ---- a record that is left
 
 -- the field at the front of what is left
 pub front_left : (fields : List OwnedField) (i : ℕ) (left : List ℕ) → IsRecord fields → i < length fields → left ≡ record_bytes (drop i fields)
@@ -135,23 +125,3 @@ front_left fields i left are lt e =
     let here : IsField f = All-from_recursion IsField fields are i Undefined lt in
     let front : front_of (field_bytes f ++ behind) ≡ (f, length (field_bytes f)) = ap read_or_undefined (field_again f behind here) in
     (f, get_or_default fields i Undefined f lt, rw (is, front) (take_at (field_bytes f) behind (length (field_bytes f)) refl), rw (is, front) (drop_at (field_bytes f) behind (length (field_bytes f)) refl))
-
-module _ (flags : List ℕ) (fields : List OwnedField) (i : ℕ) (left key : List ℕ) (so : KeySoFar flags fields i left key) where
-  pub KeySoFar-next : IsRecord fields → length flags ≡ length fields → i < length flags → (field rest grown : List ℕ) → field ≡ take (front_of left).1 left → rest ≡ drop (front_of left).1 left
-      → (0 < get_or flags i 0 → grown ≡ key ++ field) → (get_or flags i 0 ≡ 0 → grown ≡ key) → KeySoFar flags fields (i + 1) rest grown
-  KeySoFar-next are width lt field rest grown field_is rest_is is_key no_key =
-      let within : i < length fields = omega (arith, width, lt) in
-      let front = front_left fields i left are within so.left_is in record {
-        left_is = rest_is ∙ front.3;
-        key_is = by_flag (get_or flags i 0) refl front.0 front.1 (field_is ∙ front.2);
-      }
-    where
-      by_flag : (flag : ℕ) → get_or flags i 0 ≡ flag → (f : OwnedField) → f ≡ get_or fields i f → field ≡ field_bytes f → grown ≡ record_bytes (key_columns (take (i + 1) flags) (take (i + 1) fields))
-      by_flag zero is f f_is spelled =
-          no_key is ∙ so.key_is ∙ no_key_column field_bytes flags fields i 0 f lt (omega (arith, width, lt)) (sym is) f_is refl
-      by_flag (suc flag) is f f_is spelled =
-          is_key (rw is (omega arith)) ∙ ap (λ (x : List ℕ). key ++ x) spelled ∙ ap (λ (x : List ℕ). x ++ field_bytes f) so.key_is
-          ∙ is_key_column field_bytes flags fields i (suc flag) f lt (omega (arith, width, lt)) (sym is) f_is (omega arith)
-
-  pub KeySoFar-end : length flags ≡ length fields → length flags ≤ i → key ≡ image_key flags fields
-  KeySoFar-end width le = so.key_is ∙ rw (take_all i flags le, take_all i fields (omega (arith, width, le))) refl

@@ -24,8 +24,8 @@ use Rattle.cs_wire.specs.declared.record_ref.RecordRef.TheVariants.{Spelled, Val
 use Rattle.cs_wire.specs.Entry.{IsChange, IsEntry, entry_bytes, key_of, operation, with_key}
 use Rattle.cs_wire.specs.Inverse.{IsInverseEntry}
 use Rattle.cs_wire.specs.Views.{inverse_operation, inverse_change}
-use Rattle.cs_wire.specs.Items.{IsSpelled, change_of, entry_in, entry_of, fields_in, first_record, shown, shown_entry, shown_record}
-use Rattle.cs_wire.specs.Records.{IsNextField, IsRowOperation, IsShown, IsWhole, fields_at, row_change}
+use Rattle.cs_wire.specs.Items.{IsNextField, IsSpelled, change_of, entry_in, entry_of, fields_in, first_record, shown, shown_entry, shown_record}
+use Rattle.cs_wire.specs.Records.{IsRowOperation, IsShown, IsWhole, fields_at, row_change}
 use Rattle.cs_wire.proofs.EntryLemmas.{length-IsKeyedUpdate}
 use Rattle.cs_wire.proofs.InverseLemmas.{inverse_entry_is, IsChange-inverse, key_of-inverse, with_key_twice}
 use Rattle.cs_wire.proofs.ItemLemmas.{length-fields_in}
@@ -39,7 +39,7 @@ pub record AtColumn (left : List OwnedField) (column : ℕ) (f : OwnedField) : T
   pub is : get_or left column Undefined ≡ f
 
 pub AtColumn-next : (left after : List OwnedField) (next : Option Field) (column : ℕ) (f : OwnedField) → AtColumn left (suc column) f → IsNextField left next after → AtColumn after column f
-AtColumn-next left after None column f so none = absurd (omega (arith, so.within, ap length none))
+AtColumn-next left after None column f so none = absurd (omega (arith, so.within, ap length none.0))
 AtColumn-next left after (Some field) column f so step = record {
   within = omega (arith, so.within, ap length step.0);
   is = ap (λ (fs : List OwnedField). get_or fs (suc column) Undefined) (sym step.0) ∙ so.is;

@@ -1,5 +1,6 @@
 -- A changeset's file that is gone through table by table.
-use Rattle.std.proofs.Common.{◌≡◌, ℕ, ◌<◌, ◌≤◌, List, [], ◌∷◌, ◌++◌, length, length-append, drop, refl, sym, ap, ◌∙◌, append_assoc, arith}
+use Rattle.std.proofs.Common.{◌≡◌, ℕ, ◌<◌, ◌≤◌, List, [], ◌∷◌, ◌++◌, length, length-append, drop, false, refl, sym, ap, ◌∙◌, append_assoc, arith}
+use Rattle.std.specs.Prelude.{Option, Some, None, is_some}
 use Rattle.std.specs.List.{AllByRecursion}
 use Rattle.std.proofs.lemmas.List.{drop_all, length-drop}
 use Rattle.std.proofs.lemmas.List.Elements.{recursion_from_All}
@@ -9,7 +10,7 @@ use Rattle.cs_wire.specs.Entry.{IsEntry, entry_bytes}
 use Rattle.cs_wire.specs.Changeset.{HeaderData, GroupData, IsFileOf, IsGroup, IsHeader, entries_bytes, group_bytes, file_bytes, header_bytes}
 use Rattle.cs_wire.specs.Items.{FlaggedEntry, header_of}
 use Rattle.cs_wire.specs.ReadFaults.{Stands, HasEntry}
-use Rattle.cs_wire.specs.Tables.{TablesData, AreLeft, IsNextEntry, IsNextTable}
+use Rattle.cs_wire.specs.Tables.{TablesData, AreLeft, IsNextEntry, IsNextTable, NextEntry}
 use Rattle.cs_wire.proofs.EntriesLemmas.{HasEntry-entry, not_ended}
 use Rattle.cs_wire.proofs.GroupsLemmas.{ends_group, group_bytes-append, group_bytes_some}
 use Rattle.cs_wire.proofs.ReadingLemmas.{rest_is}
@@ -29,8 +30,8 @@ AreLeft-all file groups is = record {
 -- ---- entries
 
 -- where no entry is to be read, none is left
-pub no_entry_left : (tables : TablesData) (entries : List Entry) (groups : List GroupData) → AreLeft tables entries groups → (HasEntry tables.file tables.place → ⊥) → (entries ≡ []) × AreLeft tables [] groups
-no_entry_left tables [] groups so none = (refl, so)
+pub no_entry_left : (tables : TablesData) (entries : List Entry) (groups : List GroupData) → AreLeft tables entries groups → (HasEntry tables.file tables.place → ⊥) → (entries ≡ []) × (tables.flags ≡ tables.flags) × AreLeft tables [] groups
+no_entry_left tables [] groups so none = (refl, refl, so)
 no_entry_left tables (entry ∷ entries) groups so none =
     absurd (none (HasEntry-entry tables.file tables.place entry (entries_bytes entries ++ file_bytes groups) so.within (so.spelled ∙ append_assoc (entry_bytes entry) (entries_bytes entries) (file_bytes groups))))
 
@@ -54,6 +55,7 @@ module _ (tables : TablesData) (entries : List Entry) (groups : List GroupData) 
         others = left.1;
         is = left.2 ∙ ap (λ (e : Entry). e ∷ left.1) (sym same);
         flags_are = flags_are;
+        flags_stay = refl;
         are_left = record {
           within = stands.within;
           each = left.5;
@@ -66,8 +68,8 @@ module _ (tables : TablesData) (entries : List Entry) (groups : List GroupData) 
 -- ---- tables
 
 -- at the end of the file no table is left
-pub no_table_left : (tables : TablesData) (groups : List GroupData) → AreLeft tables [] groups → length tables.file ≤ tables.place → groups ≡ []
-no_table_left tables [] so le = refl
+pub no_table_left : (tables : TablesData) (groups : List GroupData) → AreLeft tables [] groups → length tables.file ≤ tables.place → (groups ≡ []) × AreLeft tables [] []
+no_table_left tables [] so le = (refl, so)
 no_table_left tables (group ∷ groups) so le =
     absurd (omega (arith, ap length (sym (drop_all tables.place tables.file le) ∙ so.spelled), length-append (group_bytes group) (file_bytes groups), group_bytes_some group))
 
@@ -101,3 +103,12 @@ module _ (tables : TablesData) (groups : List GroupData) (so : AreLeft tables []
               (left.4 ∙ ap (λ (h : HeaderData). header_bytes h ++ (entries_bytes left.0.entries ++ file_bytes left.1)) (sym same));
         };
       }
+
+-- entries that are passed over
+pub passed_over : (flags : List ℕ) (entries : List Entry) (groups : List GroupData) (next : Option FlaggedEntry) (after : TablesData) → NextEntry flags entries groups next after → (left : List Entry) × AreLeft after left groups
+passed_over flags entries groups None after next = ([], next.2)
+passed_over flags entries groups (Some seen) after next = (next.others, next.are_left)
+
+pub all_passed : (flags : List ℕ) (entries : List Entry) (groups : List GroupData) (next : Option FlaggedEntry) (after : TablesData) → NextEntry flags entries groups next after → is_some next ≡ false → AreLeft after [] groups
+all_passed flags entries groups None after next none = next.2
+all_passed flags entries groups (Some seen) after next none = absurd cc

@@ -6,7 +6,8 @@ use Rattle.cs_value.specs.declared.value.OwnedValue.{OwnedValue}
 use Rattle.cs_value.specs.declared.value.OwnedValue.TheVariants.{Null}
 use Rattle.cs_value.specs.declared.value.OwnedField.{OwnedField}
 use Rattle.cs_value.specs.declared.value.OwnedField.TheVariants.{Undefined, Defined}
-use Rattle.cs_value.specs.Value.{IsRecord}
+use Rattle.cs_value.specs.declared.value.Field.{Field}
+use Rattle.cs_value.specs.Value.{FieldFits, IsRecord, field_of}
 use Rattle.cs_value.specs.Key.{image_key}
 use Rattle.cs_value.specs.Spelling.{record_bytes}
 use Rattle.cs_value.specs.Reading.{field_at}
@@ -121,6 +122,11 @@ pub record IsSpelled (seen : FlaggedEntry) (first second : List ℕ) : Type 0 wh
   pub is_entry : IsEntry seen.flags seen.entry
   pub spelled : first ++ second ≡ record_bytes (fields_of seen.entry.change)
   pub has_first : IsFirst seen.flags seen.entry.change first
+
+-- a field is the next of some, or there is none, and will be none
+abbrev pub IsNextField : List OwnedField → Option Field → List OwnedField → Type 0
+IsNextField before None after = (before ≡ []) × (after ≡ [])
+IsNextField before (Some field) after = (before ≡ field_of field ∷ after) × FieldFits field
 
 -- what stands in the columns, after the change: of an update the new record
 abbrev pub new_record : Change → Option (List OwnedField)

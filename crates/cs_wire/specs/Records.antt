@@ -1,9 +1,8 @@
 -- Records where they lie, spelled in a file or owned; this project's own.
-use Rattle.std.specs.Prelude.{◌≡◌, ℕ, Bool, List, [], ◌∷◌, length, map, Option, Some, None}
-use Rattle.cs_value.specs.declared.value.Field.{Field}
+use Rattle.std.specs.Prelude.{◌≡◌, ℕ, Bool, List, length, map, Option, Some, None}
 use Rattle.cs_value.specs.declared.value.OwnedField.{OwnedField}
 use Rattle.cs_value.specs.declared.value.OwnedField.TheVariants.{Defined}
-use Rattle.cs_value.specs.Value.{IsRecord, FieldFits, field_of}
+use Rattle.cs_value.specs.Value.{IsRecord}
 use Rattle.cs_value.specs.Key.{image_key}
 use Rattle.cs_value.specs.Spelling.{record_bytes}
 use Rattle.cs_wire.specs.declared.entry.Operation.{Operation}
@@ -53,11 +52,6 @@ row_change Update row = change.Insert row
 abbrev pub shown_fields : List ℕ → List OwnedField → Option (List OwnedField) → List OwnedField
 shown_fields flags own None = own
 shown_fields flags own (Some other) = with_key flags own other
-
--- a field is the next of some, or there is none
-abbrev pub IsNextField : List OwnedField → Option Field → List OwnedField → Type 0
-IsNextField before None after = before ≡ []
-IsNextField before (Some field) after = (before ≡ field_of field ∷ after) × FieldFits field
 
 -- an entry of its table with these records, which is one of it too as it is shown, with the same key
 pub record IsShown (exchanged : Bool) (seen : FlaggedEntry) (what : Operation) (first second : RecordRef) : Type 0 where

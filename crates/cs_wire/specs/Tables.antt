@@ -26,10 +26,11 @@ pub record IsNextEntry (flags : List ℕ) (entries : List Entry) (groups : List 
   pub others : List Entry
   pub is : entries ≡ seen.entry ∷ others
   pub flags_are : seen.flags ≡ flags
+  pub flags_stay : after.flags ≡ flags
   pub are_left : AreLeft after others groups
 
 abbrev pub NextEntry : List ℕ → List Entry → List GroupData → Option FlaggedEntry → TablesData → Type 0
-NextEntry flags entries groups None after = (entries ≡ []) × AreLeft after [] groups
+NextEntry flags entries groups None after = (entries ≡ []) × (after.flags ≡ flags) × AreLeft after [] groups
 NextEntry flags entries groups (Some seen) after = IsNextEntry flags entries groups seen after
 
 -- the header is that of the next of the groups that are left, and its entries and the others are left then
@@ -43,5 +44,5 @@ pub record IsNextTable (groups : List GroupData) (header : HeaderRef) (after : T
   pub are_left : AreLeft after group.entries others
 
 abbrev pub NextTable : List GroupData → Option HeaderRef → TablesData → Type 0
-NextTable groups None after = groups ≡ []
+NextTable groups None after = (groups ≡ []) × AreLeft after [] []
 NextTable groups (Some header) after = IsNextTable groups header after

@@ -1,5 +1,5 @@
 //! Entries where they lie, in a file or owned.
-ghost use Rattle.std.specs.Prelude.{◌≡◌, ◌<◌, ◌++◌, IfOk, IfSome, OnOk, length, map, option_map};
+ghost use Rattle.std.specs.Prelude.{◌≡◌, ◌<◌, ◌++◌, IfOk, IfSome, OnErr, OnOk, length, map, option_map, take};
 ghost use Rattle.std.specs.Cow.{cow_slice_items};
 ghost use Rattle.cs_value.specs.Spelling.{record_bytes};
 ghost use Rattle.cs_wire.specs.Items.{shown_record, value_in};
@@ -9,8 +9,8 @@ use crate::entry::{Change, Entry, Operation};
 use crate::fields::{Fields, copy_cells, key_of_fields, write_fields};
 use crate::format::{DELETE, INSERT, UPDATE};
 use crate::record_ref::RecordRef;
-use crate::spelled::{key_bytes, key_text};
-use crate::writer::write_operation;
+use crate::spelled::key_slice;
+use crate::writer::{undo_refused, write_operation};
 use cs_value::{Field, Image, Key, NoMemory, OwnedField, OwnedValue, Row};
 use std::alloc::Global;
 use std::borrow::CowSlice;
@@ -195,12 +195,10 @@ impl<'a> EntryRef<'a> {
         match self.operation {
             Operation::Insert => Some(Fields::new(self.flags, self.first, self.first, false)),
             Operation::Delete => None,
-            Operation::Update => Some(Fields::new(
-                self.flags,
-                self.second,
-                self.first,
-                self.exchanged,
-            )),
+            Operation::Update => {
+                let (own, other) = (self.second, self.first);
+                Some(Fields::new(self.flags, own, other, self.exchanged))
+            }
         }
     }
 
@@ -238,26 +236,23 @@ impl<'a> EntryRef<'a> {
     }
 
     /// The bytes of the entry's key: where they lie, if they do side by side, and else a copy.
-    pub(crate) fn key_text(&self, alloc: Global) -> Result<CowSlice<'a, u8, Global>, NoMemory>
+    pub(crate) fn key_slice(&self, alloc: Global) -> Result<CowSlice<'a, u8, Global>, NoMemory>
         ensures { IfOk result (λ key. cow_slice_items key ≡ key_of self.now.flags self.now.entry.change) }
     {
-        match self.first {
-            RecordRef::Spelled(bytes) => key_text(alloc, self.flags, bytes),
-            _ => Ok(CowSlice::Owned(self.key_bytes(alloc)?)),
+        if let RecordRef::Spelled(bytes) = self.first {
+            if let Some(key) = key_slice(self.flags, bytes) {
+                return Ok(CowSlice::Borrowed(key));
+            }
         }
+        Ok(CowSlice::Owned(self.key_bytes(alloc)?))
     }
 
     /// The bytes of the entry's key.
-    pub(crate) fn key_bytes(&self, alloc: Global) -> Result<Vec<u8>, NoMemory>
+    fn key_bytes(&self, alloc: Global) -> Result<Vec<u8>, NoMemory>
         ensures { IfOk result (λ key. key.items ≡ key_of self.now.flags self.now.entry.change) }
     {
-        match self.first {
-            RecordRef::Spelled(bytes) => key_bytes(alloc, self.flags, bytes),
-            first => {
-                let fields = Fields::new(self.flags, first, first, false);
-                key_of_fields(alloc, self.flags, fields)
-            }
-        }
+        let fields = Fields::new(self.flags, self.first, self.first, false);
+        key_of_fields(alloc, self.flags, fields)
     }
 
     /// The entry that undoes this one: the delete of the row that it inserts, the insert of the row that it
@@ -285,9 +280,20 @@ impl<'a> EntryRef<'a> {
         }
     }
 
-    /// Appends the entry's bytes.
+    /// Appends the entry's bytes. [`NoMemory`] leaves `out` as it was.
     pub fn write_to(&self, out: &mut Vec<u8>) -> Result<(), NoMemory>
-        ensures { OnOk result (out.new.items ≡ out.old.items ++ entry_bytes self.now.entry) }
+        ensures ok { OnOk result (out.new.items ≡ out.old.items ++ entry_bytes self.now.entry) }
+        ensures err { OnErr result (out.new.items ≡ out.old.items) }
+    {
+        let start = out.len();
+        let written = self.append_to(out);
+        undo_refused(out, start, written)
+    }
+
+    /// Appends the entry's bytes, or some of them.
+    fn append_to(&self, out: &mut Vec<u8>) -> Result<(), NoMemory>
+        ensures ok { OnOk result (out.new.items ≡ out.old.items ++ entry_bytes self.now.entry) }
+        ensures err { OnErr result (take (length out.old.items) out.new.items ≡ out.old.items) }
     {
         write_operation(out, self.operation(), self.indirect)?;
         match self.operation {
@@ -332,8 +338,9 @@ fn write_record(
 ) -> Result<(), NoMemory>
     requires own { IsWhole (length flags.now) own }
     requires other { HasWidth (length flags.now) other }
-    ensures { OnOk result (out.new.items ≡ out.old.items ++ record_bytes (shown_record exchanged flags.now
+    ensures ok { OnOk result (out.new.items ≡ out.old.items ++ record_bytes (shown_record exchanged flags.now
         (fields_at (length flags.now) own.entry) (fields_at (length flags.now) other.entry))) }
+    ensures err { OnErr result (take (length out.old.items) out.new.items ≡ out.old.items) }
 {
     match own {
         RecordRef::Spelled(bytes) if !exchanged => Ok(out.extend_from_slice(bytes)?),

@@ -1,5 +1,5 @@
 //! The fields of a record, one after another.
-ghost use Rattle.std.specs.Prelude.{◌≡◌, ◌<◌, ◌++◌, IfOk, OnOk, true, length, map, slice_index_or};
+ghost use Rattle.std.specs.Prelude.{◌≡◌, ◌<◌, ◌++◌, IfOk, OnErr, OnOk, true, length, map, slice_index_or, take};
 ghost use Rattle.cs_value.specs.declared.value.OwnedField.{OwnedField};
 ghost use Rattle.cs_value.specs.declared.value.OwnedField.TheVariants.{Undefined};
 ghost use Rattle.cs_value.specs.Value.{FieldFits, field_of};
@@ -40,7 +40,7 @@ impl<'a> Iterator for Fields<'a> {
 
     ghost use Rattle.std.specs.Prelude.{length};
     ghost use Rattle.std.specs.Iterator.{at_most};
-    ghost use Rattle.cs_wire.specs.Records.{IsNextField};
+    ghost use Rattle.cs_wire.specs.Items.{IsNextField};
 
     ghost remaining = { λ f. at_most (length f) };
 
@@ -130,7 +130,7 @@ impl Cell for OwnedField {
 pub(crate) fn copy_cells<C: Cell>(alloc: Global, fields: Fields<'_>) -> Result<Vec<C>, NoMemory>
     ensures { IfOk result (λ cells. cells.items ≡ map C.cell_of fields.entry) }
 {
-    let mut cells = Vec::new(alloc);
+    let mut cells = Vec::with_capacity(alloc, fields.flags.len())?;
     let mut left = fields;
     'fields: while let Some(field) = left.next() {
         cells.push(C::of_field(alloc, field)?)?;
@@ -140,7 +140,8 @@ pub(crate) fn copy_cells<C: Cell>(alloc: Global, fields: Fields<'_>) -> Result<V
 
 /// Appends the bytes of fields.
 pub(crate) fn write_fields(out: &mut Vec<u8>, fields: Fields<'_>) -> Result<(), NoMemory>
-    ensures { OnOk result (out.new.items ≡ out.old.items ++ record_bytes fields.entry) }
+    ensures ok { OnOk result (out.new.items ≡ out.old.items ++ record_bytes fields.entry) }
+    ensures err { OnErr result (take (length out.old.items) out.new.items ≡ out.old.items) }
 {
     let mut left = fields;
     'fields: while let Some(field) = left.next() {

@@ -6,7 +6,7 @@ ghost use Rattle.cs_wire.specs.Entry.{IsKeyedUpdate};
 ghost use Rattle.cs_wire.specs.Changeset.{HeaderData, IsHeader};
 
 use crate::entry::{Change, Entry};
-use crate::writer::write_header;
+use crate::writer::{undo_refused, write_header};
 use cs_value::{Field, Key, MAX_COLUMNS, NoMemory, OwnedField, Value, is_table_name};
 use std::alloc::Global;
 use std::marker::Model;
@@ -68,10 +68,11 @@ impl Header {
     pub fn copy(&self, alloc: Global) -> Result<Header, NoMemory>
         ensures { IfOk result (λ h. h ≡ self.now) }
     {
-        Ok(Header {
-            name: String::from_str(alloc, &self.name)?,
-            flags: Vec::from_slice(alloc, &self.flags)?,
-        })
+        HeaderRef {
+            name: self.name(),
+            flags: self.flags(),
+        }
+        .to_header(alloc)
     }
 
     /// The key of an entry that fits the flags ([`Header::admits`]).
@@ -132,7 +133,7 @@ pub struct HeaderRef<'a> {
 }
 
 impl HeaderRef<'_> {
-    ghost use Rattle.std.specs.Prelude.{◌++◌, OnOk};
+    ghost use Rattle.std.specs.Prelude.{◌++◌, OnErr, OnOk};
     ghost use Rattle.cs_wire.specs.Changeset.{header_bytes};
     ghost use Rattle.cs_wire.specs.Items.{header_of};
 
@@ -147,12 +148,15 @@ impl HeaderRef<'_> {
         })
     }
 
-    /// Appends the header's bytes. Its name and its flags make one ([`Header::fits`]).
+    /// Appends the header's bytes. Its name and its flags make one ([`Header::fits`]). [`NoMemory`] leaves `out` as it was.
     pub fn write_to(&self, out: &mut Vec<u8>) -> Result<(), NoMemory>
         requires { IsHeader (header_of self.now) }
-        ensures { OnOk result (out.new.items ≡ out.old.items ++ header_bytes (header_of self.now)) }
+        ensures ok { OnOk result (out.new.items ≡ out.old.items ++ header_bytes (header_of self.now)) }
+        ensures err { OnErr result (out.new.items ≡ out.old.items) }
     {
-        write_header(out, self.name, self.flags)
+        let start = out.len();
+        let written = write_header(out, self.name, self.flags);
+        undo_refused(out, start, written)
     }
 }
 

@@ -19,7 +19,7 @@ struct Text<'a> {
 /// Texts, which are lists of bytes, each there once. Contracts see the list of them. They stand in
 /// the order of their words, and under one word in that of their bytes, so that mostly two numbers
 /// are compared and no text is read. Adding one takes time in proportion to the logarithm of their
-/// count, whatever they are.
+/// count, and to its length where others have its word.
 #[derive(Debug, Drop)]
 pub(crate) struct Seen<'a> {
     texts: BTreeSet<Text<'a>>,

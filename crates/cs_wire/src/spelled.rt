@@ -1,6 +1,5 @@
 //! Records where they stand in a file: fields one behind the other.
-ghost use Rattle.std.specs.Prelude.{◌≡◌, ◌<◌, ◌≤◌, ◌+◌, ◌++◌, IfOk, List, OnOk, length, take, drop};
-ghost use Rattle.std.specs.Cow.{cow_slice_items};
+ghost use Rattle.std.specs.Prelude.{◌≡◌, ◌≤◌, ◌+◌, IfSome, List, length, take, drop};
 ghost use Rattle.std.specs.List.{AllByRecursion};
 ghost use Rattle.cs_value.specs.declared.value.OwnedField.{OwnedField};
 ghost use Rattle.cs_wire.specs.Reading.{is_key_flag};
@@ -10,9 +9,7 @@ ghost use Rattle.cs_value.specs.Spelling.{record_bytes};
 ghost use Rattle.cs_wire.specs.Items.{front_of, fields_in};
 
 use crate::reader::rest_from;
-use cs_value::{Field, NoMemory, field_read};
-use std::alloc::Global;
-use std::borrow::CowSlice;
+use cs_value::{Field, field_read};
 
 /// The field at the front, and the bytes behind it. Where none stands there, it is an undefined one, of no byte.
 pub(crate) fn front_field(bytes: &[u8]) -> (Field<'_>, &[u8])
@@ -24,42 +21,6 @@ pub(crate) fn front_field(bytes: &[u8]) -> (Field<'_>, &[u8])
         Ok((field, used)) => (field, &bytes[used..]),
         Err(_) => (Field::Undefined, bytes),
     }
-}
-
-/// The bytes of the field at the front, and those behind it.
-fn split_front(bytes: &[u8]) -> (&[u8], &[u8])
-    ensures front { result.0.now ≡ take (front_of bytes.now).1 bytes.now }
-    ensures rest { result.1.now ≡ drop (front_of bytes.now).1 bytes.now }
-{
-    let (_, rest) = front_field(bytes);
-    (&bytes[..bytes.len() - rest.len()], rest)
-}
-
-/// Appends what stands in a column with this flag, where that is one of the key.
-fn add_key_column(key: &mut Vec<u8>, flag: u8, field: &[u8]) -> Result<(), NoMemory>
-    ensures key { 0 < flag → OnOk result (key.new.items ≡ key.old.items ++ field.now) }
-    ensures other { flag ≡ 0 → OnOk result (key.new.items ≡ key.old.items) }
-{
-    if flag != 0 {
-        key.extend_from_slice(field)?;
-    }
-    Ok(())
-}
-
-/// The bytes of what stands in the key columns, in column order.
-pub(crate) fn key_bytes(alloc: Global, flags: &[u8], bytes: &[u8]) -> Result<Vec<u8>, NoMemory>
-    requires fields { IsRecord (fields_in (length flags.now) bytes.now) }
-    requires spelled { bytes.now ≡ record_bytes (fields_in (length flags.now) bytes.now) }
-    ensures { IfOk result (λ key. key.items ≡ image_key flags.now (fields_in (length flags.now) bytes.now)) }
-{
-    let mut key = Vec::new(alloc);
-    let mut left = bytes;
-    for flag in flags {
-        let (field, rest) = split_front(left);
-        add_key_column(&mut key, *flag, field)?;
-        left = rest;
-    }
-    Ok(key)
 }
 
 /// How many flags at the front are those of key columns, or of others.
@@ -96,23 +57,18 @@ fn columns_in(bytes: &[u8], first: usize, count: usize) -> &[u8]
     &behind[..behind.len().saturating_sub(rest.len())]
 }
 
-/// The bytes of what stands in the key columns, in column order: where they lie, if these columns stand side by
-/// side, and else a copy.
-pub(crate) fn key_text<'a>(
-    alloc: Global,
-    flags: &[u8],
-    bytes: &'a [u8],
-) -> Result<CowSlice<'a, u8, Global>, NoMemory>
+/// The bytes of what stands in the key columns, in column order, where these columns stand side by side.
+pub(crate) fn key_slice<'a>(flags: &[u8], bytes: &'a [u8]) -> Option<&'a [u8]>
     requires fields { IsRecord (fields_in (length flags.now) bytes.now) }
     requires spelled { bytes.now ≡ record_bytes (fields_in (length flags.now) bytes.now) }
-    ensures { IfOk result (λ key. cow_slice_items key ≡ image_key flags.now (fields_in (length flags.now) bytes.now)) }
+    ensures { IfSome result (λ key. key.now ≡ image_key flags.now (fields_in (length flags.now) bytes.now)) }
 {
     let first = run_len(flags, false);
     let others = rest_from(flags, first);
     let count = run_len(others, true);
     let behind = rest_from(others, count);
     if run_len(behind, false) < behind.len() {
-        return Ok(CowSlice::Owned(key_bytes(alloc, flags, bytes)?));
+        return None;
     }
-    Ok(CowSlice::Borrowed(columns_in(bytes, first, count)))
+    Some(columns_in(bytes, first, count))
 }

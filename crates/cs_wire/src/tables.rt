@@ -1,5 +1,5 @@
 //! A changeset's file, gone through once it was read to its end.
-ghost use Rattle.std.specs.Prelude.{[], List, IfErr, IfOk};
+ghost use Rattle.std.specs.Prelude.{◌≡◌, ◌<◌, ◌≤◌, [], List, IfErr, IfOk, IfSome, length};
 ghost use Rattle.cs_value.specs.Refusals.{Refuses};
 ghost use Rattle.cs_wire.specs.declared.entry.Entry.{Entry as EntryData};
 ghost use Rattle.cs_wire.specs.Changeset.{GroupData, IsFileOf};
@@ -53,8 +53,23 @@ impl<'a> Tables<'a> {
         })
     }
 
-    /// The header of the next table, where no entry of the one before it is left.
+    /// The header of the next table. Entries of the one before it that are left are passed over.
     pub fn next_table(&mut self) -> Option<HeaderRef<'a>>
+        ensures { (entries : List EntryData) (groups : List GroupData) → AreLeft self.old entries groups → NextTable groups result self.new }
+    {
+        self.pass_entries();
+        self.open_table()
+    }
+
+    /// Passes over the entries of the table that is open.
+    fn pass_entries(&mut self)
+        ensures { (entries : List EntryData) (groups : List GroupData) → AreLeft self.old entries groups → AreLeft self.new [] groups }
+    {
+        'entries: while self.next_entry().is_some() {}
+    }
+
+    /// The header of the next table, where no entry is left of the one before it.
+    fn open_table(&mut self) -> Option<HeaderRef<'a>>
         ensures { (groups : List GroupData) → AreLeft self.old [] groups → NextTable groups result self.new }
     {
         if self.place >= self.file.len() {
@@ -70,7 +85,9 @@ impl<'a> Tables<'a> {
 
     /// The next entry of the table that is open, if another is left.
     pub fn next_entry(&mut self) -> Option<EntryRef<'a>>
-        ensures { (entries : List EntryData) (groups : List GroupData) → AreLeft self.old entries groups → NextEntry self.old.flags entries groups result self.new }
+        ensures next { (entries : List EntryData) (groups : List GroupData) → AreLeft self.old entries groups → NextEntry self.old.flags entries groups result self.new }
+        ensures forward { IfSome result (λ _. (self.old.place < self.new.place) × (self.new.place ≤ length self.new.file)) }
+        ensures file { self.new.file ≡ self.old.file }
     {
         if !has_entry(self.file, self.place) {
             return None;

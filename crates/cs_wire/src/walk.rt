@@ -134,7 +134,7 @@ impl<'a> Walk<'a> {
         ensures fault { IfErr result (Refuses (λ f. ReadFails self.old.file f.kind f.place)) }
     {
         let (seen, end) = read_entry(self.file, self.place, self.flags)?;
-        if !self.keys.insert(seen.key_text(self.alloc)?)? {
+        if !self.keys.insert(seen.key_slice(self.alloc)?)? {
             return refuse(ReadFaultKind::DuplicateKey, self.place);
         }
         self.place = end;

@@ -1,13 +1,12 @@
 //! Writing the files of changesets.
-ghost use Rattle.std.specs.Prelude.{◌≡◌, ◌++◌, ◌∷◌, [], if◌then◌else◌, IfOk, OnOk};
-ghost use Rattle.cs_wire.specs.Entry.{entry_bytes};
+ghost use Rattle.std.specs.Prelude.{◌≡◌, ◌++◌, ◌∷◌, [], if◌then◌else◌, IfOk, OnErr, OnOk, length, take};
 ghost use Rattle.cs_wire.specs.Changeset.{IsHeader, header_bytes, group_bytes, file_bytes};
 
 use crate::changeset::Changeset;
-use crate::entry::{Change, Entry};
-use crate::format::{DELETE, INSERT, TABLE, UPDATE};
+use crate::entry_ref::EntryRef;
+use crate::format::TABLE;
 use crate::group::Group;
-use cs_value::{NoMemory, image_write, row_write, varint_write};
+use cs_value::{NoMemory, varint_write};
 use std::alloc::Global;
 
 /// The file of a changeset.
@@ -30,7 +29,7 @@ fn write_group(out: &mut Vec<u8>, group: &Group) -> Result<(), NoMemory>
 {
     write_header(out, group.header().name(), group.flags())?;
     for entry in group.entries() {
-        write_entry(out, entry)?;
+        EntryRef::from_entry(group.flags(), entry).write_to(out)?;
     }
     Ok(())
 }
@@ -38,7 +37,8 @@ fn write_group(out: &mut Vec<u8>, group: &Group) -> Result<(), NoMemory>
 #[tactic(auto, unfolding(crate::specs::Changeset::header_bytes, crate::specs::Changeset::flags_bytes))]
 pub(crate) fn write_header(out: &mut Vec<u8>, name: &str, flags: &[u8]) -> Result<(), NoMemory>
     requires { IsHeader (record { name = name.now; flags = flags.now }) }
-    ensures { OnOk result (out.new.items ≡ out.old.items ++ header_bytes (record { name = name.now; flags = flags.now })) }
+    ensures ok { OnOk result (out.new.items ≡ out.old.items ++ header_bytes (record { name = name.now; flags = flags.now })) }
+    ensures err { OnErr result (take (length out.old.items) out.new.items ≡ out.old.items) }
 {
     out.push(TABLE)?;
     varint_write(out, flags.len() as u32)?;
@@ -48,36 +48,32 @@ pub(crate) fn write_header(out: &mut Vec<u8>, name: &str, flags: &[u8]) -> Resul
     Ok(())
 }
 
-#[tactic(auto, unfolding(crate::specs::Entry::entry_bytes))]
-fn write_entry(out: &mut Vec<u8>, entry: &Entry) -> Result<(), NoMemory>
-    ensures { OnOk result (out.new.items ≡ out.old.items ++ entry_bytes entry.now) }
-{
-    match &entry.change {
-        Change::Insert(row) => {
-            write_operation(out, INSERT, entry.indirect)?;
-            row_write(out, row)
-        }
-        Change::Delete(row) => {
-            write_operation(out, DELETE, entry.indirect)?;
-            row_write(out, row)
-        }
-        Change::Update { old, new } => {
-            write_operation(out, UPDATE, entry.indirect)?;
-            image_write(out, old)?;
-            image_write(out, new)
-        }
-    }
-}
-
 /// Appends the operation and the indirect flag of an entry.
 pub(crate) fn write_operation(
     out: &mut Vec<u8>,
     operation: u8,
     indirect: bool,
 ) -> Result<(), NoMemory>
-    ensures { OnOk result (out.new.items ≡ out.old.items ++ operation ∷ (if indirect then 1 else 0) ∷ []) }
+    ensures ok { OnOk result (out.new.items ≡ out.old.items ++ operation ∷ (if indirect then 1 else 0) ∷ []) }
+    ensures err { OnErr result (take (length out.old.items) out.new.items ≡ out.old.items) }
 {
     out.push(operation)?;
     out.push(u8::from(indirect))?;
     Ok(())
+}
+
+/// Takes back what a write has left that was refused: the bytes from this place on.
+pub(crate) fn undo_refused(
+    out: &mut Vec<u8>,
+    start: usize,
+    written: Result<(), NoMemory>,
+) -> Result<(), NoMemory>
+    ensures same { result ≡ written }
+    ensures ok { OnOk result (out.new.items ≡ out.old.items) }
+    ensures err { OnErr result (out.new.items ≡ take start out.old.items) }
+{
+    if written.is_err() {
+        out.truncate(start);
+    }
+    written
 }

@@ -11,4 +11,4 @@ returns-in-Entry c =
     let seen = c.in-Entry.entry in
     let inverse = c.inverted.result in
     let same = inverse_is seen.flags seen.entry inverse.entry (rw c.in-Entry.is at c.requires).1 (rw c.inverted.ensures.flags at c.inverted.ensures.well_formed) c.inverted.ensures.inverse in
-    rw c.in-Entry.is (on_ok_weaker c.write_to-in-Entry.result (λ e. e ∙ ap (λ (entry : Entry). c.args.out.now.items ++ entry_bytes entry) same) c.write_to-in-Entry.ensures)
+    rw c.in-Entry.is (on_ok_weaker c.write_to-in-Entry.result (λ e. e ∙ ap (λ (entry : Entry). c.args.out.now.items ++ entry_bytes entry) same) c.write_to-in-Entry.ensures.ok)

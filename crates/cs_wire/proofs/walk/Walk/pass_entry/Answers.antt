@@ -52,7 +52,7 @@ invariant_of-self-then-not-branch c =
     let v = c.self.view_is in
     let i = c.self.inside in
     let t = in_table i.file.now i.place i.flags.now i.is_bare i.names i.keys c.self.invariant (subst (λ (w : WalkData). 0 < length w.flags) (sym v) c.requires.table) in
-    inr (key_again i.file.now i.place i.flags.now i.is_bare i.names i.keys c.insert.new.self (cow_slice_items c.in_ok-key_text.field-0) t c.in_ok-insert.ensures.added (iff_false c.in_ok-insert.ensures.is_new c.if-not-branch.true))
+    inr (key_again i.file.now i.place i.flags.now i.is_bare i.names i.keys c.insert.new.self (cow_slice_items c.in_ok-key_slice.field-0) t c.in_ok-insert.ensures.added (iff_false c.in_ok-insert.ensures.is_new c.if-not-branch.true))
 
 pub returns-then-not-branch-clause-fault : goal.returns-then-not-branch-clause-fault
 returns-then-not-branch-clause-fault c =
@@ -62,7 +62,7 @@ returns-then-not-branch-clause-fault c =
     let here = subst (λ (w : WalkData). HasEntry w.file w.place) (sym v) c.requires.entry in
     let found = c.in_ok-seen.ensures.found in
     let entry : Entry = c.in_ok-seen.seen.entry in
-    let key_is = c.in_ok-key_text.ensures ∙ ap (λ (flags : List ℕ). key_of flags entry.change) (found.0 ∙ t.flags_are) in
+    let key_is = c.in_ok-key_slice.ensures ∙ ap (λ (flags : List ℕ). key_of flags entry.change) (found.0 ∙ t.flags_are) in
     let old = Knows-is (λ (e : Entry). key_of t.header.flags e.change) i.keys t.entries (key_of t.header.flags entry.change) t.knows_keys
     (λ new. iff_false c.in_ok-insert.ensures.is_new c.if-not-branch.true (subst (λ (k : List ℕ). All (λ t. t ≢ k) i.keys) (sym key_is) new)) in
     subst (λ (w : WalkData). IfErr c.refuse.result (Refuses (λ f. ReadFails w.file f.kind f.place))) v
@@ -88,7 +88,7 @@ invariant_of-self-2 c =
     let here = subst (λ (w : WalkData). HasEntry w.file w.place) (sym v) c.requires.entry in
     let found = c.in_ok-seen.ensures.found in
     let entry : Entry = c.in_ok-seen.seen.entry in
-    let same = c.in_ok-key_text.ensures ∙ ap (λ (flags : List ℕ). key_of flags entry.change) found.0 in
+    let same = c.in_ok-key_slice.ensures ∙ ap (λ (flags : List ℕ). key_of flags entry.change) found.0 in
     let key_is = same ∙ ap (λ (flags : List ℕ). key_of flags entry.change) t.flags_are in
     let fresh = Knows-new (λ (e : Entry). key_of t.header.flags e.change) i.keys t.entries (key_of t.header.flags entry.change) t.knows_keys (rw key_is at c.in_ok-insert.ensures.is_new.0 c.if-not-branch.false) in
     inr (pass_entry i.file.now i.place i.flags.now i.is_bare i.names i.keys t entry c.in_ok-seen.end c.insert.new.self here found.1 found.2 c.in_ok-seen.ensures.only fresh (rw same at c.in_ok-insert.ensures.added))
@@ -100,7 +100,7 @@ returns-clause-item c = λ groups begins.
     let t = in_table i.file.now i.place i.flags.now i.is_bare i.names i.keys c.self.invariant (subst (λ (w : WalkData). 0 < length w.flags) (sym v) c.requires.table) in
     let found = c.in_ok-seen.ensures.found in
     let entry : Entry = c.in_ok-seen.seen.entry in
-    let key_is = c.in_ok-key_text.ensures ∙ ap (λ (flags : List ℕ). key_of flags entry.change) (found.0 ∙ t.flags_are) in
+    let key_is = c.in_ok-key_slice.ensures ∙ ap (λ (flags : List ℕ). key_of flags entry.change) (found.0 ∙ t.flags_are) in
     let fresh = Knows-new (λ (e : Entry). key_of t.header.flags e.change) i.keys t.entries (key_of t.header.flags entry.change) t.knows_keys (rw key_is at c.in_ok-insert.ensures.is_new.0 c.if-not-branch.false) in
     let passed = passed_entry i.file.now i.place i.flags.now i.is_bare i.names i.keys t entry c.in_ok-seen.end found.1 found.2 fresh groups (subst (λ (w : WalkData). Begins w.file w.place groups) (sym v) begins) in
     ((passed.0.0, found.0 ∙ passed.0.1), passed.1)

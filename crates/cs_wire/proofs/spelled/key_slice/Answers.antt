@@ -1,11 +1,11 @@
--- `spelled::key_text`: what it ensures of columns that stand side by side.
+-- `spelled::key_slice`: what it ensures of columns that stand side by side.
 use Rattle.std.proofs.Common.{List, ℕ, ◌+◌, ◌≤◌, false, length, drop, ap, sym, ◌∙◌, arith}
 use Rattle.std.proofs.lemmas.List.{length-drop, take_all}
 use Rattle.cs_value.specs.Spelling.{record_bytes}
 use Rattle.cs_wire.specs.Items.{fields_in}
 use Rattle.cs_wire.proofs.ItemLemmas.{length-fields_in}
 use Rattle.cs_wire.proofs.RunLemmas.{IsRun, key_run}
-use Rattle.cs_wire.proofs.spelled.key_text.Goals as goal
+use Rattle.cs_wire.proofs.spelled.key_slice.Goals as goal
 
 pub returns : goal.returns
 returns c =
