@@ -158,6 +158,12 @@ shown-inverse flags Update true first second p q =
     let two = with_key_twice flags second first (q refl) p in
     cc (one, two)
 
+-- the key of an update's old record as it is shown, and its new one elsewhere
+pub with_key-shown : (exchanged : Bool) (flags : List ℕ) (first second : List OwnedField) → length flags ≡ length first → length flags ≡ length second
+    → with_key flags (shown_record exchanged flags first second) (shown_record exchanged flags second first) ≡ shown_record (not exchanged) flags first second
+with_key-shown false flags first second p q = refl
+with_key-shown true flags first second p q = with_key_twice flags first second p q
+
 -- the operation that undoes an entry's has the same records
 inverse_plain : (flags : List ℕ) (what : Operation) (first second : List OwnedField) → IsChange flags (change_of what first second) → IsChange flags (change_of (inverse_operation what) first second)
 inverse_plain flags Insert first second is = is

@@ -48,7 +48,7 @@ impl<'a> EntryRef<'a> {
     ghost use Rattle.cs_value.specs.Table.{IsKeyedRow};
     ghost use Rattle.cs_wire.specs.declared.entry.Change.TheVariants.{Update};
     ghost use Rattle.cs_wire.specs.Records.{IsRowOperation, row_change};
-    ghost use Rattle.cs_wire.specs.Entry.{IsChange, IsEntry, before_image, entry_bytes, key_of, operation};
+    ghost use Rattle.cs_wire.specs.Entry.{IsChange, IsEntry, after_image, before_image, entry_bytes, key_of, operation};
     ghost use Rattle.cs_wire.specs.Inverse.{IsInverseEntry};
     ghost use Rattle.cs_value.specs.Value.{FieldFits, field_of};
     ghost use Rattle.cs_wire.specs.Items.{IsSpelled, entry_in, new_record, new_field as field_after, old_field as field_before};
@@ -198,6 +198,22 @@ impl<'a> EntryRef<'a> {
             Operation::Update => {
                 let (own, other) = (self.second, self.first);
                 Some(Fields::new(self.flags, own, other, self.exchanged))
+            }
+        }
+    }
+
+    /// What is known of the row after the change: None for a delete. Of an update the fields of the columns that are
+    /// neither of the key nor modified are undefined.
+    pub fn fields_after(&self) -> Option<Fields<'a>>
+        ensures fields { result ≡ after_image self.now.flags self.now.entry.change }
+        ensures width { IfSome result (λ fields. length fields ≡ length self.now.flags) }
+    {
+        let exchanged = !self.exchanged;
+        match self.operation {
+            Operation::Insert => Some(Fields::new(self.flags, self.first, self.first, false)),
+            Operation::Delete => None,
+            Operation::Update => {
+                Some(Fields::new(self.flags, self.first, self.second, exchanged))
             }
         }
     }
