@@ -1,18 +1,16 @@
-//! What a change meets at the row with its key, and what it leaves there.
-ghost use Rattle.std.specs.Prelude.{◌≡◌, ◌≢◌, [], ◌∷◌, if◌then◌else◌, map, Some, None, IfOk, IfSome, option_map};
-ghost use Rattle.std.specs.List.{AllByRecursion};
+//! What an entry meets at the row with its key, and what it leaves there.
+ghost use Rattle.std.specs.Prelude.{◌≡◌, ◌≢◌, [], ◌∷◌, if◌then◌else◌, Some, None, IfOk, IfSome, option_map};
 ghost use Rattle.cs_value.specs.Value.{field_of, FieldFits};
 ghost use Rattle.cs_value.specs.Table.{IsKeyedRow};
 ghost use Rattle.cs_value.specs.Key.{row_key};
-ghost use Rattle.cs_wire.specs.Entry.{IsChange, key_of};
+ghost use Rattle.cs_wire.specs.Entry.{key_of};
 ghost use Rattle.cs_group.specs.declared.conflict.Kind.TheVariants.{Data as DataKind, NotFound as NotFoundKind};
 ghost use Rattle.cs_group.specs.Conflicts.{conflict_kind as kind_of, row_after as row_of_change};
 ghost use Rattle.cs_group.specs.Conflicts.{has_values as values_of_image};
 ghost use Rattle.cs_group.specs.Conflicts.{filled, value_in as value_of_field};
 
-use crate::image::after_image;
-use cs_value::{Field, Image, NoMemory, OwnedField, OwnedValue, Row};
-use cs_wire::Change;
+use cs_value::{Field, NoMemory, OwnedValue, Row};
+use cs_wire::{EntryRef, Fields};
 use std::alloc::Global;
 
 /// What kind of conflict a change meets at the row with its key.
@@ -38,17 +36,16 @@ pub enum Choice {
     Abort,
 }
 
-/// The conflict that a change meets at the row with its key, or where there is none. It takes no
+/// The conflict that an entry meets at the row with its key, or None where there is none. It takes no
 /// memory.
-pub fn conflict_kind(change: &Change, row: Option<&Row>) -> Option<Kind>
-    ensures { result ≡ kind_of change.now (option_map (λ r. r.now) row.entry) }
+pub fn conflict_kind(entry: &EntryRef<'_>, row: Option<&Row>) -> Option<Kind>
+    ensures { result ≡ kind_of entry.now.entry.change (option_map (λ r. r.now) row.entry) }
 {
-    match (change, row) {
-        (Change::Insert(_), None) => None,
-        (Change::Insert(_), Some(_)) => Some(Kind::Conflict),
-        (_, None) => Some(Kind::NotFound),
-        (Change::Delete(before), Some(row)) => data_unless(before == row),
-        (Change::Update { old, .. }, Some(row)) => data_unless(has_values(row, old)),
+    match (entry.old_fields(), row) {
+        (None, None) => None,
+        (None, Some(_)) => Some(Kind::Conflict),
+        (Some(_), None) => Some(Kind::NotFound),
+        (Some(fields), Some(row)) => data_unless(has_values(row, fields)),
     }
 }
 
@@ -59,67 +56,69 @@ fn data_unless(is_same: bool) -> Option<Kind>
     if is_same { None } else { Some(Kind::Data) }
 }
 
-/// Whether a row has the values of an image's defined columns.
-fn has_values(row: &Row, image: &Image) -> bool
-    ensures { result ≡ values_of_image row.now image.now }
+/// Whether a row has the values of the fields that are defined.
+fn has_values(row: &Row, fields: Fields<'_>) -> bool
+    ensures { result ≡ values_of_image row.now fields.entry }
 {
-    let fields = image.fields();
-    if row.values().len() != fields.len() {
-        return false;
-    }
-    for (column, value) in row.values().iter().enumerate() {
-        if !has_value(value, &fields[column]) {
-            return false;
+    let mut left = fields;
+    for value in row.values() {
+        match left.next() {
+            Some(field) if has_value(value, field) => {}
+            _ => return false,
         }
     }
-    true
+    left.next().is_none()
 }
 
 /// Whether a value is that of a field, if the field is defined.
-fn has_value(value: &OwnedValue, field: &OwnedField) -> bool
-    ensures { result ≡ values_of_image (value.now ∷ []) (field.now ∷ []) }
+fn has_value(value: &OwnedValue, field: Field<'_>) -> bool
+    requires { FieldFits field }
+    ensures { result ≡ values_of_image (value.now ∷ []) (field_of field.entry ∷ []) }
 {
     match field {
-        OwnedField::Undefined => true,
-        OwnedField::Defined(defined) => defined == value,
+        Field::Undefined => true,
+        Field::Defined(defined) => defined == value.as_value(),
     }
 }
 
-/// The row that a change leaves where it is carried out, or none: what it says, and in the other
-/// columns what stood there.
-///
-/// The change fits the flags ([`cs_wire::Header::admits`]). [`NoMemory`] where memory is refused.
+/// The row that an entry leaves where it is carried out, or None where it leaves none: what it says, and
+/// in the other columns what stood there. [`NoMemory`] where memory is refused.
 pub fn row_after(
     alloc: Global,
-    flags: &[u8],
-    change: &Change,
+    entry: &EntryRef<'_>,
     row: Option<&Row>,
 ) -> Result<Option<Row>, NoMemory>
-    requires { IsChange flags.now change.now }
-    ensures same { IfOk result (λ o. o ≡ row_of_change flags.now change.now (option_map (λ r. r.now) row.entry)) }
+    ensures same { IfOk result (λ o.
+        o ≡ row_of_change entry.now.flags entry.now.entry.change (option_map (λ r. r.now) row.entry)) }
     ensures fits { IfOk result (λ o. IfSome o (λ r.
-        IfSome row.entry (λ stood. IsKeyedRow flags.now stood.now)
-        → kind_of change.now (option_map (λ r. r.now) row.entry) ≢ Some NotFoundKind
-        → IsKeyedRow flags.now r × (row_key flags.now r ≡ key_of flags.now change.now))) }
+        IfSome row.entry (λ stood. IsKeyedRow entry.now.flags stood.now)
+        → kind_of entry.now.entry.change (option_map (λ r. r.now) row.entry) ≢ Some NotFoundKind
+        → IsKeyedRow entry.now.flags r × (row_key entry.now.flags r ≡ key_of entry.now.flags entry.now.entry.change))) }
 {
     let stood = match row {
         None => &[],
         Some(row) => row.values(),
     };
-    match after_image(alloc, flags, change)? {
+    match entry.fields_after() {
         None => Ok(None),
-        Some(image) => Ok(Some(fill(alloc, &image, stood)?)),
+        Some(fields) => Ok(Some(fill(alloc, entry.column_count(), fields, stood)?)),
     }
 }
 
-/// An image with its undefined columns filled from a row.
-fn fill(alloc: Global, image: &[Field<'_>], row: &[OwnedValue]) -> Result<Row, NoMemory>
-    requires { AllByRecursion FieldFits image.now }
-    ensures { IfOk result (λ r. r ≡ filled (map field_of image.now) row.now) }
+/// The row of the fields of so many columns, with those that are undefined filled from another.
+fn fill(
+    alloc: Global,
+    columns: usize,
+    fields: Fields<'_>,
+    row: &[OwnedValue],
+) -> Result<Row, NoMemory>
+    ensures { IfOk result (λ r. r ≡ filled fields.entry row.now) }
 {
-    let mut values = Vec::new(alloc);
-    for (column, field) in image.iter().enumerate() {
-        if let Some(value) = value_in(alloc, *field, row.get(column))? {
+    let mut values = Vec::with_capacity(alloc, columns)?;
+    let mut left = fields;
+    let mut stood = row.iter();
+    'fields: while let Some(field) = left.next() {
+        if let Some(value) = value_in(alloc, field, stood.next())? {
             values.push(value)?;
         }
     }

@@ -3,47 +3,39 @@ ghost use Rattle.std.specs.Prelude.{◌≡◌, length, map, Option, IfOk, IfSome
 ghost use Rattle.std.specs.List.{AllByRecursion};
 ghost use Rattle.cs_value.specs.declared.value.OwnedField.TheVariants.{Defined};
 ghost use Rattle.cs_value.specs.Value.{field_of, FieldFits};
-ghost use Rattle.cs_wire.specs.Entry.{IsChange, with_key as with_key_of, before_image as before_image_of};
-ghost use Rattle.cs_wire.specs.Entry.{after_image as after_image_of};
+ghost use Rattle.cs_wire.specs.Entry.{before_image as before_image_of, after_image as after_image_of};
 ghost use Rattle.cs_group.specs.Views.{IsImage, image_in};
-ghost use Rattle.cs_group.specs.Net.{by_flag};
 ghost use Rattle.cs_group.specs.Joining.{laid_over, over as over_of, known as known_of};
 
-use cs_value::{Field, Image, NoMemory, OwnedField, Row};
-use cs_wire::Change;
+use cs_value::{Field, NoMemory, Row};
+use cs_wire::{EntryRef, Fields};
 use std::alloc::Global;
 
-/// What a change says of its row before it: its fields, or none.
+/// What an entry says of its row before the change: its fields, or none.
 pub(crate) fn before_image<'a>(
     alloc: Global,
-    flags: &[u8],
-    change: &'a Change,
+    entry: &EntryRef<'a>,
 ) -> Result<Option<Vec<Field<'a>>>, NoMemory>
-    requires { IsChange flags.now change.now }
-    ensures same { IfOk result (λ image. image_in image ≡ before_image_of change.now) }
-    ensures well_formed { IfOk result (λ image. IfSome image (λ fields. IsImage flags.now fields.items)) }
+    ensures same { IfOk result (λ image. image_in image ≡ before_image_of entry.now.entry.change) }
+    ensures well_formed { IfOk result (λ image. IfSome image (λ fields. IsImage entry.now.flags fields.items)) }
 {
-    match change {
-        Change::Insert(_) => Ok(None),
-        Change::Delete(row) => Ok(Some(row_fields(alloc, row)?)),
-        Change::Update { old, .. } => Ok(Some(image_fields(alloc, old)?)),
+    match entry.old_fields() {
+        None => Ok(None),
+        Some(fields) => Ok(Some(list_fields(alloc, fields)?)),
     }
 }
 
-/// What a change says of its row after it.
+/// What an entry says of its row after the change: its fields, or none.
 pub(crate) fn after_image<'a>(
     alloc: Global,
-    flags: &[u8],
-    change: &'a Change,
+    entry: &EntryRef<'a>,
 ) -> Result<Option<Vec<Field<'a>>>, NoMemory>
-    requires { IsChange flags.now change.now }
-    ensures same { IfOk result (λ image. image_in image ≡ after_image_of flags.now change.now) }
-    ensures well_formed { IfOk result (λ image. IfSome image (λ fields. IsImage flags.now fields.items)) }
+    ensures same { IfOk result (λ image. image_in image ≡ after_image_of entry.now.flags entry.now.entry.change) }
+    ensures well_formed { IfOk result (λ image. IfSome image (λ fields. IsImage entry.now.flags fields.items)) }
 {
-    match change {
-        Change::Insert(row) => Ok(Some(row_fields(alloc, row)?)),
-        Change::Delete(_) => Ok(None),
-        Change::Update { old, new } => Ok(Some(updated_fields(alloc, flags, old, new)?)),
+    match entry.fields_after() {
+        None => Ok(None),
+        Some(fields) => Ok(Some(list_fields(alloc, fields)?)),
     }
 }
 
@@ -81,47 +73,17 @@ pub(crate) fn row_fields<'a>(alloc: Global, row: &'a Row) -> Result<Vec<Field<'a
     Ok(fields)
 }
 
-/// The fields of an image.
-fn image_fields<'a>(alloc: Global, image: &'a Image) -> Result<Vec<Field<'a>>, NoMemory>
-    ensures same { IfOk result (λ fields. map field_of fields.items ≡ image.now) }
-    ensures short { IfOk result (λ fields. AllByRecursion FieldFits fields.items) }
+/// Fields, as a list.
+fn list_fields<'a>(alloc: Global, fields: Fields<'a>) -> Result<Vec<Field<'a>>, NoMemory>
+    ensures same { IfOk result (λ list. map field_of list.items ≡ fields.entry) }
+    ensures short { IfOk result (λ list. AllByRecursion FieldFits list.items) }
 {
-    let mut fields = Vec::new(alloc);
-    for field in image.fields() {
-        fields.push(field.as_field())?;
+    let mut list = Vec::new(alloc);
+    let mut left = fields;
+    'fields: while let Some(field) = left.next() {
+        list.push(field)?;
     }
-    Ok(fields)
-}
-
-/// The fields of an update's row after it: those of the key, and elsewhere the new ones.
-fn updated_fields<'a>(
-    alloc: Global,
-    flags: &[u8],
-    old: &'a Image,
-    new: &'a Image,
-) -> Result<Vec<Field<'a>>, NoMemory>
-    requires old { length flags.now ≡ length old.now }
-    requires new { length flags.now ≡ length new.now }
-    ensures same { IfOk result (λ fields. map field_of fields.items ≡ with_key_of flags.now old.now new.now) }
-    ensures short { IfOk result (λ fields. AllByRecursion FieldFits fields.items) }
-{
-    let mut fields = Vec::new(alloc);
-    for (column, flag) in flags.iter().enumerate() {
-        fields.push(updated_field(*flag, &old.fields()[column], &new.fields()[column]))?;
-    }
-    Ok(fields)
-}
-
-/// The field of an update's row after it, in a column with this flag.
-fn updated_field<'a>(flag: u8, old: &'a OwnedField, new: &'a OwnedField) -> Field<'a>
-    ensures same { field_of result ≡ by_flag flag new.now old.now }
-    ensures short { FieldFits result }
-{
-    if flag == 0 {
-        new.as_field()
-    } else {
-        old.as_field()
-    }
+    Ok(list)
 }
 
 /// An image laid over another: its fields where they are defined, elsewhere those of the other.

@@ -1,13 +1,13 @@
 //! Two entries of one key as one.
 ghost use Rattle.std.specs.Prelude.{◌≡◌, ℕ, List, IfOk};
-ghost use Rattle.cs_wire.specs.Entry.{IsChange, IsEntry, key_of};
+ghost use Rattle.cs_wire.specs.Entry.{IsEntry, key_of};
 ghost use Rattle.cs_group.specs.Net.{net_change as net_change_of};
 ghost use Rattle.cs_group.specs.Joining.{merged, joint_image, follows as follows_of, IfBecomes, FitsKey};
 
 use crate::image::{after_image, before_image, known};
 use crate::net::net_change;
 use cs_value::NoMemory;
-use cs_wire::{Change, Entry};
+use cs_wire::{Change, Entry, EntryRef};
 use std::alloc::Global;
 
 /// What becomes of an entry when a second one of its key comes after it.
@@ -31,25 +31,26 @@ fn follows(first: &Change, second: &Change) -> bool
 }
 
 /// The change from what the row was before the first to what it is after the second.
-fn net_of_both(
+fn net_of_both<'a>(
     alloc: Global,
     flags: &[u8],
-    first: &Change,
-    second: &Change,
+    first: &EntryRef<'a>,
+    second: &EntryRef<'a>,
 ) -> Result<Option<Change>, NoMemory>
-    requires first { IsChange flags.now first.now }
-    requires second { IsChange flags.now second.now }
-    ensures { IfOk result (λ net. net ≡ net_change_of flags.now (joint_image flags.now first.now second.now)) }
+    requires first { first.now.flags ≡ flags.now }
+    requires second { second.now.flags ≡ flags.now }
+    ensures { IfOk result (λ net. net ≡ net_change_of flags.now
+        (joint_image flags.now first.now.entry.change second.now.entry.change)) }
 {
     let before = known(
         alloc,
-        before_image(alloc, flags, first)?,
-        before_image(alloc, flags, second)?,
+        before_image(alloc, first)?,
+        before_image(alloc, second)?,
     )?;
     let after = known(
         alloc,
-        after_image(alloc, flags, second)?,
-        after_image(alloc, flags, first)?,
+        after_image(alloc, second)?,
+        after_image(alloc, first)?,
     )?;
     net_change(alloc, flags, before.as_deref(), after.as_deref())
 }
@@ -62,7 +63,12 @@ fn net_of_both(
 ///
 /// Both entries fit the flags ([`cs_wire::Header::admits`]) and have one key
 /// ([`cs_wire::Header::key_of`]). [`NoMemory`] where memory is refused.
-pub fn merge(alloc: Global, flags: &[u8], first: &Entry, second: &Entry) -> Result<Merged, NoMemory>
+pub fn merge<'a>(
+    alloc: Global,
+    flags: &'a [u8],
+    first: &'a Entry,
+    second: &'a Entry,
+) -> Result<Merged, NoMemory>
     requires first { IsEntry flags.now first.now }
     requires second { IsEntry flags.now second.now }
     requires one_key { key_of flags.now first.now.change ≡ key_of flags.now second.now.change }
@@ -73,10 +79,10 @@ pub fn merge(alloc: Global, flags: &[u8], first: &Entry, second: &Entry) -> Resu
         return Ok(Merged::Keep);
     }
     let indirect = first.indirect && second.indirect;
-    Ok(
-        match net_of_both(alloc, flags, &first.change, &second.change)? {
-            None => Merged::Vanish,
-            Some(change) => Merged::Becomes(Entry { indirect, change }),
-        },
-    )
+    let first = EntryRef::from_entry(flags, first);
+    let second = EntryRef::from_entry(flags, second);
+    Ok(match net_of_both(alloc, flags, &first, &second)? {
+        None => Merged::Vanish,
+        Some(change) => Merged::Becomes(Entry { indirect, change }),
+    })
 }

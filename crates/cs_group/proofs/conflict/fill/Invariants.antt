@@ -1,8 +1,8 @@
 -- The columns so far are filled.
-use Rattle.std.proofs.Common.{◌≡◌, map, take}
-use Rattle.cs_value.specs.Value.{field_of}
+use Rattle.std.proofs.Common.{◌≡◌, ◌++◌}
+use Rattle.std.specs.Slice.Iter.{iter_rest}
 use Rattle.cs_group.specs.Conflicts.{filled}
 use Rattle.cs_group.proofs.conflict.fill.Given as goal
 
-abbrev pub invariant-loop-column : goal.invariant-loop-column
-invariant-loop-column l = l.values.items ≡ filled (take l.column (map field_of l.image)) l.row
+abbrev pub invariant-fields : goal.invariant-fields
+invariant-fields l = l.values.items ++ filled l.left (iter_rest l.stood) ≡ filled l.fn.fields l.row

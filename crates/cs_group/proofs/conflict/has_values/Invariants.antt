@@ -3,5 +3,5 @@ use Rattle.std.proofs.Common.{◌≡◌, drop}
 use Rattle.cs_group.specs.Conflicts.{has_values}
 use Rattle.cs_group.proofs.conflict.has_values.Given as goal
 
-abbrev pub invariant-loop-column : goal.invariant-loop-column
-invariant-loop-column l = has_values (drop l.column l.row) (drop l.column l.image) ≡ has_values l.row l.image
+abbrev pub invariant-loop-value : goal.invariant-loop-value
+invariant-loop-value l = has_values (drop l.value-index l.row) l.left ≡ has_values l.row l.fn.fields
