@@ -25,8 +25,10 @@ use Rattle.cs_group.specs.Applying.{PlacedEntry, conflict_with}
 use Rattle.cs_apply.specs.declared.conflict.Conflict.{Conflict}
 use Rattle.cs_apply.specs.declared.conflict.Met.{Met}
 use Rattle.cs_apply.specs.Report.{conflict_of, met_of}
-use Rattle.cs_apply.specs.Running.{Handler, GoesOn}
-use Rattle.cs_apply.specs.Steps.{HasTable, Settles, Unsettled, fault_by}
+use Rattle.cs_apply.specs.declared.fault.ApplyFault.{ApplyFault}
+use Rattle.cs_apply.specs.declared.fault.ApplyFault.TheVariants as fault
+use Rattle.cs_apply.specs.Running.{Handler, GoesOn, IsNamed}
+use Rattle.cs_apply.specs.Steps.{HasTable, Settles, SettlesAs, Unsettled, fault_by, settled_as}
 
 -- a row of the table fits the flags of the changes
 keyed_as : (state : State) (header : HeaderData) (key : List ℕ) (row : List OwnedValue) → HasTable state header → Fits state header.name key row → IsKeyedRow header.flags row
@@ -69,11 +71,11 @@ unsettled chooses p row conflicts conflict choice.Replace e is chosen = (record 
 unsettled chooses p row conflicts conflict choice.Abort e is chosen = (record { is = is; same = refl }, chosen)
 
 -- a conflict at which the run goes on is told, and replaced where that is chosen
-pub settled : (chooses : Handler) (p : PlacedEntry) (row : Option (List OwnedValue)) (conflicts next : List Met) (conflict : Conflict) (c : Choice) (replaced : Bool)
+settled_with : (chooses : Handler) (p : PlacedEntry) (row : Option (List OwnedValue)) (conflicts next : List Met) (conflict : Conflict) (c : Choice) (replaced : Bool)
     → ends (Some conflict.kind) c ≡ false → conflict_kind p.entry.change row ≡ Some conflict.kind → conflict_with p row ≡ Some (conflict_of conflict) → chooses conflict c
     → replaced ≡ is_carried_out (Some conflict.kind) c → next ≡ conflicts ++ record { conflict = conflict; choice = c } ∷ []
     → Settles chooses p row conflicts next replaced
-settled chooses p row conflicts next conflict c replaced goes_on kind is chosen carried grown = record {
+settled_with chooses p row conflicts next conflict c replaced goes_on kind is chosen carried grown = record {
   choice = c;
   goes_on = rw kind goes_on;
   carried = rw kind carried;
@@ -92,13 +94,29 @@ settled_clean chooses p row conflicts none = record {
 }
 
 -- of a run that goes on, the entry is carried out where it is chosen to replace
-pub replaced_by : (kind : Kind) (c : Choice) (replaced : Bool) → replaced ≡ (choice_eq.ghosts).eq c choice.Replace → ends (Some kind) c ≡ false → replaced ≡ is_carried_out (Some kind) c
-replaced_by Data choice.Omit replaced e goes_on = e
-replaced_by Data choice.Replace replaced e goes_on = e
-replaced_by Data choice.Abort replaced e goes_on = absurd (true≢false goes_on)
-replaced_by NotFound choice.Omit replaced e goes_on = e
-replaced_by NotFound choice.Replace replaced e goes_on = absurd (true≢false goes_on)
-replaced_by NotFound choice.Abort replaced e goes_on = absurd (true≢false goes_on)
-replaced_by KeyConflict choice.Omit replaced e goes_on = e
-replaced_by KeyConflict choice.Replace replaced e goes_on = e
-replaced_by KeyConflict choice.Abort replaced e goes_on = absurd (true≢false goes_on)
+settles_as : (chooses : Handler) (p : PlacedEntry) (row : Option (List OwnedValue)) (conflicts next : List Met) (kind : Kind) (c : Choice) → ends (Some kind) c ≡ false
+    → Settles chooses p row conflicts next (is_carried_out (Some kind) c) → SettlesAs chooses p row conflicts next (settled_as c)
+settles_as chooses p row conflicts next Data choice.Omit goes_on is = is
+settles_as chooses p row conflicts next Data choice.Replace goes_on is = is
+settles_as chooses p row conflicts next Data choice.Abort goes_on is = absurd (true≢false goes_on)
+settles_as chooses p row conflicts next NotFound choice.Omit goes_on is = is
+settles_as chooses p row conflicts next NotFound choice.Replace goes_on is = absurd (true≢false goes_on)
+settles_as chooses p row conflicts next NotFound choice.Abort goes_on is = absurd (true≢false goes_on)
+settles_as chooses p row conflicts next KeyConflict choice.Omit goes_on is = is
+settles_as chooses p row conflicts next KeyConflict choice.Replace goes_on is = is
+settles_as chooses p row conflicts next KeyConflict choice.Abort goes_on is = absurd (true≢false goes_on)
+
+pub settled : (chooses : Handler) (p : PlacedEntry) (row : Option (List OwnedValue)) (conflicts next : List Met) (conflict : Conflict) (c : Choice)
+    → ends (Some conflict.kind) c ≡ false → conflict_kind p.entry.change row ≡ Some conflict.kind → conflict_with p row ≡ Some (conflict_of conflict) → chooses conflict c
+    → next ≡ conflicts ++ record { conflict = conflict; choice = c } ∷ [] → SettlesAs chooses p row conflicts next (settled_as c)
+settled chooses p row conflicts next conflict c goes_on kind is chosen grown =
+    settles_as chooses p row conflicts next conflict.kind c goes_on (settled_with chooses p row conflicts next conflict c (is_carried_out (Some conflict.kind) c) goes_on kind is chosen refl grown)
+
+-- a fault at a conflict has a name
+pub ended_named : (chooses : Handler) (p : PlacedEntry) (row : Option (List OwnedValue)) (conflicts next : List Met) (e : ApplyFault) → Unsettled chooses p row conflicts next e → IsNamed e
+ended_named chooses p row conflicts next (fault.Abort k) h = tt
+ended_named chooses p row conflicts next (fault.Misuse k) h = tt
+ended_named chooses p row conflicts next fault.NoMemory h = tt
+ended_named chooses p row conflicts next (fault.Store e) h = absurd h
+ended_named chooses p row conflicts next (fault.Read f) h = absurd h
+ended_named chooses p row conflicts next (fault.Wider place) h = absurd h

@@ -3,7 +3,8 @@ pub mod StepLemmas
 pub mod RunLemmas
 pub mod EntryLemmas
 pub mod CarryLemmas
-pub mod ProgressLemmas
+pub mod BehindLemmas
 pub mod OutcomeLemmas
+pub mod DirectedLemmas
 pub mod RevertLemmas
 pub mod CrashLemmas

@@ -14,14 +14,9 @@ use Rattle.cs_apply.specs.declared.running.Direction.{Direction}
 use Rattle.cs_apply.specs.declared.fault.ApplyFault.{ApplyFault}
 use Rattle.cs_apply.specs.declared.fault.ApplyFault.TheVariants as fault
 use Rattle.cs_apply.specs.Report.{met_of}
+use Rattle.cs_apply.specs.Run.{IsEmpty}
 use Rattle.cs_apply.specs.Running.{Handler, IsReadAs, GoesOn, Applies, IsReached, Refuses}
 use Rattle.cs_apply.specs.Steps.{Carries, Stops, RefusesEntries}
-
--- a report that tells nothing yet
-pub record IsEmpty (r : Report) : Type 0 where
-  pub conflicts : r.conflicts.items ≡ []
-  pub skipped : r.skipped.items ≡ []
-  pub written : r.written.items ≡ []
 
 module _ (chooses : Handler) (file : List ℕ) (direction : Direction) (old : State) (r t : Report) (changeset : List GroupData)
     (read : IsReadAs file direction changeset) (none_wider : NoneWider old changeset) (empty : IsEmpty r) (mid : State) (same : mid ≡ old) where

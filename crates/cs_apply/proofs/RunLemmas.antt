@@ -17,7 +17,7 @@ use Rattle.cs_group.specs.Judging.{leads, judgement, judged, is_compatible, is_s
 use Rattle.cs_group.specs.Applying.{placed_by, placed_in, placed, placed_key, IsElsewhere, compatible_groups, applicable, skipped, NoneWider, FirstWider}
 use Rattle.cs_apply.specs.declared.fault.ApplyFault.{ApplyFault}
 use Rattle.cs_apply.specs.Running.{IsResource}
-use Rattle.cs_apply.specs.Steps.{HasTable, RefusesWider}
+use Rattle.cs_apply.specs.Steps.{HasTable}
 use Rattle.cs_apply.proofs.StepLemmas.{Apart}
 
 -- ---- the table of a group
@@ -50,59 +50,10 @@ has_table state group e = at (schema_at state group.header.name) refl e
 pub table_stays : (state next : State) (header : HeaderData) → ((table : List ℕ) → schema_at next table ≡ schema_at state table) → HasTable state header → HasTable next header
 table_stays state next header same has = record { schema = has.schema; found = same header.name ∙ has.found; same = has.same }
 
--- ---- judging one group after another
+-- ---- lists
 
--- the groups so far are judged, none is wider, and the state is as it was
-pub record JudgedTo (before now : State) (gs : List GroupData) (i : ℕ) (js : List Judgement) : Type 0 where
-  pub same : now ≡ before
-  pub judged : js ≡ map (judged before) (take i gs)
-  pub none_wider : NoneWider before (take i gs)
-
-pub judged_none : (s : State) (gs : List GroupData) → JudgedTo s s gs 0 []
-judged_none s gs = record { same = refl; judged = refl; none_wider = All-nil (λ g. judged s g ≢ Wider) }
-
-pub judged_more : (before now next : State) (gs : List GroupData) (i : ℕ) (js : List Judgement) (g : GroupData) (j : Judgement) → JudgedTo before now gs i js
-    → i < length gs → g ≡ get_or gs i g → j ≡ judged now g → j ≢ Wider → next ≡ now → JudgedTo before next gs (i + 1) (js ++ j ∷ [])
-judged_more before now next gs i js g j so lt is judgement not_wider same =
-    let one : take (i + 1) gs ≡ take i gs ++ g ∷ [] = take_more_at gs i g lt is in
-    let here : j ≡ judged before g = judgement ∙ ap (λ (s : State). judged s g) so.same in
-    record {
-      same = same ∙ so.same;
-      judged = rw (so.judged, here, one) (sym (map-append (judged before) (take i gs) (g ∷ [])));
-      none_wider = rw one (All-append (λ g. judged before g ≢ Wider) (take i gs) (g ∷ []) so.none_wider
-          (All-cons (λ g. judged before g ≢ Wider) g [] (λ wider. not_wider (here ∙ wider)) (All-nil (λ g. judged before g ≢ Wider))));
-    }
-
-pub first_wider : (before now : State) (gs : List GroupData) (i : ℕ) (js : List Judgement) (g : GroupData) → JudgedTo before now gs i js
-    → i < length gs → g ≡ get_or gs i g → judged now g ≡ Wider → FirstWider before gs i
-first_wider before now gs i js g so lt is wider = record {
-  within = lt;
-  before = so.none_wider;
-  wider = at_read gs (λ g. judged before g ≡ Wider) i g lt is (ap (λ (s : State). judged s g) (sym so.same) ∙ wider);
-}
-
-pub judged_all : (before now : State) (gs : List GroupData) (i : ℕ) (js : List Judgement) → JudgedTo before now gs i js → length gs ≤ i
-    → (js ≡ map (judged before) gs) × NoneWider before gs
-judged_all before now gs i js so le = let all = take_all i gs le in (rw all at so.judged, rw all at so.none_wider)
-
-pub resource_refuses : (s : State) (gs : List GroupData) (e : ApplyFault) → IsResource e → RefusesWider s gs e
-resource_refuses s gs e (inl is) = rw is tt
-resource_refuses s gs e (inr is) = rw is refl
-
--- ---- one more entry of a group
-
-each_map : {X Y : Type 0} (f : X → Y) (P : X → Type 0) (Q : Y → Type 0) (xs : List X) → ((x : X) → P x → Q (f x)) → AllByRecursion P xs → AllByRecursion Q (map f xs)
+pub each_map : {X Y : Type 0} (f : X → Y) (P : X → Type 0) (Q : Y → Type 0) (xs : List X) → ((x : X) → P x → Q (f x)) → AllByRecursion P xs → AllByRecursion Q (map f xs)
 each_map f P Q xs h each = AllByRecursion-map Q f xs (AllByRecursion-weaker P (λ x. Q (f x)) h xs each)
-
--- it is of another row than those before it
-pub entry_apart : (group : GroupData) (i : ℕ) (e : Entry) → IsGroup group → i < length group.entries → e ≡ get_or group.entries i e
-    → Apart (map (placed_by group.header) (take i group.entries)) (placed_by group.header e ∷ [])
-entry_apart group i e is lt at =
-    let flags = group.header.flags in (
-      each_map (placed_by group.header) (λ d. key_of flags d.change ≢ key_of flags e.change) (λ p. IsElsewhere p group.header.name (key_of flags e.change)) (take i group.entries) (λ d apart here. apart here.1)
-          (AllPairs-before (λ d e. key_of flags d.change ≢ key_of flags e.change) group.entries i e is.once lt at),
-      tt,
-    )
 
 -- ---- one more group of a changeset
 
@@ -119,21 +70,8 @@ each_same : {X : Type 0} {P : Type 0} (xs : List X) → P → AllByRecursion (λ
 each_same [] p = tt
 each_same (x ∷ xs) p = (p, each_same xs p)
 
--- a group that is applied, and one that is passed over
-pub applied_group : (state : State) (g : GroupData) → judged state g ≡ Compatible → applicable state (g ∷ []) ≡ placed_in g
-applied_group state g e = rw e (append-nil (placed_in g))
-
-pub applied_not_skipped : (state : State) (g : GroupData) → judged state g ≡ Compatible → skipped state (g ∷ []) ≡ []
-applied_not_skipped state g e = rw e refl
-
-pub passed_group : (state : State) (g : GroupData) → judged state g ≡ Skipped → applicable state (g ∷ []) ≡ []
-passed_group state g e = rw e refl
-
-pub passed_skipped : (state : State) (g : GroupData) → judged state g ≡ Skipped → skipped state (g ∷ []) ≡ g.header.name ∷ []
-passed_skipped state g e = rw e refl
-
 -- entries of tables with other names
-other_tables : (state : State) (name : List ℕ) (gs : List GroupData) → AllByRecursion (λ g. g.header.name ≢ name) gs → AllByRecursion (λ p. p.table ≢ name) (applicable state gs)
+pub other_tables : (state : State) (name : List ℕ) (gs : List GroupData) → AllByRecursion (λ g. g.header.name ≢ name) gs → AllByRecursion (λ p. p.table ≢ name) (applicable state gs)
 other_tables state name [] h = tt
 other_tables state name (g ∷ gs) h = at (is_compatible (judged state g)) (other_tables state name gs h.1)
   where
@@ -142,19 +80,3 @@ other_tables state name (g ∷ gs) h = at (is_compatible (judged state g)) (othe
         AllByRecursion-append (λ p. p.table ≢ name) (placed_in g) (applicable state gs)
         (each_map (placed_by g.header) (λ e. g.header.name ≢ name) (λ p. p.table ≢ name) g.entries (λ e apart. apart) (each_same g.entries h.0)) others
     at false others = others
-
-own_table : (state : State) (g : GroupData) → AllByRecursion (λ p. p.table ≡ g.header.name) (applicable state (g ∷ []))
-own_table state g = at (is_compatible (judged state g))
-  where
-    at : (b : Bool) → AllByRecursion (λ p. p.table ≡ g.header.name) (placed (cond b (g ∷ []) []))
-    at true = AllByRecursion-append (λ p. p.table ≡ g.header.name) (placed_in g) [] (each_map (placed_by g.header) (λ e. Unit {0}) (λ p. p.table ≡ g.header.name) g.entries (λ e u. refl) (each_same g.entries tt)) tt
-    at false = tt
-
--- a group is of another table than those before it
-pub group_apart : (state : State) (gs : List GroupData) (i : ℕ) (g : GroupData) → IsChangeset gs → i < length gs → g ≡ get_or gs i g
-    → Apart (applicable state (take i gs)) (applicable state (g ∷ []))
-group_apart state gs i g is lt at =
-    let others = other_tables state g.header.name (take i gs) (AllPairs-before (λ h g. h.header.name ≢ g.header.name) gs i g is.once lt at) in
-    AllByRecursion-weaker (λ q. q.table ≡ g.header.name) (λ q. AllByRecursion (λ p. IsElsewhere p q.table (placed_key q)) (applicable state (take i gs))) (λ q own.
-    AllByRecursion-weaker (λ p. p.table ≢ g.header.name) (λ p. IsElsewhere p q.table (placed_key q)) (λ p apart here. apart (here.0 ∙ own)) (applicable state (take i gs)) others)
-    (applicable state (g ∷ [])) (own_table state g)

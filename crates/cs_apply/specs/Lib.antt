@@ -1,5 +1,6 @@
 pub mod Crash
 pub mod Faults
 pub mod Report
+pub mod Run
 pub mod Running
 pub mod Steps

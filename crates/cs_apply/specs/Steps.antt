@@ -1,9 +1,10 @@
 -- How a run goes on, entry by entry.
-use Rattle.std.specs.Prelude.{◌≡◌, ℕ, Bool, false, List, ◌∷◌, ◌++◌, map, filter_map, All, Option, None, Some}
+use Rattle.std.specs.Prelude.{◌≡◌, ℕ, Bool, true, false, List, [], ◌∷◌, ◌++◌, map, filter_map, All, Option, None, Some}
 use Rattle.std.specs.Prelude.{option_map, option_to_list}
 use Rattle.cs_value.specs.declared.value.OwnedValue.{OwnedValue}
 use Rattle.cs_value.specs.State.{State, SchemaData, schema_at, with_row, without_row}
-use Rattle.cs_wire.specs.Changeset.{HeaderData, GroupData}
+use Rattle.cs_wire.specs.Changeset.{HeaderData}
+use Rattle.cs_wire.specs.Items.{FlaggedEntry}
 use Rattle.cs_store.specs.declared.fault.StoreError.TheVariants.{StoreFault}
 use Rattle.cs_store.specs.Editing.{written_of}
 use Rattle.cs_group.specs.declared.conflict.Kind.TheVariants.{NotFound}
@@ -11,12 +12,14 @@ use Rattle.cs_group.specs.declared.conflict.Choice.{Choice}
 use Rattle.cs_group.specs.declared.conflict.Choice.TheVariants as choice
 use Rattle.cs_group.specs.Conflicts.{conflict_kind, ends, is_carried_out}
 use Rattle.cs_group.specs.Joining.{key_places}
-use Rattle.cs_group.specs.Applying.{FirstWider, PlacedEntry, ConflictData, Choices, AreApplied, conflict_with, conflict_at}
+use Rattle.cs_group.specs.Applying.{PlacedEntry, ConflictData, Choices, AreApplied, conflict_with, conflict_at}
 use Rattle.cs_group.specs.Applying.{met_at, written_for}
 use Rattle.cs_apply.specs.declared.conflict.Conflict.{Conflict}
 use Rattle.cs_apply.specs.declared.conflict.Met.{Met}
 use Rattle.cs_apply.specs.declared.fault.ApplyFault.{ApplyFault}
 use Rattle.cs_apply.specs.declared.fault.ApplyFault.TheVariants.{Read, Wider, Abort, Misuse, Store, NoMemory}
+use Rattle.cs_apply.specs.declared.entry.Settled.{Settled}
+use Rattle.cs_apply.specs.declared.entry.Settled.TheVariants.{Carried, Passed, Ended}
 use Rattle.cs_apply.specs.declared.report.Report.{Report}
 use Rattle.cs_apply.specs.Report.{conflict_of, met_of}
 use Rattle.cs_apply.specs.Running.{Handler, GoesOn}
@@ -57,14 +60,18 @@ RefusesEntries chooses entries before report next NoMemory = Unit {0}
 RefusesEntries chooses entries before report next (Read fault) = ⊥
 RefusesEntries chooses entries before report next (Wider place) = ⊥
 
--- why the tables of a changeset are refused
-abbrev pub RefusesWider : State → List GroupData → ApplyFault → Type 0
-RefusesWider state changeset (Wider place) = FirstWider state changeset place
-RefusesWider state changeset (Store error) = error ≡ StoreFault
-RefusesWider state changeset NoMemory = Unit {0}
-RefusesWider state changeset (Read fault) = ⊥
-RefusesWider state changeset (Abort conflict) = ⊥
-RefusesWider state changeset (Misuse conflict) = ⊥
+-- the entry, with the table that it is of
+abbrev pub placed_in_table : List ℕ → FlaggedEntry → PlacedEntry
+placed_in_table table seen = record { table = table; flags = seen.flags; entry = seen.entry }
+
+abbrev pub header_in : List ℕ → FlaggedEntry → HeaderData
+header_in table seen = record { name = table; flags = seen.flags }
+
+-- what an entry comes to: it is carried out or passed over, or the run ends at it, and the rows are as they were
+abbrev pub ComesTo : Handler → PlacedEntry → State → Report → State → Report → Option ApplyFault → Type 0
+ComesTo chooses p before report after next None = Carries chooses (p ∷ []) before report after next
+ComesTo chooses p before report after next (Some fault) =
+    RefusesEntries chooses (p ∷ []) before report next fault × (after ≡ before)
 
 -- an entry, before it is carried out: what it meets, what was chosen for that, and whether it is carried out
 pub record Settles (chooses : Handler) (p : PlacedEntry) (row : Option (List OwnedValue)) (conflicts next : List Met)
@@ -97,6 +104,17 @@ Unsettled chooses p row conflicts next NoMemory = Unit {0}
 Unsettled chooses p row conflicts next (Store error) = ⊥
 Unsettled chooses p row conflicts next (Read fault) = ⊥
 Unsettled chooses p row conflicts next (Wider place) = ⊥
+
+-- what is done where the run goes on
+abbrev pub settled_as : Choice → Settled
+settled_as choice.Omit = Passed
+settled_as choice.Replace = Carried
+settled_as choice.Abort = Passed
+
+abbrev pub SettlesAs : Handler → PlacedEntry → Option (List OwnedValue) → List Met → List Met → Settled → Type 0
+SettlesAs chooses p row conflicts next Carried = Settles chooses p row conflicts next true
+SettlesAs chooses p row conflicts next Passed = Settles chooses p row conflicts next false
+SettlesAs chooses p row conflicts next (Ended fault) = Unsettled chooses p row conflicts next fault
 
 -- the row stands at the key, or none does
 abbrev pub with_result : State → List ℕ → List ℕ → Option (List OwnedValue) → State

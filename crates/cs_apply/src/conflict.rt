@@ -4,7 +4,7 @@ ghost use Rattle.cs_apply.specs.Report.{conflict_of};
 
 use cs_group::{Choice, Kind};
 use cs_value::{NoMemory, Row};
-use cs_wire::Entry;
+use cs_wire::{Entry, EntryRef};
 use std::alloc::Global;
 use std::fmt;
 
@@ -32,13 +32,13 @@ impl Conflict {
         alloc: Global,
         kind: Kind,
         table: &str,
-        entry: &Entry,
+        entry: &EntryRef<'_>,
         current: Option<&Row>,
     ) -> Result<Conflict, NoMemory>
         ensures { IfOk result (λ c. conflict_of c ≡ record {
           kind = kind;
           table = table.now;
-          entry = entry.now;
+          entry = entry.now.entry;
           current = option_map (λ r. r.now) current.entry;
         }) }
     {
@@ -49,7 +49,7 @@ impl Conflict {
         Ok(Conflict {
             kind,
             table: String::from_str(alloc, table)?,
-            entry: entry.copy(alloc)?,
+            entry: entry.to_entry(alloc)?,
             current,
         })
     }

@@ -1,86 +1,103 @@
 //! One entry of a changeset, carried out.
 ghost use Rattle.std.specs.Prelude.{◌≡◌, ◌≢◌, [], ◌∷◌, ◌++◌, map, Some, IfOk, IfErr, IfSome, OnOk, option_map};
 ghost use Rattle.std.specs.Fn.{FnReturnsAt};
-ghost use Rattle.cs_wire.specs.Entry.{IsEntry, key_of};
+ghost use Rattle.cs_wire.specs.Entry.{key_of};
 ghost use Rattle.cs_store.specs.Editing.{written_of};
 ghost use Rattle.cs_store.specs.Rows.{Fits};
 ghost use Rattle.cs_group.specs.declared.conflict.Kind.TheVariants.{NotFound as NotFoundKind};
 ghost use Rattle.cs_group.specs.Conflicts.{conflict_kind as kind_of, row_after as row_of_change, ends};
-ghost use Rattle.cs_group.specs.Applying.{placed_by};
 ghost use Rattle.cs_apply.specs.Running.{IsResource, IsNamed};
-ghost use Rattle.cs_apply.specs.Steps.{HasTable, Carries, RefusesEntries, Settles, Unsettled, fault_by, with_result};
+ghost use Rattle.cs_apply.specs.Steps.{HasTable, ComesTo, SettlesAs, fault_by, header_in, placed_in_table, settled_as, with_result};
 
 use crate::conflict::{Conflict, Met};
 use crate::fault::ApplyFault;
 use crate::report::Report;
 use cs_group::{Choice, Kind, conflict_kind, row_after};
 use cs_store::{Rows, Written};
-use cs_value::{Key, Row};
-use cs_wire::{Entry, Header};
+use cs_value::{Key, NoMemory, Row};
+use cs_wire::EntryRef;
 use std::alloc::Global;
 
+/// What is done about an entry.
+#[derive(Debug, Drop)]
+pub(crate) enum Settled {
+    /// It is carried out: it meets no conflict, or what stands in its way is to be replaced.
+    Carried,
+    /// It is passed over.
+    Passed,
+    /// The run ends at it.
+    Ended(ApplyFault),
+}
+
 /// Carries out an entry of a table that is compatible, or does what the handler chooses where the entry
-/// meets a conflict.
+/// meets a conflict. Answers why the run ends at it, if it does: the rows are as they were then.
 pub(crate) fn apply_entry<B: Rows, H: Fn(&Conflict) -> Choice>(
     alloc: Global,
     rows: &mut B,
-    header: &Header,
-    entry: &Entry,
+    table: &str,
+    entry: &EntryRef<'_>,
     handler: &H,
     report: &mut Report,
-) -> Result<(), ApplyFault>
+) -> Result<Option<ApplyFault>, ApplyFault>
     requires callable { H.IsAlwaysCallable handler.now }
-    requires entry { IsEntry header.now.flags entry.now }
-    requires table { B.is_honest rows.old → HasTable (B.state rows.old) header.now }
-    ensures carried { B.is_honest rows.new → OnOk result (Carries (FnReturnsAt H.Fn handler.now)
-        (placed_by header.now entry.now ∷ []) (B.state rows.old) report.old (B.state rows.new) report.new) }
-    ensures refused { B.is_honest rows.new → IfErr result (RefusesEntries (FnReturnsAt H.Fn handler.now)
-        (placed_by header.now entry.now ∷ []) (B.state rows.old) report.old report.new) }
+    requires table { B.is_honest rows.old → HasTable (B.state rows.old) (header_in table.now entry.now) }
+    ensures comes_to { B.is_honest rows.new → IfOk result (ComesTo (FnReturnsAt H.Fn handler.now)
+        (placed_in_table table.now entry.now) (B.state rows.old) report.old (B.state rows.new) report.new) }
+    ensures ended { IfOk result (λ ended. IfSome ended IsNamed) }
     ensures skipped { report.new.skipped ≡ report.old.skipped }
+    ensures refused { B.is_honest rows.new → IfErr result IsResource }
     ensures named { IfErr result IsNamed }
     ensures was_honest { B.is_honest rows.new → B.is_honest rows.old }
     ensures kept { B.keeps rows.old rows.new }
 {
-    let key = header.key_of(alloc, entry)?;
-    let current = rows.get(alloc, header.name(), &key)?;
+    let key = entry.key(alloc)?;
+    let current = rows.get(alloc, table, &key)?;
     let conflicts = &mut report.conflicts;
-    match settle(alloc, header, entry, current.as_ref(), handler, conflicts) {
-        Ok(true) => {
+    match settle(alloc, table, entry, current.as_ref(), handler, conflicts)? {
+        Settled::Carried => {
             let written = &mut report.written;
-            carry_out(alloc, rows, header, entry, key, current, written)
+            carry_out(alloc, rows, table, entry, key, current, written)?;
+            Ok(None)
         }
-        Ok(false) => Ok(()),
-        Err(fault) => Err(fault),
+        Settled::Passed => Ok(None),
+        Settled::Ended(fault) => Ok(Some(fault)),
     }
 }
 
-/// Whether an entry is carried out: it meets no conflict, or what stands in its way is to be replaced.
-/// A conflict is told with what was chosen for it.
+/// What is done about an entry. A conflict is told with what was chosen for it, unless the run ends there.
 fn settle<H: Fn(&Conflict) -> Choice>(
     alloc: Global,
-    header: &Header,
-    entry: &Entry,
+    table: &str,
+    entry: &EntryRef<'_>,
     current: Option<&Row>,
     handler: &H,
     conflicts: &mut Vec<Met>,
-) -> Result<bool, ApplyFault>
+) -> Result<Settled, NoMemory>
     requires callable { H.IsAlwaysCallable handler.now }
-    ensures settled { IfOk result (Settles (FnReturnsAt H.Fn handler.now) (placed_by header.now entry.now)
-        (option_map (λ r. r.now) current.entry) conflicts.old.items conflicts.new.items) }
-    ensures refused { IfErr result (Unsettled (FnReturnsAt H.Fn handler.now) (placed_by header.now entry.now)
+    ensures { IfOk result (SettlesAs (FnReturnsAt H.Fn handler.now) (placed_in_table table.now entry.now)
         (option_map (λ r. r.now) current.entry) conflicts.old.items conflicts.new.items) }
 {
-    let kind = match conflict_kind(&entry.change, current) {
-        None => return Ok(true),
+    let kind = match conflict_kind(entry, current) {
+        None => return Ok(Settled::Carried),
         Some(kind) => kind,
     };
-    let conflict = Conflict::copy_of(alloc, kind, header.name(), entry, current)?;
+    let conflict = Conflict::copy_of(alloc, kind, table, entry, current)?;
     let choice = handler(&conflict);
     if ends_run(kind, choice) {
-        return Err(fault_at(conflict, choice));
+        return Ok(Settled::Ended(fault_at(conflict, choice)));
     }
     conflicts.push(Met { conflict, choice })?;
-    Ok(choice == Choice::Replace)
+    Ok(settled_by(choice))
+}
+
+/// What is done about an entry at whose conflict the run goes on.
+fn settled_by(choice: Choice) -> Settled
+    ensures { result ≡ settled_as choice }
+{
+    match choice {
+        Choice::Replace => Settled::Carried,
+        _ => Settled::Passed,
+    }
 }
 
 /// Whether a run ends at a conflict of this kind, for which this was chosen.
@@ -109,28 +126,27 @@ fn fault_at(conflict: Conflict, choice: Choice) -> ApplyFault
 fn carry_out<B: Rows>(
     alloc: Global,
     rows: &mut B,
-    header: &Header,
-    entry: &Entry,
+    table: &str,
+    entry: &EntryRef<'_>,
     key: Key,
     current: Option<Row>,
     written: &mut Vec<Written>,
 ) -> Result<(), ApplyFault>
-    requires entry { IsEntry header.now.flags entry.now }
-    requires key { key ≡ key_of header.now.flags entry.now.change }
-    requires found { kind_of entry.now.change current ≢ Some NotFoundKind }
-    requires table { B.is_honest rows.old → HasTable (B.state rows.old) header.now }
-    requires row { B.is_honest rows.old → IfSome current (Fits (B.state rows.old) header.now.name key) }
+    requires key { key ≡ key_of entry.now.flags entry.now.entry.change }
+    requires found { kind_of entry.now.entry.change current ≢ Some NotFoundKind }
+    requires table { B.is_honest rows.old → HasTable (B.state rows.old) (header_in table.now entry.now) }
+    requires row { B.is_honest rows.old → IfSome current (Fits (B.state rows.old) table.now key) }
     ensures written { B.is_honest rows.new → OnOk result (B.state rows.new
-        ≡ with_result (B.state rows.old) header.now.name key
-        (row_of_change header.now.flags entry.now.change current)) }
+        ≡ with_result (B.state rows.old) table.now key
+        (row_of_change entry.now.flags entry.now.entry.change current)) }
     ensures told { OnOk result (map written_of written.new.items ≡ map written_of written.old.items
-        ++ record { table = header.now.name; key = key; former = current } ∷ []) }
+        ++ record { table = table.now; key = key; former = current } ∷ []) }
     ensures refused { IfErr result IsResource }
     ensures was_honest { B.is_honest rows.new → B.is_honest rows.old }
     ensures kept { B.keeps rows.old rows.new }
 {
-    write(alloc, rows, header, entry, &key, current.as_ref())?;
-    let table = String::from_str(alloc, header.name())?;
+    write(alloc, rows, table, entry, &key, current.as_ref())?;
+    let table = String::from_str(alloc, table)?;
     written.push(Written {
         table,
         key,
@@ -143,26 +159,25 @@ fn carry_out<B: Rows>(
 fn write<B: Rows>(
     alloc: Global,
     rows: &mut B,
-    header: &Header,
-    entry: &Entry,
+    table: &str,
+    entry: &EntryRef<'_>,
     key: &Key,
     current: Option<&Row>,
 ) -> Result<(), ApplyFault>
-    requires entry { IsEntry header.now.flags entry.now }
-    requires key { key.now ≡ key_of header.now.flags entry.now.change }
-    requires found { kind_of entry.now.change (option_map (λ r. r.now) current) ≢ Some NotFoundKind }
-    requires table { B.is_honest rows.old → HasTable (B.state rows.old) header.now }
-    requires row { B.is_honest rows.old → IfSome current (λ r. Fits (B.state rows.old) header.now.name key.now r.now) }
+    requires key { key.now ≡ key_of entry.now.flags entry.now.entry.change }
+    requires found { kind_of entry.now.entry.change (option_map (λ r. r.now) current) ≢ Some NotFoundKind }
+    requires table { B.is_honest rows.old → HasTable (B.state rows.old) (header_in table.now entry.now) }
+    requires row { B.is_honest rows.old → IfSome current (λ r. Fits (B.state rows.old) table.now key.now r.now) }
     ensures written { B.is_honest rows.new → OnOk result (B.state rows.new
-        ≡ with_result (B.state rows.old) header.now.name key.now
-        (row_of_change header.now.flags entry.now.change (option_map (λ r. r.now) current.entry))) }
+        ≡ with_result (B.state rows.old) table.now key.now
+        (row_of_change entry.now.flags entry.now.entry.change (option_map (λ r. r.now) current.entry))) }
     ensures refused { IfErr result IsResource }
     ensures was_honest { B.is_honest rows.new → B.is_honest rows.old }
     ensures kept { B.keeps rows.old rows.new }
 {
-    match row_after(alloc, header.flags(), &entry.change, current)? {
-        Some(row) => rows.put(alloc, header.name(), key, &row)?,
-        None => rows.remove(alloc, header.name(), key)?,
+    match row_after(alloc, entry, current)? {
+        Some(row) => rows.put(alloc, table, key, &row)?,
+        None => rows.remove(alloc, table, key)?,
     }
     Ok(())
 }

@@ -21,6 +21,7 @@ mod fault;
 mod judging;
 mod policy;
 mod report;
+mod run;
 mod running;
 mod store;
 

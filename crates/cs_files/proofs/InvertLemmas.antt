@@ -15,16 +15,13 @@ use Rattle.cs_wire.specs.Items.{header_of}
 use Rattle.cs_wire.specs.Views.{inverse_entry}
 use Rattle.cs_wire.proofs.EntryInverses.{entry_inverses}
 use Rattle.cs_wire.proofs.InverseLemmas.{IsEntry-inverse, IsGroup-inverse, IsInverseGroup-is, inverse_entry_is}
-use Rattle.cs_group.specs.Inverse.{IsInverse}
+use Rattle.cs_group.specs.Inverse.{IsInverse, inverse_group}
 use Rattle.cs_group.proofs.InverseLengths.{inverse_length}
 use Rattle.cs_files.specs.Files.{Inverts}
-use Rattle.cs_files.specs.Inverting.{InvertsFront, inverse_bytes, inverse_group}
+use Rattle.cs_group.proofs.InverseGroups.{groups_inverse, IsChangeset-inverse}
+use Rattle.cs_files.specs.Inverting.{InvertsFront, inverse_bytes}
 
 -- ---- an item
-
--- the entry that undoes another is the one that is written
-pub inverse_is : (flags : List ℕ) (entry inverse : Entry) → IsEntry flags entry → IsEntry flags inverse → IsInverseEntry flags entry inverse → inverse ≡ inverse_entry flags entry
-inverse_is flags entry inverse p q is = entry_inverses flags entry inverse (inverse_entry flags entry) q (IsEntry-inverse flags entry p) is (inverse_entry_is flags entry p)
 
 -- a header is written behind the inverses of the groups before it
 table_written : (groups : List GroupData) (header : HeaderData) → file_bytes (map inverse_group (groups ++ record { header = header; entries = [] } ∷ [])) ≡ file_bytes (map inverse_group groups) ++ header_bytes header
@@ -71,22 +68,6 @@ InvertsFront-next file place out so handed to next grown is begins grown_is = re
   begins = begins;
   written = grown_is ∙ ap (λ (x : List ℕ). x ++ inverse_bytes handed) so.written ∙ sym (item_written so.groups handed is);
 }
-
-groups_inverse : (groups : List GroupData) → AllByRecursion IsGroup groups → AllByRecursion IsGroup (map inverse_group groups) × IsInverse groups (map inverse_group groups)
-groups_inverse [] h = (tt, tt)
-groups_inverse (group ∷ groups) h =
-    let others = groups_inverse groups h.1 in
-    ((IsGroup-inverse group h.0, others.0), (IsInverseGroup-is group h.0, others.1))
-
--- what undoes the groups of a changeset is one
-IsChangeset-inverse : (groups : List GroupData) → IsChangeset groups → IsChangeset (map inverse_group groups)
-IsChangeset-inverse groups are =
-    let len = length-map groups inverse_group in record {
-      each = All-from_recursion IsGroup (map inverse_group groups) (groups_inverse groups (recursion_from_All IsGroup groups are.each)).0;
-      once = λ i j d lt within same.
-          let at = λ (k : ℕ) (k_in : k < length groups). ap (λ (g : GroupData). g.header.name) (get_or-map inverse_group groups k d d k_in) in
-          are.once i j d lt (omega (arith, within, len)) (sym (at i (omega (arith, lt, within, len))) ∙ same ∙ at j (omega (arith, within, len)));
-    }
 
 -- the whole is inverted
 inverted : (file out : List ℕ) (groups : List GroupData) → IsFileOf file groups → out ≡ file_bytes (map inverse_group groups) → Inverts file out × (length out ≡ length file)

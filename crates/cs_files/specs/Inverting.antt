@@ -7,15 +7,12 @@ use Rattle.cs_wire.specs.Changeset.{GroupData, header_bytes, file_bytes}
 use Rattle.cs_wire.specs.Cursor.{Begins}
 use Rattle.cs_wire.specs.Items.{header_of}
 use Rattle.cs_wire.specs.Views.{inverse_entry}
+use Rattle.cs_group.specs.Inverse.{inverse_group}
 
 -- the bytes of what undoes an item: a header undoes itself
 abbrev pub inverse_bytes : Item → List ℕ
 inverse_bytes (item.Table header) = header_bytes (header_of header)
 inverse_bytes (item.Entry seen) = entry_bytes (inverse_entry seen.flags seen.entry)
-
--- what undoes the entries of each group, in their order
-abbrev pub inverse_group : GroupData → GroupData
-inverse_group group = record { header = group.header; entries = map (inverse_entry group.header.flags) group.entries }
 
 -- up to this place of the file, what undoes it is written
 pub record InvertsFront (file : List ℕ) (place : ℕ) (out : List ℕ) : Type 0 where

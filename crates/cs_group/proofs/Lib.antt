@@ -13,6 +13,7 @@ pub mod JoinApplyLemmas
 pub mod JoinNetLemmas
 pub mod JoinLengths
 pub mod InverseLengths
+pub mod InverseGroups
 pub mod Examples
 pub mod ConflictLemmas
 pub mod NetLemmas

@@ -1,9 +1,10 @@
 -- The inverse of a changeset: the introduction to SQLite's session extension, under "inverting a changeset". That the
 -- order stays is this project's own.
-use Rattle.std.specs.Prelude.{◌≡◌, List}
+use Rattle.std.specs.Prelude.{◌≡◌, List, map}
 use Rattle.std.specs.List.{AllZip}
 use Rattle.cs_wire.specs.Changeset.{GroupData, IsChangeset}
 use Rattle.cs_wire.specs.Inverse.{IsInverseGroup}
+use Rattle.cs_wire.specs.Views.{inverse_entry}
 
 -- the inverses of the groups, in their order
 abbrev pub IsInverse : List GroupData → List GroupData → Type 0
@@ -18,3 +19,7 @@ ChangesetInverses = (changeset inverse other : List GroupData) → IsChangeset i
 abbrev pub InverseTwice : Type 0
 InverseTwice = (changeset inverse twice : List GroupData) → IsChangeset changeset → IsChangeset twice
     → IsInverse changeset inverse → IsInverse inverse twice → twice ≡ changeset
+
+-- what undoes the entries of a group, in their order
+abbrev pub inverse_group : GroupData → GroupData
+inverse_group group = record { header = group.header; entries = map (inverse_entry group.header.flags) group.entries }

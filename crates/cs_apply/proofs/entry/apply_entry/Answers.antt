@@ -1,45 +1,48 @@
--- `entry::apply_entry`: the clauses `refused` and `carried`.
+-- `entry::apply_entry`: the clauses `comes_to` and `ended`.
 use Rattle.std.proofs.Common.{◌≡◌, ℕ, List, refl, ap, ◌∙◌}
 use Rattle.std.specs.Fn.{FnReturnsAt}
 use Rattle.std.specs.FinMap.{get}
 use Rattle.cs_value.specs.State.{State}
 use Rattle.cs_value.proofs.StateLemmas.{table_of_schema}
 use Rattle.cs_group.specs.Conflicts.{row_after}
-use Rattle.cs_group.specs.Applying.{placed_by, current}
-use Rattle.cs_apply.specs.Steps.{with_result}
-use Rattle.cs_apply.proofs.CarryLemmas.{carries_written, carries_passed, refuses_here, on_both}
+use Rattle.cs_group.specs.Applying.{current}
+use Rattle.cs_apply.specs.Steps.{placed_in_table, with_result}
+use Rattle.cs_apply.proofs.CarryLemmas.{carries_written, carries_passed, refuses_here}
+use Rattle.cs_apply.proofs.EntryLemmas.{ended_named}
 use Rattle.cs_apply.proofs.entry.apply_entry.Goals as goal
 
-pub returns-in-Err-clause-refused : goal.returns-in-Err-clause-refused
-returns-in-Err-clause-refused g c = λ honest.
-    let state = g.B.Rows.state c.args.rows.now in
-    let p = placed_by c.args.header.now c.args.entry.now in
-    let found = c.in_ok-current.ensures.found honest in
-    let is : c.in_ok-current.current ≡ current state p = rw (c.name.ensures, c.in_ok-key.ensures) at found in
-    let refused = rw c.as_ref.ensures.value at c.in-Err.ensures.refused in
-    refuses_here (FnReturnsAt g.H.Fn c.args.handler.now) state p c.in_ok-current.current _ _ is _ refused
+pub returns-in-Ended-clause-ended : goal.returns-in-Ended-clause-ended
+returns-in-Ended-clause-ended g c = ended_named (FnReturnsAt g.H.Fn c.args.handler.now) (placed_in_table c.args.table.now c.args.entry.now) c.in_ok-current.current _ _ _ (rw (c.as_ref.ensures.value, c.in-Ended.is) at c.in_ok-settle.ensures)
 
-pub returns-in-Ok-false-clause-carried : goal.returns-in-Ok-false-clause-carried
-returns-in-Ok-false-clause-carried g c = λ honest.
+pub returns-in-Ended-clause-comes_to : goal.returns-in-Ended-clause-comes_to
+returns-in-Ended-clause-comes_to g c = λ honest.
     let state = g.B.Rows.state c.args.rows.now in
-    let p = placed_by c.args.header.now c.args.entry.now in
+    let p = placed_in_table c.args.table.now c.args.entry.now in
     let found = c.in_ok-current.ensures.found honest in
-    let is : c.in_ok-current.current ≡ current state p = rw (c.name.ensures, c.in_ok-key.ensures) at found in
-    let settled = rw (c.as_ref.ensures.value, c.in-Ok-false.field-0-test) at c.in-Ok-false.ensures.settled in
+    let is : c.in_ok-current.current ≡ current state p = rw c.in_ok-key.ensures at found in
+    let refused = rw (c.as_ref.ensures.value, c.in-Ended.is) at c.in_ok-settle.ensures in
+    (refuses_here (FnReturnsAt g.H.Fn c.args.handler.now) state p c.in_ok-current.current _ _ is _ refused, c.in_ok-current.ensures.same honest)
+
+pub returns-in-Passed-clause-comes_to : goal.returns-in-Passed-clause-comes_to
+returns-in-Passed-clause-comes_to g c = λ honest.
+    let state = g.B.Rows.state c.args.rows.now in
+    let p = placed_in_table c.args.table.now c.args.entry.now in
+    let found = c.in_ok-current.ensures.found honest in
+    let is : c.in_ok-current.current ≡ current state p = rw c.in_ok-key.ensures at found in
+    let settled = rw (c.as_ref.ensures.value, c.in-Passed.is) at c.in_ok-settle.ensures in
     carries_passed (FnReturnsAt g.H.Fn c.args.handler.now) state p c.in_ok-current.current _ _ is _ settled (c.in_ok-current.ensures.same honest) refl
 
-pub returns-in-Ok-true-clause-carried : goal.returns-in-Ok-true-clause-carried
-returns-in-Ok-true-clause-carried g c = λ after.
+pub returns-in_ok-carry_out-in-Carried-clause-comes_to : goal.returns-in_ok-carry_out-in-Carried-clause-comes_to
+returns-in_ok-carry_out-in-Carried-clause-comes_to g c = λ after.
     let honest = c.carry_out.ensures.was_honest after in
     let state = g.B.Rows.state c.args.rows.now in
-    let p = placed_by c.args.header.now c.args.entry.now in
+    let p = placed_in_table c.args.table.now c.args.entry.now in
     let found = c.in_ok-current.ensures.found honest in
-    let is : c.in_ok-current.current ≡ current state p = rw (c.name.ensures, c.in_ok-key.ensures) at found in
-    let settled = rw (c.as_ref.ensures.value, c.in-Ok-true.field-0-test) at c.in-Ok-true.ensures.settled in
+    let is : c.in_ok-current.current ≡ current state p = rw c.in_ok-key.ensures at found in
+    let settled = rw (c.as_ref.ensures.value, c.in-Carried.is) at c.in_ok-settle.ensures in
     let has = c.requires.table (c.in_ok-current.ensures.was_honest honest) in
-    let table = table_of_schema (get state c.args.header.now.name) has.schema has.found in
-    on_both c.carry_out.result (c.carry_out.ensures.written after) c.carry_out.ensures.told (λ written told.
-    let name = c.args.header.now.name in
-    let left = row_after c.args.header.now.flags c.args.entry.now.change c.in_ok-current.current in
-    let wrote = written ∙ ap (λ (s : State). with_result s name c.in_ok-key.key left) (c.in_ok-current.ensures.same honest) ∙ ap (λ (key : List ℕ). with_result state name key left) c.in_ok-key.ensures in
-    carries_written (FnReturnsAt g.H.Fn c.args.handler.now) state p c.in_ok-current.current _ _ is table.0 _ table.1 settled wrote (rw c.in_ok-key.ensures at told))
+    let table = table_of_schema (get state c.args.table.now) has.schema has.found in
+    let name = c.args.table.now in
+    let left = row_after p.flags p.entry.change c.in_ok-current.current in
+    let wrote = c.in_ok-carry_out-in-Carried.ensures.written after ∙ ap (λ (s : State). with_result s name c.in_ok-key.key left) (c.in_ok-current.ensures.same honest) ∙ ap (λ (key : List ℕ). with_result state name key left) c.in_ok-key.ensures in
+    carries_written (FnReturnsAt g.H.Fn c.args.handler.now) state p c.in_ok-current.current _ _ is table.0 _ table.1 settled wrote (rw c.in_ok-key.ensures at c.in_ok-carry_out-in-Carried.ensures.told)

@@ -1,19 +1,17 @@
 -- `entry::write`: what `put` asks for.
 use Rattle.std.proofs.Common.{sym, ◌∙◌, rules}
 use Rattle.cs_value.specs.Value.{IsRow}
+use Rattle.cs_apply.specs.Steps.{header_in}
 use Rattle.cs_apply.proofs.EntryLemmas.{keyed_here, fits_here}
 use Rattle.cs_apply.proofs.entry.write.Goals as goal
 
 pub put-requires : goal.put-requires
 put-requires g c = λ honest.
     let state = g.B.Rows.state c.args.rows.now in
-    let header = c.args.header.now in
+    let header = header_in c.args.table.now c.args.entry.now in
     let has = c.requires.table honest in
     let values : IsRow c.in-Some.row = search rules in
     let left = rw c.in-Some.is at c.in_ok-row.ensures.fits in
-    let flags = c.flags.ensures.same in
     let stood = keyed_here state header c.args.key.now c.args.current has (c.requires.row honest) in
-    let fits = left (rw flags stood) c.requires.found in
-    let keyed = rw flags at fits.0 in
-    let own = rw flags at fits.1 in
-    rw c.name.ensures (fits_here state header c.args.key.now c.in-Some.row has values keyed (c.requires.key ∙ sym own))
+    let fits = left stood c.requires.found in
+    fits_here state header c.args.key.now c.in-Some.row has values fits.0 (c.requires.key ∙ sym fits.1)

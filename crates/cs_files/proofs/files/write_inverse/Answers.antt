@@ -3,7 +3,7 @@ use Rattle.std.proofs.Common.{◌++◌, ap, ◌∙◌}
 use Rattle.std.proofs.lemmas.Result.{on_ok_weaker}
 use Rattle.cs_wire.specs.declared.entry.Entry.{Entry}
 use Rattle.cs_wire.specs.Entry.{entry_bytes}
-use Rattle.cs_files.proofs.InvertLemmas.{inverse_is}
+use Rattle.cs_group.proofs.InverseGroups.{inverse_is}
 use Rattle.cs_files.proofs.files.write_inverse.Goals as goal
 
 pub returns-in-Entry : goal.returns-in-Entry

@@ -1,0 +1,13 @@
+-- `run::Run::take_entry`: the clause `behind`.
+use Rattle.std.specs.Fn.{FnReturnsAt}
+use Rattle.std.proofs.Common.{refl, rules}
+use Rattle.cs_apply.proofs.BehindLemmas.{behind_passed, behind_taken}
+use Rattle.cs_apply.proofs.run.Run.take_entry.Goals as goal
+
+pub returns-then-not-takes_entries-clause-behind : goal.returns-then-not-takes_entries-clause-behind
+returns-then-not-takes_entries-clause-behind g c = λ honest before closed header entries flags new is.
+    behind_passed before closed header entries c.args.entry.entry (FnReturnsAt g.H.Fn c.args.handler.now) c.args.self.now _ is (search rules)
+
+pub returns-clause-behind : goal.returns-clause-behind
+returns-clause-behind g c = λ honest before closed header entries flags new is.
+    behind_taken before closed header entries c.args.entry.entry (FnReturnsAt g.H.Fn c.args.handler.now) c.args.self.now _ is _ _ c.args.entry (search rules) new flags refl refl refl refl refl c.in_ok-self.ensures.skipped (c.in_ok-self.ensures.comes_to honest)

@@ -1,0 +1,141 @@
+//! A run through the items of a changeset, from one to the next.
+ghost use Rattle.std.specs.Prelude.{◌≡◌, ◌↔◌, ◌<◌, ◌+◌, ◌∷◌, ◌++◌, [], List, IfErr, IfSome, IsTrue, OnOk};
+ghost use Rattle.std.specs.Fn.{FnReturnsAt};
+ghost use Rattle.cs_value.specs.State.{State};
+ghost use Rattle.cs_wire.specs.declared.entry.Entry.{Entry as EntryData};
+ghost use Rattle.cs_wire.specs.Changeset.{GroupData, HeaderData};
+ghost use Rattle.cs_wire.specs.Items.{header_of};
+ghost use Rattle.cs_group.specs.declared.judging.Judgement.TheVariants.{Compatible as CompatibleTable};
+ghost use Rattle.cs_apply.specs.Running.{IsResource, IsNamed};
+ghost use Rattle.cs_apply.specs.Steps.{HasTable, header_in};
+ghost use Rattle.cs_apply.specs.Run.{IsAtStart, IsBehind, IsNewEntry, TakesEntries, TakesTable, answer_of, group_of};
+
+use crate::conflict::Conflict;
+use crate::entry::apply_entry;
+use crate::fault::ApplyFault;
+use crate::judging::judge_table;
+use crate::report::Report;
+use cs_group::{Choice, Judgement};
+use cs_store::Rows;
+use cs_wire::{EntryRef, HeaderRef};
+use std::alloc::Global;
+
+/// What is known behind the items so far.
+#[derive(Debug, Drop)]
+pub(crate) struct Run<'a> {
+    // The name of the table that is open, and how it was judged.
+    table: &'a str,
+    judgement: Judgement,
+    // How many tables there were.
+    tables: usize,
+    // The place of the first of them that is wider.
+    wider: Option<usize>,
+    // Why the run ended at an entry.
+    ended: Option<ApplyFault>,
+    report: Report,
+}
+
+impl<'a> Run<'a> {
+    /// A run before the first item.
+    pub(crate) fn new(alloc: Global) -> Run<'a>
+        ensures { IsAtStart result }
+    {
+        Run {
+            table: "",
+            judgement: Judgement::Skipped,
+            tables: 0,
+            wider: None,
+            ended: None,
+            report: Report::new(alloc),
+        }
+    }
+
+    /// Goes on with a table: judges it, and tells it where it is passed over. The first that is wider is
+    /// remembered, also behind the end of the run.
+    pub(crate) fn take_table<B: Rows>(
+        &mut self,
+        alloc: Global,
+        rows: &mut B,
+        header: HeaderRef<'a>,
+    ) -> Result<(), ApplyFault>
+        requires { self.old.tables < usize.MAX }
+        ensures takes { B.is_honest rows.new → OnOk result
+            (TakesTable (B.state rows.old) self.old (header_of header.entry) self.new (B.state rows.new)) }
+        ensures tables { OnOk result (self.new.tables ≡ self.old.tables + 1) }
+        ensures ended { self.new.ended ≡ self.old.ended }
+        ensures refused { B.is_honest rows.new → IfErr result IsResource }
+        ensures named { IfErr result IsNamed }
+        ensures was_honest { B.is_honest rows.new → B.is_honest rows.old }
+        ensures kept { B.keeps rows.old rows.new }
+    {
+        self.judgement = judge_table(alloc, rows, &header)?;
+        self.table = header.name;
+        let place = self.tables;
+        self.tables = place + 1;
+        match self.judgement {
+            Judgement::Wider if self.wider.is_none() => self.wider = Some(place),
+            Judgement::Skipped => {
+                let table = String::from_str(alloc, header.name)?;
+                self.report.skipped.push(table)?;
+            }
+            _ => {}
+        }
+        Ok(())
+    }
+
+    /// Whether entries of the table that is open are carried out.
+    fn takes_entries(&self) -> bool
+        ensures { IsTrue result ↔ TakesEntries self.now }
+    {
+        self.judgement == Judgement::Compatible && self.wider.is_none() && self.ended.is_none()
+    }
+
+    /// Goes on with an entry of the table that is open: carries it out, or does what the handler chooses,
+    /// where the table is compatible and the run has not ended.
+    pub(crate) fn take_entry<B: Rows, H: Fn(&Conflict) -> Choice>(
+        &mut self,
+        alloc: Global,
+        rows: &mut B,
+        entry: EntryRef<'a>,
+        handler: &H,
+    ) -> Result<(), ApplyFault>
+        requires callable { H.IsAlwaysCallable handler.now }
+        requires table { B.is_honest rows.old → self.old.judgement ≡ CompatibleTable
+            → HasTable (B.state rows.old) (header_in self.old.table.now entry) }
+        ensures behind { B.is_honest rows.new → OnOk result ((before : State) (closed : List GroupData)
+            (header : HeaderData) (entries : List EntryData) → entry.entry.flags ≡ header.flags
+            → IsNewEntry closed header entries entry.entry.entry
+            → IsBehind (FnReturnsAt H.Fn handler.now) before (closed ++ group_of header entries ∷ []) self.old (B.state rows.old)
+            → IsBehind (FnReturnsAt H.Fn handler.now) before
+            (closed ++ group_of header (entries ++ entry.entry.entry ∷ []) ∷ []) self.new (B.state rows.new)) }
+        ensures tables { self.new.tables ≡ self.old.tables }
+        ensures ended { IfSome self.old.ended IsNamed → IfSome self.new.ended IsNamed }
+        ensures refused { B.is_honest rows.new → IfErr result IsResource }
+        ensures named { IfErr result IsNamed }
+        ensures was_honest { B.is_honest rows.new → B.is_honest rows.old }
+        ensures kept { B.keeps rows.old rows.new }
+    {
+        if !self.takes_entries() {
+            return Ok(());
+        }
+        self.ended = apply_entry(alloc, rows, self.table, &entry, handler, &mut self.report)?;
+        Ok(())
+    }
+
+    /// What the run comes to behind the last item.
+    pub(crate) fn finish(self) -> Result<Report, ApplyFault>
+        ensures { result ≡ answer_of self.entry }
+    {
+        let Run {
+            wider,
+            ended,
+            report,
+            ..
+        } = self;
+        match (wider, ended) {
+            (Some(place), _) => Err(ApplyFault::Wider(place)),
+            (None, Some(fault)) => Err(fault),
+            (None, None) => Ok(report),
+        }
+    }
+}
