@@ -1,6 +1,6 @@
 -- How a run goes on from one item to the next.
-use Rattle.std.proofs.Common.{◌≡◌, ◌≢◌, ℕ, zero, suc, ◌+◌, ◌<◌, Bool, true, false, cond, if◌then◌else◌, List, [], ◌∷◌, ◌++◌, length, length-append, take, map, Option, Some, None, option_map, append_assoc, refl, sym, ap, ap₂, subst, ◌∙◌, arith}
-use Rattle.std.specs.Prelude.{IfSome, string_bytes}
+use Rattle.std.proofs.Common.{◌≡◌, ◌≢◌, ℕ, suc, Bool, true, false, cond, if◌then◌else◌, List, [], ◌∷◌, ◌++◌, length, length-append, take, map, Option, Some, None, option_map, append_assoc, refl, sym, ap, ap₂, subst, ◌∙◌, arith}
+use Rattle.std.specs.Prelude.{string_bytes}
 use Rattle.std.specs.List.{AllByRecursion}
 use Rattle.std.proofs.lemmas.List.{append-nil, length-map, map-append}
 use Rattle.std.proofs.lemmas.List.Elements.{All-nil, All-cons}
@@ -15,8 +15,7 @@ use Rattle.cs_store.specs.Editing.{written_of}
 use Rattle.cs_group.specs.declared.judging.Judgement.{Judgement}
 use Rattle.cs_group.specs.declared.judging.Judgement.TheVariants.{Skipped, Wider, Compatible}
 use Rattle.cs_group.specs.Judging.{judgement, judged, is_compatible, is_skipped}
-use Rattle.cs_group.specs.Applying.{PlacedEntry, placed, placed_by, placed_in, placed_key, IsElsewhere, NoneWider, FirstWider, applicable, skipped}
-use Rattle.cs_group.proofs.ApplyLemmas.{judged_same}
+use Rattle.cs_group.specs.Applying.{PlacedEntry, placed, placed_by, placed_in, IsElsewhere, NoneWider, FirstWider, applicable, skipped}
 use Rattle.cs_apply.specs.declared.fault.ApplyFault.{ApplyFault}
 use Rattle.cs_apply.specs.declared.fault.ApplyFault.TheVariants as fault
 use Rattle.cs_apply.specs.declared.report.Report.{Report}
@@ -24,7 +23,7 @@ use Rattle.cs_apply.specs.declared.run.Run.{Run}
 use Rattle.cs_apply.specs.Report.{met_of}
 use Rattle.cs_apply.specs.Running.{Handler}
 use Rattle.cs_apply.specs.Steps.{HasTable, Carries, ComesTo, RefusesEntries, header_in, placed_in_table}
-use Rattle.cs_apply.specs.Run.{IsAtStart, IsBehind, IsNewEntry, CameTo, HasOpen, TakesEntries, TakesTable, first_wider, group_of, last_group, wider_then}
+use Rattle.cs_apply.specs.Run.{IsAtStart, IsBehind, IsNewEntry, CameTo, TakesEntries, TakesTable, first_wider, group_of, last_group, wider_then}
 use Rattle.cs_apply.proofs.RunLemmas.{applicable_more, each_map, has_table, other_tables, skipped_more, table_stays}
 use Rattle.cs_apply.proofs.StepLemmas.{Apart, carries_none, carries_then, refuses_more, refuses_then}
 
@@ -265,7 +264,7 @@ module _ (s : State) (closed : List GroupData) (h : HeaderData) (es : List Entry
         by : run.wider ≡ None → (o : Option ApplyFault) → run.ended ≡ o → CameTo chooses s here is.start run.report a o → CameTo chooses s grown is.start run.report a o
         by none None goes_on came =
             let none_added : added ≡ [] =
-                rw (is_passed its_judgement (λ compatible. passed (record { compatible = is_open.1 ∙ compatible; none_wider = none; goes_on = goes_on }))) refl in (
+            rw (is_passed its_judgement (λ compatible. passed (record { compatible = is_open.1 ∙ compatible; none_wider = none; goes_on = goes_on }))) refl in (
               rw (applicable_grown, none_added, append-nil (applicable s here)) came.0,
               rw skipped_grown came.1,
             )
@@ -320,3 +319,15 @@ has_open_table chooses s gs run a g seen is last flags compatible =
     let opened : (run.table.now ≡ g.header.name) × (run.judgement ≡ judged s g) = rw last at is.opened in
     let same : header_in run.table.now seen ≡ g.header = ap₂ (λ (name flags : List ℕ). record { name = name; flags = flags }) opened.0 flags in
     rw same (table_stays s a g.header is.schemas (has_table s g (sym opened.1 ∙ compatible)))
+
+-- an entry leaves the schemas as they were
+pub comes_schemas : (chooses : Handler) (p : PlacedEntry) (a : State) (r : Report) (b : State) (t : Report) (o : Option ApplyFault) → ComesTo chooses p a r b t o → (name : List ℕ) → schema_at b name ≡ schema_at a name
+comes_schemas chooses p a r b t None two name = two.applied.schemas name
+comes_schemas chooses p a r b t (Some fault) two name = ap (λ (n : State). schema_at n name) two.1
+
+-- the table of a group is there where it was judged compatible
+pub has_judged_table : (a : State) (run : Run) (h : HeaderData) (seen : FlaggedEntry) → run.table.now ≡ h.name → run.judgement ≡ judged a (group_of h []) → seen.flags ≡ h.flags → run.judgement ≡ Compatible
+    → HasTable a (header_in run.table.now seen)
+has_judged_table a run h seen name judged_as flags compatible =
+    let same : header_in run.table.now seen ≡ h = ap₂ (λ (n f : List ℕ). record { name = n; flags = f }) name flags in
+    rw same (has_table a (group_of h []) (sym judged_as ∙ compatible))

@@ -1,17 +1,17 @@
 -- A run through a file, as it is or inverted.
-use Rattle.std.proofs.Common.{◌≡◌, ◌≢◌, ℕ, ◌<◌, List, [], ◌∷◌, ◌++◌, length, length-append, map, take, get_or, Option, Some, None, Ok, Err, refl, sym, ap, subst, ◌∙◌, arith}
+use Rattle.std.proofs.Common.{◌≡◌, ◌≢◌, ℕ, ◌<◌, List, [], ◌∷◌, ◌++◌, length, length-append, map, take, drop, ◌+◌, get_or, Option, Some, None, refl, sym, ap, subst, ◌∙◌, arith}
 use Rattle.std.specs.Prelude.{IfOk, IfErr, IfSome, Result}
 use Rattle.std.specs.List.{AllByRecursion}
-use Rattle.std.proofs.lemmas.List.{map-append}
+use Rattle.std.proofs.lemmas.List.{map-append, take-append-drop}
 use Rattle.std.proofs.lemmas.List.Elements.{recursion_from_All}
 use Rattle.std.proofs.Math.Seq.{get_or-append_seam, take-append_seam}
 use Rattle.cs_value.specs.State.{State}
-use Rattle.cs_value.proofs.ListLemmas.{AllByRecursion-append_left, AllByRecursion-append_right, AllByRecursion-map, AllByRecursion-weaker, AllPairs-before}
+use Rattle.cs_value.proofs.ListLemmas.{AllByRecursion-append_left, AllByRecursion-at, AllByRecursion-append_right, AllByRecursion-map, AllPairs-before, map_more_at, take_more_at}
 use Rattle.cs_wire.specs.declared.entry.Entry.{Entry}
 use Rattle.cs_wire.specs.declared.header.HeaderRef.{HeaderRef}
 use Rattle.cs_wire.specs.declared.item.Item.TheVariants as item
 use Rattle.cs_wire.specs.Entry.{IsEntry, key_of}
-use Rattle.cs_wire.specs.Changeset.{HeaderData, GroupData, IsFileOf, IsGroup}
+use Rattle.cs_wire.specs.Changeset.{HeaderData, GroupData, IsChangeset, IsFileOf, IsGroup}
 use Rattle.cs_wire.specs.Cursor.{Begins, IsBegun, IsNext, IsOpen, last_flags, with_entry, with_item}
 use Rattle.cs_wire.specs.Items.{FlaggedEntry, header_of}
 use Rattle.cs_wire.specs.Views.{inverse_entry}
@@ -25,9 +25,9 @@ use Rattle.cs_apply.specs.declared.report.Report.{Report}
 use Rattle.cs_apply.specs.declared.run.Run.{Run}
 use Rattle.cs_apply.specs.declared.running.Direction.{Direction}
 use Rattle.cs_apply.specs.declared.running.Direction.TheVariants.{Forward, Inverse}
-use Rattle.cs_apply.specs.Running.{Applies, Handler, IsNamed, IsReadAs, Refuses, directed, directed_entry}
+use Rattle.cs_apply.specs.Running.{Applies, Handler, IsNamed, IsReadAs, Refuses, directed, directed_entry, directed_group}
 use Rattle.cs_apply.specs.Steps.{HasTable, header_in}
-use Rattle.cs_apply.specs.Run.{IsAtStart, IsBehind, IsNewEntry, TakesTable, answer_of, first_wider, group_of, last_group, outcome_of}
+use Rattle.cs_apply.specs.Run.{IsAtStart, IsBehind, IsNewEntry, TakesTable, answer_of, group_of, outcome_of}
 use Rattle.cs_apply.proofs.StepLemmas.{each_both}
 use Rattle.cs_apply.proofs.BehindLemmas.{behind_start, behind_table, has_open_table, last_is, none_wider, some_wider}
 use Rattle.cs_apply.proofs.OutcomeLemmas.{applies_from, refuses_from}
@@ -63,15 +63,17 @@ directed_grown d closed h es e = directed_last d closed h (es ++ e ∷ []) ∙ a
 
 -- ---- an entry of another row than those before it
 
-pub new_entry : (d : Direction) (closed : List GroupData) (h : HeaderData) (es : List Entry) (e : Entry) → AllByRecursion (λ g. g.header.name ≢ h.name) closed → AllByRecursion (IsEntry h.flags) es → IsEntry h.flags e
-    → AllByRecursion (λ x. key_of h.flags x.change ≢ key_of h.flags e.change) es → IsNewEntry (directed d closed) h (directed_entries d h.flags es) (directed_entry d h.flags e)
-new_entry Forward closed h es e names each is keys = record { table = names; key = keys }
-new_entry Inverse closed h es e names each is keys = record {
-  table = AllByRecursion-map (λ g. g.header.name ≢ h.name) inverse_group closed names;
-  key = AllByRecursion-map (λ x. key_of h.flags x.change ≢ key_of h.flags (inverse_entry h.flags e).change) (inverse_entry h.flags) es
-      (each_both (IsEntry h.flags) (λ x. key_of h.flags x.change ≢ key_of h.flags e.change) (λ x. key_of h.flags (inverse_entry h.flags x).change ≢ key_of h.flags (inverse_entry h.flags e).change) es
-      (λ x fits apart same. apart (sym (key_of-inverse h.flags x.change fits) ∙ same ∙ key_of-inverse h.flags e.change is)) each keys);
-}
+pub new_keys : (d : Direction) (h : HeaderData) (es : List Entry) (e : Entry) → AllByRecursion (IsEntry h.flags) es → IsEntry h.flags e → AllByRecursion (λ x. key_of h.flags x.change ≢ key_of h.flags e.change) es
+    → AllByRecursion (λ x. key_of h.flags x.change ≢ key_of h.flags (directed_entry d h.flags e).change) (directed_entries d h.flags es)
+new_keys Forward h es e each is keys = keys
+new_keys Inverse h es e each is keys =
+    AllByRecursion-map (λ x. key_of h.flags x.change ≢ key_of h.flags (inverse_entry h.flags e).change) (inverse_entry h.flags) es
+    (each_both (IsEntry h.flags) (λ x. key_of h.flags x.change ≢ key_of h.flags e.change) (λ x. key_of h.flags (inverse_entry h.flags x).change ≢ key_of h.flags (inverse_entry h.flags e).change) es
+    (λ x fits apart same. apart (sym (key_of-inverse h.flags x.change fits) ∙ same ∙ key_of-inverse h.flags e.change is)) each keys)
+
+pub new_names : (d : Direction) (name : List ℕ) (gs : List GroupData) → AllByRecursion (λ g. g.header.name ≢ name) gs → AllByRecursion (λ g. g.header.name ≢ name) (directed d gs)
+new_names Forward name gs names = names
+new_names Inverse name gs names = AllByRecursion-map (λ g. g.header.name ≢ name) inverse_group gs names
 
 -- the last of groups of which the last may have no entry yet
 module _ (closed : List GroupData) (h : HeaderData) (es : List Entry) (e : Entry) (is : IsOpen (closed ++ group_of h (es ++ e ∷ []) ∷ [])) where
@@ -95,7 +97,10 @@ module _ (closed : List GroupData) (h : HeaderData) (es : List Entry) (e : Entry
   pub new_in : (d : Direction) → IsNewEntry (directed d closed) h (directed_entries d h.flags es) (directed_entry d h.flags e)
   new_in d =
       let each = recursion_from_All (IsEntry h.flags) (es ++ e ∷ []) begun.each in
-      new_entry d closed h es e other_names (AllByRecursion-append_left (IsEntry h.flags) es (e ∷ []) each) (AllByRecursion-append_right (IsEntry h.flags) es (e ∷ []) each).0 other_keys
+      record {
+        table = new_names d h.name closed other_names;
+        key = new_keys d h es e (AllByRecursion-append_left (IsEntry h.flags) es (e ∷ []) each) (AllByRecursion-append_right (IsEntry h.flags) es (e ∷ []) each).0 other_keys;
+      }
 
 split_last : (gs : List GroupData) → 0 < length gs → (closed : List GroupData) × (g : GroupData) × (gs ≡ closed ++ g ∷ [])
 split_last [] some = absurd (omega (arith, some))
@@ -163,7 +168,7 @@ module _ (chooses : Handler) (d : Direction) (file : List ℕ) (place : ℕ) (ru
         let entry_is : shown.entry ≡ directed_entry d h.flags seen.entry = ap (λ (x : FlaggedEntry). x.entry) shown_is ∙ ap (λ (flags : List ℕ). directed_entry d flags seen.entry) its_flags in
         let flags_are : shown.flags ≡ h.flags = ap (λ (x : FlaggedEntry). x.flags) shown_is ∙ its_flags in
         let whole : directed d (with_entry so.groups seen.entry) ≡ directed d split.0 ++ group_of h (directed_entries d h.flags es ++ shown.entry ∷ []) ∷ [] =
-            ap (directed d) grown_is ∙ directed_grown d split.0 h es seen.entry ∙ ap (λ (e : Entry). directed d split.0 ++ group_of h (directed_entries d h.flags es ++ e ∷ []) ∷ []) (sym entry_is) in
+        ap (directed d) grown_is ∙ directed_grown d split.0 h es seen.entry ∙ ap (λ (e : Entry). directed d split.0 ++ group_of h (directed_entries d h.flags es ++ e ∷ []) ∷ []) (sym entry_is) in
         record {
           groups = with_entry so.groups seen.entry;
           begins = begins;
@@ -202,3 +207,35 @@ named_by None (Some fault) report named = named
 
 pub outcome_named : (run : Run) (result : Result Report ApplyFault) → result ≡ answer_of run → IfSome run.ended IsNamed → IfErr result IsNamed
 outcome_named run result same named = rw same (named_by run.wider run.ended run.report named)
+
+-- ---- a changeset, group by group
+
+-- a group begins without entries, and in the end has all
+pub group_begun : (d : Direction) (closed : List GroupData) (g : GroupData) → closed ++ group_of g.header (directed_entries d g.header.flags (take 0 g.entries)) ∷ [] ≡ closed ++ group_of g.header [] ∷ []
+group_begun d closed g = ap (λ (es : List Entry). closed ++ group_of g.header es ∷ []) (no_entries d g.header.flags)
+
+pub group_whole : (d : Direction) (g : GroupData) → group_of g.header (directed_entries d g.header.flags g.entries) ≡ directed_group d g
+group_whole Forward g = refl
+group_whole Inverse g = refl
+
+pub groups_more : (d : Direction) (gs : List GroupData) (i : ℕ) (g : GroupData) → i < length gs → g ≡ get_or gs i g → directed d (take (i + 1) gs) ≡ directed d (take i gs) ++ directed_group d g ∷ []
+groups_more Forward gs i g lt is = take_more_at gs i g lt is
+groups_more Inverse gs i g lt is = map_more_at gs i g lt is inverse_group
+
+pub group_names : (d : Direction) (gs : List GroupData) (i : ℕ) (g : GroupData) → IsChangeset gs → i < length gs → g ≡ get_or gs i g → AllByRecursion (λ k. k.header.name ≢ g.header.name) (directed d (take i gs))
+group_names d gs i g are lt is = new_names d g.header.name (take i gs) (AllPairs-before (λ k l. k.header.name ≢ l.header.name) gs i g are.once lt is)
+
+-- an entry of a group is new to those before it
+pub entry_new : (d : Direction) (closed : List GroupData) (g : GroupData) (j : ℕ) (e : Entry) → IsGroup g → j < length g.entries → e ≡ get_or g.entries j e → AllByRecursion (λ k. k.header.name ≢ g.header.name) closed
+    → IsNewEntry closed g.header (directed_entries d g.header.flags (take j g.entries)) (directed_entry d g.header.flags e)
+entry_new d closed g j e is lt at names =
+    let flags = g.header.flags in
+    let each = recursion_from_All (IsEntry flags) g.entries is.each in
+    let before = AllByRecursion-append_left (IsEntry flags) (take j g.entries) (drop j g.entries) (rw (take-append-drop j g.entries) each) in
+    record {
+      table = names;
+      key = new_keys d g.header (take j g.entries) e before (AllByRecursion-at (IsEntry flags) g.entries j e lt at each) (AllPairs-before (λ x y. key_of flags x.change ≢ key_of flags y.change) g.entries j e is.once lt at);
+    }
+
+pub entries_more : (d : Direction) (flags : List ℕ) (es : List Entry) (j : ℕ) (e : Entry) → j < length es → e ≡ get_or es j e → directed_entries d flags (take (j + 1) es) ≡ directed_entries d flags (take j es) ++ directed_entry d flags e ∷ []
+entries_more d flags es j e lt is = ap (directed_entries d flags) (take_more_at es j e lt is) ∙ directed_more d flags (take j es) e

@@ -19,7 +19,6 @@ use Rattle.cs_group.specs.declared.conflict.Kind.{Kind}
 use Rattle.cs_group.specs.declared.conflict.Kind.TheVariants.{Data, NotFound, Conflict as KeyConflict}
 use Rattle.cs_group.specs.declared.conflict.Choice.{Choice}
 use Rattle.cs_group.specs.declared.conflict.Choice.TheVariants as choice
-use Rattle.cs_group.specs.contracts.conflict.ChoicePartialEq.TheImpl as choice_eq
 use Rattle.cs_group.specs.Conflicts.{conflict_kind, ends, is_carried_out}
 use Rattle.cs_group.specs.Applying.{PlacedEntry, conflict_with}
 use Rattle.cs_apply.specs.declared.conflict.Conflict.{Conflict}

@@ -1,24 +1,18 @@
 -- The groups and entries of a changeset, one after another.
-use Rattle.std.proofs.Common.{◌≡◌, ◌≢◌, inl, inr, ℕ, zero, suc, ◌<◌, ◌≤◌, ◌+◌, Bool, true, false, true≢false, cond, if◌then◌else◌, nat_lt, List, [], ◌∷◌, ◌++◌, length, take, get_or, map, filter, Option, Some, None, option_map, refl, sym, ap, ◌∙◌, arith}
+use Rattle.std.proofs.Common.{◌≡◌, ◌≢◌, ℕ, zero, suc, ◌≤◌, Bool, true, false, true≢false, cond, if◌then◌else◌, nat_lt, List, [], ◌∷◌, ◌++◌, length, map, filter, Option, Some, None, option_map, refl, sym, ap, ◌∙◌, arith}
 use Rattle.std.specs.List.{AllByRecursion, flat_map}
 use Rattle.std.proofs.lemmas.Bool.{ltb-false}
-use Rattle.std.proofs.lemmas.List.{take_all, map-append, append-nil}
-use Rattle.std.proofs.lemmas.List.Elements.{All-nil, All-cons, All-append, at_read, filter-append}
+use Rattle.std.proofs.lemmas.List.{map-append}
+use Rattle.std.proofs.lemmas.List.Elements.{filter-append}
 use Rattle.std.proofs.lemmas.Grind.{flat_map-append}
 use Rattle.cs_value.specs.State.{SchemaData, State, schema_at}
-use Rattle.cs_value.proofs.ListLemmas.{AllPairs-before, AllByRecursion-append, AllByRecursion-map, AllByRecursion-weaker, take_more_at}
-use Rattle.cs_wire.specs.declared.entry.Entry.{Entry}
-use Rattle.cs_wire.specs.Entry.{key_of}
-use Rattle.cs_wire.specs.Changeset.{HeaderData, GroupData, IsGroup, IsChangeset}
-use Rattle.cs_group.specs.declared.judging.Judgement.{Judgement}
+use Rattle.cs_value.proofs.ListLemmas.{AllByRecursion-append, AllByRecursion-map, AllByRecursion-weaker}
+use Rattle.cs_wire.specs.Changeset.{HeaderData, GroupData}
 use Rattle.cs_group.specs.declared.judging.Judgement.TheVariants.{Skipped, Wider, Compatible}
 use Rattle.cs_group.specs.Joining.{key_places}
 use Rattle.cs_group.specs.Judging.{leads, judgement, judged, is_compatible, is_skipped}
-use Rattle.cs_group.specs.Applying.{placed_by, placed_in, placed, placed_key, IsElsewhere, compatible_groups, applicable, skipped, NoneWider, FirstWider}
-use Rattle.cs_apply.specs.declared.fault.ApplyFault.{ApplyFault}
-use Rattle.cs_apply.specs.Running.{IsResource}
+use Rattle.cs_group.specs.Applying.{placed_by, placed_in, placed, compatible_groups, applicable, skipped}
 use Rattle.cs_apply.specs.Steps.{HasTable}
-use Rattle.cs_apply.proofs.StepLemmas.{Apart}
 
 -- ---- the table of a group
 

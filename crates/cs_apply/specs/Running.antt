@@ -37,6 +37,10 @@ abbrev pub directed : Direction → List GroupData → List GroupData
 directed Forward changeset = changeset
 directed Inverse changeset = map inverse_group changeset
 
+abbrev pub directed_group : Direction → GroupData → GroupData
+directed_group Forward group = group
+directed_group Inverse group = inverse_group group
+
 abbrev pub directed_entry : Direction → List ℕ → Entry → Entry
 directed_entry Forward flags entry = entry
 directed_entry Inverse flags entry = inverse_entry flags entry

@@ -30,5 +30,5 @@ pub use cs_group::{Choice, Kind};
 pub use fault::ApplyFault;
 pub use policy::Policy;
 pub use report::Report;
-pub use running::{Direction, run_in};
+pub use running::{Direction, run_changeset_in, run_in};
 pub use store::{apply, revert};

@@ -1,7 +1,7 @@
 //! A run through the items of a changeset, from one to the next.
-ghost use Rattle.std.specs.Prelude.{◌≡◌, ◌↔◌, ◌<◌, ◌+◌, ◌∷◌, ◌++◌, [], List, IfErr, IfSome, IsTrue, OnOk};
+ghost use Rattle.std.specs.Prelude.{◌≡◌, ◌↔◌, ◌<◌, ◌+◌, ◌∷◌, ◌++◌, [], ℕ, List, IfErr, IfSome, IsTrue, OnOk};
 ghost use Rattle.std.specs.Fn.{FnReturnsAt};
-ghost use Rattle.cs_value.specs.State.{State};
+ghost use Rattle.cs_value.specs.State.{State, schema_at};
 ghost use Rattle.cs_wire.specs.declared.entry.Entry.{Entry as EntryData};
 ghost use Rattle.cs_wire.specs.Changeset.{GroupData, HeaderData};
 ghost use Rattle.cs_wire.specs.Items.{header_of};
@@ -108,6 +108,9 @@ impl<'a> Run<'a> {
             → IsBehind (FnReturnsAt H.Fn handler.now) before (closed ++ group_of header entries ∷ []) self.old (B.state rows.old)
             → IsBehind (FnReturnsAt H.Fn handler.now) before
             (closed ++ group_of header (entries ++ entry.entry.entry ∷ []) ∷ []) self.new (B.state rows.new)) }
+        ensures schemas { B.is_honest rows.new → OnOk result ((name : List ℕ)
+            → schema_at (B.state rows.new) name ≡ schema_at (B.state rows.old) name) }
+        ensures table { (self.new.table ≡ self.old.table) × (self.new.judgement ≡ self.old.judgement) }
         ensures tables { self.new.tables ≡ self.old.tables }
         ensures ended { IfSome self.old.ended IsNamed → IfSome self.new.ended IsNamed }
         ensures refused { B.is_honest rows.new → IfErr result IsResource }

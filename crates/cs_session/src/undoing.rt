@@ -9,9 +9,9 @@ ghost use Rattle.cs_session.specs.Views.{attached_of};
 use crate::attached::Attached;
 use crate::changes::net_changeset;
 use crate::fault::SessionFault;
-use cs_apply::{Choice, Direction, Report, run_in};
+use cs_apply::{Choice, Direction, Report, run_changeset_in};
 use cs_store::Rows;
-use cs_wire::{changeset_files_law, write};
+use cs_wire::changeset_files_law;
 use std::alloc::Global;
 
 /// Applies the inverse of the net changeset of tables that are attached.
@@ -31,6 +31,11 @@ pub(crate) fn undo_rows<B: Rows>(
 {
     changeset_files_law();
     let changeset = net_changeset(alloc, rows, tables)?;
-    let file = write(alloc, &changeset)?;
-    Ok(run_in(alloc, rows, &file, Direction::Inverse, &|_| Choice::Abort)?)
+    Ok(run_changeset_in(
+        alloc,
+        rows,
+        &changeset,
+        Direction::Inverse,
+        &|_| Choice::Abort,
+    )?)
 }

@@ -1,5 +1,5 @@
 -- `entry::settle`: what it ensures at a conflict.
-use Rattle.std.proofs.Common.{◌≡◌, Bool, true, false, Some, option_map, refl, sym, ap, ◌∙◌}
+use Rattle.std.proofs.Common.{◌≡◌, true, false, Some, option_map, refl, sym, ap, ◌∙◌}
 use Rattle.std.specs.Fn.{FnReturnsAt}
 use Rattle.std.proofs.lemmas.Fn.{says_at}
 use Rattle.cs_group.specs.Conflicts.{conflict_kind, ends}

@@ -1,10 +1,8 @@
 -- `running::run_in`: the invariant of the loop, what `take_entry` asks for, the clauses `applied`, `refused` and `named`.
-use Rattle.std.proofs.Common.{◌≡◌, Option, Ok, None, refl, sym, ap, ◌∙◌, arith}
-use Rattle.std.specs.Prelude.{IfSome}
+use Rattle.std.proofs.Common.{Option, Ok, refl, ap, ◌∙◌, arith}
 use Rattle.std.specs.Fn.{FnReturnsAt}
 use Rattle.cs_wire.specs.declared.item.Item.{Item}
-use Rattle.cs_wire.specs.Changeset.{IsFileOf}
-use Rattle.cs_apply.specs.Running.{IsNamed, directed}
+use Rattle.cs_apply.specs.Running.{directed}
 use Rattle.cs_apply.proofs.DirectedLemmas.{front_start, front_table, front_has_table, front_entry, outcome_named, read_as, run_outcome}
 use Rattle.cs_apply.proofs.running.run_in.Goals as goal
 
