@@ -1,76 +1,82 @@
--- What is written of a file to undo it, item by item.
-use Rattle.std.proofs.Common.{◌≡◌, ℕ, ◌<◌, List, [], ◌∷◌, ◌++◌, length, map, sym, ap, ◌∙◌, append_assoc, arith}
-use Rattle.std.specs.List.{AllByRecursion}
-use Rattle.std.proofs.lemmas.List.{append-nil, get_or-map, length-map, map-append}
-use Rattle.std.proofs.lemmas.List.Concat.{flat_map-append}
-use Rattle.std.proofs.lemmas.List.Elements.{recursion_from_All, All-from_recursion}
+-- What is written of a file to undo it, table by table.
+use Rattle.std.proofs.Common.{◌≡◌, ℕ, List, [], ◌∷◌, ◌++◌, length, map, sym, ap, ◌∙◌, append_assoc}
+use Rattle.std.proofs.lemmas.List.Elements.{recursion_from_All}
 use Rattle.cs_wire.specs.declared.entry.Entry.{Entry}
-use Rattle.cs_wire.specs.declared.item.Item.{Item}
-use Rattle.cs_wire.specs.declared.item.Item.TheVariants as item
 use Rattle.cs_wire.specs.Entry.{IsEntry, entry_bytes}
-use Rattle.cs_wire.specs.Changeset.{HeaderData, GroupData, IsFileOf, IsGroup, IsChangeset, header_bytes, entries_bytes, group_bytes, file_bytes}
-use Rattle.cs_wire.specs.Cursor.{Begins, IsNext, last_flags, with_entry, with_item}
+use Rattle.cs_wire.specs.Changeset.{HeaderData, GroupData, IsFileOf, IsGroup, header_bytes, entries_bytes, group_bytes, file_bytes}
 use Rattle.cs_wire.specs.Inverse.{IsInverseEntry}
-use Rattle.cs_wire.specs.Items.{header_of}
+use Rattle.cs_wire.specs.Items.{FlaggedEntry}
+use Rattle.cs_wire.specs.Tables.{TablesData, AreLeft, IsNextEntry, IsNextTable}
 use Rattle.cs_wire.specs.Views.{inverse_entry}
-use Rattle.cs_wire.proofs.EntryInverses.{entry_inverses}
-use Rattle.cs_wire.proofs.InverseLemmas.{IsEntry-inverse, IsGroup-inverse, IsInverseGroup-is, inverse_entry_is}
-use Rattle.cs_group.specs.Inverse.{IsInverse, inverse_group}
+use Rattle.cs_wire.specs.declared.header.HeaderRef.{HeaderRef}
+use Rattle.cs_wire.specs.Items.{header_of}
+use Rattle.cs_wire.proofs.GroupsLemmas.{group_bytes-append}
+use Rattle.cs_group.specs.Inverse.{inverse_group}
+use Rattle.cs_group.proofs.InverseGroups.{groups_inverse, inverse_is, IsChangeset-inverse}
 use Rattle.cs_group.proofs.InverseLengths.{inverse_length}
 use Rattle.cs_files.specs.Files.{Inverts}
-use Rattle.cs_group.proofs.InverseGroups.{groups_inverse, IsChangeset-inverse}
-use Rattle.cs_files.specs.Inverting.{InvertsFront, inverse_bytes}
 
--- ---- an item
+-- ---- entries
 
--- a header is written behind the inverses of the groups before it
-table_written : (groups : List GroupData) (header : HeaderData) → file_bytes (map inverse_group (groups ++ record { header = header; entries = [] } ∷ [])) ≡ file_bytes (map inverse_group groups) ++ header_bytes header
-unfolding group_bytes
-table_written groups header =
-    ap file_bytes (map-append inverse_group groups (record { header = header; entries = [] } ∷ []))
-    ∙ flat_map-append group_bytes (map inverse_group groups) (record { header = header; entries = [] } ∷ [])
-    ∙ ap (λ (x : List ℕ). file_bytes (map inverse_group groups) ++ x) (append-nil (header_bytes header ++ []) ∙ append-nil (header_bytes header))
+-- of these entries some are undone in what is written, and the others are left
+pub record InvertsEntries (flags out written : List ℕ) (now : TablesData) (entries : List Entry) (groups : List GroupData) : Type 0 where
+  pub others : List Entry
+  pub are_left : AreLeft now others groups
+  pub same : now.flags ≡ flags
+  pub so_far : written ++ entries_bytes (map (inverse_entry flags) others) ≡ out ++ entries_bytes (map (inverse_entry flags) entries)
 
--- and an entry behind those before it
-group_written : (header : HeaderData) (entries : List Entry) (entry : Entry) → group_bytes (inverse_group (record { header = header; entries = entries ++ entry ∷ [] }))
-    ≡ group_bytes (inverse_group (record { header = header; entries = entries })) ++ entry_bytes (inverse_entry header.flags entry)
-unfolding group_bytes
-group_written header entries entry =
-    let undone = map (inverse_entry header.flags) entries in
-    let last = entry_bytes (inverse_entry header.flags entry) in
-    ap (λ (es : List Entry). header_bytes header ++ entries_bytes es) (map-append (inverse_entry header.flags) entries (entry ∷ []))
-    ∙ ap (λ (x : List ℕ). header_bytes header ++ x) (flat_map-append entry_bytes undone (inverse_entry header.flags entry ∷ []) ∙ ap (λ (x : List ℕ). entries_bytes undone ++ x) (append-nil last))
-    ∙ sym (append_assoc (header_bytes header) (entries_bytes undone) last)
+pub InvertsEntries-next : (flags out written grown : List ℕ) (now next : TablesData) (entries : List Entry) (groups : List GroupData) (so : InvertsEntries flags out written now entries groups) (seen inverse : FlaggedEntry)
+    → IsNextEntry now.flags so.others groups seen next → inverse.flags ≡ seen.flags → IsEntry inverse.flags inverse.entry → IsInverseEntry seen.flags seen.entry inverse.entry
+    → grown ≡ written ++ entry_bytes inverse.entry → InvertsEntries flags out grown next entries groups
+InvertsEntries-next flags out written grown now next entries groups so seen inverse is flags_stay well_formed undoes grown_is =
+    let here : seen.flags ≡ flags = is.flags_are ∙ so.same in
+    let fits : IsEntry seen.flags seen.entry = rw is.flags_are (rw is.is at so.are_left.each).0 in
+    let same : inverse.entry ≡ inverse_entry flags seen.entry = inverse_is seen.flags seen.entry inverse.entry fits (rw flags_stay at well_formed) undoes ∙ ap (λ (f : List ℕ). inverse_entry f seen.entry) here in
+    let undone : List Entry → List ℕ = λ es. entries_bytes (map (inverse_entry flags) es) in
+    record {
+      others = is.others;
+      are_left = is.are_left;
+      same = is.flags_stay ∙ so.same;
+      so_far =
+          ap (λ (x : List ℕ). x ++ undone is.others) (grown_is ∙ ap (λ (e : Entry). written ++ entry_bytes e) same)
+          ∙ append_assoc written (entry_bytes (inverse_entry flags seen.entry)) (undone is.others)
+          ∙ ap (λ (es : List Entry). written ++ undone es) (sym is.is)
+          ∙ so.so_far;
+    }
 
-entry_written : (groups : List GroupData) (entry : Entry) → 0 < length groups
-    → file_bytes (map inverse_group (with_entry groups entry)) ≡ file_bytes (map inverse_group groups) ++ entry_bytes (inverse_entry (last_flags groups) entry)
-entry_written [] entry some = absurd (omega (arith, some))
-entry_written (group ∷ []) entry some =
-    append-nil (group_bytes (inverse_group (record { header = group.header; entries = group.entries ++ entry ∷ [] })))
-    ∙ group_written group.header group.entries entry
-    ∙ ap (λ (x : List ℕ). x ++ entry_bytes (inverse_entry group.header.flags entry)) (sym (append-nil (group_bytes (inverse_group group))))
-entry_written (group ∷ next ∷ groups) entry some =
-    let first = group_bytes (inverse_group group) in
-    ap (λ (x : List ℕ). first ++ x) (entry_written (next ∷ groups) entry (omega arith))
-    ∙ sym (append_assoc first (file_bytes (map inverse_group (next ∷ groups))) (entry_bytes (inverse_entry (last_flags (next ∷ groups)) entry)))
+-- ---- tables
 
-item_written : (groups : List GroupData) (handed : Item) → IsNext groups handed → file_bytes (map inverse_group (with_item groups handed)) ≡ file_bytes (map inverse_group groups) ++ inverse_bytes handed
-item_written groups (item.Table header) next = table_written groups (header_of header)
-item_written groups (item.Entry seen) next =
-    entry_written groups seen.entry next.0 ∙ ap (λ (flags : List ℕ). file_bytes (map inverse_group groups) ++ entry_bytes (inverse_entry flags seen.entry)) (sym next.1)
+-- of these groups some are undone in what is written, and the others are left
+pub record InvertsGroups (out written : List ℕ) (now : TablesData) (groups : List GroupData) : Type 0 where
+  pub others : List GroupData
+  pub are_left : AreLeft now [] others
+  pub so_far : written ++ file_bytes (map inverse_group others) ≡ out ++ file_bytes (map inverse_group groups)
+
+pub InvertsGroups-next : (out written opened grown : List ℕ) (now next : TablesData) (groups : List GroupData) (so : InvertsGroups out written now groups) (header : HeaderRef) (after : TablesData)
+    (is : IsNextTable so.others header after) → opened ≡ written ++ header_bytes (header_of header) → grown ≡ opened ++ entries_bytes (map (inverse_entry after.flags) is.group.entries) → AreLeft next [] is.others
+    → InvertsGroups out grown next groups
+InvertsGroups-next out written opened grown now next groups so header after is opened_is grown_is left =
+    let h = is.group.header in
+    let undone : List GroupData → List ℕ = λ gs. file_bytes (map inverse_group gs) in
+    let entries : List ℕ = entries_bytes (map (inverse_entry h.flags) is.group.entries) in
+    record {
+      others = is.others;
+      are_left = left;
+      so_far =
+          ap (λ (x : List ℕ). x ++ undone is.others)
+              (grown_is ∙ ap (λ (f : List ℕ). opened ++ entries_bytes (map (inverse_entry f) is.group.entries)) is.flags_are
+              ∙ ap (λ (x : List ℕ). x ++ entries) (opened_is ∙ ap (λ (x : HeaderData). written ++ header_bytes x) is.header_is))
+          ∙ append_assoc (written ++ header_bytes h) entries (undone is.others)
+          ∙ append_assoc written (header_bytes h) (entries ++ undone is.others)
+          ∙ ap (λ (x : List ℕ). written ++ x) (sym (group_bytes-append (inverse_group is.group) (undone is.others)))
+          ∙ ap (λ (gs : List GroupData). written ++ undone gs) (sym is.is)
+          ∙ so.so_far;
+    }
 
 -- ---- the file
 
-pub InvertsFront-next : (file : List ℕ) (place : ℕ) (out : List ℕ) (so : InvertsFront file place out) (handed : Item) (to : List ℕ) (next : ℕ) (grown : List ℕ)
-    → IsNext so.groups handed → Begins to next (with_item so.groups handed) → grown ≡ out ++ inverse_bytes handed → InvertsFront to next grown
-InvertsFront-next file place out so handed to next grown is begins grown_is = record {
-  groups = with_item so.groups handed;
-  begins = begins;
-  written = grown_is ∙ ap (λ (x : List ℕ). x ++ inverse_bytes handed) so.written ∙ sym (item_written so.groups handed is);
-}
-
 -- the whole is inverted
-inverted : (file out : List ℕ) (groups : List GroupData) → IsFileOf file groups → out ≡ file_bytes (map inverse_group groups) → Inverts file out × (length out ≡ length file)
+pub inverted : (file out : List ℕ) (groups : List GroupData) → IsFileOf file groups → out ≡ file_bytes (map inverse_group groups) → Inverts file out × (length out ≡ length file)
 inverted file out groups is written =
     let inverse = map inverse_group groups in
     let is_inverse = (groups_inverse groups (recursion_from_All IsGroup groups is.0.each)).1 in
@@ -86,8 +92,3 @@ inverted file out groups is written =
       },
       ap length written ∙ inverse_length groups inverse is.0 is_changeset is_inverse ∙ sym (ap length is.1),
     )
-
--- where a front of the file is the whole
-pub front_inverted : (file to : List ℕ) (place : ℕ) (out : List ℕ) → InvertsFront file place out → to ≡ file → ((groups : List GroupData) → Begins file place groups → IsFileOf to groups)
-    → Inverts file out × (length out ≡ length file)
-front_inverted file to place out so same whole = inverted file out so.groups (rw same at whole so.groups so.begins) so.written

@@ -3,7 +3,6 @@ pub mod Faults
 pub mod Calls
 pub mod Told
 pub mod Gathering
-pub mod Inverting
 pub mod Texts
 pub mod Pieces
 pub use Rattle.cs_value.specs.Value

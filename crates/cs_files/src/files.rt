@@ -1,20 +1,18 @@
 //! From files to files, inverting one and joining two; and from a file to its readable texts.
-ghost use Rattle.std.specs.Prelude.{◌≡◌, ◌+◌, ◌≤◌, ◌++◌, length, IfOk, IfErr, OnOk};
+ghost use Rattle.std.specs.Prelude.{◌≡◌, ◌+◌, ◌≤◌, length, IfOk, IfErr};
 ghost use Rattle.cs_value.specs.Refusals.{Refuses};
 ghost use Rattle.cs_wire.specs.ReadFaults.{ReadFails};
 ghost use Rattle.cs_wire.specs.Changeset.{IsChangeset, file_bytes};
 ghost use Rattle.cs_group.specs.Joining.{IsJoined};
-ghost use Rattle.cs_wire.specs.Cursor.{IsItem};
-ghost use Rattle.cs_files.specs.Inverting.{inverse_bytes};
 ghost use Rattle.cs_files.specs.Files.{Inverts, Joins, Prints, JoinFails, FirstFails, SecondFails, AreUnjoined};
 ghost use Rattle.cs_files.specs.Texts.{dump_of, sql_of};
 
 use crate::fault::{OutputFault, ToolFault, first_fault, join_fault, second_fault};
+use crate::inverting::write_inverse;
 use crate::texts::{dump_text, sql_text};
 use crate::told::Told;
 use cs_group::concat;
-use cs_value::NoMemory;
-use cs_wire::{Changeset, Cursor, Item, ReadError, read, write};
+use cs_wire::{Changeset, ReadError, Tables, read, write};
 use std::alloc::Global;
 
 /// The file of the changeset that undoes the one whose file this is. It has the same tables and
@@ -30,23 +28,10 @@ pub fn invert_bytes(alloc: Global, file: &[u8]) -> Result<Vec<u8>, ReadError>
     ensures length { IfOk result (λ out. length out.items ≡ length file.now) }
     ensures refused { IfErr result (Refuses (λ f. ReadFails file.now f.kind f.place)) }
 {
+    let tables = Tables::read(alloc, file)?;
     let mut out = Vec::with_capacity(alloc, file.len())?;
-    let mut cursor = Cursor::new(alloc, file);
-    'items: while let Some(item) = cursor.next()? {
-        write_inverse(&mut out, item)?;
-    }
+    write_inverse(&mut out, tables)?;
     Ok(out)
-}
-
-/// Appends what undoes an item.
-fn write_inverse(out: &mut Vec<u8>, item: Item<'_>) -> Result<(), NoMemory>
-    requires { IsItem item }
-    ensures { OnOk result (out.new.items ≡ out.old.items ++ inverse_bytes item.entry) }
-{
-    match item {
-        Item::Table(header) => header.write_to(out),
-        Item::Entry(entry) => entry.inverted().write_to(out),
-    }
 }
 
 /// The file of the changeset that does what the one of the first file does and then what that of

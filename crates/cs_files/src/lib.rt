@@ -19,6 +19,7 @@
 mod fault;
 mod files;
 mod gather;
+mod inverting;
 mod texts;
 mod told;
 
