@@ -1,10 +1,12 @@
 pub mod AdmitLemmas
 pub mod ChangeLemmas
+pub mod CheckedLemmas
 pub mod CursorLemmas
 pub mod EntriesLemmas
 pub mod EntryFaults
 pub mod EntryInverses
 pub mod EntryLemmas
+pub mod DistinctLemmas
 pub mod Examples
 pub mod FaultExamples
 pub mod FieldsLemmas

@@ -8,6 +8,8 @@ pub mod Items
 pub mod Records
 pub mod Cursor
 pub mod Seen
+pub mod Distinct
+pub mod Checked
 pub mod Walk
 pub mod Tables
 pub mod Reading

@@ -26,14 +26,17 @@
 //! bytes to that and back, `fault` says why a file is refused, and `format` has the bytes that tell
 //! its parts apart. A `cursor` goes through a file by a `walk`, until its `ending`, and hands out
 //! each `item` where it stands; what it has `seen` before refuses the file. A `draft` is what `reader`
-//! has of a table so far, and `tables` go through a file once more that was read to its end. An
-//! `entry_ref` has `fields`, of a `record_ref` that is `spelled` in a file, or owned. `places` finds
-//! entries and groups, `inverse` undoes entries, and `laws` has what holds of all changesets.
-//! `CALLING.md`, beside this folder, shows a caller.
+//! has of a table so far, and `tables` go through a file once more that was read to its end, or was
+//! `checked` in a quick pass, in which numbers tell that its keys are `distinct`. An `entry_ref` has
+//! `fields`, of a `record_ref` that is `spelled` in a file, or owned. `places` finds entries and
+//! groups, `inverse` undoes entries, and `laws` has what holds of all changesets. `CALLING.md`, beside
+//! this folder, shows a caller.
 #![tactic(auto)]
 
 mod changeset;
+mod checked;
 mod cursor;
+mod distinct;
 mod draft;
 mod ending;
 mod entry;

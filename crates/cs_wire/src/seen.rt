@@ -68,7 +68,7 @@ impl<'a> Seen<'a> {
 
 /// The eight bytes behind the first of a text, as a number that is written big end first. A byte
 /// that is not there counts as 0.
-fn word_of(text: &[u8]) -> u64
+pub(crate) fn word_of(text: &[u8]) -> u64
     ensures { result ≡ seen.word_of text.now }
 {
     u64::from_be_bytes([
@@ -84,7 +84,7 @@ fn word_of(text: &[u8]) -> u64
 }
 
 /// A byte of a text, and 0 past its end.
-fn byte_at(text: &[u8], place: usize) -> u8
+pub(crate) fn byte_at(text: &[u8], place: usize) -> u8
     ensures { result ≡ get_or text.now place 0 }
 {
     if place < text.len() { text[place] } else { 0 }

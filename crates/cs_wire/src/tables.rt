@@ -1,12 +1,13 @@
 //! A changeset's file, gone through once it was read to its end.
-ghost use Rattle.std.specs.Prelude.{◌≡◌, ◌<◌, ◌≤◌, [], List, IfErr, IfOk, IfSome, length};
+ghost use Rattle.std.specs.Prelude.{◌≡◌, ◌<◌, ◌≤◌, [], List, IfErr, IfOk, IfSome, OnOk, length};
 ghost use Rattle.cs_value.specs.Refusals.{Refuses};
 ghost use Rattle.cs_wire.specs.declared.entry.Entry.{Entry as EntryData};
-ghost use Rattle.cs_wire.specs.Changeset.{GroupData, IsFileOf, IsHeader};
+ghost use Rattle.cs_wire.specs.Changeset.{GroupData, IsAccepted, IsFileOf, IsHeader};
 ghost use Rattle.cs_wire.specs.Items.{header_of};
 ghost use Rattle.cs_wire.specs.ReadFaults.{ReadFails};
 ghost use Rattle.cs_wire.specs.Tables.{AreLeft, NextEntry, NextTable};
 
+use crate::checked::is_changeset;
 use crate::cursor::Cursor;
 use crate::entry_ref::EntryRef;
 use crate::fault::ReadError;
@@ -35,7 +36,9 @@ impl<'a> Model for Tables<'a> {
 }
 
 impl<'a> Tables<'a> {
-    /// Reads a file to its end, and stands before its first table then.
+    /// Reads a file to its end, and stands before its first table then. Files of changesets are read in one quick
+    /// pass, which takes eight bytes of memory for each table, and for each entry of the table that has the most; only
+    /// others are gone through once more, by a cursor, for their fault.
     ///
     /// # Errors
     ///
@@ -45,8 +48,9 @@ impl<'a> Tables<'a> {
         ensures found { IfOk result (λ tables. (groups : List GroupData) × IsFileOf file.now groups × AreLeft tables [] groups) }
         ensures refused { IfErr result (Refuses (λ f. ReadFails file.now f.kind f.place)) }
     {
-        let mut cursor = Cursor::new(alloc, file);
-        'items: while let Some(_) = cursor.next()? {}
+        if !is_changeset(alloc, file)? {
+            read_items(alloc, file)?;
+        }
         Ok(Tables {
             file,
             place: 0,
@@ -108,4 +112,14 @@ impl<'a> Tables<'a> {
         self.place = end;
         Some(seen)
     }
+}
+
+/// Reads a file to its end, one item after another, which finds the first fault.
+fn read_items(alloc: Global, file: &[u8]) -> Result<(), ReadError>
+    ensures found { OnOk result (IsAccepted file.now) }
+    ensures refused { IfErr result (Refuses (λ f. ReadFails file.now f.kind f.place)) }
+{
+    let mut cursor = Cursor::new(alloc, file);
+    'items: while let Some(_) = cursor.next()? {}
+    Ok(())
 }
