@@ -1,7 +1,7 @@
 -- Lemmas on lists of texts with something between each two.
 use Rattle.std.proofs.Common.{◌≡◌, ℕ, List, [], ◌∷◌, ◌++◌, refl, sym, ap, ◌∙◌, append_assoc, append-nil, map, take, drop, ◌+◌, ◌<◌, length, get_or}
 use Rattle.std.specs.List.{flat_map}
-use Rattle.std.proofs.lemmas.List.{map_more}
+use Rattle.std.proofs.lemmas.List.{map-append, map_more}
 use Rattle.std.proofs.lemmas.Grind.{flat_map-append}
 use Rattle.cs_value.proofs.ListLemmas.{map_split}
 use Rattle.cs_files.specs.Texts.{separated}
@@ -64,3 +64,36 @@ separated_rest between f xs i e lead within is leads =
 -- what leads to the element behind one
 pub lead_step : {X : Type 0} (between : List ℕ) (f : X → List ℕ) (xs : List X) (i : ℕ) (e : X) → i < length xs → between ≡ lead_of between (map f (take (i + 1) xs))
 lead_step between f xs i e within = sym (ap (lead_of between) (map_more f xs i e within) ∙ lead_of-more between (map f (take i xs)) (f (get_or xs i e)))
+
+-- elements that come one after another: these were passed, and this leads to the next
+pub record Passed {X : Type 0} (between : List ℕ) (f : X → List ℕ) (all left : List X) (lead : List ℕ) : Type 0 where
+  pub before : List X
+  pub whole : all ≡ before ++ left
+  pub leads : lead ≡ lead_of between (map f before)
+
+pub Passed-none : {X : Type 0} (between : List ℕ) (f : X → List ℕ) (all : List X) → Passed between f all all []
+Passed-none between f all = record { before = []; whole = refl; leads = refl }
+
+module _ {X : Type 0} (between : List ℕ) (f : X → List ℕ) (all left after : List X) (lead : List ℕ) (e : X) (so : Passed between f all left lead) (next : left ≡ e ∷ after) where
+  pub Passed-next : Passed between f all after between
+  Passed-next = record {
+    before = so.before ++ e ∷ [];
+    whole = so.whole ∙ ap (λ l. so.before ++ l) next ∙ sym (append_assoc so.before (e ∷ []) after);
+    leads = sym (ap (lead_of between) (map-append f so.before (e ∷ [])) ∙ lead_of-more between (map f so.before) (f e));
+  }
+
+  -- the text with one more
+  pub passed_step : separated between (map f (so.before ++ e ∷ [])) ≡ separated between (map f so.before) ++ (lead ++ f e)
+  passed_step =
+      ap (separated between) (map-append f so.before (e ∷ [])) ∙ separated-more between (map f so.before) (f e)
+      ∙ ap (λ l. separated between (map f so.before) ++ (l ++ f e)) (sym so.leads)
+
+  -- and with all that follows
+  pub passed_rest : separated between (map f all) ≡ separated between (map f so.before) ++ ((lead ++ f e) ++ behind between (map f after))
+  passed_rest =
+      ap (λ l. separated between (map f l)) (so.whole ∙ ap (λ l. so.before ++ l) next) ∙ ap (separated between) (map-append f so.before (e ∷ after))
+      ∙ separated-at between (map f so.before) (f e) (map f after)
+      ∙ ap (λ l. separated between (map f so.before) ++ ((l ++ f e) ++ behind between (map f after))) (sym so.leads)
+
+pub passed_all : {X : Type 0} (between : List ℕ) (f : X → List ℕ) (all left : List X) (lead : List ℕ) (so : Passed between f all left lead) → left ≡ [] → separated between (map f all) ≡ separated between (map f so.before)
+passed_all between f all left lead so none = ap (λ l. separated between (map f l)) (so.whole ∙ ap (λ l. so.before ++ l) none ∙ append-nil so.before)

@@ -1,6 +1,7 @@
 -- What the pieces of texts stand for.
 use Rattle.std.specs.Prelude.{◌≡◌, ℕ, Bool, true, false, List, map, codes, decimal, Option, None, Some}
-use Rattle.std.specs.Borrow.{Bor}
+use Rattle.cs_value.specs.declared.value.Value.{Value}
+use Rattle.cs_value.specs.Value.{value_of}
 use Rattle.cs_value.specs.declared.value.OwnedValue.{OwnedValue}
 use Rattle.cs_value.specs.declared.value.OwnedField.{OwnedField}
 use Rattle.cs_value.specs.declared.value.OwnedField.TheVariants.{Undefined, Defined}
@@ -25,9 +26,9 @@ line_piece_text (line.Record fields) = fields_text fields.now
 line_piece_text (line.Listed row) = listed_text row.now
 
 -- the value of a field, if there is one
-abbrev pub HoldsValue : Option (Bor OwnedValue) → OwnedField → Type 0
+abbrev pub HoldsValue : Option Value → OwnedField → Type 0
 HoldsValue None field = field ≡ Undefined
-HoldsValue (Some value) field = field ≡ Defined value.now
+HoldsValue (Some value) field = field ≡ Defined (value_of value)
 
 abbrev pub is_defined : OwnedField → Bool
 is_defined Undefined = false

@@ -4,6 +4,7 @@ ghost use Rattle.std.specs.List.{flat_map, list_any};
 ghost use Rattle.cs_value.specs.declared.value.OwnedField.{OwnedField};
 ghost use Rattle.cs_value.specs.declared.value.OwnedField.TheVariants.{Defined};
 ghost use Rattle.cs_wire.specs.declared.entry.Change.TheVariants.{Update};
+ghost use Rattle.cs_value.specs.Value.{value_of};
 ghost use Rattle.cs_files.specs.Gathering.{Gathers};
 ghost use Rattle.cs_files.specs.Texts.{column_name, assignment, condition, assignments, by_place};
 ghost use Rattle.cs_files.specs.Texts.{statement, group_statements};
@@ -14,7 +15,7 @@ use crate::gather::Gather;
 use crate::texts::list::{Print, add_each, add_separated};
 use crate::texts::literal::{add_literal, add_quoted};
 use crate::told::Told;
-use cs_value::{Image, OwnedField, OwnedValue, Row};
+use cs_value::{Image, OwnedField, OwnedValue, Row, Value};
 use cs_wire::{Change, Entry, Group};
 use itoa::Buffer;
 use std::io::Write;
@@ -45,25 +46,25 @@ trait Column {
     ghost field: { Self → OwnedField };
 
     /// The value, if there is one.
-    fn value(&self) -> Option<&OwnedValue>
+    fn value(&self) -> Option<Value<'_>>
         ensures { HoldsValue result (field self.now) };
 }
 
 impl Column for OwnedValue {
     ghost field = { Defined };
 
-    fn value(&self) -> Option<&OwnedValue> {
-        Some(self)
+    fn value(&self) -> Option<Value<'_>> {
+        Some(self.as_value())
     }
 }
 
 impl Column for OwnedField {
     ghost field = { λ field. field };
 
-    fn value(&self) -> Option<&OwnedValue> {
+    fn value(&self) -> Option<Value<'_>> {
         match self {
             OwnedField::Undefined => None,
-            OwnedField::Defined(value) => Some(value),
+            OwnedField::Defined(value) => Some(value.as_value()),
         }
     }
 }
@@ -88,10 +89,10 @@ fn add_assignment<W: Write>(
     gather: &mut Gather,
     out: &mut Told<W>,
     place: usize,
-    value: &OwnedValue,
+    value: Value<'_>,
 ) -> Result<(), OutputFault>
     requires { place < usize.MAX }
-    ensures { Gathers W.contents result gather.old gather.new out.old out.new (assignment place value.now) }
+    ensures { Gathers W.contents result gather.old gather.new out.old out.new (assignment place (value_of value.entry)) }
 {
     add_column(gather, out, place, b"=")?;
     add_literal(gather, out, value)
@@ -103,13 +104,13 @@ fn add_condition<W: Write>(
     gather: &mut Gather,
     out: &mut Told<W>,
     place: usize,
-    value: &OwnedValue,
+    value: Value<'_>,
 ) -> Result<(), OutputFault>
     requires { place < usize.MAX }
-    ensures { Gathers W.contents result gather.old gather.new out.old out.new (condition place value.now) }
+    ensures { Gathers W.contents result gather.old gather.new out.old out.new (condition place (value_of value.entry)) }
 {
     match value {
-        OwnedValue::Null => add_column(gather, out, place, b" IS NULL"),
+        Value::Null => add_column(gather, out, place, b" IS NULL"),
         _ => add_assignment(gather, out, place, value),
     }
 }
@@ -121,11 +122,11 @@ fn add_term<W: Write>(
     terms: Terms,
     lead: &[u8],
     place: usize,
-    value: &OwnedValue,
+    value: Value<'_>,
 ) -> Result<(), OutputFault>
     requires { place < usize.MAX }
     ensures { Gathers W.contents result gather.old gather.new out.old out.new
-        (lead.now ++ term_text terms place value.now) }
+        (lead.now ++ term_text terms place (value_of value.entry)) }
 {
     gather.add(out, lead)?;
     match terms {
