@@ -1,5 +1,5 @@
 -- Lemmas on lists of texts with something between each two.
-use Rattle.std.proofs.Common.{◌≡◌, ℕ, List, [], ◌∷◌, ◌++◌, refl, sym, ap, ◌∙◌, append_assoc, append-nil, map, take, drop, ◌+◌, ◌<◌, length, get_or}
+use Rattle.std.proofs.Common.{◌≡◌, ℕ, List, [], ◌∷◌, ◌++◌, refl, sym, ap, ◌∙◌, append_assoc, append-nil, map, take, drop, ◌+◌, ◌<◌, ◌≤◌, length, get_or, length-append, arith}
 use Rattle.std.specs.List.{flat_map}
 use Rattle.std.proofs.lemmas.List.{map-append, map_more}
 use Rattle.std.proofs.lemmas.Grind.{flat_map-append}
@@ -65,35 +65,35 @@ separated_rest between f xs i e lead within is leads =
 pub lead_step : {X : Type 0} (between : List ℕ) (f : X → List ℕ) (xs : List X) (i : ℕ) (e : X) → i < length xs → between ≡ lead_of between (map f (take (i + 1) xs))
 lead_step between f xs i e within = sym (ap (lead_of between) (map_more f xs i e within) ∙ lead_of-more between (map f (take i xs)) (f (get_or xs i e)))
 
--- elements that come one after another: these were passed, and this leads to the next
-pub record Passed {X : Type 0} (between : List ℕ) (f : X → List ℕ) (all left : List X) (lead : List ℕ) : Type 0 where
-  pub before : List X
-  pub whole : all ≡ before ++ left
-  pub leads : lead ≡ lead_of between (map f before)
-
-pub Passed-none : {X : Type 0} (between : List ℕ) (f : X → List ℕ) (all : List X) → Passed between f all all []
-Passed-none between f all = record { before = []; whole = refl; leads = refl }
-
-module _ {X : Type 0} (between : List ℕ) (f : X → List ℕ) (all left after : List X) (lead : List ℕ) (e : X) (so : Passed between f all left lead) (next : left ≡ e ∷ after) where
-  pub Passed-next : Passed between f all after between
-  Passed-next = record {
-    before = so.before ++ e ∷ [];
-    whole = so.whole ∙ ap (λ l. so.before ++ l) next ∙ sym (append_assoc so.before (e ∷ []) after);
-    leads = sym (ap (lead_of between) (map-append f so.before (e ∷ [])) ∙ lead_of-more between (map f so.before) (f e));
-  }
-
+-- elements that come one after another: those before, one, and those behind it
+module _ {X : Type 0} (between : List ℕ) (f : X → List ℕ) (before : List X) (e : X) (lead : List ℕ) (leads : lead ≡ lead_of between (map f before)) where
   -- the text with one more
-  pub passed_step : separated between (map f (so.before ++ e ∷ [])) ≡ separated between (map f so.before) ++ (lead ++ f e)
-  passed_step =
-      ap (separated between) (map-append f so.before (e ∷ [])) ∙ separated-more between (map f so.before) (f e)
-      ∙ ap (λ l. separated between (map f so.before) ++ (l ++ f e)) (sym so.leads)
+  pub separated_push : separated between (map f (before ++ e ∷ [])) ≡ separated between (map f before) ++ (lead ++ f e)
+  separated_push =
+      ap (separated between) (map-append f before (e ∷ [])) ∙ separated-more between (map f before) (f e)
+      ∙ ap (λ l. separated between (map f before) ++ (l ++ f e)) (sym leads)
 
   -- and with all that follows
-  pub passed_rest : separated between (map f all) ≡ separated between (map f so.before) ++ ((lead ++ f e) ++ behind between (map f after))
-  passed_rest =
-      ap (λ l. separated between (map f l)) (so.whole ∙ ap (λ l. so.before ++ l) next) ∙ ap (separated between) (map-append f so.before (e ∷ after))
-      ∙ separated-at between (map f so.before) (f e) (map f after)
-      ∙ ap (λ l. separated between (map f so.before) ++ ((l ++ f e) ++ behind between (map f after))) (sym so.leads)
+  pub separated_around : (all left after : List X) → all ≡ before ++ left → left ≡ e ∷ after
+      → separated between (map f all) ≡ separated between (map f before) ++ ((lead ++ f e) ++ behind between (map f after))
+  separated_around all left after whole next =
+      ap (λ l. separated between (map f l)) (whole ∙ ap (λ l. before ++ l) next) ∙ ap (separated between) (map-append f before (e ∷ after))
+      ∙ separated-at between (map f before) (f e) (map f after)
+      ∙ ap (λ l. separated between (map f before) ++ ((l ++ f e) ++ behind between (map f after))) (sym leads)
 
-pub passed_all : {X : Type 0} (between : List ℕ) (f : X → List ℕ) (all left : List X) (lead : List ℕ) (so : Passed between f all left lead) → left ≡ [] → separated between (map f all) ≡ separated between (map f so.before)
-passed_all between f all left lead so none = ap (λ l. separated between (map f l)) (so.whole ∙ ap (λ l. so.before ++ l) none ∙ append-nil so.before)
+-- what leads to the element behind one
+pub lead_push : {X : Type 0} (between : List ℕ) (f : X → List ℕ) (before : List X) (e : X) → between ≡ lead_of between (map f (before ++ e ∷ []))
+lead_push between f before e = sym (ap (lead_of between) (map-append f before (e ∷ [])) ∙ lead_of-more between (map f before) (f e))
+
+-- one of those that are left is passed
+pub passed_one : {X : Type 0} (all before left after : List X) (e : X) → all ≡ before ++ left → left ≡ e ∷ after → all ≡ (before ++ e ∷ []) ++ after
+passed_one all before left after e whole next = whole ∙ ap (λ l. before ++ l) next ∙ sym (append_assoc before (e ∷ []) after)
+
+-- and then none is left
+pub passed_all : {X : Type 0} (all before left : List X) → all ≡ before ++ left → left ≡ [] → all ≡ before
+passed_all all before left whole none = whole ∙ ap (λ l. before ++ l) none ∙ append-nil before
+
+-- none is left where as many were passed as there are
+pub none_left : {X : Type 0} (all before left : List X) → all ≡ before ++ left → length all ≤ length before → left ≡ []
+none_left all before [] whole within = refl
+none_left all before (x ∷ left) whole within = absurd (omega (arith, ap length whole, length-append before (x ∷ left)))

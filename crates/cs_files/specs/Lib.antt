@@ -6,6 +6,8 @@ pub mod Gathering
 pub mod Inverting
 pub mod Texts
 pub mod Pieces
+pub mod Forms
+pub mod Printing
 pub use Rattle.cs_value.specs.Value
 pub use Rattle.cs_value.specs.Varint
 pub use Rattle.cs_value.specs.Spelling

@@ -55,7 +55,9 @@ impl<'a> Tables<'a> {
 
     /// The header of the next table. Entries of the one before it that are left are passed over.
     pub fn next_table(&mut self) -> Option<HeaderRef<'a>>
-        ensures { (entries : List EntryData) (groups : List GroupData) → AreLeft self.old entries groups → NextTable groups result self.new }
+        ensures next { (entries : List EntryData) (groups : List GroupData) → AreLeft self.old entries groups → NextTable groups result self.new }
+        ensures forward { IfSome result (λ _. (self.old.place < self.new.place) × (self.new.place ≤ length self.new.file)) }
+        ensures file { self.new.file ≡ self.old.file }
     {
         self.pass_entries();
         self.open_table()
@@ -63,14 +65,18 @@ impl<'a> Tables<'a> {
 
     /// Passes over the entries of the table that is open.
     fn pass_entries(&mut self)
-        ensures { (entries : List EntryData) (groups : List GroupData) → AreLeft self.old entries groups → AreLeft self.new [] groups }
+        ensures left { (entries : List EntryData) (groups : List GroupData) → AreLeft self.old entries groups → AreLeft self.new [] groups }
+        ensures ahead { self.old.place ≤ self.new.place }
+        ensures file { self.new.file ≡ self.old.file }
     {
         'entries: while self.next_entry().is_some() {}
     }
 
     /// The header of the next table, where no entry is left of the one before it.
     fn open_table(&mut self) -> Option<HeaderRef<'a>>
-        ensures { (groups : List GroupData) → AreLeft self.old [] groups → NextTable groups result self.new }
+        ensures next { (groups : List GroupData) → AreLeft self.old [] groups → NextTable groups result self.new }
+        ensures forward { IfSome result (λ _. (self.old.place < self.new.place) × (self.new.place ≤ length self.new.file)) }
+        ensures file { self.new.file ≡ self.old.file }
     {
         if self.place >= self.file.len() {
             return None;
@@ -87,6 +93,7 @@ impl<'a> Tables<'a> {
     pub fn next_entry(&mut self) -> Option<EntryRef<'a>>
         ensures next { (entries : List EntryData) (groups : List GroupData) → AreLeft self.old entries groups → NextEntry self.old.flags entries groups result self.new }
         ensures forward { IfSome result (λ _. (self.old.place < self.new.place) × (self.new.place ≤ length self.new.file)) }
+        ensures ahead { self.old.place ≤ self.new.place }
         ensures file { self.new.file ≡ self.old.file }
     {
         if !has_entry(self.file, self.place) {

@@ -9,7 +9,7 @@ use crate::fault::OutputFault;
 use crate::gather::Gather;
 use crate::texts::literal::{add_literal, add_number};
 use crate::told::Told;
-use cs_value::{Field, OwnedField, OwnedValue};
+use cs_value::{Field, OwnedValue};
 use cs_wire::Fields;
 use std::io::Write;
 
@@ -35,14 +35,6 @@ impl Print for OwnedValue {
 
     fn print<W: Write>(&self, gather: &mut Gather, out: &mut Told<W>) -> Result<(), OutputFault> {
         add_literal(gather, out, self.as_value())
-    }
-}
-
-impl Print for OwnedField {
-    ghost text = { field_text };
-
-    fn print<W: Write>(&self, gather: &mut Gather, out: &mut Told<W>) -> Result<(), OutputFault> {
-        self.as_field().print(gather, out)
     }
 }
 

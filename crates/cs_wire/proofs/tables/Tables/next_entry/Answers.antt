@@ -1,5 +1,5 @@
 -- `tables::Tables::next_entry`: what it ensures.
-use Rattle.std.proofs.Common.{◌≡◌, ◌<◌, [], sym, subst}
+use Rattle.std.proofs.Common.{◌≡◌, ◌<◌, ◌≤◌, [], sym, subst, arith}
 use Rattle.std.proofs.lemmas.Bool.{iff_false}
 use Rattle.cs_wire.specs.Tables.{TablesData, AreLeft, IsNextEntry}
 use Rattle.cs_wire.proofs.EntryLemmas.{entry_bytes_some}
@@ -37,3 +37,10 @@ returns-clause-forward c =
       subst (λ (t : TablesData). t.place < c.in-Ok.end) c.self.view_is (Stands-moves i.file.now i.place c.in-Ok.end _ stands (entry_bytes_some c.in-Ok.seen.entry) here.within),
       stands.within,
     )
+
+pub returns-clause-ahead : goal.returns-clause-ahead
+returns-clause-ahead c =
+    let i = c.self.inside in
+    let here = c.has_entry.ensures.0 c.if-not-has_entry.false in
+    let moved = Stands-moves i.file.now i.place c.in-Ok.end _ c.in-Ok.ensures.found.2 (entry_bytes_some c.in-Ok.seen.entry) here.within in
+    subst (λ (t : TablesData). t.place ≤ c.in-Ok.end) c.self.view_is (omega arith)
