@@ -1,7 +1,9 @@
 pub mod Examples
 pub mod GatherLemmas
 pub mod InvertLemmas
+pub mod PrintLemmas
 pub mod SeparatedLemmas
+pub mod TablesLemmas
 pub mod TermLemmas
 pub mod TextExamples
 pub mod TextLemmas

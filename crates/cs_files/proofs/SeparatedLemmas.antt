@@ -1,7 +1,7 @@
 -- Lemmas on lists of texts with something between each two.
-use Rattle.std.proofs.Common.{◌≡◌, ℕ, List, [], ◌∷◌, ◌++◌, refl, sym, ap, ◌∙◌, append_assoc, append-nil, map, take, drop, ◌+◌, ◌<◌, length, get_or}
+use Rattle.std.proofs.Common.{◌≡◌, ℕ, List, [], ◌∷◌, ◌++◌, refl, sym, ap, ◌∙◌, append_assoc, append-nil, map, take, drop, ◌+◌, ◌<◌, ◌≤◌, length, get_or, length-append, arith}
 use Rattle.std.specs.List.{flat_map}
-use Rattle.std.proofs.lemmas.List.{map_more}
+use Rattle.std.proofs.lemmas.List.{map-append, map_more}
 use Rattle.std.proofs.lemmas.Grind.{flat_map-append}
 use Rattle.cs_value.proofs.ListLemmas.{map_split}
 use Rattle.cs_files.specs.Texts.{separated}
@@ -64,3 +64,36 @@ separated_rest between f xs i e lead within is leads =
 -- what leads to the element behind one
 pub lead_step : {X : Type 0} (between : List ℕ) (f : X → List ℕ) (xs : List X) (i : ℕ) (e : X) → i < length xs → between ≡ lead_of between (map f (take (i + 1) xs))
 lead_step between f xs i e within = sym (ap (lead_of between) (map_more f xs i e within) ∙ lead_of-more between (map f (take i xs)) (f (get_or xs i e)))
+
+-- elements that come one after another: those before, one, and those behind it
+module _ {X : Type 0} (between : List ℕ) (f : X → List ℕ) (before : List X) (e : X) (lead : List ℕ) (leads : lead ≡ lead_of between (map f before)) where
+  -- the text with one more
+  pub separated_push : separated between (map f (before ++ e ∷ [])) ≡ separated between (map f before) ++ (lead ++ f e)
+  separated_push =
+      ap (separated between) (map-append f before (e ∷ [])) ∙ separated-more between (map f before) (f e)
+      ∙ ap (λ l. separated between (map f before) ++ (l ++ f e)) (sym leads)
+
+  -- and with all that follows
+  pub separated_around : (all left after : List X) → all ≡ before ++ left → left ≡ e ∷ after
+      → separated between (map f all) ≡ separated between (map f before) ++ ((lead ++ f e) ++ behind between (map f after))
+  separated_around all left after whole next =
+      ap (λ l. separated between (map f l)) (whole ∙ ap (λ l. before ++ l) next) ∙ ap (separated between) (map-append f before (e ∷ after))
+      ∙ separated-at between (map f before) (f e) (map f after)
+      ∙ ap (λ l. separated between (map f before) ++ ((l ++ f e) ++ behind between (map f after))) (sym leads)
+
+-- what leads to the element behind one
+pub lead_push : {X : Type 0} (between : List ℕ) (f : X → List ℕ) (before : List X) (e : X) → between ≡ lead_of between (map f (before ++ e ∷ []))
+lead_push between f before e = sym (ap (lead_of between) (map-append f before (e ∷ [])) ∙ lead_of-more between (map f before) (f e))
+
+-- one of those that are left is passed
+pub passed_one : {X : Type 0} (all before left after : List X) (e : X) → all ≡ before ++ left → left ≡ e ∷ after → all ≡ (before ++ e ∷ []) ++ after
+passed_one all before left after e whole next = whole ∙ ap (λ l. before ++ l) next ∙ sym (append_assoc before (e ∷ []) after)
+
+-- and then none is left
+pub passed_all : {X : Type 0} (all before left : List X) → all ≡ before ++ left → left ≡ [] → all ≡ before
+passed_all all before left whole none = whole ∙ ap (λ l. before ++ l) none ∙ append-nil before
+
+-- none is left where as many were passed as there are
+pub none_left : {X : Type 0} (all before left : List X) → all ≡ before ++ left → length all ≤ length before → left ≡ []
+none_left all before [] whole within = refl
+none_left all before (x ∷ left) whole within = absurd (omega (arith, ap length whole, length-append before (x ∷ left)))

@@ -1,8 +1,6 @@
 -- Lemmas on what is said of the columns that have a value.
-use Rattle.std.proofs.Common.{◌≡◌, ℕ, ◌+◌, ◌<◌, true, false, List, [], ◌∷◌, ◌++◌, length, map, take, drop, get_or, codes, refl, sym, ap, ◌∙◌, append-nil, add-zero, arith}
+use Rattle.std.proofs.Common.{◌≡◌, ℕ, ◌+◌, Bool, true, false, List, [], ◌∷◌, ◌++◌, length, codes, refl, sym, ap, ◌∙◌, append-nil, add-zero, arith}
 use Rattle.std.specs.List.{list_any}
-use Rattle.std.proofs.lemmas.List.{length-map, length-take-le, map-id, map_more}
-use Rattle.cs_value.proofs.ListLemmas.{map_split}
 use Rattle.cs_value.specs.declared.value.OwnedValue.{OwnedValue}
 use Rattle.cs_value.specs.declared.value.OwnedField.{OwnedField}
 use Rattle.cs_value.specs.declared.value.OwnedField.TheVariants.{Undefined, Defined}
@@ -23,56 +21,52 @@ by_place-append f p (Defined v ∷ xs) ys =
 by_place-at : (f : ℕ → OwnedValue → List ℕ) (i : ℕ) (xs ys : List OwnedField) → length xs ≡ i → by_place f 0 (xs ++ ys) ≡ by_place f 0 xs ++ by_place f i ys
 by_place-at f i xs ys is = by_place-append f 0 xs ys ∙ ap (λ n. by_place f 0 xs ++ by_place f n ys) (let h : 0 + length xs ≡ i = omega arith in h)
 
-module _ {X : Type 0} (f : ℕ → OwnedValue → List ℕ) (field : X → OwnedField) (xs : List X) (i : ℕ) (e : X) (within : i < length xs) (is : e ≡ get_or xs i e) where
-  counted : length (map field (take i xs)) ≡ i
-  counted = length-map (take i xs) field ∙ length-take-le i xs (omega arith)
-
-  step : by_place f 0 (map field (take (i + 1) xs)) ≡ by_place f 0 (map field (take i xs)) ++ by_place f i (field e ∷ [])
-  step = ap (by_place f 0) (map_more field xs i e within) ∙ by_place-at f i (map field (take i xs)) (field (get_or xs i e) ∷ []) counted
-      ∙ ap (λ d. by_place f 0 (map field (take i xs)) ++ by_place f i (field d ∷ [])) (sym is)
-
+-- the fields before one, which stands in this column
+module _ (f : ℕ → OwnedValue → List ℕ) (between : List ℕ) (before : List OwnedField) (i : ℕ) (counted : length before ≡ i) where
   -- a column without a value adds nothing
-  by_place_undefined : field e ≡ Undefined → by_place f 0 (map field (take (i + 1) xs)) ≡ by_place f 0 (map field (take i xs))
-  by_place_undefined none =
-      step ∙ ap (λ d. by_place f 0 (map field (take i xs)) ++ by_place f i (d ∷ [])) none ∙ append-nil (by_place f 0 (map field (take i xs)))
+  by_place_undefined : by_place f 0 (before ++ Undefined ∷ []) ≡ by_place f 0 before
+  by_place_undefined = by_place-at f i before (Undefined ∷ []) counted ∙ append-nil (by_place f 0 before)
 
-  pub terms_undefined : (between : List ℕ) → field e ≡ Undefined
-      → separated between (by_place f 0 (map field (take (i + 1) xs))) ≡ separated between (by_place f 0 (map field (take i xs)))
-  terms_undefined between none = ap (separated between) (by_place_undefined none)
+  pub terms_undefined : (field : OwnedField) → field ≡ Undefined → separated between (by_place f 0 (before ++ field ∷ [])) ≡ separated between (by_place f 0 before)
+  terms_undefined field is = ap (λ d. separated between (by_place f 0 (before ++ d ∷ []))) is ∙ ap (separated between) by_place_undefined
 
-  pub lead_undefined : (between lead : List ℕ) → field e ≡ Undefined → lead ≡ lead_of between (by_place f 0 (map field (take i xs)))
-      → lead ≡ lead_of between (by_place f 0 (map field (take (i + 1) xs)))
-  lead_undefined between lead none leads = leads ∙ ap (lead_of between) (sym (by_place_undefined none))
+  pub lead_undefined : (field : OwnedField) (lead : List ℕ) → field ≡ Undefined → lead ≡ lead_of between (by_place f 0 before) → lead ≡ lead_of between (by_place f 0 (before ++ field ∷ []))
+  lead_undefined field lead is leads = leads ∙ ap (lead_of between) (sym by_place_undefined) ∙ ap (λ d. lead_of between (by_place f 0 (before ++ d ∷ []))) (sym is)
 
   -- one with a value adds what is said of it
-  by_place_defined : (v : OwnedValue) → field e ≡ Defined v → by_place f 0 (map field (take (i + 1) xs)) ≡ by_place f 0 (map field (take i xs)) ++ f i v ∷ []
-  by_place_defined v some = step ∙ ap (λ d. by_place f 0 (map field (take i xs)) ++ by_place f i (d ∷ [])) some
+  module _ (field : OwnedField) (v : OwnedValue) (is : field ≡ Defined v) where
+    by_place_defined : by_place f 0 (before ++ field ∷ []) ≡ by_place f 0 before ++ f i v ∷ []
+    by_place_defined = ap (λ d. by_place f 0 (before ++ d ∷ [])) is ∙ by_place-at f i before (Defined v ∷ []) counted
 
-  rest : (v : OwnedValue) → field e ≡ Defined v
-      → by_place f 0 (map field xs) ≡ by_place f 0 (map field (take i xs)) ++ f i v ∷ by_place f (i + 1) (map field (drop (i + 1) xs))
-  rest v some =
-      let after = map field (drop (i + 1) xs) in
-      ap (by_place f 0) (map_split xs i e within field) ∙ by_place-at f i (map field (take i xs)) (field (get_or xs i e) ∷ after) counted
-      ∙ ap (λ d. by_place f 0 (map field (take i xs)) ++ by_place f i (d ∷ after)) (ap field (sym is) ∙ some)
+    -- the text with it, and with all that follows
+    pub terms_push : (lead : List ℕ) → lead ≡ lead_of between (by_place f 0 before)
+        → separated between (by_place f 0 (before ++ field ∷ [])) ≡ separated between (by_place f 0 before) ++ (lead ++ f i v)
+    terms_push lead leads =
+        let texts = by_place f 0 before in
+        ap (separated between) by_place_defined ∙ separated-more between texts (f i v) ∙ ap (λ l. separated between texts ++ (l ++ f i v)) (sym leads)
 
-  -- the text with it, and with all that follows
-  pub terms_step : (between lead : List ℕ) (v : OwnedValue) → field e ≡ Defined v → lead ≡ lead_of between (by_place f 0 (map field (take i xs)))
-      → separated between (by_place f 0 (map field (take (i + 1) xs))) ≡ separated between (by_place f 0 (map field (take i xs))) ++ (lead ++ f i v)
-  terms_step between lead v some leads =
-      let before = by_place f 0 (map field (take i xs)) in
-      ap (separated between) (by_place_defined v some) ∙ separated-more between before (f i v) ∙ ap (λ l. separated between before ++ (l ++ f i v)) (sym leads)
+    pub terms_around : (lead : List ℕ) (all left after : List OwnedField) → all ≡ before ++ left → left ≡ field ∷ after → lead ≡ lead_of between (by_place f 0 before)
+        → separated between (by_place f 0 all) ≡ separated between (by_place f 0 before) ++ ((lead ++ f i v) ++ behind between (by_place f (i + 1) after))
+    terms_around lead all left after whole next leads =
+        let texts = by_place f 0 before in
+        let rest = by_place f (i + 1) after in
+        ap (λ l. separated between (by_place f 0 l)) (whole ∙ ap (λ l. before ++ l) (next ∙ ap (λ d. d ∷ after) is))
+        ∙ ap (separated between) (by_place-at f i before (Defined v ∷ after) counted) ∙ separated-at between texts (f i v) rest
+        ∙ ap (λ l. separated between texts ++ ((l ++ f i v) ++ behind between rest)) (sym leads)
 
-  pub terms_rest : (between lead : List ℕ) (v : OwnedValue) → field e ≡ Defined v → lead ≡ lead_of between (by_place f 0 (map field (take i xs)))
-      → separated between (by_place f 0 (map field xs))
-      ≡ separated between (by_place f 0 (map field (take i xs))) ++ ((lead ++ f i v) ++ behind between (by_place f (i + 1) (map field (drop (i + 1) xs))))
-  terms_rest between lead v some leads =
-      let before = by_place f 0 (map field (take i xs)) in
-      let after = by_place f (i + 1) (map field (drop (i + 1) xs)) in
-      ap (separated between) (rest v some) ∙ separated-at between before (f i v) after
-      ∙ ap (λ l. separated between before ++ ((l ++ f i v) ++ behind between after)) (sym leads)
+    pub lead_defined : between ≡ lead_of between (by_place f 0 (before ++ field ∷ []))
+    lead_defined = sym (ap (lead_of between) by_place_defined ∙ lead_of-more between (by_place f 0 before) (f i v))
 
-  pub lead_defined : (between : List ℕ) (v : OwnedValue) → field e ≡ Defined v → between ≡ lead_of between (by_place f 0 (map field (take (i + 1) xs)))
-  lead_defined between v some = sym (ap (lead_of between) (by_place_defined v some) ∙ lead_of-more between (by_place f 0 (map field (take i xs))) (f i v))
+-- whether there is a value, with one more field
+pub some_undefined : (before : List OwnedField) (field : OwnedField) → field ≡ Undefined → list_any is_defined (before ++ field ∷ []) ≡ list_any is_defined before
+some_undefined [] field is = ap (λ d. list_any is_defined (d ∷ [])) is
+some_undefined (Undefined ∷ before) field is = some_undefined before field is
+some_undefined (Defined v ∷ before) field is = refl
+
+pub some_defined : (before : List OwnedField) (field : OwnedField) (v : OwnedValue) → field ≡ Defined v → list_any is_defined (before ++ field ∷ []) ≡ true
+some_defined [] field v is = ap (λ d. list_any is_defined (d ∷ [])) is
+some_defined (Undefined ∷ before) field v is = some_defined before field v is
+some_defined (Defined w ∷ before) field v is = refl
 
 -- where no field has a value, nothing is said of it
 by_place_none : (f : ℕ → OwnedValue → List ℕ) (p : ℕ) (fields : List OwnedField) → list_any is_defined fields ≡ false → by_place f p fields ≡ []
@@ -87,14 +81,23 @@ by_place_some f p [] some = cc
 by_place_some f p (Undefined ∷ fields) some = by_place_some f (p + 1) fields some
 by_place_some f p (Defined v ∷ fields) some = (f p v, by_place f (p + 1) fields, refl)
 
--- the modified columns
-pub assignments_some : (old new : List OwnedField) → list_any is_defined new ≡ true
-    → assignments old (by_place assignment 0 new) ≡ terms_text Assignments (map (λ field. field) new)
+-- where some column is modified, the modified ones
+pub assignments_some : (old new : List OwnedField) → list_any is_defined new ≡ true → assignments old (by_place assignment 0 new) ≡ terms_text Assignments new
 assignments_some old new some =
     let parts = by_place_some assignment 0 new some in
-    ap (assignments old) parts.2 ∙ ap (separated (codes ", ")) (sym parts.2) ∙ ap (terms_text Assignments) (sym (map-id new))
+    ap (assignments old) parts.2 ∙ ap (separated (codes ", ")) (sym parts.2)
 
--- those of the key
+-- where none is, those of the key, behind nothing
 pub assignments_none : (old new : List OwnedField) → list_any is_defined new ≡ false
-    → assignments old (by_place assignment 0 new) ≡ terms_text Assignments (map (λ field. field) old)
-assignments_none old new none = ap (assignments old) (by_place_none assignment 0 new none) ∙ ap (terms_text Assignments) (sym (map-id old))
+    → assignments old (by_place assignment 0 new) ≡ terms_text Assignments new ++ terms_text Assignments old
+unfolding separated
+assignments_none old new none =
+    let nothing = by_place_none assignment 0 new none in
+    ap (assignments old) nothing ∙ ap (λ l. separated (codes ", ") l ++ terms_text Assignments old) (sym nothing)
+
+-- the new columns first
+pub assignments_begin : (old new : List OwnedField) → (rest : List ℕ) × (assignments old (by_place assignment 0 new) ≡ terms_text Assignments new ++ rest)
+assignments_begin old new = by (list_any is_defined new) refl where
+  by : (b : Bool) → list_any is_defined new ≡ b → (rest : List ℕ) × (assignments old (by_place assignment 0 new) ≡ terms_text Assignments new ++ rest)
+  by true some = ([], assignments_some old new some ∙ sym (append-nil (terms_text Assignments new)))
+  by false none = (terms_text Assignments old, assignments_none old new none)

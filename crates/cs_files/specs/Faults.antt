@@ -1,11 +1,14 @@
 -- The numbers, classes and names of faults of files: the numbers and names are this project's own, the classes are the
 -- result codes of SQLite's C interface.
 use Rattle.std.specs.Prelude.{ℕ, List, codes}
+use Rattle.cs_value.specs.Refusals.{of_refusal}
 use Rattle.cs_value.specs.declared.refusal.OrNoMemory.{OrNoMemory}
 use Rattle.cs_value.specs.declared.refusal.OrNoMemory.TheVariants.{Fault, NoMemory}
 use Rattle.cs_wire.specs.declared.fault.ReadFault.{ReadFault}
 use Rattle.cs_wire.specs.ReadFaults as read
 use Rattle.cs_group.specs.declared.fault.SchemaFault.{SchemaFault}
+use Rattle.cs_files.specs.declared.fault.PrintFault.{PrintFault}
+use Rattle.cs_files.specs.declared.fault.PrintFault.TheVariants as print
 use Rattle.cs_files.specs.declared.fault.FileFault.{FileFault}
 use Rattle.cs_files.specs.declared.fault.FileFault.TheVariants.{First, Second, Schema}
 
@@ -36,3 +39,21 @@ of_second NoMemory = NoMemory
 abbrev pub of_join : OrNoMemory SchemaFault → OrNoMemory FileFault
 of_join (Fault s) = Fault (Schema s)
 of_join NoMemory = NoMemory
+
+-- of a file that is not printed
+abbrev pub print_code_of : PrintFault → ℕ
+print_code_of (print.Read error) = of_refusal (λ f. read.code_of f.kind) 60 error
+print_code_of (print.Output fault) = 72
+
+abbrev pub print_class_of : PrintFault → ℕ
+print_class_of (print.Read error) = of_refusal (λ f. 11) 7 error
+print_class_of (print.Output fault) = 10
+
+abbrev pub print_name_of : PrintFault → List ℕ
+print_name_of (print.Read error) = of_refusal (λ f. read.name_of f.kind) (codes "NoMemory") error
+print_name_of (print.Output fault) = codes "OutputFault"
+
+-- why the text of the only file is not made in memory
+abbrev pub of_print : PrintFault → OrNoMemory FileFault
+of_print (print.Read error) = of_first error
+of_print (print.Output fault) = NoMemory

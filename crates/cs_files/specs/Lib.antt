@@ -5,6 +5,8 @@ pub mod Told
 pub mod Gathering
 pub mod Texts
 pub mod Pieces
+pub mod Forms
+pub mod Printing
 pub use Rattle.cs_value.specs.Value
 pub use Rattle.cs_value.specs.Varint
 pub use Rattle.cs_value.specs.Spelling

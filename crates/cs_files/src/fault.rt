@@ -1,6 +1,8 @@
 //! Why a call on files is refused.
 ghost use Rattle.std.specs.Prelude.{◌≡◌, codes};
 ghost use Rattle.cs_files.specs.Faults.{code_of, class_of, name_of, of_first, of_second, of_join};
+ghost use Rattle.cs_files.specs.Faults.{print_code_of, print_class_of, print_name_of, of_print};
+ghost use Rattle.cs_files.specs.declared.fault.PrintFault.TheVariants as print;
 
 use cs_group::{ConcatFault, SchemaFault};
 use cs_value::{Fault, OrNoMemory};
@@ -29,6 +31,62 @@ impl Fault for OutputFault {
 
     fn name(&self) -> &'static str {
         "OutputFault"
+    }
+}
+
+/// Why a file is not printed.
+#[derive(Debug, PartialEq, Eq, Drop, Error)]
+pub enum PrintFault {
+    /// The file is not read: it is no changeset's, or memory was refused. Nothing of its text is written.
+    #[error("{0}")]
+    Read(ReadError),
+    /// A write failed, or took no byte. Some front of the text is written.
+    #[error("{0}")]
+    Output(OutputFault),
+}
+
+impl Fault for PrintFault {
+    ghost code_of = { print_code_of };
+
+    ghost class_of = { print_class_of };
+
+    ghost name_of = { print_name_of };
+
+    fn code(&self) -> u8 {
+        match self {
+            PrintFault::Read(error) => error.code(),
+            PrintFault::Output(fault) => fault.code(),
+        }
+    }
+
+    fn class(&self) -> u8 {
+        match self {
+            PrintFault::Read(error) => error.class(),
+            PrintFault::Output(fault) => fault.class(),
+        }
+    }
+
+    fn name(&self) -> &'static str {
+        match self {
+            PrintFault::Read(error) => error.name(),
+            PrintFault::Output(fault) => fault.name(),
+        }
+    }
+}
+
+impl From<ReadError> for PrintFault {
+    ghost from_gives = { λ error fault. fault ≡ print.Read error };
+
+    fn from(error: ReadError) -> PrintFault {
+        PrintFault::Read(error)
+    }
+}
+
+impl From<OutputFault> for PrintFault {
+    ghost from_gives = { λ output fault. fault ≡ print.Output output };
+
+    fn from(fault: OutputFault) -> PrintFault {
+        PrintFault::Output(fault)
     }
 }
 
@@ -85,6 +143,16 @@ pub fn first_fault(error: ReadError) -> ToolFault
     match error {
         ReadError::Fault(fault) => ToolFault::Fault(FileFault::First(fault)),
         ReadError::NoMemory => ToolFault::NoMemory,
+    }
+}
+
+/// Why the text of the only file is not made in memory, where a write takes all bytes unless memory is refused.
+pub(crate) fn text_fault(fault: PrintFault) -> ToolFault
+    ensures { result ≡ of_print fault }
+{
+    match fault {
+        PrintFault::Read(error) => first_fault(error),
+        PrintFault::Output(OutputFault) => ToolFault::NoMemory,
     }
 }
 

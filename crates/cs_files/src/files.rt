@@ -1,19 +1,23 @@
 //! From files to files, inverting one and joining two; and from a file to its readable texts.
-ghost use Rattle.std.specs.Prelude.{◌≡◌, ◌+◌, ◌≤◌, length, IfOk, IfErr};
+ghost use Rattle.std.specs.Prelude.{◌≡◌, ◌+◌, ◌≤◌, length, IfOk, IfErr, IsTrue, OnOk};
 ghost use Rattle.cs_value.specs.Refusals.{Refuses};
 ghost use Rattle.cs_wire.specs.ReadFaults.{ReadFails};
 ghost use Rattle.cs_wire.specs.Changeset.{IsChangeset, file_bytes};
 ghost use Rattle.cs_group.specs.Joining.{IsJoined};
 ghost use Rattle.cs_files.specs.Files.{Inverts, Joins, Prints, JoinFails, FirstFails, SecondFails, AreUnjoined};
+ghost use Rattle.cs_files.specs.Told.{has_failed};
 ghost use Rattle.cs_files.specs.Texts.{dump_of, sql_of};
+ghost use Rattle.cs_files.specs.Forms.{form_text};
+ghost use Rattle.cs_files.specs.Printing.{IfUnread, IfUnwritten, PrintsTo, PrintsFrontTo};
 
-use crate::fault::{OutputFault, ToolFault, first_fault, join_fault, second_fault};
+use crate::fault::{PrintFault, ToolFault, first_fault, join_fault, second_fault, text_fault};
 use crate::inverting::write_inverse;
-use crate::texts::{dump_text, sql_text};
+use crate::texts::{Form, write_tables};
 use crate::told::Told;
 use cs_group::concat;
 use cs_wire::{Changeset, ReadError, Tables, read, write};
 use std::alloc::Global;
+use std::io::Write;
 
 /// The file of the changeset that undoes the one whose file this is. It has the same tables and
 /// entries in the same order, with inserts and deletes exchanged, and in updates the two values of
@@ -53,6 +57,59 @@ pub fn concat_bytes(alloc: Global, first: &[u8], second: &[u8]) -> Result<Vec<u8
     Ok(write(alloc, &joined)?)
 }
 
+/// Writes what a file holds, as [`dump_text`](crate::dump_text) writes it, as the file is gone through: it is
+/// read to its end first, and the text takes no memory.
+///
+/// # Errors
+///
+/// `Read` where the bytes are no changeset's file, with the fault's kind and place, or memory is refused:
+/// nothing is written then. `Output` where a write fails, or takes no byte: some front of the text is
+/// written then, and the flag of `out` is set.
+pub fn print_dump<W: Write>(alloc: Global, file: &[u8], out: &mut Told<W>) -> Result<(), PrintFault>
+    ensures printed { OnOk result (PrintsTo W.contents dump_of file.now out.old out.new) }
+    ensures refused { IfErr result (IfUnread (Refuses (λ f. ReadFails file.now f.kind f.place))) }
+    ensures untouched { IfErr result (IfUnread (λ _. out.new ≡ out.old)) }
+    ensures interrupted { IfErr result (IfUnwritten (PrintsFrontTo W.contents dump_of file.now out.old out.new)) }
+    ensures flagged { IfErr result (IfUnwritten (IsTrue (has_failed out.new))) }
+{
+    print_file(alloc, file, Form::Dump, out)
+}
+
+/// Writes what a file does, as [`sql_text`](crate::sql_text) writes it, as the file is gone through: it is
+/// read to its end first, and the text takes no memory.
+///
+/// # Errors
+///
+/// `Read` where the bytes are no changeset's file, with the fault's kind and place, or memory is refused:
+/// nothing is written then. `Output` where a write fails, or takes no byte: some front of the text is
+/// written then, and the flag of `out` is set.
+pub fn print_sql<W: Write>(alloc: Global, file: &[u8], out: &mut Told<W>) -> Result<(), PrintFault>
+    ensures printed { OnOk result (PrintsTo W.contents sql_of file.now out.old out.new) }
+    ensures refused { IfErr result (IfUnread (Refuses (λ f. ReadFails file.now f.kind f.place))) }
+    ensures untouched { IfErr result (IfUnread (λ _. out.new ≡ out.old)) }
+    ensures interrupted { IfErr result (IfUnwritten (PrintsFrontTo W.contents sql_of file.now out.old out.new)) }
+    ensures flagged { IfErr result (IfUnwritten (IsTrue (has_failed out.new))) }
+{
+    print_file(alloc, file, Form::Sql, out)
+}
+
+/// Writes a file in a form.
+fn print_file<W: Write>(
+    alloc: Global,
+    file: &[u8],
+    form: Form,
+    out: &mut Told<W>,
+) -> Result<(), PrintFault>
+    ensures printed { OnOk result (PrintsTo W.contents (form_text form) file.now out.old out.new) }
+    ensures refused { IfErr result (IfUnread (Refuses (λ f. ReadFails file.now f.kind f.place))) }
+    ensures untouched { IfErr result (IfUnread (λ _. out.new ≡ out.old)) }
+    ensures interrupted { IfErr result (IfUnwritten (PrintsFrontTo W.contents (form_text form) file.now out.old out.new)) }
+    ensures flagged { IfErr result (IfUnwritten (IsTrue (has_failed out.new))) }
+{
+    let tables = Tables::read(alloc, file)?;
+    Ok(write_tables(form, tables, out)?)
+}
+
 /// What a file holds, as [`dump_text`](crate::dump_text) writes it.
 ///
 /// # Errors
@@ -63,11 +120,10 @@ pub fn dump_file(alloc: Global, file: &[u8]) -> Result<Vec<u8>, ToolFault>
     ensures printed { IfOk result (λ text. Prints dump_of file.now text.items) }
     ensures refused { IfErr result (Refuses (FirstFails file.now)) }
 {
-    let changeset = read_first(alloc, file)?;
     let mut text = Told::new(Vec::new(alloc));
-    match dump_text(&changeset, &mut text) {
+    match print_dump(alloc, file, &mut text) {
         Ok(()) => Ok(text.into_inner()),
-        Err(OutputFault) => Err(ToolFault::NoMemory),
+        Err(fault) => Err(text_fault(fault)),
     }
 }
 
@@ -81,11 +137,10 @@ pub fn sql_file(alloc: Global, file: &[u8]) -> Result<Vec<u8>, ToolFault>
     ensures printed { IfOk result (λ text. Prints sql_of file.now text.items) }
     ensures refused { IfErr result (Refuses (FirstFails file.now)) }
 {
-    let changeset = read_first(alloc, file)?;
     let mut text = Told::new(Vec::new(alloc));
-    match sql_text(&changeset, &mut text) {
+    match print_sql(alloc, file, &mut text) {
         Ok(()) => Ok(text.into_inner()),
-        Err(OutputFault) => Err(ToolFault::NoMemory),
+        Err(fault) => Err(text_fault(fault)),
     }
 }
 

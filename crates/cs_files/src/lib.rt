@@ -10,7 +10,7 @@
 //! ```
 //!
 //! `files` makes files and texts of files, and `fault` says why not. `texts` has the readable texts of
-//! changesets, and `gather` what is gathered of them before it is written. `told` has the readers and
+//! changesets, owned or where they stand in a file, and `gather` what is gathered of them before it is written. `told` has the readers and
 //! writers that remember whether a call failed, and what writes all of some bytes to one.
 //!
 //! A crate above writes lines of its own by [`add_pieces`], and then [`Gather::flush`].
@@ -23,8 +23,8 @@ mod inverting;
 mod texts;
 mod told;
 
-pub use fault::{FileFault, OutputFault, ToolFault, first_fault};
-pub use files::{concat_bytes, dump_file, invert_bytes, sql_file};
+pub use fault::{FileFault, OutputFault, PrintFault, ToolFault, first_fault};
+pub use files::{concat_bytes, dump_file, invert_bytes, print_dump, print_sql, sql_file};
 pub use gather::Gather;
 pub use texts::{Piece, add_pieces, dump_text, sql_text};
 pub use told::{Told, write_whole};

@@ -1,21 +1,29 @@
 //! The readable texts of changesets.
+ghost use Rattle.std.specs.Prelude.{[], List};
+ghost use Rattle.cs_wire.specs.Changeset.{GroupData};
+ghost use Rattle.cs_wire.specs.Tables.{AreLeft};
 ghost use Rattle.cs_files.specs.Calls.{Writes};
 ghost use Rattle.cs_files.specs.Texts.{dump_of, sql_of};
+ghost use Rattle.cs_files.specs.Forms.{form_text};
 
 mod dump;
+mod form;
+mod groups;
 mod list;
 mod literal;
 mod piece;
 mod sql;
+mod tables;
 
 use crate::fault::OutputFault;
 use crate::gather::Gather;
 use crate::told::Told;
-use cs_wire::Changeset;
-use list::add_each;
+use cs_wire::{Changeset, Group, Tables};
+pub(crate) use form::Form;
+use groups::add_groups;
 pub use piece::{Piece, add_pieces};
-use sql::add_groups;
 use std::io::Write;
+use tables::add_tables;
 
 /// Writes what the changeset holds, for a reader: for each table a line with its name, its count of
 /// columns and their flags, and behind it for each of its entries a line with the change, the
@@ -29,9 +37,7 @@ use std::io::Write;
 pub fn dump_text<W: Write>(changeset: &Changeset, out: &mut Told<W>) -> Result<(), OutputFault>
     ensures { Writes W.contents result out.old out.new (dump_of changeset.now) }
 {
-    let mut gather = Gather::new();
-    add_each(&mut gather, out, changeset.groups())?;
-    gather.flush(out)
+    write_groups(Form::Dump, changeset.groups(), out)
 }
 
 /// Writes what the entries of the changeset do as SQL, for a reader: a statement for each entry. The
@@ -45,7 +51,32 @@ pub fn dump_text<W: Write>(changeset: &Changeset, out: &mut Told<W>) -> Result<(
 pub fn sql_text<W: Write>(changeset: &Changeset, out: &mut Told<W>) -> Result<(), OutputFault>
     ensures { Writes W.contents result out.old out.new (sql_of changeset.now) }
 {
+    write_groups(Form::Sql, changeset.groups(), out)
+}
+
+/// Writes groups in a form.
+fn write_groups<W: Write>(
+    form: Form,
+    groups: &[Group],
+    out: &mut Told<W>,
+) -> Result<(), OutputFault>
+    ensures { Writes W.contents result out.old out.new (form_text form groups.now) }
+{
     let mut gather = Gather::new();
-    add_groups(&mut gather, out, changeset.groups())?;
+    add_groups(&mut gather, out, form, groups)?;
+    gather.flush(out)
+}
+
+/// Writes the tables of a file in a form.
+pub(crate) fn write_tables<W: Write>(
+    form: Form,
+    tables: Tables<'_>,
+    out: &mut Told<W>,
+) -> Result<(), OutputFault>
+    ensures { (groups : List GroupData) → AreLeft tables.entry [] groups
+        → Writes W.contents result out.old out.new (form_text form groups) }
+{
+    let mut gather = Gather::new();
+    add_tables(&mut gather, out, form, tables)?;
     gather.flush(out)
 }

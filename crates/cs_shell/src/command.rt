@@ -7,9 +7,8 @@ use crate::print::write_reply;
 use crate::refusal::Refusal;
 use crate::reply::Reply;
 use cs_apply::Policy;
-use cs_files::{OutputFault, Told, concat_bytes, dump_text, invert_bytes, sql_text};
+use cs_files::{OutputFault, Told, concat_bytes, invert_bytes, print_dump, print_sql};
 use cs_store::{Store, StoreError};
-use cs_wire::{Changeset, read};
 use cs_words::IN_MEMORY;
 use sqlite::{FileFrom, FileStore, Unknown};
 use std::fs;
@@ -60,18 +59,13 @@ pub(crate) fn join_files(
     write_out(rt, out, &joined)
 }
 
-/// The changeset of a file.
-fn read_changeset(rt: &HostRuntime, file: &str) -> Result<Changeset, Refusal> {
-    Ok(read(rt.alloc(), &read_file(rt, file)?)?)
-}
-
 /// Prints what a file holds.
 pub(crate) fn dump_file<W: Write>(
     rt: &HostRuntime,
     file: &str,
     out: &mut Told<W>,
 ) -> Result<(), Refusal> {
-    Ok(dump_text(&read_changeset(rt, file)?, out)?)
+    Ok(print_dump(rt.alloc(), &read_file(rt, file)?, out)?)
 }
 
 /// Prints a file as SQL.
@@ -80,7 +74,7 @@ pub(crate) fn sql_file<W: Write>(
     file: &str,
     out: &mut Told<W>,
 ) -> Result<(), Refusal> {
-    Ok(sql_text(&read_changeset(rt, file)?, out)?)
+    Ok(print_sql(rt.alloc(), &read_file(rt, file)?, out)?)
 }
 
 /// Applies a file to a store, and prints what that did once the store is closed.

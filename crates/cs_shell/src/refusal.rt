@@ -1,12 +1,12 @@
 //! Why a line of a script, or a command line, is refused.
 ghost use Rattle.std.specs.Prelude.{◌≡◌};
 ghost use Rattle.cs_shell.specs.ErrorLines.{code_of, class_of, name_of, detail_of, detail_in};
-ghost use Rattle.cs_shell.specs.ErrorLines.{of_hex, of_line, of_read, of_files};
+ghost use Rattle.cs_shell.specs.ErrorLines.{of_hex, of_line, of_read, of_print, of_files};
 ghost use Rattle.cs_shell.specs.ErrorLines.{of_store, of_apply, of_session, of_column};
 ghost use Rattle.cs_shell.specs.declared.refusal.Refusal.TheVariants as refusal;
 
 use cs_apply::{ApplyFault, Conflict};
-use cs_files::{FileFault, OutputFault, ToolFault};
+use cs_files::{FileFault, OutputFault, PrintFault, ToolFault};
 use cs_lines::{LineFault, SyntaxFault};
 use cs_session::SessionFault;
 use cs_statements::{ColumnFault, UnknownColumn};
@@ -205,6 +205,17 @@ impl From<ReadError> for Refusal {
         match error {
             ReadError::Fault(fault) => Refusal::Read(fault),
             ReadError::NoMemory => Refusal::NoMemory,
+        }
+    }
+}
+
+impl From<PrintFault> for Refusal {
+    ghost from_gives = { λ fault r. r ≡ of_print fault };
+
+    fn from(fault: PrintFault) -> Refusal {
+        match fault {
+            PrintFault::Read(error) => Refusal::from(error),
+            PrintFault::Output(fault) => Refusal::from(fault),
         }
     }
 }

@@ -1,8 +1,15 @@
 //! Joins and texts of files.
 
 use crate::{DELETE, UPDATE};
-use cs_files::{FileFault, Told, ToolFault, concat_bytes, dump_text, invert_bytes, sql_text};
+use cs_files::{
+    FileFault, PrintFault, Told, ToolFault, concat_bytes, dump_text, invert_bytes, print_dump,
+    print_sql, sql_text,
+};
 use cs_wire::read;
+
+/// What is printed of [`DELETE`]: its dump, and then its SQL.
+const PRINTED: &[u8] =
+    b"table 't' columns 2 flags 1,0\ndelete 0 old 1,'x'\nDELETE FROM \"t\" WHERE c1=1 AND c2='x';\n";
 
 #[test]
 fn joins_an_update_and_its_inverse(rt: HostRuntime) {
@@ -24,7 +31,21 @@ fn prints_readable_text_and_sql(rt: HostRuntime) {
     let changeset = read(rt.alloc(), DELETE).expect(&rt, "a changeset");
     let mut out = Told::new(Vec::new(rt.alloc()));
     assert!(rt; dump_text(&changeset, &mut out).is_ok() && sql_text(&changeset, &mut out).is_ok());
-    let printed =
-        b"table 't' columns 2 flags 1,0\ndelete 0 old 1,'x'\nDELETE FROM \"t\" WHERE c1=1 AND c2='x';\n";
-    assert!(rt; out.into_inner().as_slice() == printed.as_slice());
+    assert!(rt; out.into_inner().as_slice() == PRINTED);
+}
+
+#[test]
+fn prints_a_file_as_its_changeset(rt: HostRuntime) {
+    let mut out = Told::new(Vec::new(rt.alloc()));
+    assert!(rt; print_dump(rt.alloc(), DELETE, &mut out).is_ok());
+    assert!(rt; print_sql(rt.alloc(), DELETE, &mut out).is_ok());
+    assert!(rt; out.into_inner().as_slice() == PRINTED);
+}
+
+#[test]
+fn prints_nothing_of_a_file_with_a_fault_at_its_end(rt: HostRuntime) {
+    let mut out = Told::new(Vec::new(rt.alloc()));
+    let printed = print_dump(rt.alloc(), &DELETE[..DELETE.len() - 1], &mut out);
+    assert!(rt; matches!(&printed, Err(PrintFault::Read(_))));
+    assert!(rt; !out.failed() && out.into_inner().is_empty());
 }

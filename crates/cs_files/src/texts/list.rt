@@ -1,6 +1,7 @@
 //! Lists of what is printed.
 ghost use Rattle.std.specs.Prelude.{List, ℕ, ◌++◌, map, decimal};
 ghost use Rattle.std.specs.List.{flat_map};
+ghost use Rattle.cs_value.specs.Value.{field_of};
 ghost use Rattle.cs_files.specs.Gathering.{Gathers};
 ghost use Rattle.cs_files.specs.Texts.{literal, field_text, separated};
 
@@ -8,7 +9,8 @@ use crate::fault::OutputFault;
 use crate::gather::Gather;
 use crate::texts::literal::{add_literal, add_number};
 use crate::told::Told;
-use cs_value::{OwnedField, OwnedValue};
+use cs_value::{Field, OwnedValue};
+use cs_wire::Fields;
 use std::io::Write;
 
 /// What has a text.
@@ -32,18 +34,18 @@ impl Print for OwnedValue {
     ghost text = { literal };
 
     fn print<W: Write>(&self, gather: &mut Gather, out: &mut Told<W>) -> Result<(), OutputFault> {
-        add_literal(gather, out, self)
+        add_literal(gather, out, self.as_value())
     }
 }
 
 #[tactic(auto, unfolding(crate::specs::Texts::field_text))]
-impl Print for OwnedField {
-    ghost text = { field_text };
+impl Print for Field<'_> {
+    ghost text = { λ field. field_text (field_of field) };
 
     fn print<W: Write>(&self, gather: &mut Gather, out: &mut Told<W>) -> Result<(), OutputFault> {
         match self {
-            OwnedField::Undefined => gather.add(out, b"-"),
-            OwnedField::Defined(value) => add_literal(gather, out, value),
+            Field::Undefined => gather.add(out, b"-"),
+            Field::Defined(value) => add_literal(gather, out, *value),
         }
     }
 }
@@ -88,6 +90,25 @@ pub(super) fn add_separated<W: Write, T: Print>(
     let mut lead: &[u8] = b"";
     for item in items {
         add_behind(gather, out, lead, item)?;
+        lead = between;
+    }
+    Ok(())
+}
+
+/// Adds the texts of fields with something between each two.
+pub(super) fn add_fields<W: Write>(
+    gather: &mut Gather,
+    out: &mut Told<W>,
+    between: &[u8],
+    fields: Fields<'_>,
+) -> Result<(), OutputFault>
+    ensures { Gathers W.contents result gather.old gather.new out.old out.new
+        (separated between.now (map field_text fields.entry)) }
+{
+    let mut lead: &[u8] = b"";
+    let mut left = fields;
+    'fields: while let Some(field) = left.next() {
+        add_behind(gather, out, lead, &field)?;
         lead = between;
     }
     Ok(())

@@ -3,13 +3,14 @@ ghost use Rattle.std.specs.Prelude.{◌≤◌, ◌∷◌, [], length, decimal};
 ghost use Rattle.hex.specs.Hex.{encode_lower};
 ghost use Rattle.cs_files.specs.Gathering.{Gathers};
 ghost use Rattle.cs_value.specs.Quoting.{doubled, quoted};
+ghost use Rattle.cs_value.specs.Value.{value_of};
 ghost use Rattle.cs_files.specs.Texts.{literal};
 ghost use Rattle.cs_value.specs.declared.value.OwnedValue.TheVariants.{Blob};
 
 use crate::fault::OutputFault;
 use crate::gather::Gather;
 use crate::told::Told;
-use cs_value::OwnedValue;
+use cs_value::Value;
 use itoa::Buffer;
 use std::io::Write;
 
@@ -124,17 +125,17 @@ fn add_blob<W: Write>(
 pub(super) fn add_literal<W: Write>(
     gather: &mut Gather,
     out: &mut Told<W>,
-    value: &OwnedValue,
+    value: Value<'_>,
 ) -> Result<(), OutputFault>
-    ensures { Gathers W.contents result gather.old gather.new out.old out.new (literal value.now) }
+    ensures { Gathers W.contents result gather.old gather.new out.old out.new (literal (value_of value.entry)) }
 {
     match value {
-        OwnedValue::Int(number) => {
+        Value::Int(number) => {
             let mut buffer = Buffer::new();
-            gather.add(out, buffer.format(*number).as_bytes())
+            gather.add(out, buffer.format(number).as_bytes())
         }
-        OwnedValue::Text(text) => add_quoted(gather, out, b'\'', text.as_str().as_bytes()),
-        OwnedValue::Blob(bytes) => add_blob(gather, out, bytes.as_slice()),
-        OwnedValue::Null => gather.add(out, b"NULL"),
+        Value::Text(text) => add_quoted(gather, out, b'\'', text.as_bytes()),
+        Value::Blob(bytes) => add_blob(gather, out, bytes),
+        Value::Null => gather.add(out, b"NULL"),
     }
 }

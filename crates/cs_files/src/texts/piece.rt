@@ -8,7 +8,7 @@ use crate::gather::Gather;
 use crate::texts::list::{Print, add_each, add_separated};
 use crate::texts::literal::{add_number, add_quoted};
 use crate::told::Told;
-use cs_value::{Image, Row};
+use cs_value::Row;
 use std::io::Write;
 
 /// A piece of a line of text.
@@ -22,10 +22,6 @@ pub enum Piece<'a> {
     Quoted(&'a str),
     /// The flags of columns.
     Flags(&'a [u8]),
-    /// The values of a row.
-    Row(&'a Row),
-    /// The fields of a record.
-    Record(&'a Image),
     /// The values of a row, as a list of rows has them.
     Listed(&'a Row),
 }
@@ -39,8 +35,6 @@ impl Print for Piece<'_> {
             Piece::Number(number) => add_number(gather, out, number),
             Piece::Quoted(text) => add_quoted(gather, out, b'\'', text.as_bytes()),
             Piece::Flags(flags) => add_separated(gather, out, b",", flags),
-            Piece::Row(row) => add_separated(gather, out, b",", row.values()),
-            Piece::Record(image) => add_separated(gather, out, b",", image.fields()),
             Piece::Listed(row) => add_separated(gather, out, b"|", row.values()),
         }
     }

@@ -1,21 +1,22 @@
-//! The text of a changeset as SQL.
-ghost use Rattle.std.specs.Prelude.{◌≡◌, ◌<◌, ◌++◌, List, ℕ, map};
-ghost use Rattle.std.specs.List.{flat_map, list_any};
-ghost use Rattle.cs_value.specs.declared.value.OwnedField.{OwnedField};
-ghost use Rattle.cs_value.specs.declared.value.OwnedField.TheVariants.{Defined};
-ghost use Rattle.cs_wire.specs.declared.entry.Change.TheVariants.{Update};
+//! The statements of a text as SQL.
+ghost use Rattle.std.specs.Prelude.{◌≡◌, ◌<◌, ◌++◌, IfOk, length};
+ghost use Rattle.std.specs.List.{list_any};
+ghost use Rattle.cs_value.specs.Quoting.{quoted};
+ghost use Rattle.cs_value.specs.Value.{value_of};
+ghost use Rattle.cs_wire.specs.Entry.{before_image};
+ghost use Rattle.cs_wire.specs.Items.{new_record};
 ghost use Rattle.cs_files.specs.Gathering.{Gathers};
-ghost use Rattle.cs_files.specs.Texts.{column_name, assignment, condition, assignments, by_place};
-ghost use Rattle.cs_files.specs.Texts.{statement, group_statements};
-ghost use Rattle.cs_files.specs.Pieces.{sql_piece_text, HoldsValue, is_defined, between_of, term_text, terms_text};
+ghost use Rattle.cs_files.specs.Texts.{column_name, assignment, condition, assignments, by_place, statement};
+ghost use Rattle.cs_files.specs.Pieces.{TakesValue, is_defined, between_of, term_text, terms_text};
+ghost use Rattle.cs_files.specs.Pieces.{action_text, where_text};
 
 use crate::fault::OutputFault;
 use crate::gather::Gather;
-use crate::texts::list::{Print, add_each, add_separated};
+use crate::texts::list::add_fields;
 use crate::texts::literal::{add_literal, add_quoted};
 use crate::told::Told;
-use cs_value::{Image, OwnedField, OwnedValue, Row};
-use cs_wire::{Change, Entry, Group};
+use cs_value::{Field, Value};
+use cs_wire::{EntryRef, Fields};
 use itoa::Buffer;
 use std::io::Write;
 
@@ -40,34 +41,6 @@ impl Terms {
     }
 }
 
-/// What stands in a column: a field, or a value, which is a defined field.
-trait Column {
-    ghost field: { Self → OwnedField };
-
-    /// The value, if there is one.
-    fn value(&self) -> Option<&OwnedValue>
-        ensures { HoldsValue result (field self.now) };
-}
-
-impl Column for OwnedValue {
-    ghost field = { Defined };
-
-    fn value(&self) -> Option<&OwnedValue> {
-        Some(self)
-    }
-}
-
-impl Column for OwnedField {
-    ghost field = { λ field. field };
-
-    fn value(&self) -> Option<&OwnedValue> {
-        match self {
-            OwnedField::Undefined => None,
-            OwnedField::Defined(value) => Some(value),
-        }
-    }
-}
-
 /// Adds the name of the column at a place, and what follows it.
 fn add_column<W: Write>(
     gather: &mut Gather,
@@ -88,10 +61,10 @@ fn add_assignment<W: Write>(
     gather: &mut Gather,
     out: &mut Told<W>,
     place: usize,
-    value: &OwnedValue,
+    value: Value<'_>,
 ) -> Result<(), OutputFault>
     requires { place < usize.MAX }
-    ensures { Gathers W.contents result gather.old gather.new out.old out.new (assignment place value.now) }
+    ensures { Gathers W.contents result gather.old gather.new out.old out.new (assignment place (value_of value.entry)) }
 {
     add_column(gather, out, place, b"=")?;
     add_literal(gather, out, value)
@@ -103,13 +76,13 @@ fn add_condition<W: Write>(
     gather: &mut Gather,
     out: &mut Told<W>,
     place: usize,
-    value: &OwnedValue,
+    value: Value<'_>,
 ) -> Result<(), OutputFault>
     requires { place < usize.MAX }
-    ensures { Gathers W.contents result gather.old gather.new out.old out.new (condition place value.now) }
+    ensures { Gathers W.contents result gather.old gather.new out.old out.new (condition place (value_of value.entry)) }
 {
     match value {
-        OwnedValue::Null => add_column(gather, out, place, b" IS NULL"),
+        Value::Null => add_column(gather, out, place, b" IS NULL"),
         _ => add_assignment(gather, out, place, value),
     }
 }
@@ -121,11 +94,11 @@ fn add_term<W: Write>(
     terms: Terms,
     lead: &[u8],
     place: usize,
-    value: &OwnedValue,
+    value: Value<'_>,
 ) -> Result<(), OutputFault>
     requires { place < usize.MAX }
     ensures { Gathers W.contents result gather.old gather.new out.old out.new
-        (lead.now ++ term_text terms place value.now) }
+        (lead.now ++ term_text terms place (value_of value.entry)) }
 {
     gather.add(out, lead)?;
     match terms {
@@ -134,186 +107,158 @@ fn add_term<W: Write>(
     }
 }
 
-/// Adds what is said of the columns that have a value.
-fn add_terms<W: Write, C: Column>(
+/// The value of the next field, if that is defined.
+fn next_value<'a>(fields: &mut Fields<'a>) -> Option<Value<'a>>
+    requires { 0 < length fields.old }
+    ensures { TakesValue fields.old result fields.new }
+{
+    match fields.next() {
+        Some(Field::Defined(value)) => Some(value),
+        _ => None,
+    }
+}
+
+/// Adds what is said of the columns that have a value, and answers whether there is one.
+fn add_terms<W: Write>(
     gather: &mut Gather,
     out: &mut Told<W>,
     terms: Terms,
-    columns: &[C],
-) -> Result<(), OutputFault>
-    ensures { Gathers W.contents result gather.old gather.new out.old out.new
-        (terms_text terms (map C.field columns.now)) }
+    columns: usize,
+    fields: Fields<'_>,
+) -> Result<bool, OutputFault>
+    requires { length fields ≡ columns }
+    ensures text { Gathers W.contents result gather.old gather.new out.old out.new (terms_text terms fields.entry) }
+    ensures some { IfOk result (λ some. some ≡ list_any is_defined fields.entry) }
 {
+    let mut some = false;
     let mut lead: &[u8] = b"";
-    for (place, column) in columns.iter().enumerate() {
-        let Some(value) = column.value() else {
+    let mut left = fields;
+    for place in 0..columns {
+        let Some(value) = next_value(&mut left) else {
             continue;
         };
         add_term(gather, out, terms, lead, place, value)?;
         lead = terms.between();
+        some = true;
     }
-    Ok(())
-}
-
-/// Whether some field is defined.
-fn has_value(fields: &[OwnedField]) -> bool
-    ensures { result ≡ list_any is_defined fields.now }
-{
-    fields
-        .iter()
-        .any(|field| matches!(field, OwnedField::Defined(_)))
+    Ok(some)
 }
 
 /// Adds what the columns become, which is what they were where none is modified.
 fn add_assignments<W: Write>(
     gather: &mut Gather,
     out: &mut Told<W>,
-    old: &[OwnedField],
-    new: &[OwnedField],
+    columns: usize,
+    old: Fields<'_>,
+    new: Fields<'_>,
 ) -> Result<(), OutputFault>
+    requires old { length old ≡ columns }
+    requires new { length new ≡ columns }
     ensures { Gathers W.contents result gather.old gather.new out.old out.new
-        (assignments old.now (by_place assignment 0 new.now)) }
+        (assignments old.entry (by_place assignment 0 new.entry)) }
 {
-    if has_value(new) {
-        add_terms(gather, out, Terms::Assignments, new)
-    } else {
-        add_terms(gather, out, Terms::Assignments, old)
+    if add_terms(gather, out, Terms::Assignments, columns, new)? {
+        return Ok(());
     }
+    add_terms(gather, out, Terms::Assignments, columns, old)?;
+    Ok(())
 }
 
-/// A piece of a statement.
-#[derive(Clone, Copy, Debug)]
-enum Piece<'a> {
-    /// These bytes.
-    Bytes(&'a [u8]),
-    /// The name of a table.
-    Name(&'a str),
-    /// The values of a row.
-    Values(&'a Row),
-    /// That a row has these values.
-    RowIs(&'a Row),
-    /// That a row has these fields.
-    RecordIs(&'a Image),
-    /// What the fields of a row become.
-    Becomes { old: &'a Image, new: &'a Image },
-}
-
-impl Print for Piece<'_> {
-    ghost text = { sql_piece_text };
-
-    fn print<W: Write>(&self, gather: &mut Gather, out: &mut Told<W>) -> Result<(), OutputFault> {
-        match *self {
-            Piece::Bytes(bytes) => gather.add(out, bytes),
-            Piece::Name(name) => add_quoted(gather, out, b'"', name.as_bytes()),
-            Piece::Values(row) => add_separated(gather, out, b", ", row.values()),
-            Piece::RowIs(row) => add_terms(gather, out, Terms::Conditions, row.values()),
-            Piece::RecordIs(image) => add_terms(gather, out, Terms::Conditions, image.fields()),
-            Piece::Becomes { old, new } => add_assignments(gather, out, old.fields(), new.fields()),
-        }
-    }
-}
-
-/// Adds the statement that makes an update of a table.
-#[tactic(auto, unfolding(crate::specs::Texts::statement))]
-fn add_update<'a, W: Write>(
+/// Adds words, and the name of a table behind them.
+fn add_with_name<W: Write>(
     gather: &mut Gather,
     out: &mut Told<W>,
-    name: &'a str,
-    old: &'a Image,
-    new: &'a Image,
+    words: &[u8],
+    name: &str,
 ) -> Result<(), OutputFault>
-    ensures { Gathers W.contents result gather.old gather.new out.old out.new
-        (statement name.now (Update old.now new.now)) }
+    ensures { Gathers W.contents result gather.old gather.new out.old out.new (words.now ++ quoted 34 name.now) }
 {
-    add_each(
-        gather,
-        out,
-        &[
-            Piece::Bytes(b"UPDATE "),
-            Piece::Name(name),
-            Piece::Bytes(b" SET "),
-            Piece::Becomes { old, new },
-            Piece::Bytes(b" WHERE "),
-            Piece::RecordIs(old),
-            Piece::Bytes(b";\n"),
-        ],
-    )
+    gather.add(out, words)?;
+    add_quoted(gather, out, b'"', name.as_bytes())
 }
 
-/// Adds the statement that makes a change to a table.
-#[tactic(auto, unfolding(crate::specs::Texts::statement))]
-fn add_statement<'a, W: Write>(
-    gather: &mut Gather,
-    out: &mut Told<W>,
-    name: &'a str,
-    change: &'a Change,
-) -> Result<(), OutputFault>
-    ensures { Gathers W.contents result gather.old gather.new out.old out.new (statement name.now change.now) }
-{
-    match change {
-        Change::Insert(row) => add_each(
-            gather,
-            out,
-            &[
-                Piece::Bytes(b"INSERT INTO "),
-                Piece::Name(name),
-                Piece::Bytes(b" VALUES("),
-                Piece::Values(row),
-                Piece::Bytes(b");\n"),
-            ],
-        ),
-        Change::Delete(row) => add_each(
-            gather,
-            out,
-            &[
-                Piece::Bytes(b"DELETE FROM "),
-                Piece::Name(name),
-                Piece::Bytes(b" WHERE "),
-                Piece::RowIs(row),
-                Piece::Bytes(b";\n"),
-            ],
-        ),
-        Change::Update { old, new } => add_update(gather, out, name, old, new),
-    }
-}
-
-/// Adds a statement for each of the entries of a table.
-fn add_statements<W: Write>(
+/// Adds that a row is inserted into a table.
+fn add_insert<W: Write>(
     gather: &mut Gather,
     out: &mut Told<W>,
     name: &str,
-    entries: &[Entry],
+    row: Fields<'_>,
 ) -> Result<(), OutputFault>
     ensures { Gathers W.contents result gather.old gather.new out.old out.new
-        (flat_map (λ e. statement name.now e.change) entries.now) }
+        (action_text name.now None (Some row.entry)) }
 {
-    for entry in entries {
-        add_statement(gather, out, name, &entry.change)?;
+    add_with_name(gather, out, b"INSERT INTO ", name)?;
+    gather.add(out, b" VALUES(")?;
+    add_fields(gather, out, b", ", row)?;
+    gather.add(out, b")")
+}
+
+/// Adds what the columns of a table become.
+fn add_update<W: Write>(
+    gather: &mut Gather,
+    out: &mut Told<W>,
+    name: &str,
+    columns: usize,
+    old: Fields<'_>,
+    new: Fields<'_>,
+) -> Result<(), OutputFault>
+    requires old { length old ≡ columns }
+    requires new { length new ≡ columns }
+    ensures { Gathers W.contents result gather.old gather.new out.old out.new
+        (action_text name.now (Some old.entry) (Some new.entry)) }
+{
+    add_with_name(gather, out, b"UPDATE ", name)?;
+    gather.add(out, b" SET ")?;
+    add_assignments(gather, out, columns, old, new)
+}
+
+/// Adds what an entry does to its table.
+fn add_action<W: Write>(
+    gather: &mut Gather,
+    out: &mut Told<W>,
+    name: &str,
+    entry: &EntryRef<'_>,
+) -> Result<(), OutputFault>
+    ensures { Gathers W.contents result gather.old gather.new out.old out.new
+        (action_text name.now (before_image entry.now.entry.change) (new_record entry.now.entry.change)) }
+{
+    match (entry.old_fields(), entry.new_fields()) {
+        // No entry is without a record.
+        (None, None) => Ok(()),
+        (None, Some(new)) => add_insert(gather, out, name, new),
+        (Some(_), None) => add_with_name(gather, out, b"DELETE FROM ", name),
+        (Some(old), Some(new)) => { add_update(gather, out, name, entry.column_count(), old, new) }
     }
+}
+
+/// Adds which row it is that an entry changes, where there is one before.
+fn add_where<W: Write>(
+    gather: &mut Gather,
+    out: &mut Told<W>,
+    entry: &EntryRef<'_>,
+) -> Result<(), OutputFault>
+    ensures { Gathers W.contents result gather.old gather.new out.old out.new
+        (where_text (before_image entry.now.entry.change)) }
+{
+    let Some(old) = entry.old_fields() else {
+        return Ok(());
+    };
+    gather.add(out, b" WHERE ")?;
+    add_terms(gather, out, Terms::Conditions, entry.column_count(), old)?;
     Ok(())
 }
 
-/// Adds a statement for each entry of a group.
-fn add_group<W: Write>(
+/// Adds the statement that makes the change of an entry to its table.
+pub(super) fn add_statement<W: Write>(
     gather: &mut Gather,
     out: &mut Told<W>,
-    group: &Group,
+    name: &str,
+    entry: &EntryRef<'_>,
 ) -> Result<(), OutputFault>
-    ensures { Gathers W.contents result gather.old gather.new out.old out.new (group_statements group.now) }
+    ensures { Gathers W.contents result gather.old gather.new out.old out.new
+        (statement name.now entry.now.entry.change) }
 {
-    add_statements(gather, out, group.header().name(), group.entries())
-}
-
-/// Adds a statement for each entry of groups.
-pub(super) fn add_groups<W: Write>(
-    gather: &mut Gather,
-    out: &mut Told<W>,
-    groups: &[Group],
-) -> Result<(), OutputFault>
-    ensures { Gathers W.contents result gather.old gather.new out.old out.new (flat_map group_statements groups.now) }
-{
-    for group in groups {
-        add_group(gather, out, group)?;
-    }
-    Ok(())
+    add_action(gather, out, name, entry)?;
+    add_where(gather, out, entry)?;
+    gather.add(out, b";\n")
 }
