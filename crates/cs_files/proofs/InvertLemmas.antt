@@ -1,9 +1,9 @@
 -- What is written of a file to undo it, table by table.
-use Rattle.std.proofs.Common.{◌≡◌, ℕ, List, [], ◌∷◌, ◌++◌, length, map, sym, ap, ◌∙◌, append_assoc}
+use Rattle.std.proofs.Common.{◌≡◌, ℕ, List, [], ◌++◌, length, map, sym, ap, ◌∙◌, append_assoc}
 use Rattle.std.proofs.lemmas.List.Elements.{recursion_from_All}
 use Rattle.cs_wire.specs.declared.entry.Entry.{Entry}
 use Rattle.cs_wire.specs.Entry.{IsEntry, entry_bytes}
-use Rattle.cs_wire.specs.Changeset.{HeaderData, GroupData, IsFileOf, IsGroup, header_bytes, entries_bytes, group_bytes, file_bytes}
+use Rattle.cs_wire.specs.Changeset.{HeaderData, GroupData, IsFileOf, IsGroup, header_bytes, entries_bytes, file_bytes}
 use Rattle.cs_wire.specs.Inverse.{IsInverseEntry}
 use Rattle.cs_wire.specs.Items.{FlaggedEntry}
 use Rattle.cs_wire.specs.Tables.{TablesData, AreLeft, IsNextEntry, IsNextTable}
@@ -64,8 +64,8 @@ InvertsGroups-next out written opened grown now next groups so header after is o
       are_left = left;
       so_far =
           ap (λ (x : List ℕ). x ++ undone is.others)
-              (grown_is ∙ ap (λ (f : List ℕ). opened ++ entries_bytes (map (inverse_entry f) is.group.entries)) is.flags_are
-              ∙ ap (λ (x : List ℕ). x ++ entries) (opened_is ∙ ap (λ (x : HeaderData). written ++ header_bytes x) is.header_is))
+          (grown_is ∙ ap (λ (f : List ℕ). opened ++ entries_bytes (map (inverse_entry f) is.group.entries)) is.flags_are
+          ∙ ap (λ (x : List ℕ). x ++ entries) (opened_is ∙ ap (λ (x : HeaderData). written ++ header_bytes x) is.header_is))
           ∙ append_assoc (written ++ header_bytes h) entries (undone is.others)
           ∙ append_assoc written (header_bytes h) (entries ++ undone is.others)
           ∙ ap (λ (x : List ℕ). written ++ x) (sym (group_bytes-append (inverse_group is.group) (undone is.others)))

@@ -1,5 +1,4 @@
 -- `files::invert_bytes`: the clauses `inverted` and `length`.
-use Rattle.std.proofs.Common.{◌∙◌, ap, ◌++◌}
 use Rattle.cs_files.proofs.InvertLemmas.{inverted}
 use Rattle.cs_files.proofs.files.invert_bytes.Goals as goal
 

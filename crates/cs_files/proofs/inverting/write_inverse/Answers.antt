@@ -1,5 +1,5 @@
 -- `inverting::write_inverse`: the invariant of the loop, what it ensures.
-use Rattle.std.proofs.Common.{◌++◌, List, ℕ, [], map, sym, ap, ◌∙◌, append-nil}
+use Rattle.std.proofs.Common.{◌++◌, List, [], map, sym, ap, ◌∙◌, append-nil}
 use Rattle.cs_wire.specs.Changeset.{GroupData, file_bytes}
 use Rattle.cs_group.specs.Inverse.{inverse_group}
 use Rattle.cs_files.proofs.InvertLemmas.{InvertsGroups-next}
