@@ -3,8 +3,8 @@
 use crate::{INSERT, UPDATE};
 use cs_value::{Field, OwnedValue, Row, Value};
 use cs_wire::{
-    Change, Cursor, Entry, EntryRef, Group, Header, Item, ReadError, Tables, changeset_files_law,
-    entry_inverses_law, read, row_keys_law,
+    Change, Cursor, Entry, EntryRef, Group, Header, Item, ReadError, ReadFault, ReadFaultKind,
+    Tables, changeset_files_law, entry_inverses_law, read, row_keys_law,
 };
 use std::process::Abort;
 
@@ -163,6 +163,37 @@ fn goes_through_a_file_that_was_read(rt: HostRuntime) {
     assert!(rt; matches!(tables.next_table(), Some(header) if header.name == "t"));
     assert!(rt; tables.next_entry().is_some() && tables.next_entry().is_none());
     assert!(rt; tables.next_table().is_none());
+}
+
+/// Two blobs that were made so that the numbers of their keys are the same.
+const ONE_NUMBER: &[u8] =
+    b"T\x01\x01t\0\x12\0\x04\x0f\x05\x39\x20\x5d\xd2\xbc\x0f\x80\x5b\x09\x21\xeb\x92\x9d\xb2\
+\x12\0\x04\x0f\xd7\x26\xed\x5d\xa8\xaf\x68\x47\x42\xf1\xbd\xa0\xa3\x47\xbf";
+
+#[test]
+fn tells_keys_of_one_number_apart(rt: HostRuntime) {
+    let mut tables = Tables::read(rt.alloc(), ONE_NUMBER).expect(&rt, "a changeset");
+    assert!(rt; matches!(tables.next_table(), Some(header) if header.name == "t"));
+    assert!(rt; tables.next_entry().is_some() && tables.next_entry().is_some());
+    assert!(rt; tables.next_entry().is_none() && tables.next_table().is_none());
+}
+
+/// What refuses a file that is to be gone through.
+fn refusal_of(rt: &(impl Abort + AllocGlobal), file: &[u8]) -> Option<ReadFault> {
+    match Tables::read(rt.alloc(), file) {
+        Err(ReadError::Fault(fault)) => Some(fault),
+        _ => None,
+    }
+}
+
+#[test]
+fn refuses_a_key_and_a_table_that_stand_twice(rt: HostRuntime) {
+    let key = b"T\x01\x01t\0\x12\0\x03\x01a\x09\0\x03\x01b\x09\0\x03\x01a";
+    let fault = refusal_of(&rt, key).expect(&rt, "a fault");
+    assert!(rt; fault.kind == ReadFaultKind::DuplicateKey && fault.place == 15);
+    let table = b"T\x01\x01t\0\x12\0\x03\x01aT\x01\x01t\0\x12\0\x03\x01a";
+    let fault = refusal_of(&rt, table).expect(&rt, "a fault");
+    assert!(rt; fault.kind == ReadFaultKind::DuplicateTable && fault.place == 10);
 }
 
 /// They do nothing, and are called for their contracts alone.

@@ -12,9 +12,9 @@ use crate::reader::{has_entry, read_entry};
 use cs_value::NoMemory;
 use std::alloc::Global;
 
-/// Whether a file is that of a changeset. Where the answer is yes, it is. Where it is no, it can be that only by a rare
-/// chance, or where someone looked for one. It takes eight bytes of memory for each table, and for each entry of one
-/// table at a time.
+/// Whether a file is found to be that of a changeset. Where the answer is yes, it is. Where it is no, it can still be, if
+/// two of its texts have one number. It takes memory for a number of eight bytes for each table, and for each entry of
+/// one table at a time, and time in proportion to the file, and to the logarithm of the count of a table's entries.
 pub(crate) fn is_changeset(alloc: Global, file: &[u8]) -> Result<bool, NoMemory>
     ensures { IfOk result (λ yes. IsTrue yes → IsAccepted file.now) }
 {

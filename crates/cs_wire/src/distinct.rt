@@ -8,8 +8,8 @@ use crate::seen::{byte_at, word_of};
 /// What a number is multiplied by before one more is added: 2 to the 64 by the golden ratio.
 const FACTOR: u64 = 0x9E37_79B9_7F4A_7C15;
 
-/// A number for a text. Texts of two numbers are two. Two texts have one number only by a rare chance, or where someone
-/// looked for them. Numbers of texts that spell integers rise with these, from -2 to the 62 up to 2 to the 62.
+/// A number for a text: texts whose numbers differ are two. Two texts have one number only by a rare chance, or where
+/// someone looked for them. The numbers of keys of one integer rise with it, from -2 to the 62 up to 2 to the 62.
 #[tactic(auto, using(std::proofs::lemmas::List::Sums::fold_more), unfolding(crate::specs::Distinct::number_of))]
 pub(crate) fn number_of(text: &[u8]) -> u64
     ensures { result ≡ distinct.number_of text.now }

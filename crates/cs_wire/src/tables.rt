@@ -36,9 +36,9 @@ impl<'a> Model for Tables<'a> {
 }
 
 impl<'a> Tables<'a> {
-    /// Reads a file to its end, and stands before its first table then. Files of changesets are read in one quick
-    /// pass, which takes eight bytes of memory for each table, and for each entry of the table that has the most; only
-    /// others are gone through once more, by a cursor, for their fault.
+    /// Reads a file to its end, and stands before its first table then. A file that is found to be a changeset's in one
+    /// quick pass, which takes memory for a number of eight bytes for each table, and for each entry of one table at a
+    /// time, is read no further; another is gone through by a cursor, for its fault.
     ///
     /// # Errors
     ///
