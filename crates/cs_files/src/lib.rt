@@ -10,8 +10,9 @@
 //! ```
 //!
 //! `files` makes files and texts of files, and `fault` says why not. `texts` has the readable texts of
-//! changesets, owned or where they stand in a file, and `gather` what is gathered of them before it is written. `told` has the readers and
-//! writers that remember whether a call failed, and what writes all of some bytes to one.
+//! changesets, owned or where they stand in a file, and `gather` what is gathered of them before it is
+//! written. `told` has the readers and writers that remember whether a call failed, and what writes all
+//! of some bytes to one.
 //!
 //! A crate above writes lines of its own by [`add_pieces`], and then [`Gather::flush`].
 #![tactic(auto)]
