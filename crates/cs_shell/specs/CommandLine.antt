@@ -6,7 +6,7 @@ use Rattle.cs_files.specs.declared.told.Told.{Told}
 use Rattle.cs_files.specs.Told.{has_failed, known}
 use Rattle.cs_files.specs.declared.fault.OutputFault.{OutputFault as Fault}
 use Rattle.cs_files.specs.Calls.{AppendsFront}
-use Rattle.cs_words.specs.Words.{Asked, Apply, Concat, Dump, Sql, Invert, Shell, Refuses}
+use Rattle.cs_words.specs.Words.{Asked, Shell, Refuses}
 use Rattle.cs_words.specs.declared.fault.WordsFault.TheVariants as fault
 use Rattle.cs_shell.specs.declared.refusal.Refusal.{Refusal}
 use Rattle.cs_shell.specs.declared.refusal.Refusal.TheVariants.{NoMemory, Input, Output}

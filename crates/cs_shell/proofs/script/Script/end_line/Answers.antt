@@ -1,5 +1,5 @@
 -- `script::Script::end_line`: what it ensures.
-use Rattle.std.proofs.Common.{◌≡◌, ◌||◌, Bool, Result, Ok, Err, refl, ap, ◌∙◌, rules}
+use Rattle.std.proofs.Common.{◌≡◌, Result, Ok, Err, refl, ◌∙◌, rules}
 use Rattle.std.specs.Prelude.{is_err}
 use Rattle.cs_shell.specs.declared.refusal.Refusal.{Refusal}
 use Rattle.cs_shell.specs.declared.reply.Reply.{Reply}
