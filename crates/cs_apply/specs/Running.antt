@@ -1,4 +1,5 @@
--- What a run over rows does with a file.
+-- What a run over rows does with a file: the interface of SQLite's session extension, under "sqlite3changeset_apply". The
+-- order of refusals, and that a table may not be wider, are this project's own.
 use Rattle.std.specs.Prelude.{◌≡◌, ◌⊎◌, ◌∷◌, ◌++◌, ℕ, false, List, map, All, Some, string_bytes}
 use Rattle.cs_value.specs.State.{State}
 use Rattle.cs_wire.specs.Changeset.{GroupData, IsChangeset, file_bytes}

@@ -1,4 +1,4 @@
--- How a run goes on, entry by entry.
+-- How a run goes on, entry by entry. No public contract names this.
 use Rattle.std.specs.Prelude.{◌≡◌, ℕ, Bool, true, false, List, [], ◌∷◌, ◌++◌, map, filter_map, All, Option, None, Some}
 use Rattle.std.specs.Prelude.{option_map, option_to_list}
 use Rattle.cs_value.specs.declared.value.OwnedValue.{OwnedValue}

@@ -30,11 +30,16 @@ pub enum Direction {
 /// the handler is asked. The report tells the conflicts, the tables that were passed over, and the keys
 /// that were written, in the order of the file.
 ///
-/// Refuses, in this order: [`Read`](ApplyFault::Read) for a file that is no changeset's;
+/// # Errors
+///
+/// In this order: [`Read`](ApplyFault::Read) for a file that is no changeset's;
 /// [`Wider`](ApplyFault::Wider) for the first group whose table has more columns; and at the first
 /// conflict where the handler says so [`Abort`](ApplyFault::Abort), or
 /// [`Misuse`](ApplyFault::Misuse) where it would replace a row that is not there. The rows may refuse at
-/// any point with [`Store`](ApplyFault::Store) or [`NoMemory`](ApplyFault::NoMemory).
+/// any point with [`Store`](ApplyFault::Store), and memory with [`NoMemory`](ApplyFault::NoMemory).
+///
+/// The file is read once, and its entries are carried out as they are met: behind a refusal rows may have
+/// been written, and are to be dropped, and the handler may have been asked before a fault was found.
 pub fn run_in<B: Rows, H: Fn(&Conflict) -> Choice>(
     alloc: Global,
     rows: &mut B,
@@ -64,7 +69,7 @@ pub fn run_in<B: Rows, H: Fn(&Conflict) -> Choice>(
     run.finish()
 }
 
-/// Applies a changeset to rows, or its inverse, as [`run_in`] does its file, which is not written.
+/// Applies a changeset to rows, or its inverse, as [`run_in`] does with its file; no file is written.
 pub fn run_changeset_in<B: Rows, H: Fn(&Conflict) -> Choice>(
     alloc: Global,
     rows: &mut B,

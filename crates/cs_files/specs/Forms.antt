@@ -1,4 +1,4 @@
--- The forms in which changesets are printed: what each makes of the parts of one.
+-- The forms in which changesets are printed: what each makes of the parts of one. No public contract names this.
 use Rattle.std.specs.Prelude.{ℕ, List, [], ◌++◌}
 use Rattle.std.specs.List.{flat_map}
 use Rattle.cs_wire.specs.declared.entry.Entry.{Entry}

@@ -1,4 +1,4 @@
--- What it is to print a file.
+-- What it is to print a file; this project's own.
 use Rattle.std.specs.Prelude.{ℕ, List, Option}
 use Rattle.std.specs.Io.KnownBytes.{Appends}
 use Rattle.cs_value.specs.declared.refusal.OrNoMemory.{OrNoMemory}

@@ -57,8 +57,8 @@ pub fn concat_bytes(alloc: Global, first: &[u8], second: &[u8]) -> Result<Vec<u8
     Ok(write(alloc, &joined)?)
 }
 
-/// Writes what a file holds, as [`dump_text`](crate::dump_text) writes it, as the file is gone through: it is
-/// read to its end first, and the text takes no memory.
+/// Reads a file to its end, and then writes what it holds, as [`dump_text`](crate::dump_text) does. Only the
+/// reading takes memory.
 ///
 /// # Errors
 ///
@@ -75,8 +75,8 @@ pub fn print_dump<W: Write>(alloc: Global, file: &[u8], out: &mut Told<W>) -> Re
     print_file(alloc, file, Form::Dump, out)
 }
 
-/// Writes what a file does, as [`sql_text`](crate::sql_text) writes it, as the file is gone through: it is
-/// read to its end first, and the text takes no memory.
+/// Reads a file to its end, and then writes what it does, as [`sql_text`](crate::sql_text) does. Only the
+/// reading takes memory.
 ///
 /// # Errors
 ///

@@ -9,7 +9,7 @@
 //! assert_eq!(rt; text, b"DELETE FROM \"t\" WHERE c1='x';\n");
 //! ```
 //!
-//! `files` makes files and texts of files, and `fault` says why not. `texts` has the readable texts of
+//! `files` makes files and texts of files, `inverting` writes an inverse, and `fault` says why not. `texts` has the readable texts of
 //! changesets, owned or where they stand in a file, and `gather` what is gathered of them before it is
 //! written. `told` has the readers and writers that remember whether a call failed, and what writes all
 //! of some bytes to one.

@@ -82,7 +82,8 @@ fn has_value(value: &OwnedValue, field: Field<'_>) -> bool
 }
 
 /// The row that an entry leaves where it is carried out, or None where it leaves none: what it says, and
-/// in the other columns what stood there. [`NoMemory`] where memory is refused.
+/// in the other columns what stood there. Of an update that finds no row, which is a conflict, it is what the
+/// entry says alone. [`NoMemory`] where memory is refused.
 pub fn row_after(
     alloc: Global,
     entry: &EntryRef<'_>,
@@ -105,7 +106,7 @@ pub fn row_after(
     }
 }
 
-/// The row of the fields of so many columns, with those that are undefined filled from another.
+/// The row of some fields, with those that are undefined filled from another. It has room for so many columns.
 fn fill(
     alloc: Global,
     columns: usize,

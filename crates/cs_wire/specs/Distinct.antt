@@ -3,7 +3,7 @@ use Rattle.std.specs.Prelude.{ℕ, ◌+◌, ◌*◌, ◌%◌, ◌^◌, List, dro
 use Rattle.std.specs.List.{fold}
 use Rattle.cs_wire.specs.Seen.{word_of}
 
--- a number and one more, in 64 bits: it is multiplied by 2 ^ 64 by the golden ratio
+-- a number and one more, in 64 bits: it is multiplied by 2 ^ 64 divided by the golden ratio
 abbrev pub with_more : ℕ → ℕ → ℕ
 with_more number more = ((number * 0x9E3779B97F4A7C15) % 2 ^ 64 + more) % 2 ^ 64
 

@@ -14,7 +14,8 @@ use std::alloc::Global;
 
 /// Whether a file is found to be that of a changeset. Where the answer is yes, it is. Where it is no, it can still be, if
 /// two of its texts have one number. It takes memory for a number of eight bytes for each table, and for each entry of
-/// one table at a time, and time in proportion to the file, and to the logarithm of the count of a table's entries.
+/// one table at a time, beside a copy of a key whose columns do not stand side by side; and the time of reading the file
+/// and of sorting these numbers.
 pub(crate) fn is_changeset(alloc: Global, file: &[u8]) -> Result<bool, NoMemory>
     ensures { IfOk result (λ yes. IsTrue yes → IsAccepted file.now) }
 {

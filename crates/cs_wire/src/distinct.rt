@@ -5,7 +5,7 @@ ghost use Rattle.cs_wire.specs.Distinct as distinct;
 
 use crate::seen::{byte_at, word_of};
 
-/// What a number is multiplied by before one more is added: 2 to the 64 by the golden ratio.
+/// What a number is multiplied by before one more is added: 2 to the 64 divided by the golden ratio.
 const FACTOR: u64 = 0x9E37_79B9_7F4A_7C15;
 
 /// A number for a text: texts whose numbers differ are two. Two texts have one number only by a rare chance, or where

@@ -219,7 +219,7 @@ impl<'a> EntryRef<'a> {
     }
 
     /// What stood in a column, from 0 and below [`EntryRef::column_count`], before the change, as
-    /// [`EntryRef::old_fields`] has it. It takes time in proportion to the bytes of the record up to that column.
+    /// [`EntryRef::old_fields`] has it. It takes time in proportion to the bytes of the entry's records up to that column.
     pub fn old_field(&self, column: usize) -> Option<Field<'a>>
         requires { column < length self.now.flags }
         ensures field { option_map field_of result ≡ field_before self.now.entry.change column }

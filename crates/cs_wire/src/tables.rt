@@ -36,9 +36,10 @@ impl<'a> Model for Tables<'a> {
 }
 
 impl<'a> Tables<'a> {
-    /// Reads a file to its end, and stands before its first table then. A file that is found to be a changeset's in one
-    /// quick pass, which takes memory for a number of eight bytes for each table, and for each entry of one table at a
-    /// time, is read no further; another is gone through by a cursor, for its fault.
+    /// Reads a file to its end, and stands before its first table then. One quick pass finds most files to be a changeset's:
+    /// it takes memory for a number of eight bytes for each table, and for each entry of one table at a time, beside a copy
+    /// of a key whose columns do not stand side by side. Any other file is gone through by a cursor, which finds its fault,
+    /// or that it has none.
     ///
     /// # Errors
     ///
@@ -58,7 +59,7 @@ impl<'a> Tables<'a> {
         })
     }
 
-    /// The header of the next table. Entries of the one before it that are left are passed over.
+    /// The header of the next table, or None behind the last. Entries of the one before it that are left are passed over.
     pub fn next_table(&mut self) -> Option<HeaderRef<'a>>
         ensures next { (entries : List EntryData) (groups : List GroupData) → AreLeft self.old entries groups → NextTable groups result self.new }
         ensures well_formed { IfSome result (λ header. IsHeader (header_of header)) }
