@@ -1,6 +1,8 @@
 pub mod Examples
 pub mod GatherLemmas
 pub mod InvertLemmas
+pub mod JoiningLemmas
+pub mod PassLemmas
 pub mod PrintLemmas
 pub mod SeparatedLemmas
 pub mod TablesLemmas

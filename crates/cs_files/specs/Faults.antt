@@ -6,7 +6,6 @@ use Rattle.cs_value.specs.declared.refusal.OrNoMemory.{OrNoMemory}
 use Rattle.cs_value.specs.declared.refusal.OrNoMemory.TheVariants.{Fault, NoMemory}
 use Rattle.cs_wire.specs.declared.fault.ReadFault.{ReadFault}
 use Rattle.cs_wire.specs.ReadFaults as read
-use Rattle.cs_group.specs.declared.fault.SchemaFault.{SchemaFault}
 use Rattle.cs_files.specs.declared.fault.PrintFault.{PrintFault}
 use Rattle.cs_files.specs.declared.fault.PrintFault.TheVariants as print
 use Rattle.cs_files.specs.declared.fault.FileFault.{FileFault}
@@ -27,7 +26,7 @@ name_of (First f) = read.name_of f.kind
 name_of (Second f) = read.name_of f.kind
 name_of (Schema s) = codes "Schema"
 
--- why the first of two files is not read, why the second is not, and why their changesets are not joined
+-- why the first of two files is not read, and why the second is not
 abbrev pub of_first : OrNoMemory ReadFault → OrNoMemory FileFault
 of_first (Fault f) = Fault (First f)
 of_first NoMemory = NoMemory
@@ -35,10 +34,6 @@ of_first NoMemory = NoMemory
 abbrev pub of_second : OrNoMemory ReadFault → OrNoMemory FileFault
 of_second (Fault f) = Fault (Second f)
 of_second NoMemory = NoMemory
-
-abbrev pub of_join : OrNoMemory SchemaFault → OrNoMemory FileFault
-of_join (Fault s) = Fault (Schema s)
-of_join NoMemory = NoMemory
 
 -- of a file that is not printed
 abbrev pub print_code_of : PrintFault → ℕ

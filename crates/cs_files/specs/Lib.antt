@@ -4,6 +4,7 @@ pub mod Calls
 pub mod Told
 pub mod Gathering
 pub mod Texts
+pub mod Writing
 pub mod Pieces
 pub mod Forms
 pub mod Printing

@@ -1,10 +1,10 @@
 //! Why a call on files is refused.
 ghost use Rattle.std.specs.Prelude.{◌≡◌, codes};
-ghost use Rattle.cs_files.specs.Faults.{code_of, class_of, name_of, of_first, of_second, of_join};
+ghost use Rattle.cs_files.specs.Faults.{code_of, class_of, name_of, of_first, of_second};
 ghost use Rattle.cs_files.specs.Faults.{print_code_of, print_class_of, print_name_of, of_print};
 ghost use Rattle.cs_files.specs.declared.fault.PrintFault.TheVariants as print;
 
-use cs_group::{ConcatFault, SchemaFault};
+use cs_group::SchemaFault;
 use cs_value::{Fault, OrNoMemory};
 use cs_wire::{ReadError, ReadFault};
 use thiserror::Error;
@@ -163,15 +163,5 @@ pub(crate) fn second_fault(error: ReadError) -> ToolFault
     match error {
         ReadError::Fault(fault) => ToolFault::Fault(FileFault::Second(fault)),
         ReadError::NoMemory => ToolFault::NoMemory,
-    }
-}
-
-/// Why two changesets are not joined.
-pub(crate) fn join_fault(fault: ConcatFault) -> ToolFault
-    ensures { result ≡ of_join fault }
-{
-    match fault {
-        ConcatFault::Fault(fault) => ToolFault::Fault(FileFault::Schema(fault)),
-        ConcatFault::NoMemory => ToolFault::NoMemory,
     }
 }

@@ -10,12 +10,12 @@ ghost use Rattle.cs_files.specs.Texts.{dump_of, sql_of};
 ghost use Rattle.cs_files.specs.Forms.{form_text};
 ghost use Rattle.cs_files.specs.Printing.{IfUnread, IfUnwritten, PrintsTo, PrintsFrontTo};
 
-use crate::fault::{PrintFault, ToolFault, first_fault, join_fault, second_fault, text_fault};
+use crate::fault::{PrintFault, ToolFault, first_fault, second_fault, text_fault};
 use crate::inverting::write_inverse;
+use crate::joining::write_join;
 use crate::texts::{Form, write_tables};
 use crate::told::Told;
-use cs_group::concat;
-use cs_wire::{Changeset, ReadError, Tables, read, write};
+use cs_wire::{ReadError, Tables};
 use std::alloc::Global;
 use std::io::Write;
 
@@ -39,7 +39,8 @@ pub fn invert_bytes(alloc: Global, file: &[u8]) -> Result<Vec<u8>, ReadError>
 }
 
 /// The file of the changeset that does what the one of the first file does and then what that of
-/// the second does, as [`cs_group::concat`] makes it. It is at most as long as both.
+/// the second does, as [`cs_group::concat`] makes it. It is at most as long as both. Beside as many bytes as both
+/// files have it takes memory for the names of their tables, and for the keys of one table of the second at a time.
 ///
 /// # Errors
 ///
@@ -51,10 +52,11 @@ pub fn concat_bytes(alloc: Global, first: &[u8], second: &[u8]) -> Result<Vec<u8
     ensures length { IfOk result (λ out. length out.items ≤ length first.now + length second.now) }
     ensures refused { IfErr result (Refuses (JoinFails first.now second.now)) }
 {
-    let first = read_first(alloc, first)?;
-    let second = read_second(alloc, second)?;
-    let joined = join(alloc, &first, &second)?;
-    Ok(write(alloc, &joined)?)
+    let firsts = Tables::read(alloc, first).map_err(first_fault)?;
+    let seconds = Tables::read(alloc, second).map_err(second_fault)?;
+    let mut out = Vec::with_capacity(alloc, first.len() + second.len())?;
+    write_join(alloc, &mut out, firsts, seconds)?;
+    Ok(out)
 }
 
 /// Reads a file to its end, and then writes what it holds, as [`dump_text`](crate::dump_text) does. Only the
@@ -142,30 +144,4 @@ pub fn sql_file(alloc: Global, file: &[u8]) -> Result<Vec<u8>, ToolFault>
         Ok(()) => Ok(text.into_inner()),
         Err(fault) => Err(text_fault(fault)),
     }
-}
-
-/// The changeset of the first file.
-fn read_first(alloc: Global, file: &[u8]) -> Result<Changeset, ToolFault>
-    ensures found { IfOk result (λ c. IsChangeset c × (file.now ≡ file_bytes c)) }
-    ensures refused { IfErr result (Refuses (FirstFails file.now)) }
-{
-    read(alloc, file).map_err(first_fault)
-}
-
-/// The changeset of the second file.
-fn read_second(alloc: Global, file: &[u8]) -> Result<Changeset, ToolFault>
-    ensures found { IfOk result (λ c. IsChangeset c × (file.now ≡ file_bytes c)) }
-    ensures refused { IfErr result (Refuses (SecondFails file.now)) }
-{
-    read(alloc, file).map_err(second_fault)
-}
-
-/// The join of two changesets.
-fn join(alloc: Global, first: &Changeset, second: &Changeset) -> Result<Changeset, ToolFault>
-    ensures joined { IfOk result (IsJoined first.now second.now) }
-    ensures length { IfOk result (λ join. length (file_bytes join)
-        ≤ length (file_bytes first.now) + length (file_bytes second.now)) }
-    ensures refused { IfErr result (Refuses (AreUnjoined first.now second.now)) }
-{
-    concat(alloc, first, second).map_err(join_fault)
 }

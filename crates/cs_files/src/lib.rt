@@ -21,6 +21,7 @@ mod fault;
 mod files;
 mod gather;
 mod inverting;
+mod joining;
 mod texts;
 mod told;
 

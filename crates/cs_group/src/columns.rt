@@ -29,8 +29,8 @@ fn agrees(first: &Changeset, group: &Group) -> bool
     }
 }
 
-/// Whether two tables have the same columns, and the same of them in the key.
-fn have_same_columns(flags: &[u8], other: &[u8]) -> bool
+/// Whether two tables with these flags have as many columns, and the same of them in the key. It takes no memory.
+pub fn have_same_columns(flags: &[u8], other: &[u8]) -> bool
     ensures { IsTrue result ↔ (key_places flags.now ≡ key_places other.now) }
 {
     if flags.len() != other.len() {

@@ -32,11 +32,12 @@ mod laws;
 mod merging;
 mod net;
 
+pub use columns::have_same_columns;
 pub use conflict::{Choice, Kind, conflict_kind, row_after};
 pub use fault::{ConcatFault, SchemaFault};
 pub use inverse::{changeset_inverses_law, inverse_twice_law, invert};
 pub use joining::concat;
 pub use judging::{Judgement, judge};
 pub use laws::{applied_once_law, applied_reverts_law, written_tells_law};
-pub use merging::{Merged, merge};
+pub use merging::{Merged, merge, merge_refs};
 pub use net::{net_change, net_row_change};

@@ -2,7 +2,7 @@
 ghost use Rattle.std.specs.Prelude.{◌≡◌, ℕ, List, IfOk};
 ghost use Rattle.cs_wire.specs.Entry.{IsEntry, key_of};
 ghost use Rattle.cs_group.specs.Net.{net_change as net_change_of};
-ghost use Rattle.cs_group.specs.Joining.{merged, joint_image, follows as follows_of, IfBecomes, FitsKey};
+ghost use Rattle.cs_group.specs.Joining.{merged, joint_image, key_places, follows as follows_of, IfBecomes, FitsKey};
 
 use crate::image::{after_image, before_image, known};
 use crate::net::net_change;
@@ -21,26 +21,22 @@ pub enum Merged {
     Vanish,
 }
 
-/// Whether a change finds a row where another leaves one, and none where that leaves none.
-fn follows(first: &Change, second: &Change) -> bool
-    ensures { (flags : List ℕ) → result ≡ follows_of flags first.now second.now }
+/// Whether an entry finds a row where another leaves one, and none where that leaves none.
+fn follows(first: &EntryRef<'_>, second: &EntryRef<'_>) -> bool
+    ensures { result ≡ follows_of first.now.flags first.now.entry.change second.now.entry.change }
 {
-    let leaves = !matches!(first, Change::Delete(_));
-    let finds = !matches!(second, Change::Insert(_));
-    leaves == finds
+    first.fields_after().is_some() == second.old_fields().is_some()
 }
 
 /// The change from what the row was before the first to what it is after the second.
 fn net_of_both<'a>(
     alloc: Global,
-    flags: &[u8],
     first: &EntryRef<'a>,
     second: &EntryRef<'a>,
 ) -> Result<Option<Change>, NoMemory>
-    requires first { first.now.flags ≡ flags.now }
-    requires second { second.now.flags ≡ flags.now }
-    ensures { IfOk result (λ net. net ≡ net_change_of flags.now
-        (joint_image flags.now first.now.entry.change second.now.entry.change)) }
+    requires agree { key_places second.now.flags ≡ key_places first.now.flags }
+    ensures { IfOk result (λ net. net ≡ net_change_of first.now.flags
+        (joint_image first.now.flags first.now.entry.change second.now.entry.change)) }
 {
     let before = known(
         alloc,
@@ -52,7 +48,30 @@ fn net_of_both<'a>(
         after_image(alloc, second)?,
         after_image(alloc, first)?,
     )?;
-    net_change(alloc, flags, before.as_deref(), after.as_deref())
+    net_change(alloc, first.flags(), before.as_deref(), after.as_deref())
+}
+
+/// What becomes of an entry when a second one of its key comes after it, as [`merge`] says, where they lie. Both are of
+/// one table: their flags mark the same columns as those of the key.
+pub fn merge_refs<'a>(
+    alloc: Global,
+    first: &EntryRef<'a>,
+    second: &EntryRef<'a>,
+) -> Result<Merged, NoMemory>
+    requires agree { key_places second.now.flags ≡ key_places first.now.flags }
+    requires one_key { key_of first.now.flags first.now.entry.change ≡ key_of first.now.flags second.now.entry.change }
+    ensures case { IfOk result (λ m. m ≡ merged first.now.flags first.now.entry second.now.entry) }
+    ensures fits { IfOk result (λ m. IfBecomes m (FitsKey first.now.flags (key_of first.now.flags first.now.entry.change))) }
+{
+    let (one, other) = (first.is_indirect(), second.is_indirect());
+    if !follows(first, second) {
+        return Ok(Merged::Keep);
+    }
+    let indirect = one && other;
+    Ok(match net_of_both(alloc, first, second)? {
+        None => Merged::Vanish,
+        Some(change) => Merged::Becomes(Entry { indirect, change }),
+    })
 }
 
 /// What becomes of an entry when a second one of its key comes after it, as SQLite's
@@ -75,14 +94,7 @@ pub fn merge<'a>(
     ensures case { IfOk result (λ m. m ≡ merged flags.now first.now second.now) }
     ensures fits { IfOk result (λ m. IfBecomes m (FitsKey flags.now (key_of flags.now first.now.change))) }
 {
-    if !follows(&first.change, &second.change) {
-        return Ok(Merged::Keep);
-    }
-    let indirect = first.indirect && second.indirect;
     let first = EntryRef::from_entry(flags, first);
     let second = EntryRef::from_entry(flags, second);
-    Ok(match net_of_both(alloc, flags, &first, &second)? {
-        None => Merged::Vanish,
-        Some(change) => Merged::Becomes(Entry { indirect, change }),
-    })
+    merge_refs(alloc, &first, &second)
 }

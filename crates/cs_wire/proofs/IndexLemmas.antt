@@ -44,10 +44,9 @@ slice_get_last texts last =
     slice_get-get_or (texts ++ last ∷ []) (length texts) [] (omega (arith, length-append texts (last ∷ [])))
     ∙ ap Some (get_or_at texts last [] [] (length texts) refl)
 
--- one more text has the next place
-pub IsIndex-push : (places : ByBytes ℕ) (texts : List (List ℕ)) (last : List ℕ) → IsIndex places texts → All (λ t. t ≢ last) texts
-    → IsIndex (insert places last (length texts)) (texts ++ last ∷ [])
-IsIndex-push places texts last index new = record {
+-- one more text has the next place, also where it is there
+pub IsIndex-push : (places : ByBytes ℕ) (texts : List (List ℕ)) (last : List ℕ) → IsIndex places texts → IsIndex (insert places last (length texts)) (texts ++ last ∷ [])
+IsIndex-push places texts last index = record {
   found = λ text place e. found_by text place (same text last) refl (sym (got text) ∙ e);
   absent = λ text e. absent_by text (same text last) refl (sym (got text) ∙ e);
 }
@@ -91,26 +90,22 @@ module _ {X : Type 0} (text_of : X → List ℕ) (places : ByBytes ℕ) (xs : Li
       (λ h k d lt known. none k [] (omega (arith, length-map xs text_of)) (get_or-map text_of xs k d [] lt ∙ known), λ h. refl)
   is_new (Some place) e = (λ h. absurd cc, λ h. absurd (is_known xs place (at_place place (index.found text place (sym e))) h))
 
--- one more thing, known by a text that is new, has the next place
+-- one more thing has the next place
 pub IsIndex-grown : {X : Type 0} (text_of : X → List ℕ) (places new : ByBytes ℕ) (xs : List X) (x : X) (text : List ℕ) (place : ℕ)
-    → IsIndex places (map text_of xs) → All (λ y. text_of y ≢ text) xs → text_of x ≡ text → place ≡ length xs → new ≡ insert places text place
+    → IsIndex places (map text_of xs) → text_of x ≡ text → place ≡ length xs → new ≡ insert places text place
     → IsIndex new (map text_of (xs ++ x ∷ []))
-IsIndex-grown text_of places new xs x text place index fresh is at grown =
-    let pushed = IsIndex-push places (map text_of xs) text index (All-map (λ (t : List ℕ). t ≢ text) text_of xs fresh) in
+IsIndex-grown text_of places new xs x text place index is at grown =
+    let pushed = IsIndex-push places (map text_of xs) text index in
     let texts : map text_of (xs ++ x ∷ []) ≡ map text_of xs ++ text ∷ [] = map-append text_of xs (x ∷ []) ∙ ap (λ (t : List ℕ). map text_of xs ++ t ∷ []) is in
     let after : new ≡ insert places text (length (map text_of xs)) = grown ∙ ap (insert places text) (at ∙ sym (length-map xs text_of)) in
     rw (texts, after) pushed
 
--- the first things of a list, each of which is known by a text of its own, and one more
-pub IsIndex-more : {X : Type 0} (text_of : X → List ℕ) (places new : ByBytes ℕ) (xs : List X) (x : X) (i : ℕ) → AllPairs (λ y z. text_of y ≢ text_of z) xs
+-- the first things of a list, and one more
+pub IsIndex-more : {X : Type 0} (text_of : X → List ℕ) (places new : ByBytes ℕ) (xs : List X) (x : X) (i : ℕ)
     → i < length xs → x ≡ get_or xs i x → IsIndex places (map text_of (take i xs)) → new ≡ insert places (text_of x) i → IsIndex new (map text_of (take (i + 1) xs))
-IsIndex-more text_of places new xs x i once lt is index grown =
+IsIndex-more text_of places new xs x i lt is index grown =
     let count : length (take i xs) ≡ i = length-take-le i xs (omega arith) in
-    let fresh : All (λ y. text_of y ≢ text_of x) (take i xs) = λ k d k_lt same.
-    let before : k < i = omega arith in
-    let there : get_or (take i xs) k d ≡ get_or xs k d = get_or-take i xs k d before in
-    once k i d before lt (ap text_of (sym there) ∙ same ∙ ap text_of (is ∙ get_or_default xs i x d lt)) in
-    rw (take_more xs i x lt, ← is) (IsIndex-grown text_of places new (take i xs) x (text_of x) i index fresh refl (sym count) grown)
+    rw (take_more xs i x lt, ← is) (IsIndex-grown text_of places new (take i xs) x (text_of x) i index refl (sym count) grown)
 
 -- what is found is not new
 pub found_or_new : (found : Option ℕ) → is_some found ≡ true → IsTrue (is_none found) → ⊥

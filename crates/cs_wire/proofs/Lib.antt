@@ -16,6 +16,7 @@ pub mod GroupsLemmas
 pub mod HeaderFaults
 pub mod ImageExamples
 pub mod IndexLemmas
+pub mod NamedLemmas
 pub mod InverseLemmas
 pub mod ItemLemmas
 pub mod KeyLemmas

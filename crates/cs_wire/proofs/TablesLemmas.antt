@@ -1,5 +1,5 @@
 -- A changeset's file that is gone through table by table.
-use Rattle.std.proofs.Common.{◌≡◌, ℕ, ◌<◌, ◌≤◌, List, [], ◌∷◌, ◌++◌, length, length-append, drop, false, refl, sym, ap, ◌∙◌, append_assoc, arith}
+use Rattle.std.proofs.Common.{◌≡◌, ℕ, ◌<◌, ◌≤◌, List, [], ◌∷◌, ◌++◌, length, length-append, drop, false, refl, sym, ap, ◌∙◌, append_assoc, append-nil, arith}
 use Rattle.std.specs.Prelude.{Option, Some, None, is_some}
 use Rattle.std.specs.List.{AllByRecursion}
 use Rattle.std.proofs.lemmas.List.{drop_all, length-drop}
@@ -112,3 +112,20 @@ passed_over flags entries groups (Some seen) after next = (next.others, next.are
 pub all_passed : (flags : List ℕ) (entries : List Entry) (groups : List GroupData) (next : Option FlaggedEntry) (after : TablesData) → NextEntry flags entries groups next after → is_some next ≡ false → AreLeft after [] groups
 all_passed flags entries groups None after next none = next.2
 all_passed flags entries groups (Some seen) after next none = absurd cc
+
+-- of these entries these were passed, and the others are left
+pub record PassedEntries (before : List Entry) (now : TablesData) (entries : List Entry) (groups : List GroupData) : Type 0 where
+  pub others : List Entry
+  pub whole : entries ≡ before ++ others
+  pub are_left : AreLeft now others groups
+
+pub PassedEntries-next : (before grown : List Entry) (now next : TablesData) (entries : List Entry) (groups : List GroupData) (so : PassedEntries before now entries groups) (seen : FlaggedEntry)
+    → IsNextEntry now.flags so.others groups seen next → grown ≡ before ++ seen.entry ∷ [] → PassedEntries grown next entries groups
+PassedEntries-next before grown now next entries groups so seen is more = record {
+  others = is.others;
+  whole = so.whole ∙ ap (λ (es : List Entry). before ++ es) is.is ∙ sym (append_assoc before (seen.entry ∷ []) is.others) ∙ ap (λ (es : List Entry). es ++ is.others) (sym more);
+  are_left = is.are_left;
+}
+
+pub PassedEntries-all : (before : List Entry) (now : TablesData) (entries : List Entry) (groups : List GroupData) (so : PassedEntries before now entries groups) → so.others ≡ [] → entries ≡ before
+PassedEntries-all before now entries groups so none = so.whole ∙ ap (λ (es : List Entry). before ++ es) none ∙ append-nil before

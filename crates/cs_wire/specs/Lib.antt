@@ -5,6 +5,8 @@ pub mod Laws
 pub mod ReadFaults
 pub mod Views
 pub mod Items
+pub mod Keyed
+pub mod Named
 pub mod Records
 pub mod Cursor
 pub mod Seen

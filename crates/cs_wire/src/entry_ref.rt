@@ -163,7 +163,8 @@ impl<'a> EntryRef<'a> {
 
     /// Whether the change was made indirectly, by a trigger or a foreign key.
     pub fn is_indirect(&self) -> bool
-        ensures { result ≡ self.now.entry.indirect }
+        ensures indirect { result ≡ self.now.entry.indirect }
+        ensures well_formed { IsEntry self.now.flags self.now.entry }
     {
         self.indirect
     }
@@ -252,7 +253,7 @@ impl<'a> EntryRef<'a> {
     }
 
     /// The bytes of the entry's key: where they lie, if they do side by side, and else a copy.
-    pub(crate) fn key_slice(&self, alloc: Global) -> Result<CowSlice<'a, u8, Global>, NoMemory>
+    pub fn key_slice(&self, alloc: Global) -> Result<CowSlice<'a, u8, Global>, NoMemory>
         ensures { IfOk result (λ key. cow_slice_items key ≡ key_of self.now.flags self.now.entry.change) }
     {
         if let RecordRef::Spelled(bytes) = self.first {

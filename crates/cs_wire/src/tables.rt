@@ -59,6 +59,34 @@ impl<'a> Tables<'a> {
         })
     }
 
+    /// A file that was read, at a place where entries of a table with these flags are left.
+    pub(crate) fn at(file: &'a [u8], place: usize, flags: &'a [u8]) -> Tables<'a>
+        ensures { result ≡ record { file = file.now; place = place; flags = flags.now } }
+    {
+        Tables { file, place, flags }
+    }
+
+    /// The file.
+    pub(crate) fn file(&self) -> &'a [u8]
+        ensures { result.now ≡ self.now.file }
+    {
+        self.file
+    }
+
+    /// The flags of the table that is open.
+    pub(crate) fn flags(&self) -> &'a [u8]
+        ensures { result.now ≡ self.now.flags }
+    {
+        self.flags
+    }
+
+    /// The place in the file.
+    pub(crate) fn place(&self) -> usize
+        ensures { result ≡ self.now.place }
+    {
+        self.place
+    }
+
     /// The header of the next table, or None behind the last. Entries of the one before it that are left are passed over.
     pub fn next_table(&mut self) -> Option<HeaderRef<'a>>
         ensures next { (entries : List EntryData) (groups : List GroupData) → AreLeft self.old entries groups → NextTable groups result self.new }
@@ -100,6 +128,7 @@ impl<'a> Tables<'a> {
     /// The next entry of the table that is open, if another is left.
     pub fn next_entry(&mut self) -> Option<EntryRef<'a>>
         ensures next { (entries : List EntryData) (groups : List GroupData) → AreLeft self.old entries groups → NextEntry self.old.flags entries groups result self.new }
+        ensures flags { (self.new.flags ≡ self.old.flags) × IfSome result (λ entry. entry.flags ≡ self.old.flags) }
         ensures forward { IfSome result (λ _. (self.old.place < self.new.place) × (self.new.place ≤ length self.new.file)) }
         ensures ahead { self.old.place ≤ self.new.place }
         ensures file { self.new.file ≡ self.old.file }

@@ -1,20 +1,26 @@
 -- `inverting::write_inverse`: the invariant of the loop, what it ensures.
-use Rattle.std.proofs.Common.{◌++◌, List, [], map, sym, ap, ◌∙◌, append-nil}
-use Rattle.cs_wire.specs.Changeset.{GroupData, file_bytes}
+use Rattle.std.proofs.Common.{◌++◌, sym, ap, ◌∙◌}
+use Rattle.std.proofs.lemmas.List.Folds.{flat_map-map}
+use Rattle.cs_wire.specs.Changeset.{group_bytes}
 use Rattle.cs_group.specs.Inverse.{inverse_group}
-use Rattle.cs_files.proofs.InvertLemmas.{InvertsGroups-next}
+use Rattle.cs_files.proofs.InvertLemmas.{inverted_table}
+use Rattle.cs_files.proofs.PassLemmas.{WritesTables-none, WritesTables-all}
 use Rattle.cs_files.proofs.inverting.write_inverse.Goals as goal
+
+pub tables-init : goal.tables-init
+tables-init c = λ groups left. WritesTables-none (λ g. group_bytes (inverse_group g)) c.args.out.now.items c.args.tables groups left
 
 pub tables-preserved : goal.tables-preserved
 tables-preserved c = λ groups left.
     let so = c.tables.invariant groups left in
-    let is = c.in-Some.ensures.next [] so.others so.are_left in
+    let is = c.in-Some.ensures.next so.passed.entries so.passed.others so.passed.are_left in
     let opened = is.are_left in
-    InvertsGroups-next c.args.out.now.items c.tables.out.items c.write_to.new.out.items c.write_entries.new.out.items c.tables.left c.write_entries.new.tables groups so c.in-Some.header c.next_table.new.self is
+    inverted_table c.args.out.now.items c.tables.out.items c.write_to.new.out.items c.write_entries.new.out.items c.tables.left groups so c.in-Some.header c.next_table.new.self c.write_entries.new.tables is
     c.in_ok-write_to.ensures.ok (c.in_ok-write_entries.ensures.written is.group.entries is.others opened) (c.in_ok-write_entries.ensures.left is.group.entries is.others opened)
 
 pub returns : goal.returns
 returns c = λ groups left.
     let so = c.tables.invariant groups left in
-    let none = c.in_default.ensures.next [] so.others so.are_left in
-    sym (append-nil c.tables.out.items) ∙ ap (λ (gs : List GroupData). c.tables.out.items ++ file_bytes (map inverse_group gs)) (sym none.0) ∙ so.so_far
+    let none = c.in_default.ensures.next so.passed.entries so.passed.others so.passed.are_left in
+    WritesTables-all (λ g. group_bytes (inverse_group g)) c.args.out.now.items c.tables.out.items c.tables.left groups so none.0
+    ∙ ap (λ l. c.args.out.now.items ++ l) (sym (flat_map-map group_bytes inverse_group groups))

@@ -13,4 +13,4 @@ pub loop-place-preserved : goal.loop-place-preserved
 loop-place-preserved c =
     let key = c.into_bytes.ensures ∙ c.in_ok-key.ensures in
     let grown = c.in_ok-insert.ensures.ok ∙ ap (λ k. insert c.loop-place.places k c.loop-place.place) key in
-    IsIndex-more (λ (e : Entry). key_of c.args.header.now.flags e.change) c.loop-place.places c.insert.new.self c.args.entries.now c.index-entries-place.result c.loop-place.place c.requires.once c.loop-place-test.true c.index-entries-place.is c.loop-place.invariant grown
+    IsIndex-more (λ (e : Entry). key_of c.args.header.now.flags e.change) c.loop-place.places c.insert.new.self c.args.entries.now c.index-entries-place.result c.loop-place.place c.loop-place-test.true c.index-entries-place.is c.loop-place.invariant grown

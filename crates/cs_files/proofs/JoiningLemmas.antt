@@ -1,0 +1,329 @@
+-- What is written of the join of two files.
+use Rattle.std.proofs.Common.{◌≡◌, ◌≢◌, ℕ, suc, ◌+◌, ◌<◌, ◌≤◌, ◌&&◌, not, nat_eq, Bool, true, false, true≢false, cond, if◌then◌else◌, List, [], ◌∷◌, ◌++◌, length, length-append, map, get_or, set, take, drop, replicate, All, AllPairs, Option, Some, None, refl, sym, ap, subst, ◌∙◌, append_assoc, append-nil, ⊎_elim, arith}
+use Rattle.std.specs.Prelude.{IfSome, is_none, filter, filter_map}
+use Rattle.std.specs.List.{flat_map, cons_option}
+use Rattle.std.specs.Cmp.Lexicographic.{pointwise, nat_list_eq_equiv}
+use Rattle.std.proofs.lemmas.Grind.{flat_map-append}
+use Rattle.std.proofs.Math.Seq.{take-append_seam}
+use Rattle.std.proofs.lemmas.Bool.{cases_order}
+use Rattle.std.proofs.lemmas.List.{get_or-replicate, get_or-set_same, get_or-set_other, get_or_default, get_or-map, length-map}
+use Rattle.cs_wire.specs.declared.entry.Entry.{Entry}
+use Rattle.cs_wire.specs.Entry.{entry_bytes, key_of}
+use Rattle.cs_wire.specs.Changeset.{HeaderData, GroupData, IsChangeset, IsFileOf, IsGroup, entries_bytes, file_bytes, group_bytes, header_bytes}
+use Rattle.cs_wire.specs.Items.{FlaggedEntry}
+use Rattle.cs_wire.specs.Named.{NamedData, IsTableOf, AreListed, header_at, tables_at, no_table}
+use Rattle.cs_wire.specs.Tables.{TablesData, AreLeft}
+use Rattle.cs_wire.specs.Views.{IsPlaceOf}
+use Rattle.cs_wire.proofs.EntryLemmas.{entry_bytes_some}
+use Rattle.cs_wire.proofs.NamedLemmas.{table_at, tables_length, no_group_named, group_named}
+use Rattle.cs_group.specs.Joining.{AgreesWith, AreJoinable, IsJoined, is_new, if_new, joined, joined_entry, joined_group, key_places, left_of, merged, outcome, some_group, table_name, with_text}
+use Rattle.cs_group.proofs.JoinLemmas.{agree_found, agrees_found, found_agrees, joined_is_changeset}
+use Rattle.cs_group.proofs.JoinLengths.{join_length}
+use Rattle.cs_group.proofs.KeyPlaceLemmas.{key_of_same}
+use Rattle.cs_group.proofs.TextLemmas.{not_same, with_text-none, with_text-place, with_text-same, with_text-found}
+use Rattle.cs_files.specs.Files.{Joins}
+use Rattle.cs_files.specs.Writing.{some_bytes, AreMet, IsPartner}
+
+-- ---- what is left of things is written in turn
+
+module _ {X : Type 0} (bytes_of : X → List ℕ) where
+  pub some_flat : {Y : Type 0} (f : Y → Option X) (ys : List Y) → flat_map (λ y. some_bytes bytes_of (f y)) ys ≡ flat_map bytes_of (filter_map f ys)
+  some_flat f [] = refl
+  some_flat {Y} f (y ∷ ys) = of (f y) (some_flat f ys)
+    where
+      others : List ℕ
+      others = flat_map (λ y. some_bytes bytes_of (f y)) ys
+
+      of : (o : Option X) → others ≡ flat_map bytes_of (filter_map f ys) → some_bytes bytes_of o ++ others ≡ flat_map bytes_of (cons_option o (filter_map f ys))
+      of None so = so
+      of (Some x) so = ap (λ (l : List ℕ). bytes_of x ++ l) so
+
+  pub new_flat : (text_of : X → List ℕ) (known xs : List X) → flat_map (λ x. some_bytes bytes_of (if_new text_of known x)) xs ≡ flat_map bytes_of (filter (is_new text_of known) xs)
+  new_flat text_of known [] = refl
+  new_flat text_of known (x ∷ xs) = of (is_new text_of known x) (new_flat text_of known xs)
+    where
+      others : List ℕ
+      others = flat_map (λ x. some_bytes bytes_of (if_new text_of known x)) xs
+
+      of : (b : Bool) → others ≡ flat_map bytes_of (filter (is_new text_of known) xs)
+          → some_bytes bytes_of (if b then Some x else None) ++ others ≡ flat_map bytes_of (cond b (x ∷ filter (is_new text_of known) xs) (filter (is_new text_of known) xs))
+      of true so = ap (λ (l : List ℕ). bytes_of x ++ l) so
+      of false so = so
+
+-- ---- which of the second things have the text of one of the first
+
+module _ {X : Type 0} (text_of : X → List ℕ) where
+  abbrev same : X → X → Bool
+  same y x = pointwise nat_eq (text_of y) (text_of x)
+
+  -- a thing is new where it was and has not the text of one more
+  is_new-push : (xs : List X) (y x : X) → is_new text_of (xs ++ y ∷ []) x ≡ (is_new text_of xs x && not (same y x))
+  is_new-push [] y x = of (same y x)
+    where
+      of : (b : Bool) → is_none (cond b (Some y) None) ≡ not b
+      of true = refl
+      of false = refl
+  is_new-push (z ∷ xs) y x = of (same z x) (is_new-push xs y x)
+    where
+      of : (b : Bool) → is_new text_of (xs ++ y ∷ []) x ≡ (is_new text_of xs x && not (same y x)) → is_none (cond b (Some z) (with_text text_of (xs ++ y ∷ []) (text_of x))) ≡ (is_none (cond b (Some z) (with_text text_of xs (text_of x))) && not (same y x))
+      of true so = refl
+      of false so = so
+
+  pub is_new-other : (xs : List X) (y x : X) → text_of y ≢ text_of x → is_new text_of (xs ++ y ∷ []) x ≡ is_new text_of xs x
+  is_new-other xs y x other = is_new-push xs y x ∙ ap (λ b. is_new text_of xs x && not b) (not_same (text_of y) (text_of x) (same y x) refl other) ∙ of (is_new text_of xs x)
+    where
+      of : (b : Bool) → (b && not false) ≡ b
+      of true = refl
+      of false = refl
+
+  pub is_new-same : (xs : List X) (y x : X) → text_of y ≡ text_of x → is_new text_of (xs ++ y ∷ []) x ≡ false
+  is_new-same xs y x is =
+      let yes : same y x ≡ true = rw is (nat_list_eq_equiv.refl (text_of x)) in
+      is_new-push xs y x ∙ ap (λ b. is_new text_of xs x && not b) yes ∙ of (is_new text_of xs x)
+    where
+      of : (b : Bool) → (b && not true) ≡ false
+      of true = refl
+      of false = refl
+
+-- ---- which of the second entries have the key of one of the first
+
+pub AreMet-none : (flags : List ℕ) (seconds : List Entry) (met : List Bool) → met ≡ replicate (length seconds) false → AreMet flags met [] seconds
+AreMet-none flags seconds met is j d lt = ap (λ (m : List Bool). get_or m j false) is ∙ get_or-replicate (length seconds) j false false lt
+
+module _ (flags : List ℕ) (met : List Bool) (firsts seconds : List Entry) (entry : Entry) (so : AreMet flags met firsts seconds) where
+  -- one more that has no key of theirs
+  pub AreMet-other : All (λ e. key_of flags e.change ≢ key_of flags entry.change) seconds → AreMet flags met (firsts ++ entry ∷ []) seconds
+  AreMet-other none j d lt =
+      so j d lt ∙ ap not (sym (is_new-other (λ (e : Entry). key_of flags e.change) firsts entry (get_or seconds j d) (λ same. none j d lt (sym same))))
+
+  -- one more that has the key of the one at this place
+  pub AreMet-marked : (place : ℕ) → AllPairs (λ d e. key_of flags d.change ≢ key_of flags e.change) seconds → length met ≡ length seconds
+      → IsPlaceOf (λ e. key_of flags e.change ≡ key_of flags entry.change) seconds place → AreMet flags (set met place true) (firsts ++ entry ∷ []) seconds
+  AreMet-marked place apart width at j d lt = ⊎_elim there (⊎_elim before behind) (cases_order j place)
+    where
+      key : ℕ → List ℕ
+      key i = key_of flags (get_or seconds i d).change
+
+      here : key place ≡ key_of flags entry.change
+      here = at.holds d
+
+      there : j ≡ place → get_or (set met place true) j false ≡ not (is_new (λ (e : Entry). key_of flags e.change) (firsts ++ entry ∷ []) (get_or seconds j d))
+      there is =
+          ap (λ i. get_or (set met place true) i false) is ∙ get_or-set_same met place true false (omega (arith, width, at.within))
+          ∙ ap not (sym (is_new-same (λ (e : Entry). key_of flags e.change) firsts entry (get_or seconds j d) (sym here ∙ ap key (sym is))))
+
+      elsewhere : (j ≡ place → ⊥) → key place ≢ key j → get_or (set met place true) j false ≡ not (is_new (λ (e : Entry). key_of flags e.change) (firsts ++ entry ∷ []) (get_or seconds j d))
+      elsewhere not_there other =
+          get_or-set_other met place j true false not_there ∙ so j d lt
+          ∙ ap not (sym (is_new-other (λ (e : Entry). key_of flags e.change) firsts entry (get_or seconds j d) (λ same. other (here ∙ same))))
+
+      before : j < place → get_or (set met place true) j false ≡ not (is_new (λ (e : Entry). key_of flags e.change) (firsts ++ entry ∷ []) (get_or seconds j d))
+      before lt_place = elsewhere (λ is. omega (arith, lt_place, is)) (λ same. apart j place d lt_place at.within (sym same))
+
+      behind : place < j → get_or (set met place true) j false ≡ not (is_new (λ (e : Entry). key_of flags e.change) (firsts ++ entry ∷ []) (get_or seconds j d))
+      behind gt_place = elsewhere (λ is. omega (arith, gt_place, is)) (apart place j d gt_place lt)
+
+-- what is written of a second entry that is not marked
+pub unmet_bytes : (flags : List ℕ) (met : List Bool) (firsts seconds : List Entry) (place : ℕ) (entry : Entry) (marked : Bool) → AreMet flags met firsts seconds → place < length seconds → entry ≡ get_or seconds place entry
+    → marked ≡ get_or met place false → (cond marked [] (entry_bytes entry)) ≡ some_bytes entry_bytes (if_new (λ e. key_of flags e.change) firsts entry)
+unmet_bytes flags met firsts seconds place entry marked so lt is marked_is =
+    by marked (is_new (λ (e : Entry). key_of flags e.change) firsts entry) (marked_is ∙ so place entry lt ∙ ap (λ (e : Entry). not (is_new (λ (f : Entry). key_of flags f.change) firsts e)) (sym is))
+  where
+    by : (m n : Bool) → m ≡ not n → cond m [] (entry_bytes entry) ≡ some_bytes entry_bytes (if n then Some entry else None)
+    by true true e = absurd (true≢false e)
+    by true false e = refl
+    by false true e = refl
+    by false false e = absurd (true≢false (sym e))
+
+-- ---- a table of which entries are left
+
+pub joined_none : (header : HeaderData) (out opened grown : List ℕ) (entries : List Entry) → opened ≡ out ++ header_bytes header → grown ≡ opened ++ entries_bytes entries → length grown ≡ length opened
+    → take (length out) grown ≡ out ++ some_bytes group_bytes (some_group header entries)
+joined_none header out opened grown [] opened_is grown_is same =
+    ap (take (length out)) (grown_is ∙ append-nil opened ∙ opened_is) ∙ take-append_seam out (header_bytes header) ∙ sym (append-nil out)
+joined_none header out opened grown (entry ∷ entries) opened_is grown_is same =
+    absurd (omega (arith, same, ap length grown_is, length-append opened (entries_bytes (entry ∷ entries)), length-append (entry_bytes entry) (entries_bytes entries), entry_bytes_some entry))
+
+pub joined_some : (header : HeaderData) (out opened grown : List ℕ) (entries : List Entry) → opened ≡ out ++ header_bytes header → grown ≡ opened ++ entries_bytes entries → length grown ≢ length opened
+    → grown ≡ out ++ some_bytes group_bytes (some_group header entries)
+unfolding group_bytes
+joined_some header out opened grown [] opened_is grown_is other = absurd (other (ap length (grown_is ∙ append-nil opened)))
+joined_some header out opened grown (entry ∷ entries) opened_is grown_is other =
+    grown_is ∙ ap (λ (l : List ℕ). l ++ entries_bytes (entry ∷ entries)) opened_is ∙ append_assoc out (header_bytes header) (entries_bytes (entry ∷ entries))
+
+-- ---- an entry, and the one of its key among those of a table whose flags mark the same columns
+
+module _ (own flags : List ℕ) (seconds : List Entry) (entry : Entry) (agree : key_places own ≡ key_places flags) where
+  abbrev key : Entry → List ℕ
+  key e = key_of flags e.change
+
+  abbrev own_key : Entry → List ℕ
+  own_key e = key_of own e.change
+
+  one : (e : Entry) → own_key e ≡ key e
+  one e = key_of_same own flags e.change agree
+
+  pub apart_of : AllPairs (λ d e. key_of own d.change ≢ key_of own e.change) seconds → AllPairs (λ d e. key_of flags d.change ≢ key_of flags e.change) seconds
+  apart_of apart = λ i j d lt within same. apart i j d lt within (one (get_or seconds i d) ∙ same ∙ sym (one (get_or seconds j d)))
+
+  pub keys_of : All (λ e. key_of own e.change ≢ key_of flags entry.change) seconds → All (λ e. key_of flags e.change ≢ key_of flags entry.change) seconds
+  keys_of none = λ k d lt same. none k d lt (one (get_or seconds k d) ∙ same)
+
+  pub place_of : (place : ℕ) → IsPlaceOf (λ e. key_of own e.change ≡ key_of flags entry.change) seconds place → IsPlaceOf (λ e. key_of flags e.change ≡ key_of flags entry.change) seconds place
+  place_of place at = record { within = at.within; holds = λ d. sym (one (get_or seconds place d)) ∙ at.holds d }
+
+  pub outcome_alone : All (λ e. key_of own e.change ≢ key_of flags entry.change) seconds → outcome (λ e. key_of flags e.change) (joined_entry flags) seconds entry ≡ Some entry
+  outcome_alone none = ap (joined_entry flags entry) (with_text-none key seconds (key entry) (keys_of none))
+
+  module _ (place : ℕ) (second : Entry) (at : IsPlaceOf (λ e. key_of own e.change ≡ key_of flags entry.change) seconds place) (is : second ≡ get_or seconds place second) where
+    pub one_key : key_of flags entry.change ≡ key_of flags second.change
+    one_key = sym (at.holds second) ∙ ap own_key (sym is) ∙ one second
+
+    pub outcome_both : AllPairs (λ d e. key_of own d.change ≢ key_of own e.change) seconds
+        → outcome (λ e. key_of flags e.change) (joined_entry flags) seconds entry ≡ left_of entry (merged flags entry second)
+    outcome_both apart =
+        ap (joined_entry flags entry) (sym (with_text-place own_key seconds (key entry) place second apart at is ∙ with_text-same own_key key one seconds (key entry)))
+
+-- the entry at a place, of what is shown of them
+module _ (shown : List FlaggedEntry) (entries : List Entry) (same : map (λ e. e.entry) shown ≡ entries) where
+  pub as_many : length shown ≡ length entries
+  as_many = sym (length-map shown (λ (e : FlaggedEntry). e.entry)) ∙ ap length same
+
+  pub entry_at : (place : ℕ) (seen : FlaggedEntry) → place < length entries → seen ≡ get_or shown place seen → seen.entry ≡ get_or entries place seen.entry
+  entry_at place seen lt is =
+      let within : place < length shown = omega (arith, lt, as_many) in
+      ap (λ (e : FlaggedEntry). e.entry) is ∙ sym (get_or-map (λ (e : FlaggedEntry). e.entry) shown place seen seen.entry within) ∙ ap (λ (es : List Entry). get_or es place seen.entry) same
+
+-- ---- tables that are listed
+
+abbrev no_group : GroupData
+no_group = record { header = record { name = []; flags = [] }; entries = [] }
+
+module _ (named : NamedData) (groups : List GroupData) (listed : AreListed named groups) (is : IsChangeset groups) (name : List ℕ) where
+  pub unlisted : All (λ t. t.header.name ≢ name) named.tables → with_text table_name groups name ≡ None
+  unlisted none = with_text-none table_name groups name (no_group_named named groups listed name none)
+
+  module _ (place : ℕ) (at : IsPlaceOf (λ t. t.header.name ≡ name) named.tables place) where
+    abbrev pub there : GroupData
+    there = get_or groups place no_group
+
+    pub listed_there : Some there ≡ with_text table_name groups name
+    listed_there =
+        let in_groups = group_named named groups listed name place at in
+        with_text-place table_name groups name place there is.once in_groups (get_or_default groups place no_group there in_groups.within)
+
+    pub table_there : IsTableOf named.file (get_or named.tables place no_table) there (drop (suc place) groups ++ [])
+    table_there = table_at named.file named.tables groups [] place no_table no_group listed at.within
+
+    pub flags_there : (header_at named place).flags ≡ there.header.flags
+    flags_there = ap (λ (h : HeaderData). h.flags) table_there.header
+
+    pub partner_there : IsPartner (Some (tables_at named place)) (with_text table_name groups name)
+    partner_there = rw (← listed_there) (flags_there, (drop (suc place) groups ++ []), table_there.are_left)
+
+    -- whether it agrees with a group of this name
+    module _ (group : GroupData) (of : name ≡ group.header.name) where
+      found_there : Some there ≡ with_text table_name groups group.header.name
+      found_there = listed_there ∙ ap (with_text table_name groups) of
+
+      pub agrees_there : key_places (header_at named place).flags ≡ key_places group.header.flags → AgreesWith groups group
+      agrees_there same = agrees_found groups group there is.once found_there (ap key_places (sym flags_there) ∙ same)
+
+      pub there_agrees : AgreesWith groups group → key_places (header_at named place).flags ≡ key_places group.header.flags
+      there_agrees all = ap key_places flags_there ∙ found_agrees groups group there is.once found_there all
+
+    -- what is asked of the group of this name
+    pub asked_there : (flags : List ℕ) → IfSome (with_text table_name groups name) (λ g. key_places g.header.flags ≡ key_places flags) → key_places (header_at named place).flags ≡ key_places flags
+    asked_there flags asked =
+        let so : key_places there.header.flags ≡ key_places flags = rw (← listed_there) at asked in
+        ap key_places flags_there ∙ so
+
+-- ---- a group of the first file, and the one of its name in the second
+
+module _ (group : GroupData) where
+  pub joined_alone : (found : Option GroupData) → IsPartner None found → joined_group group found ≡ Some group
+  joined_alone None is = refl
+  joined_alone (Some other) is = absurd is
+
+-- the group whose entries these are
+pub record Partner (tables : TablesData) (found : Option GroupData) : Type 0 where
+  pub other : GroupData
+  pub behind : List GroupData
+  pub is : found ≡ Some other
+  pub flags : tables.flags ≡ other.header.flags
+  pub are_left : AreLeft tables other.entries behind
+
+pub partner_is : (tables : TablesData) (found : Option GroupData) → IsPartner (Some tables) found → Partner tables found
+partner_is tables None is = absurd is
+partner_is tables (Some other) is = record { other = other; behind = is.1; is = refl; flags = is.0; are_left = is.2 }
+
+pub partner_apart : (tables : TablesData) (groups : List GroupData) (name : List ℕ) (partner : Partner tables (with_text table_name groups name)) → IsChangeset groups
+    → AllPairs (λ d e. key_of tables.flags d.change ≢ key_of tables.flags e.change) partner.other.entries
+partner_apart tables groups name partner is =
+    let all : IfSome (with_text table_name groups name) (λ g. IsGroup g × (g.header.name ≡ name)) = with_text-found table_name IsGroup groups name is.each in
+    let so : IsGroup partner.other × (partner.other.header.name ≡ name) = rw partner.is at all in
+    rw partner.flags so.0.once
+
+-- a table that is written as it is
+pub whole_table : (out opened grown : List ℕ) (header : HeaderData) (entries : List Entry) → opened ≡ out ++ header_bytes header → grown ≡ opened ++ entries_bytes entries → grown ≡ out ++ group_bytes (record { header = header; entries = entries })
+unfolding group_bytes
+whole_table out opened grown header entries opened_is grown_is =
+    grown_is ∙ ap (λ (l : List ℕ). l ++ entries_bytes entries) opened_is ∙ append_assoc out (header_bytes header) (entries_bytes entries)
+
+-- ---- groups whose table the first file has or not
+
+module _ (groups : List GroupData) (group : GroupData) where
+  pub new_table : with_text table_name groups group.header.name ≡ None → some_bytes group_bytes (if_new table_name groups group) ≡ group_bytes group
+  new_table none = rw none refl
+
+  pub known_table : (other : GroupData) → Some other ≡ with_text table_name groups group.header.name → some_bytes group_bytes (if_new table_name groups group) ≡ []
+  known_table other found = rw (← found) refl
+
+-- ---- the tables of a list, one after another
+
+-- the group whose table stands at a place
+module _ (named : NamedData) (groups : List GroupData) (listed : AreListed named groups) (place : ℕ) (lt : place < length named.tables) where
+  abbrev pub group_at : GroupData
+  group_at = get_or groups place no_group
+
+  pub group_within : place < length groups
+  group_within = omega (arith, lt, tables_length named.file named.tables groups [] listed)
+
+  pub group_at_is : group_at ≡ get_or groups place group_at
+  group_at_is = get_or_default groups place no_group group_at group_within
+
+  pub table_of_group : IsTableOf named.file (get_or named.tables place no_table) group_at (drop (suc place) groups ++ [])
+  table_of_group = table_at named.file named.tables groups [] place no_table no_group listed lt
+
+  -- under an equal header it is the same
+  pub group_under : (header : HeaderData) → header ≡ header_at named place → record { header = header; entries = group_at.entries } ≡ group_at
+  group_under header is = ap (λ (h : HeaderData). record { header = h; entries = group_at.entries }) (is ∙ table_of_group.header)
+
+  -- what is asked of the group of its name among others
+  pub group_asked : (firsts : List GroupData) (header : HeaderData) → AreJoinable groups firsts → header ≡ header_at named place
+      → IfSome (with_text table_name firsts header.name) (λ h. key_places h.header.flags ≡ key_places header.flags)
+  group_asked firsts header joinable is =
+      subst (λ (h : HeaderData). IfSome (with_text table_name firsts h.name) (λ g. key_places g.header.flags ≡ key_places h.flags)) (sym (is ∙ table_of_group.header))
+      (agree_found groups firsts place group_at joinable group_within group_at_is)
+
+-- ---- both lists of a join
+
+pub joined_bytes : {X : Type 0} (bytes_of : X → List ℕ) (out mid grown : List ℕ) (kept new : List X) → mid ≡ out ++ flat_map bytes_of kept → grown ≡ mid ++ flat_map bytes_of new → grown ≡ out ++ flat_map bytes_of (kept ++ new)
+joined_bytes bytes_of out mid grown kept new mid_is grown_is =
+    grown_is ∙ ap (λ (l : List ℕ). l ++ flat_map bytes_of new) mid_is ∙ append_assoc out (flat_map bytes_of kept) (flat_map bytes_of new) ∙ ap (λ (l : List ℕ). out ++ l) (sym (flat_map-append bytes_of kept new))
+
+-- the file of the join
+pub joins : (first second out : List ℕ) (groups others : List GroupData) → IsFileOf first groups → IsFileOf second others → AreJoinable groups others → out ≡ file_bytes (joined groups others)
+    → Joins first second out × (length out ≤ length first + length second)
+joins first second out groups others p q joinable is =
+    let both : IsJoined groups others (joined groups others) = record { joinable = joinable; is_joined = refl; is_changeset = joined_is_changeset groups others p.0 q.0 joinable } in (
+      record {
+        changeset = groups;
+        other = others;
+        join = joined groups others;
+        are_files = record { is_changeset = p.0; is_file = p.1; other_is_changeset = q.0; other_is_file = q.1 };
+        is_joined = both;
+        join_is_file = is;
+      },
+      omega (arith, ap length is, ap length p.1, ap length q.1, join_length groups others (joined groups others) p.0 both),
+    )

@@ -1,0 +1,14 @@
+-- Of the entries that are left some are written.
+use Rattle.std.proofs.Common.{◌-◌, List, length}
+use Rattle.cs_wire.specs.declared.entry.Entry.{Entry}
+use Rattle.cs_wire.specs.Entry.{entry_bytes}
+use Rattle.cs_wire.specs.Changeset.{GroupData}
+use Rattle.cs_wire.specs.Tables.{AreLeft}
+use Rattle.cs_files.proofs.PassLemmas.{WritesEntries}
+use Rattle.cs_files.proofs.joining.tables.write_table.Given as goal
+
+abbrev pub invariant-entries : goal.invariant-entries
+invariant-entries l = (entries : List Entry) (groups : List GroupData) → AreLeft l.fn.tables entries groups → WritesEntries entry_bytes l.fn.tables.flags l.initial.out.items l.out.items l.left entries groups
+
+abbrev pub decreases-entries : goal.decreases-entries
+decreases-entries l = length l.left.file - l.left.place

@@ -1,0 +1,50 @@
+//! Tables that two files have, and whether they have the same columns in both.
+ghost use Rattle.std.specs.Prelude.{◌≡◌, ◌↔◌, List, IfNone, IfSome, IsTrue};
+ghost use Rattle.cs_wire.specs.Changeset.{GroupData, IsChangeset};
+ghost use Rattle.cs_wire.specs.Items.{header_of};
+ghost use Rattle.cs_wire.specs.Named.{AreListed};
+ghost use Rattle.cs_group.specs.Joining.{AgreesWith, AreJoinable, FirstClash, key_places, table_name, with_text};
+ghost use Rattle.cs_files.specs.Writing.{IsPartner};
+
+use cs_group::have_same_columns;
+use cs_wire::{HeaderRef, NamedTables, Tables};
+
+/// The place, among the tables of the second file, of the first one that has other columns or another key in the first.
+pub(crate) fn first_clash<'a>(known: &NamedTables<'a>, added: &NamedTables<'a>) -> Option<usize>
+    ensures clash { (groups others : List GroupData) → AreListed known.now groups → IsChangeset groups → AreListed added.now others
+        → IfSome result (FirstClash groups others) }
+    ensures none { (groups others : List GroupData) → AreListed known.now groups → IsChangeset groups → AreListed added.now others
+        → IfNone result (AreJoinable groups others) }
+{
+    for place in 0..added.len() {
+        if !agrees(known, &added.header(place)) {
+            return Some(place);
+        }
+    }
+    None
+}
+
+/// Whether a table has the columns that the file knows of it.
+fn agrees<'a>(known: &NamedTables<'a>, header: &HeaderRef<'a>) -> bool
+    ensures { (groups : List GroupData) (group : GroupData) → AreListed known.now groups → IsChangeset groups → header_of header.now ≡ group.header
+        → IsTrue result ↔ AgreesWith groups group }
+{
+    match known.find(header.name) {
+        None => true,
+        Some(place) => have_same_columns(known.header(place).flags, header.flags),
+    }
+}
+
+/// The entries of the table of a name, if it has the same columns.
+pub(crate) fn partner_of<'a>(named: &NamedTables<'a>, header: &HeaderRef<'a>) -> Option<Tables<'a>>
+    ensures agree { IfSome result (λ tables. key_places tables.flags ≡ key_places header.now.flags.now) }
+    ensures found { (groups : List GroupData) → AreListed named.now groups → IsChangeset groups
+        → IfSome (with_text table_name groups header.now.name.now) (λ group. key_places group.header.flags ≡ key_places header.now.flags.now)
+        → IsPartner result (with_text table_name groups header.now.name.now) }
+{
+    let place = named.find(header.name)?;
+    if !have_same_columns(named.header(place).flags, header.flags) {
+        return None;
+    }
+    Some(named.open(place))
+}

@@ -1,0 +1,138 @@
+//! The entries of a table of a join.
+ghost use Rattle.std.specs.Prelude.{◌≡◌, ◌≢◌, ◌<◌, ◌≤◌, ◌++◌, [], ℕ, All, AllPairs, IfOk, IfSome, IsTrue, List, OnOk, false, filter, filter_map, if◌then◌else◌, is_none, length, replicate};
+ghost use Rattle.cs_wire.specs.declared.entry.Entry.{Entry as EntryData};
+ghost use Rattle.cs_wire.specs.Entry.{entry_bytes, key_of};
+ghost use Rattle.cs_wire.specs.Changeset.{GroupData, entries_bytes};
+ghost use Rattle.cs_wire.specs.Tables.{AreLeft};
+ghost use Rattle.cs_wire.specs.Views.{IsPlaceOf};
+ghost use Rattle.cs_group.specs.Joining.{entry_key, is_new, joined_entries, joined_entry, key_places, left_of, merged, outcome};
+ghost use Rattle.cs_files.specs.Writing.{AreApart, AreMet, some_bytes};
+
+use cs_group::{Merged, merge_refs};
+use cs_value::NoMemory;
+use cs_wire::{EntryRef, KeyedEntries, Tables};
+use std::alloc::Global;
+
+/// Appends what the entries that are left of two tables make together.
+pub(crate) fn write_joined<'a>(
+    alloc: Global,
+    out: &mut Vec<u8>,
+    firsts: Tables<'a>,
+    seconds: Tables<'a>,
+) -> Result<(), NoMemory>
+    requires agree { key_places seconds.flags ≡ key_places firsts.flags }
+    ensures { (entries others : List EntryData) (groups behind : List GroupData) → AreLeft firsts.entry entries groups → AreLeft seconds.entry others behind
+        → AreApart (record { flags = seconds.entry.flags; entries = others })
+        → OnOk result (out.new.items ≡ out.old.items ++ entries_bytes (joined_entries firsts.entry.flags entries others)) }
+{
+    let keyed = KeyedEntries::list(alloc, seconds)?;
+    let met = write_kept(alloc, out, firsts, &keyed)?;
+    write_new(out, &keyed, met.as_slice())?;
+    Ok(())
+}
+
+/// Appends what becomes of the entries that are left of the first table, and answers which of the second have the key of one.
+fn write_kept<'a>(
+    alloc: Global,
+    out: &mut Vec<u8>,
+    firsts: Tables<'a>,
+    seconds: &KeyedEntries<'a>,
+) -> Result<Vec<bool>, NoMemory>
+    requires agree { key_places seconds.now.flags ≡ key_places firsts.flags }
+    ensures written { (entries : List EntryData) (groups : List GroupData) → AreLeft firsts.entry entries groups → AreApart seconds.now
+        → IfOk result (λ _. out.new.items ≡ out.old.items
+        ++ entries_bytes (filter_map (outcome (entry_key firsts.entry.flags) (joined_entry firsts.entry.flags) seconds.now.entries) entries)) }
+    ensures met { (entries : List EntryData) (groups : List GroupData) → AreLeft firsts.entry entries groups → AreApart seconds.now
+        → IfOk result (λ met. AreMet firsts.entry.flags met.items entries seconds.now.entries) }
+    ensures width { IfOk result (λ met. length met.items ≡ length seconds.now.entries) }
+{
+    let mut met = unmarked(alloc, seconds.entries().len())?;
+    let mut left = firsts;
+    'entries: while let Some(entry) = left.next_entry() {
+        if let Some(place) = write_outcome(alloc, out, &entry, seconds)? {
+            met[place] = true;
+        }
+    }
+    Ok(met)
+}
+
+/// Appends the entries of the second table that are not marked.
+fn write_new<'a>(
+    out: &mut Vec<u8>,
+    seconds: &KeyedEntries<'a>,
+    met: &[bool],
+) -> Result<(), NoMemory>
+    requires width { length met.now ≡ length seconds.now.entries }
+    ensures { (flags : List ℕ) (firsts : List EntryData) → AreMet flags met.now firsts seconds.now.entries
+        → OnOk result (out.new.items ≡ out.old.items ++ entries_bytes (filter (is_new (entry_key flags) firsts) seconds.now.entries)) }
+{
+    for (place, entry) in seconds.entries().iter().enumerate() {
+        write_unmet(out, entry, met[place])?;
+    }
+    Ok(())
+}
+
+/// Appends an entry, if it is not marked.
+fn write_unmet<'a>(out: &mut Vec<u8>, entry: &EntryRef<'a>, met: bool) -> Result<(), NoMemory>
+    ensures { OnOk result (out.new.items ≡ out.old.items ++ (if met then [] else entry_bytes entry.now.entry)) }
+{
+    if met {
+        return Ok(());
+    }
+    entry.write_to(out)
+}
+
+/// So many marks, of which none is set.
+fn unmarked(alloc: Global, count: usize) -> Result<Vec<bool>, NoMemory>
+    ensures { IfOk result (λ met. met.items ≡ replicate count false) }
+{
+    Ok(Vec::from_elem(alloc, false, count)?)
+}
+
+/// Appends what becomes of an entry with the one of its key among those of the second table, and answers the place of that
+/// one, if there is one.
+fn write_outcome<'a>(
+    alloc: Global,
+    out: &mut Vec<u8>,
+    entry: &EntryRef<'a>,
+    seconds: &KeyedEntries<'a>,
+) -> Result<Option<usize>, NoMemory>
+    requires agree { key_places seconds.now.flags ≡ key_places entry.now.flags }
+    ensures written { AreApart seconds.now → IfOk result (λ _. out.new.items ≡ out.old.items
+        ++ some_bytes entry_bytes (outcome (entry_key entry.now.flags) (joined_entry entry.now.flags) seconds.now.entries entry.now.entry)) }
+    ensures found { IfOk result (λ place. IfSome place (IsPlaceOf (λ e. key_of seconds.now.flags e.change
+        ≡ key_of entry.now.flags entry.now.entry.change) seconds.now.entries)) }
+    ensures absent { IfOk result (λ place. IsTrue (is_none place)
+        → All (λ e. key_of seconds.now.flags e.change ≢ key_of entry.now.flags entry.now.entry.change) seconds.now.entries) }
+{
+    let key = entry.key_slice(alloc)?;
+    match seconds.find(key.as_slice()) {
+        None => {
+            entry.write_to(out)?;
+            Ok(None)
+        }
+        Some(place) => {
+            write_merged(alloc, out, entry, &seconds.entries()[place])?;
+            Ok(Some(place))
+        }
+    }
+}
+
+/// Appends what becomes of an entry when a second one of its key comes after it.
+fn write_merged<'a>(
+    alloc: Global,
+    out: &mut Vec<u8>,
+    first: &EntryRef<'a>,
+    second: &EntryRef<'a>,
+) -> Result<(), NoMemory>
+    requires agree { key_places second.now.flags ≡ key_places first.now.flags }
+    requires one_key { key_of first.now.flags first.now.entry.change ≡ key_of first.now.flags second.now.entry.change }
+    ensures { OnOk result (out.new.items ≡ out.old.items
+        ++ some_bytes entry_bytes (left_of first.now.entry (merged first.now.flags first.now.entry second.now.entry))) }
+{
+    match merge_refs(alloc, first, second)? {
+        Merged::Keep => first.write_to(out),
+        Merged::Becomes(entry) => EntryRef::from_entry(first.flags(), &entry).write_to(out),
+        Merged::Vanish => Ok(()),
+    }
+}

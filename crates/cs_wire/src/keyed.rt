@@ -1,0 +1,103 @@
+//! Entries of a table, found by their keys.
+ghost use Rattle.std.specs.Prelude.{◌≡◌, ◌++◌, ◌∷◌, [], ◌↔◌, IfOk, IfSome, IsTrue, List, OnErr, OnOk, is_none, map};
+ghost use Rattle.std.specs.List.{AllByRecursion};
+ghost use Rattle.cs_wire.specs.declared.entry.Entry.{Entry as EntryData};
+ghost use Rattle.cs_wire.specs.Changeset.{GroupData, IsNewKey};
+ghost use Rattle.cs_wire.specs.Tables.{AreLeft};
+ghost use Rattle.cs_wire.specs.Views.{IsPlaceOf};
+
+use crate::entry_ref::EntryRef;
+use crate::places::Places;
+use crate::tables::Tables;
+use cs_value::NoMemory;
+use std::alloc::Global;
+use std::marker::Model;
+
+/// Entries of one table where they lie, which are found by their keys. Contracts see the flags of
+/// the table, and the entries.
+#[derive(Debug, Drop)]
+pub struct KeyedEntries<'a> {
+    flags: &'a [u8],
+    entries: Vec<EntryRef<'a>>,
+    // Where the entry of each key stands.
+    places: Places,
+}
+
+impl<'a> Model for KeyedEntries<'a> {
+    ghost use Rattle.std.specs.Prelude.{◌≡◌, map};
+    ghost use Rattle.std.specs.List.{AllByRecursion};
+    ghost use Rattle.cs_wire.specs.Keyed.{KeyedData};
+    ghost use Rattle.cs_wire.specs.Views.{group_keys, IsIndex};
+
+    ghost Value = { KeyedData };
+
+    ghost view = { λ k. record { flags = k.flags.now; entries = map (λ e. e.entry) k.entries.items } };
+
+    ghost invariant = { λ k. AllByRecursion (λ e. e.flags ≡ k.flags.now) k.entries.items
+        × IsIndex k.places (group_keys k.flags.now (map (λ e. e.entry) k.entries.items)) };
+}
+
+impl<'a> KeyedEntries<'a> {
+    ghost use Rattle.cs_wire.specs.Entry.{key_of};
+
+    /// No entry of a table with these flags.
+    pub fn new(alloc: Global, flags: &'a [u8]) -> KeyedEntries<'a>
+        ensures { result ≡ record { flags = flags.now; entries = [] } }
+    {
+        KeyedEntries {
+            flags,
+            entries: Vec::new(alloc),
+            places: Places::new(alloc),
+        }
+    }
+
+    /// Lists the entries that are left of the table that is open, which were read.
+    pub fn list(alloc: Global, tables: Tables<'a>) -> Result<KeyedEntries<'a>, NoMemory>
+        ensures flags { IfOk result (λ keyed. keyed.flags ≡ tables.entry.flags) }
+        ensures entries { (entries : List EntryData) (groups : List GroupData) → AreLeft tables.entry entries groups
+            → IfOk result (λ keyed. keyed.entries ≡ entries) }
+    {
+        let mut keyed = KeyedEntries::new(alloc, tables.flags());
+        let mut left = tables;
+        'entries: while let Some(entry) = left.next_entry() {
+            keyed.push(alloc, entry)?;
+        }
+        Ok(keyed)
+    }
+
+    /// The entries, in the order in which they were added.
+    pub fn entries(&self) -> &[EntryRef<'a>]
+        ensures entries { map (λ e. e.entry) result.now ≡ self.now.entries }
+        ensures flags { AllByRecursion (λ e. e.flags ≡ self.now.flags) result.now }
+    {
+        &self.entries
+    }
+
+    /// The place of an entry with a key, from 0, or None where there is none. It takes no memory,
+    /// and time in proportion to the logarithm of the count of entries.
+    pub fn find(&self, key: &[u8]) -> Option<usize>
+        ensures found { IfSome result (IsPlaceOf (λ e. key_of self.now.flags e.change ≡ key.now) self.now.entries) }
+        ensures absent { IsTrue (is_none result) ↔ IsNewKey self.now.flags self.now.entries key.now }
+    {
+        self.places.get(key)
+    }
+
+    /// Adds an entry of the table. [`NoMemory`] leaves all as it was, and drops the entry.
+    pub fn push(&mut self, alloc: Global, entry: EntryRef<'a>) -> Result<(), NoMemory>
+        requires { entry.flags ≡ self.old.flags }
+        ensures flags { self.new.flags ≡ self.old.flags }
+        ensures ok { OnOk result (self.new.entries ≡ self.old.entries ++ entry.entry.entry ∷ []) }
+        ensures err { OnErr result (self.new ≡ self.old) }
+    {
+        let key = entry.key(alloc)?;
+        let place = self.entries.len();
+        self.entries.push(entry)?;
+        match self.places.insert(key.into_bytes(), place) {
+            Ok(()) => Ok(()),
+            Err(refusal) => {
+                self.entries.pop();
+                Err(refusal)
+            }
+        }
+    }
+}

@@ -1,0 +1,106 @@
+//! The tables of a changeset's file, found by their names.
+ghost use Rattle.std.specs.Prelude.{◌≡◌, ◌≢◌, ◌<◌, [], ◌↔◌, All, IfOk, IfSome, IsTrue, List, is_none, length, slice_index_or};
+ghost use Rattle.cs_wire.specs.Changeset.{GroupData, IsHeader};
+ghost use Rattle.cs_wire.specs.Items.{header_of};
+ghost use Rattle.cs_wire.specs.Named.{AreListed, header_at, tables_at};
+ghost use Rattle.cs_wire.specs.Tables.{AreLeft};
+ghost use Rattle.cs_wire.specs.Views.{IsPlaceOf};
+
+use crate::header::HeaderRef;
+use crate::places::Places;
+use crate::tables::Tables;
+use cs_value::NoMemory;
+use std::alloc::Global;
+use std::marker::Model;
+
+/// A table, and the place in the file where its entries begin.
+#[derive(Debug, Drop)]
+struct ListedTable<'a> {
+    header: HeaderRef<'a>,
+    start: usize,
+}
+
+/// The tables of a changeset's file, in its order, which are found by their names. Contracts see the file, the headers,
+/// and where the entries behind each begin.
+#[derive(Debug, Drop)]
+pub struct NamedTables<'a> {
+    file: &'a [u8],
+    tables: Vec<ListedTable<'a>>,
+    // Where the table of each name stands.
+    places: Places,
+}
+
+impl<'a> Model for NamedTables<'a> {
+    ghost use Rattle.std.specs.Prelude.{map};
+    ghost use Rattle.std.specs.List.{AllByRecursion};
+    ghost use Rattle.cs_wire.specs.Changeset.{IsHeader};
+    ghost use Rattle.cs_wire.specs.Items.{header_of};
+    ghost use Rattle.cs_wire.specs.Named.{NamedData, table_of};
+    ghost use Rattle.cs_wire.specs.Views.{IsIndex};
+
+    ghost Value = { NamedData };
+
+    ghost view = { λ n. record { file = n.file.now; tables = map table_of n.tables.items } };
+
+    ghost invariant = { λ n. IsIndex n.places (map (λ t. t.header.name) (map table_of n.tables.items))
+        × AllByRecursion (λ t. IsHeader (header_of t.header)) n.tables.items };
+}
+
+impl<'a> NamedTables<'a> {
+    /// Lists the tables that are left, which were read.
+    pub fn list(alloc: Global, tables: Tables<'a>) -> Result<NamedTables<'a>, NoMemory>
+        ensures { (groups : List GroupData) → AreLeft tables.entry [] groups → IfOk result (λ named. AreListed named groups) }
+    {
+        let file = tables.file();
+        let mut listed = Vec::new(alloc);
+        let mut places = Places::new(alloc);
+        let mut left = tables;
+        'tables: while let Some(header) = left.next_table() {
+            let name = Vec::from_slice(alloc, header.name.as_bytes())?;
+            places.insert(name, listed.len())?;
+            listed.push(ListedTable {
+                header,
+                start: left.place(),
+            })?;
+        }
+        Ok(NamedTables {
+            file,
+            tables: listed,
+            places,
+        })
+    }
+
+    /// How many tables there are.
+    pub fn len(&self) -> usize
+        ensures { result ≡ length self.now.tables }
+    {
+        self.tables.len()
+    }
+
+    /// The place of a table with a name, from 0, or None where there is none. It takes no memory, and time in proportion
+    /// to the logarithm of the count of tables.
+    pub fn find(&self, name: &str) -> Option<usize>
+        ensures found { IfSome result (IsPlaceOf (λ t. t.header.name ≡ name.now) self.now.tables) }
+        ensures absent { IsTrue (is_none result) ↔ All (λ t. t.header.name ≢ name.now) self.now.tables }
+    {
+        self.places.get(name.as_bytes())
+    }
+
+    /// The header of the table at a place.
+    pub fn header(&self, place: usize) -> HeaderRef<'a>
+        requires { place < length self.now.tables }
+        ensures same { header_of result ≡ header_at self.now place }
+        ensures well_formed { IsHeader (header_of result) }
+    {
+        self.tables[place].header
+    }
+
+    /// The file, where the entries of the table at a place begin.
+    pub fn open(&self, place: usize) -> Tables<'a>
+        requires { place < length self.now.tables }
+        ensures { result ≡ tables_at self.now place }
+    {
+        let table = &self.tables[place];
+        Tables::at(self.file, table.start, table.header.flags)
+    }
+}
