@@ -13,6 +13,7 @@ pub mod FieldsLemmas
 pub mod FileSpellings
 pub mod GroupLemmas
 pub mod GroupsLemmas
+pub mod HashedLemmas
 pub mod HeaderFaults
 pub mod ImageExamples
 pub mod IndexLemmas

@@ -7,7 +7,7 @@ ghost use Rattle.cs_wire.specs.Tables.{AreLeft};
 ghost use Rattle.cs_wire.specs.Views.{IsPlaceOf};
 
 use crate::entry_ref::EntryRef;
-use crate::places::Places;
+use crate::hashed::HashedPlaces;
 use crate::tables::Tables;
 use cs_value::NoMemory;
 use std::alloc::Global;
@@ -20,7 +20,7 @@ pub struct KeyedEntries<'a> {
     flags: &'a [u8],
     entries: Vec<EntryRef<'a>>,
     // Where the entry of each key stands.
-    places: Places,
+    places: HashedPlaces<'a>,
 }
 
 impl<'a> Model for KeyedEntries<'a> {
@@ -47,7 +47,7 @@ impl<'a> KeyedEntries<'a> {
         KeyedEntries {
             flags,
             entries: Vec::new(alloc),
-            places: Places::new(alloc),
+            places: HashedPlaces::new(alloc),
         }
     }
 
@@ -73,8 +73,7 @@ impl<'a> KeyedEntries<'a> {
         &self.entries
     }
 
-    /// The place of an entry with a key, from 0, or None where there is none. It takes no memory,
-    /// and time in proportion to the logarithm of the count of entries.
+    /// The place of an entry with a key, from 0, or None where there is none. It takes no memory.
     pub fn find(&self, key: &[u8]) -> Option<usize>
         ensures found { IfSome result (IsPlaceOf (λ e. key_of self.now.flags e.change ≡ key.now) self.now.entries) }
         ensures absent { IsTrue (is_none result) ↔ IsNewKey self.now.flags self.now.entries key.now }
@@ -89,10 +88,10 @@ impl<'a> KeyedEntries<'a> {
         ensures ok { OnOk result (self.new.entries ≡ self.old.entries ++ entry.entry.entry ∷ []) }
         ensures err { OnErr result (self.new ≡ self.old) }
     {
-        let key = entry.key(alloc)?;
+        let key = entry.key_slice(alloc)?;
         let place = self.entries.len();
         self.entries.push(entry)?;
-        match self.places.insert(key.into_bytes(), place) {
+        match self.places.insert(key, place) {
             Ok(()) => Ok(()),
             Err(refusal) => {
                 self.entries.pop();

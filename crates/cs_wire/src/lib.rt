@@ -29,8 +29,9 @@
 //! has of a table so far, and `tables` go through a file once more that was read to its end, or was
 //! `checked` in a quick pass, in which numbers tell that its keys are `distinct`. An `entry_ref` has
 //! `fields`, of a `record_ref` that is `spelled` in a file, or owned. `places` finds entries and
-//! groups, `inverse` undoes entries, and `laws` has what holds of all changesets. `CALLING.md`, beside
-//! this folder, shows a caller.
+//! groups that are owned; tables of a file are found when they are `named`, and entries when they are
+//! `keyed`, by `hashed` places. `inverse` undoes entries, and `laws` has what holds of all changesets.
+//! `CALLING.md`, beside this folder, shows a caller.
 #![tactic(auto)]
 
 mod changeset;
@@ -45,12 +46,13 @@ mod fault;
 mod fields;
 mod format;
 mod group;
+mod hashed;
 mod header;
 mod inverse;
 mod item;
 mod keyed;
-mod named;
 mod laws;
+mod named;
 mod places;
 mod reader;
 mod record_ref;

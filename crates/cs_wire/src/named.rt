@@ -6,11 +6,12 @@ ghost use Rattle.cs_wire.specs.Named.{AreListed, header_at, tables_at};
 ghost use Rattle.cs_wire.specs.Tables.{AreLeft};
 ghost use Rattle.cs_wire.specs.Views.{IsPlaceOf};
 
+use crate::hashed::HashedPlaces;
 use crate::header::HeaderRef;
-use crate::places::Places;
 use crate::tables::Tables;
 use cs_value::NoMemory;
 use std::alloc::Global;
+use std::borrow::CowSlice;
 use std::marker::Model;
 
 /// A table, and the place in the file where its entries begin.
@@ -27,7 +28,7 @@ pub struct NamedTables<'a> {
     file: &'a [u8],
     tables: Vec<ListedTable<'a>>,
     // Where the table of each name stands.
-    places: Places,
+    places: HashedPlaces<'a>,
 }
 
 impl<'a> Model for NamedTables<'a> {
@@ -53,11 +54,10 @@ impl<'a> NamedTables<'a> {
     {
         let file = tables.file();
         let mut listed = Vec::new(alloc);
-        let mut places = Places::new(alloc);
+        let mut places = HashedPlaces::new(alloc);
         let mut left = tables;
         'tables: while let Some(header) = left.next_table() {
-            let name = Vec::from_slice(alloc, header.name.as_bytes())?;
-            places.insert(name, listed.len())?;
+            places.insert(CowSlice::Borrowed(header.name.as_bytes()), listed.len())?;
             listed.push(ListedTable {
                 header,
                 start: left.place(),
@@ -77,8 +77,7 @@ impl<'a> NamedTables<'a> {
         self.tables.len()
     }
 
-    /// The place of a table with a name, from 0, or None where there is none. It takes no memory, and time in proportion
-    /// to the logarithm of the count of tables.
+    /// The place of a table with a name, from 0, or None where there is none. It takes no memory.
     pub fn find(&self, name: &str) -> Option<usize>
         ensures found { IfSome result (IsPlaceOf (λ t. t.header.name ≡ name.now) self.now.tables) }
         ensures absent { IsTrue (is_none result) ↔ All (λ t. t.header.name ≢ name.now) self.now.tables }

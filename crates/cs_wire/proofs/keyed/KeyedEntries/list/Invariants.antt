@@ -1,5 +1,5 @@
 -- Of the entries that are left some are listed.
-use Rattle.std.proofs.Common.{◌≡◌, ◌++◌, ◌-◌, List, length}
+use Rattle.std.proofs.Common.{◌≡◌, ◌-◌, List, length}
 use Rattle.cs_wire.specs.declared.entry.Entry.{Entry}
 use Rattle.cs_wire.specs.Changeset.{GroupData}
 use Rattle.cs_wire.specs.Tables.{AreLeft}

@@ -15,7 +15,7 @@ invariant_of-self-in-Ok c =
     let flags = inside.flags.now in
     let of_table = rw (← c.self.view_is) at c.requires in
     let entries = map (λ (e : FlaggedEntry). e.entry) inside.entries.items in
-    let key = c.into_bytes.ensures ∙ c.in_ok-key.ensures ∙ ap (λ (f : List ℕ). key_of f c.args.entry.entry.change) of_table in
+    let key = c.in_ok-key.ensures ∙ ap (λ (f : List ℕ). key_of f c.args.entry.entry.change) of_table in
     let place : c.len-place.result ≡ length entries = omega (arith, length-map inside.entries.items (λ (e : FlaggedEntry). e.entry)) in
     rw (c.in_ok-push.ensures.items, map-append (λ (e : FlaggedEntry). e.entry) inside.entries.items (c.args.entry ∷ [])) (
       AllByRecursion-push (λ (e : FlaggedEntry). e.flags ≡ flags) inside.entries.items c.args.entry c.self.invariant.0 of_table,

@@ -1,14 +1,13 @@
 -- `named::NamedTables::list`: the invariant of the loop, what it ensures.
-use Rattle.std.proofs.Common.{◌≡◌, ◌∷◌, [], ◌++◌, ℕ, List, length, map, refl, sym, ap, ap₂, ◌∙◌, append-nil, arith, rules}
-use Rattle.std.specs.FinMap.{insert}
+use Rattle.std.proofs.Common.{◌≡◌, ◌∷◌, [], ◌++◌, ℕ, length, map, sym, ap, ◌∙◌, arith}
 use Rattle.std.proofs.lemmas.List.{length-map, map-append}
 use Rattle.cs_value.proofs.ListLemmas.{AllByRecursion-push}
-use Rattle.cs_wire.specs.Changeset.{GroupData, IsHeader}
+use Rattle.cs_wire.specs.Changeset.{IsHeader}
 use Rattle.cs_wire.specs.declared.named.ListedTable.{ListedTable}
 use Rattle.cs_wire.specs.Items.{header_of}
 use Rattle.cs_wire.specs.Named.{NamedTable, table_of}
 use Rattle.cs_wire.proofs.IndexLemmas.{IsIndex-none, IsIndex-grown}
-use Rattle.cs_wire.proofs.NamedLemmas.{ListedFront, ListedFront-none, ListedFront-next}
+use Rattle.cs_wire.proofs.NamedLemmas.{ListedFront-none, ListedFront-next}
 use Rattle.cs_wire.proofs.named.NamedTables.list.Goals as goal
 
 pub tables-init : goal.tables-init
@@ -20,12 +19,12 @@ tables-preserved c =
     let listed = map table_of c.tables.listed.items in
     let next = c.next_table.new.self in
     let table : NamedTable = record { header = header_of c.in-Some.header; start = c.place.result } in
-    let name = c.in_ok-name.ensures.items ∙ c.as_bytes.ensures.value in
+    let name = c.as_bytes.ensures.value in
     let place : c.len.result ≡ length listed = omega (arith, length-map c.tables.listed.items table_of, c.len.ensures) in
     let file = c.in-Some.ensures.file ∙ so.0 in
     let grown : map table_of c.push.new.self.items ≡ listed ++ table ∷ [] = ap (map table_of) c.in_ok-push.ensures.items ∙ map-append table_of c.tables.listed.items (record { header = c.in-Some.header; start = c.place.result } ∷ []) in (
       file,
-      rw grown (IsIndex-grown (λ (t : NamedTable). t.header.name) c.tables.places c.insert.new.self listed table c.in_ok-name.name.items c.len.result so.1 (sym name) place c.in_ok-insert.ensures.ok),
+      rw grown (IsIndex-grown (λ (t : NamedTable). t.header.name) c.tables.places c.insert.new.self listed table c.as_bytes.result.now c.len.result so.1 (sym name) place c.in_ok-insert.ensures.ok),
       rw c.in_ok-push.ensures.items (AllByRecursion-push (λ (t : ListedTable). IsHeader (header_of t.header)) c.tables.listed.items (record { header = c.in-Some.header; start = c.place.result }) so.2 c.in-Some.ensures.well_formed),
       λ groups left.
           let front = so.3 groups left in

@@ -1,0 +1,59 @@
+//! Where texts stand in a list, found by their hashes.
+ghost use Rattle.std.specs.Prelude.{◌≡◌, OnOk, OnErr};
+ghost use Rattle.std.specs.Cow.{cow_slice_items};
+ghost use Rattle.std.specs.FinMap as map;
+
+use cs_value::NoMemory;
+use indexmap::IndexMap;
+use std::alloc::Global;
+use std::borrow::CowSlice;
+use std::marker::Model;
+
+/// The place of each of some texts, which are lists of bytes, each there once. Contracts see the
+/// map from text to place. A look-up takes the same time however many there are, unless the texts were made to have
+/// one hash: [`Places`](crate::places::Places) takes no longer for such.
+#[derive(Debug, Drop)]
+pub(crate) struct HashedPlaces<'a> {
+    places: IndexMap<CowSlice<'a, u8>, usize>,
+}
+
+impl<'a> Model for HashedPlaces<'a> {
+    ghost use Rattle.std.specs.Prelude.{ℕ, map as map_list};
+    ghost use Rattle.std.specs.Coded.{coded_ℕ, coded_list};
+    ghost use Rattle.std.specs.Cow.{cow_slice_items};
+    ghost use Rattle.std.specs.FinMap as map;
+    ghost use Rattle.cs_value.specs.Maps.{ByBytes};
+
+    ghost Value = { ByBytes ℕ };
+
+    ghost coded = { map.code (coded_list coded_ℕ) coded_ℕ };
+
+    ghost view = { λ p. map.from_entries (map_list (λ e. (cow_slice_items e.0, e.1)) p.places.entries) };
+}
+
+impl<'a> HashedPlaces<'a> {
+    /// No text has a place.
+    pub(crate) fn new(alloc: Global) -> HashedPlaces<'a>
+        ensures { result ≡ map.empty }
+    {
+        HashedPlaces {
+            places: IndexMap::new(alloc),
+        }
+    }
+
+    /// The place of a text.
+    pub(crate) fn get(&self, text: &[u8]) -> Option<usize>
+        ensures { result ≡ map.get self.now text.now }
+    {
+        self.places.get(text).copied()
+    }
+
+    /// Gives a text a place. [`NoMemory`] leaves all as it was.
+    pub(crate) fn insert(&mut self, text: CowSlice<'a, u8>, place: usize) -> Result<(), NoMemory>
+        ensures ok { OnOk result (self.new ≡ map.insert self.old (cow_slice_items text.entry) place) }
+        ensures err { OnErr result (self.new ≡ self.old) }
+    {
+        self.places.insert(text, place)?;
+        Ok(())
+    }
+}
