@@ -25,9 +25,9 @@ use Rattle.cs_apply.specs.declared.report.Report.{Report}
 use Rattle.cs_apply.specs.declared.run.Run.{Run}
 use Rattle.cs_apply.specs.declared.running.Direction.{Direction}
 use Rattle.cs_apply.specs.declared.running.Direction.TheVariants.{Forward, Inverse}
-use Rattle.cs_apply.specs.Running.{Applies, Handler, IsNamed, IsReadAs, Refuses, directed, directed_entry, directed_group}
+use Rattle.cs_apply.specs.Running.{Applies, Handler, IsNamed, IsReadAs, Refuses}
 use Rattle.cs_apply.specs.Steps.{HasTable, header_in}
-use Rattle.cs_apply.specs.Run.{IsAtStart, IsBehind, IsNewEntry, TakesTable, answer_of, group_of, outcome_of}
+use Rattle.cs_apply.specs.Run.{IsAtStart, IsBehind, IsNewEntry, TakesTable, answer_of, directed, directed_entry, directed_group, group_of, outcome_of}
 use Rattle.cs_apply.proofs.StepLemmas.{each_both}
 use Rattle.cs_apply.proofs.BehindLemmas.{behind_start, behind_table, has_open_table, last_is, none_wider, some_wider}
 use Rattle.cs_apply.proofs.OutcomeLemmas.{applies_from, refuses_from}

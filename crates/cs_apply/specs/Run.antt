@@ -5,6 +5,8 @@ use Rattle.cs_value.specs.State.{State, schema_at}
 use Rattle.cs_wire.specs.declared.entry.Entry.{Entry}
 use Rattle.cs_wire.specs.Entry.{key_of}
 use Rattle.cs_wire.specs.Changeset.{HeaderData, GroupData}
+use Rattle.cs_wire.specs.Views.{inverse_entry}
+use Rattle.cs_group.specs.Inverse.{inverse_group}
 use Rattle.cs_group.specs.declared.judging.Judgement.{Judgement}
 use Rattle.cs_group.specs.declared.judging.Judgement.TheVariants as judgement
 use Rattle.cs_group.specs.Judging.{judged, is_skipped}
@@ -14,8 +16,23 @@ use Rattle.cs_apply.specs.declared.fault.ApplyFault.{ApplyFault}
 use Rattle.cs_apply.specs.declared.fault.ApplyFault.TheVariants.{Wider}
 use Rattle.cs_apply.specs.declared.report.Report.{Report}
 use Rattle.cs_apply.specs.declared.run.Run.{Run}
+use Rattle.cs_apply.specs.declared.running.Direction.{Direction}
+use Rattle.cs_apply.specs.declared.running.Direction.TheVariants.{Forward, Inverse}
 use Rattle.cs_apply.specs.Running.{Handler}
 use Rattle.cs_apply.specs.Steps.{Carries, RefusesEntries}
+
+-- a changeset as it is run: as it is, or what undoes each of its entries
+abbrev pub directed : Direction → List GroupData → List GroupData
+directed Forward changeset = changeset
+directed Inverse changeset = map inverse_group changeset
+
+abbrev pub directed_group : Direction → GroupData → GroupData
+directed_group Forward group = group
+directed_group Inverse group = inverse_group group
+
+abbrev pub directed_entry : Direction → List ℕ → Entry → Entry
+directed_entry Forward flags entry = entry
+directed_entry Inverse flags entry = inverse_entry flags entry
 
 -- the entries of a table, of which there may be none yet
 abbrev pub group_of : HeaderData → List Entry → GroupData

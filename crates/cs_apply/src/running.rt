@@ -5,8 +5,8 @@ ghost use Rattle.std.specs.Fn.{FnReturnsAt};
 ghost use Rattle.cs_value.specs.State.{State};
 ghost use Rattle.cs_wire.specs.Entry.{IsEntry};
 ghost use Rattle.cs_wire.specs.Changeset.{GroupData, file_bytes};
-ghost use Rattle.cs_apply.specs.Running.{Applies, Refuses, IsNamed, IsResource, directed_entry, directed_group};
-ghost use Rattle.cs_apply.specs.Run.{IsBehind};
+ghost use Rattle.cs_apply.specs.Running.{Applies, Refuses, IsNamed, IsResource};
+ghost use Rattle.cs_apply.specs.Run.{IsBehind, directed_entry, directed_group};
 
 use crate::conflict::Conflict;
 use crate::fault::ApplyFault;

@@ -3,7 +3,7 @@ use Rattle.std.proofs.Common.{◌≡◌, ◌<◌, ◌+◌, ℕ, List, length, ge
 use Rattle.std.specs.Fn.{FnReturnsAt}
 use Rattle.std.proofs.lemmas.List.{take_all}
 use Rattle.cs_wire.specs.Changeset.{GroupData, file_bytes}
-use Rattle.cs_apply.specs.Running.{directed}
+use Rattle.cs_apply.specs.Run.{directed}
 use Rattle.cs_apply.proofs.BehindLemmas.{behind_start}
 use Rattle.cs_apply.proofs.DirectedLemmas.{directed_none, group_names, groups_more, read_as, run_outcome}
 use Rattle.cs_apply.proofs.running.run_changeset_in.Goals as goal

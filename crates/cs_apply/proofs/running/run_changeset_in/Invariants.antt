@@ -2,8 +2,8 @@
 use Rattle.std.proofs.Common.{◌≡◌, take}
 use Rattle.std.specs.Prelude.{IfSome}
 use Rattle.std.specs.Fn.{FnReturnsAt}
-use Rattle.cs_apply.specs.Running.{IsNamed, directed}
-use Rattle.cs_apply.specs.Run.{IsBehind}
+use Rattle.cs_apply.specs.Running.{IsNamed}
+use Rattle.cs_apply.specs.Run.{IsBehind, directed}
 use Rattle.cs_apply.proofs.running.run_changeset_in.Given as goal
 
 abbrev pub invariant-loop-group : goal.invariant-loop-group

@@ -2,7 +2,7 @@
 use Rattle.std.proofs.Common.{Option, Ok, refl, ap, ◌∙◌, arith}
 use Rattle.std.specs.Fn.{FnReturnsAt}
 use Rattle.cs_wire.specs.declared.item.Item.{Item}
-use Rattle.cs_apply.specs.Running.{directed}
+use Rattle.cs_apply.specs.Run.{directed}
 use Rattle.cs_apply.proofs.DirectedLemmas.{front_start, front_table, front_has_table, front_entry, outcome_named, read_as, run_outcome}
 use Rattle.cs_apply.proofs.running.run_in.Goals as goal
 

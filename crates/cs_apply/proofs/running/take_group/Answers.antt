@@ -6,8 +6,7 @@ use Rattle.cs_wire.specs.declared.entry.Entry.{Entry}
 use Rattle.cs_wire.specs.Changeset.{HeaderData}
 use Rattle.cs_wire.specs.Items.{FlaggedEntry, header_of}
 use Rattle.cs_group.proofs.ApplyLemmas.{judged_same}
-use Rattle.cs_apply.specs.Running.{directed_entry}
-use Rattle.cs_apply.specs.Run.{group_of}
+use Rattle.cs_apply.specs.Run.{directed_entry, group_of}
 use Rattle.cs_apply.proofs.BehindLemmas.{behind_table, has_judged_table}
 use Rattle.cs_apply.proofs.DirectedLemmas.{directed_entries, entries_more, entry_new, group_begun, group_whole}
 use Rattle.cs_apply.proofs.running.take_group.Goals as goal
