@@ -12,6 +12,7 @@ use Rattle.cs_group.specs.declared.judging.Judgement.TheVariants as judgement
 use Rattle.cs_group.specs.Judging.{judged, is_skipped}
 use Rattle.cs_group.specs.Judging as judging
 use Rattle.cs_group.specs.Applying.{applicable, skipped}
+use Rattle.cs_apply.specs.declared.ending.Ending.{Ending}
 use Rattle.cs_apply.specs.declared.fault.ApplyFault.{ApplyFault}
 use Rattle.cs_apply.specs.declared.fault.ApplyFault.TheVariants.{Wider}
 use Rattle.cs_apply.specs.declared.report.Report.{Report}
@@ -19,7 +20,7 @@ use Rattle.cs_apply.specs.declared.run.Run.{Run}
 use Rattle.cs_apply.specs.declared.running.Direction.{Direction}
 use Rattle.cs_apply.specs.declared.running.Direction.TheVariants.{Forward, Inverse}
 use Rattle.cs_apply.specs.Running.{Handler}
-use Rattle.cs_apply.specs.Steps.{Carries, RefusesEntries}
+use Rattle.cs_apply.specs.Steps.{Carries, StopsAs, refusal_of}
 
 -- a changeset as it is run: as it is, or what undoes each of its entries
 abbrev pub directed : Direction → List GroupData → List GroupData
@@ -59,12 +60,12 @@ first_wider (judgement.Skipped ∷ js) = option_map suc (first_wider js)
 first_wider (judgement.Compatible ∷ js) = option_map suc (first_wider js)
 
 -- what became of the entries: all were carried out or passed over, or the run ended at one of them
-abbrev pub CameTo : Handler → State → List GroupData → Report → Report → State → Option ApplyFault → Type 0
+abbrev pub CameTo : Handler → State → List GroupData → Report → Report → State → Option Ending → Type 0
 CameTo chooses before groups start report after None =
     Carries chooses (applicable before groups) before start after report
     × (map string_bytes report.skipped.items ≡ map string_bytes start.skipped.items ++ skipped before groups)
-CameTo chooses before groups start report after (Some fault) =
-    RefusesEntries chooses (applicable before groups) before start report fault
+CameTo chooses before groups start report after (Some ending) =
+    StopsAs chooses (applicable before groups) before start report ending
 
 abbrev pub last_group : List GroupData → Option GroupData
 last_group [] = None
@@ -119,9 +120,9 @@ pub record IsNewEntry (closed : List GroupData) (header : HeaderData) (entries :
   pub key : AllByRecursion (λ d. key_of header.flags d.change ≢ key_of header.flags entry.change) entries
 
 -- what a run comes to behind the last item
-abbrev pub outcome_of : Option ℕ → Option ApplyFault → Report → Result Report ApplyFault
+abbrev pub outcome_of : Option ℕ → Option Ending → Report → Result Report ApplyFault
 outcome_of (Some place) ended report = Err (Wider place)
-outcome_of None (Some fault) report = Err fault
+outcome_of None (Some ending) report = Err (refusal_of ending)
 outcome_of None None report = Ok report
 
 abbrev pub answer_of : Run → Result Report ApplyFault

@@ -9,13 +9,15 @@
 //! ```
 //!
 //! `running` takes a file through any rows, item by item, and `run` is what it knows behind the items so
-//! far: `judging` says how a table stands to the one that is there, and `entry` carries out an entry.
+//! far: `judging` says how a table stands to the one that is there, `entry` carries out an entry, and `ending`
+//! is how a run ends at one.
 //! `store` does so in a batch of a store, which is committed or dropped. `conflict` is what a handler is
 //! asked and what it chose, `policy` a handler that goes by the kind, `report` what a run tells, and `fault`
 //! why it is refused. `CALLING.md`, beside this folder, shows a caller.
 #![tactic(auto)]
 
 mod conflict;
+mod ending;
 mod entry;
 mod fault;
 mod judging;

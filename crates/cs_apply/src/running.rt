@@ -1,5 +1,5 @@
 //! A changeset, applied to rows.
-ghost use Rattle.std.specs.Prelude.{◌≡◌, ◌≢◌, ◌<◌, ◌+◌, [], ◌∷◌, ◌++◌, List, IfOk, IfErr, IfSome, OnOk};
+ghost use Rattle.std.specs.Prelude.{◌≡◌, ◌≢◌, ◌<◌, ◌+◌, [], ◌∷◌, ◌++◌, List, IfOk, IfErr, OnOk};
 ghost use Rattle.std.specs.List.{AllByRecursion};
 ghost use Rattle.std.specs.Fn.{FnReturnsAt};
 ghost use Rattle.cs_value.specs.State.{State};
@@ -110,7 +110,6 @@ fn take_group<'a, B: Rows, H: Fn(&Conflict) -> Choice>(
         → IsBehind (FnReturnsAt H.Fn handler.now) before
         (closed ++ directed_group direction group.now ∷ []) run.new (B.state rows.new)) }
     ensures tables { OnOk result (run.new.tables ≡ run.old.tables + 1) }
-    ensures ended { IfSome run.old.ended IsNamed → IfSome run.new.ended IsNamed }
     ensures refused { B.is_honest rows.new → IfErr result IsResource }
     ensures named { IfErr result IsNamed }
     ensures was_honest { B.is_honest rows.new → B.is_honest rows.old }
