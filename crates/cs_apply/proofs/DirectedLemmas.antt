@@ -27,7 +27,7 @@ use Rattle.cs_apply.specs.declared.report.Report.{Report}
 use Rattle.cs_apply.specs.declared.run.Run.{Run}
 use Rattle.cs_apply.specs.declared.running.Direction.{Direction}
 use Rattle.cs_apply.specs.declared.running.Direction.TheVariants.{Forward, Inverse}
-use Rattle.cs_apply.specs.Running.{Applies, Handler, IsNamed, IsReadAs, Refuses}
+use Rattle.cs_apply.specs.Running.{Applies, Handler, IsNamed, IsNoReadFault, IsReadAs, Refuses}
 use Rattle.cs_apply.specs.Steps.{HasTable, header_in}
 use Rattle.cs_apply.specs.Run.{IsAtStart, IsBehind, IsNewEntry, TakesTable, answer_of, directed, directed_entry, directed_group, group_of, outcome_of}
 use Rattle.cs_apply.proofs.StepLemmas.{each_both}
@@ -210,6 +210,16 @@ named_by None (Some (Misused conflict)) report = tt
 
 pub outcome_named : (run : Run) (result : Result Report ApplyFault) → result ≡ answer_of run → IfErr result IsNamed
 outcome_named run result same = rw same (named_by run.wider run.ended run.report)
+
+-- and is no fault of reading
+read_by : (w : Option ℕ) (o : Option Ending) (report : Report) → IfErr (outcome_of w o report) IsNoReadFault
+read_by (Some place) o report = tt
+read_by None None report = tt
+read_by None (Some (Aborted conflict)) report = tt
+read_by None (Some (Misused conflict)) report = tt
+
+pub outcome_read : (run : Run) (result : Result Report ApplyFault) → result ≡ answer_of run → IfErr result IsNoReadFault
+outcome_read run result same = rw same (read_by run.wider run.ended run.report)
 
 -- ---- a changeset, group by group
 

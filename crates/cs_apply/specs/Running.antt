@@ -89,6 +89,11 @@ abbrev pub IsNamed : ApplyFault → Type 0
 IsNamed (Store error) = (error ≡ DamagedStore) ⊎ (error ≡ StoreFault)
 IsNamed fault = Unit {0}
 
+-- it is no fault of reading
+abbrev pub IsNoReadFault : ApplyFault → Type 0
+IsNoReadFault (Read fault) = ⊥
+IsNoReadFault fault = Unit {0}
+
 -- the handler that aborts at each conflict
 abbrev pub AlwaysAborts : Handler
 AlwaysAborts conflict chosen = chosen ≡ choice.Abort

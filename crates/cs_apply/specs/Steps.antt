@@ -1,10 +1,11 @@
 -- How a run goes on, entry by entry. No public contract names this.
-use Rattle.std.specs.Prelude.{◌≡◌, ℕ, Bool, true, false, List, [], ◌∷◌, ◌++◌, map, filter_map, All, Option, None, Some}
+use Rattle.std.specs.Prelude.{◌≡◌, ◌⊎◌, ℕ, Bool, true, false, List, [], ◌∷◌, ◌++◌, map, filter_map, All, Option, None, Some}
 use Rattle.std.specs.Prelude.{option_map, option_to_list}
 use Rattle.cs_value.specs.declared.value.OwnedValue.{OwnedValue}
 use Rattle.cs_value.specs.State.{State, SchemaData, schema_at, with_row, without_row}
 use Rattle.cs_wire.specs.Changeset.{HeaderData}
 use Rattle.cs_wire.specs.Items.{FlaggedEntry}
+use Rattle.cs_store.specs.declared.fault.StoreError.TheVariants.{DamagedStore}
 use Rattle.cs_store.specs.Editing.{written_of}
 use Rattle.cs_group.specs.declared.conflict.Kind.TheVariants.{NotFound}
 use Rattle.cs_group.specs.declared.conflict.Choice.{Choice}
@@ -18,12 +19,16 @@ use Rattle.cs_apply.specs.declared.conflict.Met.{Met}
 use Rattle.cs_apply.specs.declared.ending.Ending.{Ending}
 use Rattle.cs_apply.specs.declared.ending.Ending.TheVariants.{Aborted, Misused}
 use Rattle.cs_apply.specs.declared.fault.ApplyFault.{ApplyFault}
-use Rattle.cs_apply.specs.declared.fault.ApplyFault.TheVariants.{Abort, Misuse}
+use Rattle.cs_apply.specs.declared.fault.ApplyFault.TheVariants.{Abort, Misuse, Store}
 use Rattle.cs_apply.specs.declared.entry.Settled.{Settled}
 use Rattle.cs_apply.specs.declared.entry.Settled.TheVariants.{Carried, Passed, Ended}
 use Rattle.cs_apply.specs.declared.report.Report.{Report}
 use Rattle.cs_apply.specs.Report.{conflict_of, met_of}
-use Rattle.cs_apply.specs.Running.{Handler, GoesOn}
+use Rattle.cs_apply.specs.Running.{Handler, GoesOn, IsResource}
+
+-- memory was refused, the database refused, or what it holds is damaged
+abbrev pub IsStoreRefusal : ApplyFault → Type 0
+IsStoreRefusal fault = IsResource fault ⊎ (fault ≡ Store DamagedStore)
 
 -- the table is there, with these columns and this key
 pub record HasTable (state : State) (header : HeaderData) : Type 0 where

@@ -6,8 +6,8 @@ ghost use Rattle.cs_store.specs.Editing.{written_of};
 ghost use Rattle.cs_store.specs.Rows.{Fits};
 ghost use Rattle.cs_group.specs.declared.conflict.Kind.TheVariants.{NotFound as NotFoundKind};
 ghost use Rattle.cs_group.specs.Conflicts.{conflict_kind as kind_of, row_after as row_of_change, ends};
-ghost use Rattle.cs_apply.specs.Running.{IsResource, IsNamed};
-ghost use Rattle.cs_apply.specs.Steps.{HasTable, ComesTo, SettlesAs, header_in, placed_in_table, settled_as, with_result};
+ghost use Rattle.cs_apply.specs.Running.{IsResource};
+ghost use Rattle.cs_apply.specs.Steps.{HasTable, ComesTo, IsStoreRefusal, SettlesAs, header_in, placed_in_table, settled_as, with_result};
 
 use crate::conflict::{Conflict, Met};
 use crate::ending::Ending;
@@ -46,7 +46,7 @@ pub(crate) fn apply_entry<B: Rows, H: Fn(&Conflict) -> Choice>(
         (placed_in_table table.now entry.now) (B.state rows.old) report.old (B.state rows.new) report.new) }
     ensures skipped { report.new.skipped ≡ report.old.skipped }
     ensures refused { B.is_honest rows.new → IfErr result IsResource }
-    ensures named { IfErr result IsNamed }
+    ensures named { IfErr result IsStoreRefusal }
     ensures was_honest { B.is_honest rows.new → B.is_honest rows.old }
     ensures kept { B.keeps rows.old rows.new }
 {

@@ -6,8 +6,8 @@ ghost use Rattle.cs_wire.specs.declared.entry.Entry.{Entry as EntryData};
 ghost use Rattle.cs_wire.specs.Changeset.{GroupData, HeaderData};
 ghost use Rattle.cs_wire.specs.Items.{header_of};
 ghost use Rattle.cs_group.specs.declared.judging.Judgement.TheVariants.{Compatible as CompatibleTable};
-ghost use Rattle.cs_apply.specs.Running.{IsResource, IsNamed};
-ghost use Rattle.cs_apply.specs.Steps.{HasTable, header_in};
+ghost use Rattle.cs_apply.specs.Running.{IsResource};
+ghost use Rattle.cs_apply.specs.Steps.{HasTable, IsStoreRefusal, header_in};
 ghost use Rattle.cs_apply.specs.Run.{IsAtStart, IsBehind, IsNewEntry, TakesEntries, TakesTable, answer_of, group_of};
 
 use crate::conflict::Conflict;
@@ -64,7 +64,7 @@ impl<'a> Run<'a> {
             (TakesTable (B.state rows.old) self.old (header_of header.entry) self.new (B.state rows.new)) }
         ensures tables { OnOk result (self.new.tables ≡ self.old.tables + 1) }
         ensures refused { B.is_honest rows.new → IfErr result IsResource }
-        ensures named { IfErr result IsNamed }
+        ensures named { IfErr result IsStoreRefusal }
         ensures was_honest { B.is_honest rows.new → B.is_honest rows.old }
         ensures kept { B.keeps rows.old rows.new }
     {
@@ -113,7 +113,7 @@ impl<'a> Run<'a> {
         ensures table { (self.new.table ≡ self.old.table) × (self.new.judgement ≡ self.old.judgement) }
         ensures tables { self.new.tables ≡ self.old.tables }
         ensures refused { B.is_honest rows.new → IfErr result IsResource }
-        ensures named { IfErr result IsNamed }
+        ensures named { IfErr result IsStoreRefusal }
         ensures was_honest { B.is_honest rows.new → B.is_honest rows.old }
         ensures kept { B.keeps rows.old rows.new }
     {

@@ -7,7 +7,7 @@ use Rattle.cs_wire.specs.Changeset.{GroupData}
 use Rattle.cs_group.specs.Judging.{judged}
 use Rattle.cs_apply.specs.Run.{IsBehind, group_of}
 use Rattle.cs_apply.proofs.DirectedLemmas.{directed_entries}
-use Rattle.cs_apply.proofs.running.take_group.Given as goal
+use Rattle.cs_apply.proofs.owned.take_group.Given as goal
 
 abbrev pub invariant-loop-entry : goal.invariant-loop-entry
 invariant-loop-entry g l =

@@ -1,4 +1,4 @@
--- `running::take_group`: the invariant of the loop at `entry`, what `take_entry` asks for, the clauses `behind` and `kept`.
+-- `owned::take_group`: the invariant of the loop at `entry`, what `take_entry` asks for, the clauses `behind` and `kept`.
 use Rattle.std.proofs.Common.{◌≡◌, ◌<◌, [], List, ℕ, length, take, get_or, refl, sym, ap, ap₂, ◌∙◌}
 use Rattle.std.specs.Fn.{FnReturnsAt}
 use Rattle.std.proofs.lemmas.List.{take_all}
@@ -9,7 +9,7 @@ use Rattle.cs_group.proofs.ApplyLemmas.{judged_same}
 use Rattle.cs_apply.specs.Run.{directed_entry, group_of}
 use Rattle.cs_apply.proofs.BehindLemmas.{behind_table, has_judged_table}
 use Rattle.cs_apply.proofs.DirectedLemmas.{directed_entries, entries_more, entry_new, group_begun, group_whole}
-use Rattle.cs_apply.proofs.running.take_group.Goals as goal
+use Rattle.cs_apply.proofs.owned.take_group.Goals as goal
 
 pub loop-entry-init : goal.loop-entry-init
 loop-entry-init g c =

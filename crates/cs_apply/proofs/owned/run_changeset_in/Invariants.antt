@@ -2,7 +2,7 @@
 use Rattle.std.proofs.Common.{◌≡◌, take}
 use Rattle.std.specs.Fn.{FnReturnsAt}
 use Rattle.cs_apply.specs.Run.{IsBehind, directed}
-use Rattle.cs_apply.proofs.running.run_changeset_in.Given as goal
+use Rattle.cs_apply.proofs.owned.run_changeset_in.Given as goal
 
 abbrev pub invariant-loop-group : goal.invariant-loop-group
 invariant-loop-group g l =

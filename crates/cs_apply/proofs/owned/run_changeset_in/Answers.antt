@@ -1,12 +1,12 @@
--- `running::run_changeset_in`: the invariant of the loop at `group`, the clauses `applied` and `refused`.
+-- `owned::run_changeset_in`: the invariant of the loop at `group`, the clauses `applied`, `refused`, `named` and `read`.
 use Rattle.std.proofs.Common.{◌≡◌, ◌<◌, ◌+◌, ℕ, List, length, get_or, refl, ap, ◌∙◌}
 use Rattle.std.specs.Fn.{FnReturnsAt}
 use Rattle.std.proofs.lemmas.List.{take_all}
 use Rattle.cs_wire.specs.Changeset.{GroupData, file_bytes}
 use Rattle.cs_apply.specs.Run.{directed}
 use Rattle.cs_apply.proofs.BehindLemmas.{behind_start}
-use Rattle.cs_apply.proofs.DirectedLemmas.{directed_none, group_names, groups_more, read_as, run_outcome}
-use Rattle.cs_apply.proofs.running.run_changeset_in.Goals as goal
+use Rattle.cs_apply.proofs.DirectedLemmas.{directed_none, group_names, groups_more, outcome_named, outcome_read, read_as, run_outcome}
+use Rattle.cs_apply.proofs.owned.run_changeset_in.Goals as goal
 
 pub loop-group-init : goal.loop-group-init
 loop-group-init g c = (
@@ -53,3 +53,9 @@ returns-clause-refused g c = λ honest.
     let behind = rw whole at (c.loop-group.invariant.3 honest).1 in
     (run_outcome (FnReturnsAt g.H.Fn c.args.handler.now) c.args.direction (file_bytes all) (directed c.args.direction all) _ c.loop-group.run _ (read_as c.args.direction (file_bytes all) all (groups.well_formed, refl)) behind
     c.finish.result c.finish.ensures).1
+
+pub returns-clause-named : goal.returns-clause-named
+returns-clause-named g c = outcome_named c.loop-group.run c.finish.result c.finish.ensures
+
+pub returns-clause-read : goal.returns-clause-read
+returns-clause-read g c = outcome_read c.loop-group.run c.finish.result c.finish.ensures
