@@ -16,16 +16,16 @@ use Rattle.cs_group.specs.declared.judging.Judgement.{Judgement}
 use Rattle.cs_group.specs.declared.judging.Judgement.TheVariants.{Skipped, Wider, Compatible}
 use Rattle.cs_group.specs.Judging.{judgement, judged, is_compatible, is_skipped}
 use Rattle.cs_group.specs.Applying.{PlacedEntry, placed, placed_by, placed_in, IsElsewhere, NoneWider, FirstWider, applicable, skipped}
-use Rattle.cs_apply.specs.declared.fault.ApplyFault.{ApplyFault}
-use Rattle.cs_apply.specs.declared.fault.ApplyFault.TheVariants as fault
+use Rattle.cs_apply.specs.declared.ending.Ending.{Ending}
+use Rattle.cs_apply.specs.declared.ending.Ending.TheVariants.{Aborted, Misused}
 use Rattle.cs_apply.specs.declared.report.Report.{Report}
 use Rattle.cs_apply.specs.declared.run.Run.{Run}
 use Rattle.cs_apply.specs.Report.{met_of}
 use Rattle.cs_apply.specs.Running.{Handler}
-use Rattle.cs_apply.specs.Steps.{HasTable, Carries, ComesTo, RefusesEntries, header_in, placed_in_table}
+use Rattle.cs_apply.specs.Steps.{HasTable, Carries, ComesTo, StopsAs, header_in, placed_in_table}
 use Rattle.cs_apply.specs.Run.{IsAtStart, IsBehind, IsNewEntry, CameTo, TakesEntries, TakesTable, first_wider, group_of, last_group, wider_then}
 use Rattle.cs_apply.proofs.RunLemmas.{applicable_more, each_map, has_table, other_tables, skipped_more, table_stays}
-use Rattle.cs_apply.proofs.StepLemmas.{Apart, carries_none, carries_then, refuses_more, refuses_then}
+use Rattle.cs_apply.proofs.StepLemmas.{Apart, carries_none, carries_then, stops_as_more, stops_as_then}
 
 -- ---- the last of some groups
 
@@ -107,13 +107,9 @@ carries_same chooses ps a b r s t one conflicts written = record {
   written = ap (λ v. map written_of v.items) written ∙ one.written;
 }
 
-refuses_same : (chooses : Handler) (ps : List PlacedEntry) (a : State) (r s t : Report) (e : ApplyFault) → RefusesEntries chooses ps a r s e → t.conflicts ≡ s.conflicts → RefusesEntries chooses ps a r t e
-refuses_same chooses ps a r s t (fault.Abort k) h same = (record { later = h.0.later; chosen = λ all. rw same (h.0.chosen all); listed = rw same h.0.listed }, h.1)
-refuses_same chooses ps a r s t (fault.Misuse k) h same = (record { later = h.0.later; chosen = λ all. rw same (h.0.chosen all); listed = rw same h.0.listed }, h.1, h.2)
-refuses_same chooses ps a r s t (fault.Store e) h same = h
-refuses_same chooses ps a r s t fault.NoMemory h same = h
-refuses_same chooses ps a r s t (fault.Read f) h same = absurd h
-refuses_same chooses ps a r s t (fault.Wider place) h same = absurd h
+stops_as_same : (chooses : Handler) (ps : List PlacedEntry) (a : State) (r s t : Report) (e : Ending) → StopsAs chooses ps a r s e → t.conflicts ≡ s.conflicts → StopsAs chooses ps a r t e
+stops_as_same chooses ps a r s t (Aborted k) h same = (record { later = h.0.later; chosen = λ all. rw same (h.0.chosen all); listed = rw same h.0.listed }, h.1)
+stops_as_same chooses ps a r s t (Misused k) h same = (record { later = h.0.later; chosen = λ all. rw same (h.0.chosen all); listed = rw same h.0.listed }, h.1, h.2)
 
 -- ---- before the first item
 
@@ -163,7 +159,7 @@ module _ (s : State) (gs : List GroupData) (h : HeaderData) where
     came_now : next.wider ≡ None → CameTo chooses s opened is.start next.report b next.ended
     came_now none = rw (takes.same, takes.ended) (by run.ended (is.came_to (was_none run.wider run.tables next.judgement (sym takes.wider ∙ none))))
       where
-        by : (o : Option ApplyFault) → CameTo chooses s gs is.start run.report a o → CameTo chooses s opened is.start next.report a o
+        by : (o : Option Ending) → CameTo chooses s gs is.start run.report a o → CameTo chooses s opened is.start next.report a o
         by None came = (
           rw applicable_opened (carries_same chooses (applicable s gs) s a is.start run.report next.report came.0 takes.conflicts takes.written),
           takes.skipped ∙ ap (λ (l : List (List ℕ)). l ++ (if is_skipped next.judgement then h.name ∷ [] else [])) came.1
@@ -171,7 +167,7 @@ module _ (s : State) (gs : List GroupData) (h : HeaderData) where
               ∙ ap (λ (l : List (List ℕ)). map string_bytes is.start.skipped.items ++ l)
               (ap (λ (j : Judgement). skipped s gs ++ (if is_skipped j then h.name ∷ [] else [])) judged_now ∙ sym skipped_opened),
         )
-        by (Some e) came = rw applicable_opened (refuses_same chooses (applicable s gs) s is.start run.report next.report e came takes.conflicts)
+        by (Some e) came = rw applicable_opened (stops_as_same chooses (applicable s gs) s is.start run.report next.report e came takes.conflicts)
 
     pub behind_table : IsBehind chooses s opened next b
     behind_table = record {
@@ -261,14 +257,14 @@ module _ (s : State) (closed : List GroupData) (h : HeaderData) (es : List Entry
       came_to = λ none. by none run.ended refl (is.came_to none);
     }
       where
-        by : run.wider ≡ None → (o : Option ApplyFault) → run.ended ≡ o → CameTo chooses s here is.start run.report a o → CameTo chooses s grown is.start run.report a o
+        by : run.wider ≡ None → (o : Option Ending) → run.ended ≡ o → CameTo chooses s here is.start run.report a o → CameTo chooses s grown is.start run.report a o
         by none None goes_on came =
             let none_added : added ≡ [] =
             rw (is_passed its_judgement (λ compatible. passed (record { compatible = is_open.1 ∙ compatible; none_wider = none; goes_on = goes_on }))) refl in (
               rw (applicable_grown, none_added, append-nil (applicable s here)) came.0,
               rw skipped_grown came.1,
             )
-        by none (Some fault) goes_on came = rw applicable_grown (refuses_more chooses (applicable s here) s is.start added run.report fault came)
+        by none (Some ending) goes_on came = rw applicable_grown (stops_as_more chooses (applicable s here) s is.start added run.report ending came)
 
     -- it is carried out, or does not stand in the way, or ends the run
     pub behind_taken : (next : Run) (b : State) (seen : FlaggedEntry) → TakesEntries run → IsNewEntry closed h es e → seen.flags ≡ h.flags → seen.entry ≡ e
@@ -298,7 +294,7 @@ module _ (s : State) (closed : List GroupData) (h : HeaderData) (es : List Entry
         one_added : added ≡ placed_by h e ∷ []
         one_added = let compatible : its_judgement ≡ Compatible = sym is_open.1 ∙ takes.compatible in rw compatible refl
 
-        by : (o : Option ApplyFault) → ComesTo chooses (placed_by h e) a run.report b next.report o
+        by : (o : Option Ending) → ComesTo chooses (placed_by h e) a run.report b next.report o
             → ((t : List ℕ) → schema_at b t ≡ schema_at s t) × CameTo chooses s grown is.start next.report b o
         by None two = (
           λ t. two.applied.schemas t ∙ is.schemas t,
@@ -307,9 +303,9 @@ module _ (s : State) (closed : List GroupData) (h : HeaderData) (es : List Entry
             rw (skips, skipped_grown) was.1,
           ),
         )
-        by (Some fault) two = (
+        by (Some ending) two = (
           λ t. ap (λ (n : State). schema_at n t) two.1 ∙ is.schemas t,
-          rw (applicable_grown, one_added) (refuses_then chooses (applicable s here) s is.start (placed_by h e ∷ []) a run.report next.report fault (apart_grown new) was.0 two.0),
+          rw (applicable_grown, one_added) (stops_as_then chooses (applicable s here) s is.start (placed_by h e ∷ []) a run.report next.report ending (apart_grown new) was.0 two.0),
         )
 
 -- the table that is open is there
@@ -321,9 +317,9 @@ has_open_table chooses s gs run a g seen is last flags compatible =
     rw same (table_stays s a g.header is.schemas (has_table s g (sym opened.1 ∙ compatible)))
 
 -- an entry leaves the schemas as they were
-pub comes_schemas : (chooses : Handler) (p : PlacedEntry) (a : State) (r : Report) (b : State) (t : Report) (o : Option ApplyFault) → ComesTo chooses p a r b t o → (name : List ℕ) → schema_at b name ≡ schema_at a name
+pub comes_schemas : (chooses : Handler) (p : PlacedEntry) (a : State) (r : Report) (b : State) (t : Report) (o : Option Ending) → ComesTo chooses p a r b t o → (name : List ℕ) → schema_at b name ≡ schema_at a name
 comes_schemas chooses p a r b t None two name = two.applied.schemas name
-comes_schemas chooses p a r b t (Some fault) two name = ap (λ (n : State). schema_at n name) two.1
+comes_schemas chooses p a r b t (Some ending) two name = ap (λ (n : State). schema_at n name) two.1
 
 -- the table of a group is there where it was judged compatible
 pub has_judged_table : (a : State) (run : Run) (h : HeaderData) (seen : FlaggedEntry) → run.table.now ≡ h.name → run.judgement ≡ judged a (group_of h []) → seen.flags ≡ h.flags → run.judgement ≡ Compatible

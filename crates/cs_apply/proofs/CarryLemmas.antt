@@ -12,12 +12,12 @@ use Rattle.cs_group.specs.declared.conflict.Choice.{Choice}
 use Rattle.cs_group.specs.Conflicts.{conflict_kind, row_after, ends, is_carried_out}
 use Rattle.cs_group.specs.Applying.{PlacedEntry, placed_key, current, IsElsewhere, MetData, Choices, conflict_with, conflict_at, met_at, placed_result}
 use Rattle.cs_apply.specs.declared.conflict.Conflict.{Conflict}
-use Rattle.cs_apply.specs.declared.fault.ApplyFault.{ApplyFault}
-use Rattle.cs_apply.specs.declared.fault.ApplyFault.TheVariants as fault
+use Rattle.cs_apply.specs.declared.ending.Ending.{Ending}
+use Rattle.cs_apply.specs.declared.ending.Ending.TheVariants.{Aborted, Misused}
 use Rattle.cs_apply.specs.declared.report.Report.{Report}
 use Rattle.cs_apply.specs.Report.{conflict_of, met_of}
 use Rattle.cs_apply.specs.Running.{Handler}
-use Rattle.cs_apply.specs.Steps.{Settles, Unsettled, EndsRun, Carries, Stops, RefusesEntries, with_result}
+use Rattle.cs_apply.specs.Steps.{Settles, Unsettled, EndsRun, Carries, Stops, StopsAs, with_result}
 use Rattle.cs_apply.proofs.WriteLemmas.{result_schemas, result_here, result_elsewhere}
 
 -- a choice for this entry alone
@@ -83,13 +83,9 @@ module _ (chooses : Handler) (s : State) (p : PlacedEntry) (row : Option (List O
   }
 
   -- an entry that ends the run
-  pub refuses_here : (e : ApplyFault) → Unsettled chooses p row r.conflicts.items t.conflicts.items e → RefusesEntries chooses (p ∷ []) s r t e
-  refuses_here (fault.Abort conflict) h = (stops_here conflict h.0, h.1)
-  refuses_here (fault.Misuse conflict) h = (stops_here conflict h.0, h.1, h.2)
-  refuses_here (fault.Store e) h = absurd h
-  refuses_here fault.NoMemory h = tt
-  refuses_here (fault.Read f) h = absurd h
-  refuses_here (fault.Wider place) h = absurd h
+  pub stops_as_here : (e : Ending) → Unsettled chooses p row r.conflicts.items t.conflicts.items e → StopsAs chooses (p ∷ []) s r t e
+  stops_as_here (Aborted conflict) h = (stops_here conflict h.0, h.1)
+  stops_as_here (Misused conflict) h = (stops_here conflict h.0, h.1, h.2)
 
 -- ---- from what calls say
 

@@ -1,6 +1,6 @@
 -- A run through a file, as it is or inverted.
 use Rattle.std.proofs.Common.{◌≡◌, ◌≢◌, ℕ, ◌<◌, List, [], ◌∷◌, ◌++◌, length, length-append, map, take, drop, ◌+◌, get_or, Option, Some, None, refl, sym, ap, subst, ◌∙◌, arith}
-use Rattle.std.specs.Prelude.{IfOk, IfErr, IfSome, Result}
+use Rattle.std.specs.Prelude.{IfOk, IfErr, Result}
 use Rattle.std.specs.List.{AllByRecursion}
 use Rattle.std.proofs.lemmas.List.{map-append, take-append-drop}
 use Rattle.std.proofs.lemmas.List.Elements.{recursion_from_All}
@@ -20,14 +20,16 @@ use Rattle.cs_wire.proofs.InverseLemmas.{key_of-inverse}
 use Rattle.cs_group.specs.declared.judging.Judgement.TheVariants.{Compatible}
 use Rattle.cs_group.specs.Inverse.{inverse_group}
 use Rattle.cs_group.proofs.InverseGroups.{groups_inverse, IsChangeset-inverse}
+use Rattle.cs_apply.specs.declared.ending.Ending.{Ending}
+use Rattle.cs_apply.specs.declared.ending.Ending.TheVariants.{Aborted, Misused}
 use Rattle.cs_apply.specs.declared.fault.ApplyFault.{ApplyFault}
 use Rattle.cs_apply.specs.declared.report.Report.{Report}
 use Rattle.cs_apply.specs.declared.run.Run.{Run}
 use Rattle.cs_apply.specs.declared.running.Direction.{Direction}
 use Rattle.cs_apply.specs.declared.running.Direction.TheVariants.{Forward, Inverse}
-use Rattle.cs_apply.specs.Running.{Applies, Handler, IsNamed, IsReadAs, Refuses, directed, directed_entry, directed_group}
+use Rattle.cs_apply.specs.Running.{Applies, Handler, IsNamed, IsNoReadFault, IsReadAs, Refuses}
 use Rattle.cs_apply.specs.Steps.{HasTable, header_in}
-use Rattle.cs_apply.specs.Run.{IsAtStart, IsBehind, IsNewEntry, TakesTable, answer_of, group_of, outcome_of}
+use Rattle.cs_apply.specs.Run.{IsAtStart, IsBehind, IsNewEntry, TakesTable, answer_of, directed, directed_entry, directed_group, group_of, outcome_of}
 use Rattle.cs_apply.proofs.StepLemmas.{each_both}
 use Rattle.cs_apply.proofs.BehindLemmas.{behind_start, behind_table, has_open_table, last_is, none_wider, some_wider}
 use Rattle.cs_apply.proofs.OutcomeLemmas.{applies_from, refuses_from}
@@ -187,26 +189,37 @@ module _ (chooses : Handler) (d : Direction) (file : List ℕ) (gs : List GroupD
   abbrev Outcome : Result Report ApplyFault → Type 0
   Outcome result = IfOk result (λ report. Applies chooses file d s report a) × IfErr result (Refuses chooses file d s)
 
-  by : (w : Option ℕ) (o : Option ApplyFault) → run.wider ≡ w → run.ended ≡ o → Outcome (outcome_of w o run.report)
+  by : (w : Option ℕ) (o : Option Ending) → run.wider ≡ w → run.ended ≡ o → Outcome (outcome_of w o run.report)
   by (Some place) o wider ended = (tt, record { changeset = gs; read = read; first = some_wider s gs place (sym is.wider ∙ wider) })
   by None None none goes_on =
       let came = rw goes_on at (is.came_to none) in
       (applies_from chooses file d s is.start run.report gs read (none_wider s gs (sym is.wider ∙ none)) is.empty s refl a came.0 came.1, tt)
-  by None (Some fault) none ended =
+  by None (Some ending) none ended =
       let came = rw ended at (is.came_to none) in
-      (tt, refuses_from chooses file d s is.start run.report gs read (none_wider s gs (sym is.wider ∙ none)) is.empty s refl fault came)
+      (tt, refuses_from chooses file d s is.start run.report gs read (none_wider s gs (sym is.wider ∙ none)) is.empty s refl ending came)
 
   pub run_outcome : (result : Result Report ApplyFault) → result ≡ answer_of run → IfOk result (λ report. Applies chooses file d s report a) × IfErr result (Refuses chooses file d s)
   run_outcome result same = subst Outcome (sym same) (by run.wider run.ended refl refl)
 
 -- and what it is refused with has a name
-named_by : (w : Option ℕ) (o : Option ApplyFault) (report : Report) → IfSome o IsNamed → IfErr (outcome_of w o report) IsNamed
-named_by (Some place) o report named = tt
-named_by None None report named = tt
-named_by None (Some fault) report named = named
+named_by : (w : Option ℕ) (o : Option Ending) (report : Report) → IfErr (outcome_of w o report) IsNamed
+named_by (Some place) o report = tt
+named_by None None report = tt
+named_by None (Some (Aborted conflict)) report = tt
+named_by None (Some (Misused conflict)) report = tt
 
-pub outcome_named : (run : Run) (result : Result Report ApplyFault) → result ≡ answer_of run → IfSome run.ended IsNamed → IfErr result IsNamed
-outcome_named run result same named = rw same (named_by run.wider run.ended run.report named)
+pub outcome_named : (run : Run) (result : Result Report ApplyFault) → result ≡ answer_of run → IfErr result IsNamed
+outcome_named run result same = rw same (named_by run.wider run.ended run.report)
+
+-- and is no fault of reading
+read_by : (w : Option ℕ) (o : Option Ending) (report : Report) → IfErr (outcome_of w o report) IsNoReadFault
+read_by (Some place) o report = tt
+read_by None None report = tt
+read_by None (Some (Aborted conflict)) report = tt
+read_by None (Some (Misused conflict)) report = tt
+
+pub outcome_read : (run : Run) (result : Result Report ApplyFault) → result ≡ answer_of run → IfErr result IsNoReadFault
+outcome_read run result same = rw same (read_by run.wider run.ended run.report)
 
 -- ---- a changeset, group by group
 

@@ -24,10 +24,8 @@ use Rattle.cs_group.specs.Applying.{PlacedEntry, conflict_with}
 use Rattle.cs_apply.specs.declared.conflict.Conflict.{Conflict}
 use Rattle.cs_apply.specs.declared.conflict.Met.{Met}
 use Rattle.cs_apply.specs.Report.{conflict_of, met_of}
-use Rattle.cs_apply.specs.declared.fault.ApplyFault.{ApplyFault}
-use Rattle.cs_apply.specs.declared.fault.ApplyFault.TheVariants as fault
-use Rattle.cs_apply.specs.Running.{Handler, GoesOn, IsNamed}
-use Rattle.cs_apply.specs.Steps.{HasTable, Settles, SettlesAs, Unsettled, fault_by, settled_as}
+use Rattle.cs_apply.specs.Running.{Handler, GoesOn}
+use Rattle.cs_apply.specs.Steps.{HasTable, Settles, SettlesAs, Unsettled, ending_by, settled_as}
 
 -- a row of the table fits the flags of the changes
 keyed_as : (state : State) (header : HeaderData) (key : List ℕ) (row : List OwnedValue) → HasTable state header → Fits state header.name key row → IsKeyedRow header.flags row
@@ -57,9 +55,9 @@ pub conflict_is : (p : PlacedEntry) (row : Option (List OwnedValue)) (kind : Kin
     → conflict_of conflict ≡ record { kind = kind; table = p.table; entry = p.entry; current = row } → conflict_with p row ≡ Some (conflict_of conflict)
 conflict_is p row kind conflict e is = rw e (ap Some (sym is))
 
--- the run ends with the fault of the choice
+-- the run ends in the way of the choice
 pub unsettled : (chooses : Handler) (p : PlacedEntry) (row : Option (List OwnedValue)) (conflicts : List Met) (conflict : Conflict) (c : Choice)
-    → ends (Some conflict.kind) c ≡ true → conflict_with p row ≡ Some (conflict_of conflict) → chooses conflict c → Unsettled chooses p row conflicts conflicts (fault_by conflict c)
+    → ends (Some conflict.kind) c ≡ true → conflict_with p row ≡ Some (conflict_of conflict) → chooses conflict c → Unsettled chooses p row conflicts conflicts (ending_by conflict c)
 unsettled chooses p row conflicts conflict choice.Omit e is chosen = absurd (true≢false (sym e))
 unsettled chooses p row conflicts conflict choice.Replace e is chosen = (record { is = is; same = refl }, chosen, only conflict.kind e)
   where
@@ -110,12 +108,3 @@ pub settled : (chooses : Handler) (p : PlacedEntry) (row : Option (List OwnedVal
     → next ≡ conflicts ++ record { conflict = conflict; choice = c } ∷ [] → SettlesAs chooses p row conflicts next (settled_as c)
 settled chooses p row conflicts next conflict c goes_on kind is chosen grown =
     settles_as chooses p row conflicts next conflict.kind c goes_on (settled_with chooses p row conflicts next conflict c (is_carried_out (Some conflict.kind) c) goes_on kind is chosen refl grown)
-
--- a fault at a conflict has a name
-pub ended_named : (chooses : Handler) (p : PlacedEntry) (row : Option (List OwnedValue)) (conflicts next : List Met) (e : ApplyFault) → Unsettled chooses p row conflicts next e → IsNamed e
-ended_named chooses p row conflicts next (fault.Abort k) h = tt
-ended_named chooses p row conflicts next (fault.Misuse k) h = tt
-ended_named chooses p row conflicts next fault.NoMemory h = tt
-ended_named chooses p row conflicts next (fault.Store e) h = absurd h
-ended_named chooses p row conflicts next (fault.Read f) h = absurd h
-ended_named chooses p row conflicts next (fault.Wider place) h = absurd h

@@ -11,12 +11,12 @@ use Rattle.cs_apply.specs.declared.conflict.Conflict.{Conflict}
 use Rattle.cs_apply.specs.declared.conflict.Met.{Met}
 use Rattle.cs_apply.specs.declared.report.Report.{Report}
 use Rattle.cs_apply.specs.declared.running.Direction.{Direction}
-use Rattle.cs_apply.specs.declared.fault.ApplyFault.{ApplyFault}
-use Rattle.cs_apply.specs.declared.fault.ApplyFault.TheVariants as fault
+use Rattle.cs_apply.specs.declared.ending.Ending.{Ending}
+use Rattle.cs_apply.specs.declared.ending.Ending.TheVariants.{Aborted, Misused}
 use Rattle.cs_apply.specs.Report.{met_of}
 use Rattle.cs_apply.specs.Run.{IsEmpty}
 use Rattle.cs_apply.specs.Running.{Handler, IsReadAs, GoesOn, Applies, IsReached, Refuses}
-use Rattle.cs_apply.specs.Steps.{Carries, Stops, RefusesEntries}
+use Rattle.cs_apply.specs.Steps.{Carries, Stops, StopsAs, refusal_of}
 
 module _ (chooses : Handler) (file : List ℕ) (direction : Direction) (old : State) (r t : Report) (changeset : List GroupData)
     (read : IsReadAs file direction changeset) (none_wider : NoneWider old changeset) (empty : IsEmpty r) (mid : State) (same : mid ≡ old) where
@@ -44,13 +44,9 @@ module _ (chooses : Handler) (file : List ℕ) (direction : Direction) (old : St
     listed = rw empty.conflicts at ended.listed;
   }
 
-  refuses_now : (e : ApplyFault) → RefusesEntries chooses (applicable old changeset) old r t e → Refuses chooses file direction old e
-  refuses_now (fault.Abort k) h = record { changeset = changeset; read = read; none_wider = none_wider; reached = reached k h.0; chosen = h.1 }
-  refuses_now (fault.Misuse k) h = (record { changeset = changeset; read = read; none_wider = none_wider; reached = reached k h.0; chosen = h.1 }, h.2)
-  refuses_now (fault.Store e) h = h
-  refuses_now fault.NoMemory h = tt
-  refuses_now (fault.Read f) h = absurd h
-  refuses_now (fault.Wider place) h = absurd h
+  refuses_now : (e : Ending) → StopsAs chooses (applicable old changeset) old r t e → Refuses chooses file direction old (refusal_of e)
+  refuses_now (Aborted k) h = record { changeset = changeset; read = read; none_wider = none_wider; reached = reached k h.0; chosen = h.1 }
+  refuses_now (Misused k) h = (record { changeset = changeset; read = read; none_wider = none_wider; reached = reached k h.0; chosen = h.1 }, h.2)
 
-  pub refuses_from : (e : ApplyFault) → RefusesEntries chooses (applicable mid changeset) mid r t e → Refuses chooses file direction old e
-  refuses_from e ended = refuses_now e (subst (λ (s : State). RefusesEntries chooses (applicable s changeset) s r t e) same ended)
+  pub refuses_from : (e : Ending) → StopsAs chooses (applicable mid changeset) mid r t e → Refuses chooses file direction old (refusal_of e)
+  refuses_from e ended = refuses_now e (subst (λ (s : State). StopsAs chooses (applicable s changeset) s r t e) same ended)

@@ -17,9 +17,9 @@ use Rattle.cs_apply.specs.declared.conflict.Met.{Met}
 use Rattle.cs_apply.specs.declared.report.Report.{Report}
 use Rattle.cs_apply.specs.Report.{conflict_of, met_of}
 use Rattle.cs_apply.specs.Running.{Handler}
-use Rattle.cs_apply.specs.declared.fault.ApplyFault.{ApplyFault}
-use Rattle.cs_apply.specs.declared.fault.ApplyFault.TheVariants as fault
-use Rattle.cs_apply.specs.Steps.{Carries, Stops, RefusesEntries}
+use Rattle.cs_apply.specs.declared.ending.Ending.{Ending}
+use Rattle.cs_apply.specs.declared.ending.Ending.TheVariants.{Aborted, Misused}
+use Rattle.cs_apply.specs.Steps.{Carries, Stops, StopsAs}
 
 -- ---- lists
 
@@ -242,18 +242,10 @@ module _ (chooses : Handler) (ps : List PlacedEntry) (a : State) (r : Report) wh
             ∙ ended.listed;
       }
 
-  pub refuses_more : (qs : List PlacedEntry) (t : Report) (e : ApplyFault) → RefusesEntries chooses ps a r t e → RefusesEntries chooses (ps ++ qs) a r t e
-  refuses_more qs t (fault.Abort k) h = (stops_more qs t k h.0, h.1)
-  refuses_more qs t (fault.Misuse k) h = (stops_more qs t k h.0, h.1, h.2)
-  refuses_more qs t (fault.Store e) h = h
-  refuses_more qs t fault.NoMemory h = h
-  refuses_more qs t (fault.Read f) h = absurd h
-  refuses_more qs t (fault.Wider place) h = absurd h
+  pub stops_as_more : (qs : List PlacedEntry) (t : Report) (e : Ending) → StopsAs chooses ps a r t e → StopsAs chooses (ps ++ qs) a r t e
+  stops_as_more qs t (Aborted k) h = (stops_more qs t k h.0, h.1)
+  stops_as_more qs t (Misused k) h = (stops_more qs t k h.0, h.1, h.2)
 
-  pub refuses_then : (qs : List PlacedEntry) (b : State) (s t : Report) (e : ApplyFault) → Apart ps qs → Carries chooses ps a r b s → RefusesEntries chooses qs b s t e → RefusesEntries chooses (ps ++ qs) a r t e
-  refuses_then qs b s t (fault.Abort k) apart one h = (stops_then qs b s t k apart one h.0, h.1)
-  refuses_then qs b s t (fault.Misuse k) apart one h = (stops_then qs b s t k apart one h.0, h.1, h.2)
-  refuses_then qs b s t (fault.Store e) apart one h = h
-  refuses_then qs b s t fault.NoMemory apart one h = h
-  refuses_then qs b s t (fault.Read f) apart one h = absurd h
-  refuses_then qs b s t (fault.Wider place) apart one h = absurd h
+  pub stops_as_then : (qs : List PlacedEntry) (b : State) (s t : Report) (e : Ending) → Apart ps qs → Carries chooses ps a r b s → StopsAs chooses qs b s t e → StopsAs chooses (ps ++ qs) a r t e
+  stops_as_then qs b s t (Aborted k) apart one h = (stops_then qs b s t k apart one h.0, h.1)
+  stops_as_then qs b s t (Misused k) apart one h = (stops_then qs b s t k apart one h.0, h.1, h.2)

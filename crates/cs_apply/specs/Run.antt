@@ -5,17 +5,35 @@ use Rattle.cs_value.specs.State.{State, schema_at}
 use Rattle.cs_wire.specs.declared.entry.Entry.{Entry}
 use Rattle.cs_wire.specs.Entry.{key_of}
 use Rattle.cs_wire.specs.Changeset.{HeaderData, GroupData}
+use Rattle.cs_wire.specs.Views.{inverse_entry}
+use Rattle.cs_group.specs.Inverse.{inverse_group}
 use Rattle.cs_group.specs.declared.judging.Judgement.{Judgement}
 use Rattle.cs_group.specs.declared.judging.Judgement.TheVariants as judgement
 use Rattle.cs_group.specs.Judging.{judged, is_skipped}
 use Rattle.cs_group.specs.Judging as judging
 use Rattle.cs_group.specs.Applying.{applicable, skipped}
+use Rattle.cs_apply.specs.declared.ending.Ending.{Ending}
 use Rattle.cs_apply.specs.declared.fault.ApplyFault.{ApplyFault}
 use Rattle.cs_apply.specs.declared.fault.ApplyFault.TheVariants.{Wider}
 use Rattle.cs_apply.specs.declared.report.Report.{Report}
 use Rattle.cs_apply.specs.declared.run.Run.{Run}
+use Rattle.cs_apply.specs.declared.running.Direction.{Direction}
+use Rattle.cs_apply.specs.declared.running.Direction.TheVariants.{Forward, Inverse}
 use Rattle.cs_apply.specs.Running.{Handler}
-use Rattle.cs_apply.specs.Steps.{Carries, RefusesEntries}
+use Rattle.cs_apply.specs.Steps.{Carries, StopsAs, refusal_of}
+
+-- a changeset as it is run: as it is, or what undoes each of its entries
+abbrev pub directed : Direction → List GroupData → List GroupData
+directed Forward changeset = changeset
+directed Inverse changeset = map inverse_group changeset
+
+abbrev pub directed_group : Direction → GroupData → GroupData
+directed_group Forward group = group
+directed_group Inverse group = inverse_group group
+
+abbrev pub directed_entry : Direction → List ℕ → Entry → Entry
+directed_entry Forward flags entry = entry
+directed_entry Inverse flags entry = inverse_entry flags entry
 
 -- the entries of a table, of which there may be none yet
 abbrev pub group_of : HeaderData → List Entry → GroupData
@@ -42,12 +60,12 @@ first_wider (judgement.Skipped ∷ js) = option_map suc (first_wider js)
 first_wider (judgement.Compatible ∷ js) = option_map suc (first_wider js)
 
 -- what became of the entries: all were carried out or passed over, or the run ended at one of them
-abbrev pub CameTo : Handler → State → List GroupData → Report → Report → State → Option ApplyFault → Type 0
+abbrev pub CameTo : Handler → State → List GroupData → Report → Report → State → Option Ending → Type 0
 CameTo chooses before groups start report after None =
     Carries chooses (applicable before groups) before start after report
     × (map string_bytes report.skipped.items ≡ map string_bytes start.skipped.items ++ skipped before groups)
-CameTo chooses before groups start report after (Some fault) =
-    RefusesEntries chooses (applicable before groups) before start report fault
+CameTo chooses before groups start report after (Some ending) =
+    StopsAs chooses (applicable before groups) before start report ending
 
 abbrev pub last_group : List GroupData → Option GroupData
 last_group [] = None
@@ -102,9 +120,9 @@ pub record IsNewEntry (closed : List GroupData) (header : HeaderData) (entries :
   pub key : AllByRecursion (λ d. key_of header.flags d.change ≢ key_of header.flags entry.change) entries
 
 -- what a run comes to behind the last item
-abbrev pub outcome_of : Option ℕ → Option ApplyFault → Report → Result Report ApplyFault
+abbrev pub outcome_of : Option ℕ → Option Ending → Report → Result Report ApplyFault
 outcome_of (Some place) ended report = Err (Wider place)
-outcome_of None (Some fault) report = Err fault
+outcome_of None (Some ending) report = Err (refusal_of ending)
 outcome_of None None report = Ok report
 
 abbrev pub answer_of : Run → Result Report ApplyFault

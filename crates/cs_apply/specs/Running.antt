@@ -4,14 +4,12 @@ use Rattle.std.specs.Prelude.{◌≡◌, ◌⊎◌, ◌∷◌, ◌++◌, ℕ, fa
 use Rattle.cs_value.specs.State.{State}
 use Rattle.cs_wire.specs.Changeset.{GroupData, IsChangeset, file_bytes}
 use Rattle.cs_wire.specs.ReadFaults.{ReadFails}
-use Rattle.cs_wire.specs.declared.entry.Entry.{Entry}
-use Rattle.cs_wire.specs.Views.{inverse_entry}
 use Rattle.cs_store.specs.declared.fault.StoreError.TheVariants.{DamagedStore, StoreFault}
 use Rattle.cs_store.specs.Editing.{written_of}
 use Rattle.cs_group.specs.declared.conflict.Kind.TheVariants.{NotFound}
 use Rattle.cs_group.specs.declared.conflict.Choice.{Choice}
 use Rattle.cs_group.specs.declared.conflict.Choice.TheVariants as choice
-use Rattle.cs_group.specs.Inverse.{IsInverse, inverse_group}
+use Rattle.cs_group.specs.Inverse.{IsInverse}
 use Rattle.cs_group.specs.Conflicts.{ends}
 use Rattle.cs_group.specs.Applying.{ConflictData, Choices, FirstWider, NoneWider, IsClean, IsApplied, conflicts, met, skipped, written}
 use Rattle.cs_apply.specs.declared.conflict.Conflict.{Conflict}
@@ -32,19 +30,6 @@ abbrev pub IsReadAs : List ℕ → Direction → List GroupData → Type 0
 IsReadAs file Forward changeset = IsChangeset changeset × (file ≡ file_bytes changeset)
 IsReadAs file Inverse changeset = (read : List GroupData)
     × IsChangeset read × (file ≡ file_bytes read) × IsInverse read changeset × IsChangeset changeset
-
--- a changeset as it is run: as it is, or what undoes each of its entries
-abbrev pub directed : Direction → List GroupData → List GroupData
-directed Forward changeset = changeset
-directed Inverse changeset = map inverse_group changeset
-
-abbrev pub directed_group : Direction → GroupData → GroupData
-directed_group Forward group = group
-directed_group Inverse group = inverse_group group
-
-abbrev pub directed_entry : Direction → List ℕ → Entry → Entry
-directed_entry Forward flags entry = entry
-directed_entry Inverse flags entry = inverse_entry flags entry
 
 -- the handler chose so, and the run goes on
 pub record GoesOn (chooses : Handler) (m : Met) : Type 0 where
@@ -103,6 +88,11 @@ IsResource fault = (fault ≡ NoMemory) ⊎ (fault ≡ Store StoreFault)
 abbrev pub IsNamed : ApplyFault → Type 0
 IsNamed (Store error) = (error ≡ DamagedStore) ⊎ (error ≡ StoreFault)
 IsNamed fault = Unit {0}
+
+-- it is no fault of reading
+abbrev pub IsNoReadFault : ApplyFault → Type 0
+IsNoReadFault (Read fault) = ⊥
+IsNoReadFault fault = Unit {0}
 
 -- the handler that aborts at each conflict
 abbrev pub AlwaysAborts : Handler

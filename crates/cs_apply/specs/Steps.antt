@@ -1,11 +1,11 @@
 -- How a run goes on, entry by entry. No public contract names this.
-use Rattle.std.specs.Prelude.{◌≡◌, ℕ, Bool, true, false, List, [], ◌∷◌, ◌++◌, map, filter_map, All, Option, None, Some}
+use Rattle.std.specs.Prelude.{◌≡◌, ◌⊎◌, ℕ, Bool, true, false, List, [], ◌∷◌, ◌++◌, map, filter_map, All, Option, None, Some}
 use Rattle.std.specs.Prelude.{option_map, option_to_list}
 use Rattle.cs_value.specs.declared.value.OwnedValue.{OwnedValue}
 use Rattle.cs_value.specs.State.{State, SchemaData, schema_at, with_row, without_row}
 use Rattle.cs_wire.specs.Changeset.{HeaderData}
 use Rattle.cs_wire.specs.Items.{FlaggedEntry}
-use Rattle.cs_store.specs.declared.fault.StoreError.TheVariants.{StoreFault}
+use Rattle.cs_store.specs.declared.fault.StoreError.TheVariants.{DamagedStore}
 use Rattle.cs_store.specs.Editing.{written_of}
 use Rattle.cs_group.specs.declared.conflict.Kind.TheVariants.{NotFound}
 use Rattle.cs_group.specs.declared.conflict.Choice.{Choice}
@@ -16,13 +16,19 @@ use Rattle.cs_group.specs.Applying.{PlacedEntry, ConflictData, Choices, AreAppli
 use Rattle.cs_group.specs.Applying.{met_at, written_for}
 use Rattle.cs_apply.specs.declared.conflict.Conflict.{Conflict}
 use Rattle.cs_apply.specs.declared.conflict.Met.{Met}
+use Rattle.cs_apply.specs.declared.ending.Ending.{Ending}
+use Rattle.cs_apply.specs.declared.ending.Ending.TheVariants.{Aborted, Misused}
 use Rattle.cs_apply.specs.declared.fault.ApplyFault.{ApplyFault}
-use Rattle.cs_apply.specs.declared.fault.ApplyFault.TheVariants.{Read, Wider, Abort, Misuse, Store, NoMemory}
+use Rattle.cs_apply.specs.declared.fault.ApplyFault.TheVariants.{Abort, Misuse, Store}
 use Rattle.cs_apply.specs.declared.entry.Settled.{Settled}
 use Rattle.cs_apply.specs.declared.entry.Settled.TheVariants.{Carried, Passed, Ended}
 use Rattle.cs_apply.specs.declared.report.Report.{Report}
 use Rattle.cs_apply.specs.Report.{conflict_of, met_of}
-use Rattle.cs_apply.specs.Running.{Handler, GoesOn}
+use Rattle.cs_apply.specs.Running.{Handler, GoesOn, IsResource}
+
+-- memory was refused, the database refused, or what it holds is damaged
+abbrev pub IsStoreRefusal : ApplyFault → Type 0
+IsStoreRefusal fault = IsResource fault ⊎ (fault ≡ Store DamagedStore)
 
 -- the table is there, with these columns and this key
 pub record HasTable (state : State) (header : HeaderData) : Type 0 where
@@ -49,16 +55,17 @@ pub record Stops (chooses : Handler) (entries : List PlacedEntry) (before : Stat
   pub listed : map (λ m. conflict_of m.conflict) report.conflicts.items ++ filter_map (conflict_at before) entries
       ≡ map (λ m. conflict_of m.conflict) next.conflicts.items ++ conflict_of conflict ∷ later
 
--- why entries are not carried out
-abbrev pub RefusesEntries : Handler → List PlacedEntry → State → Report → Report → ApplyFault → Type 0
-RefusesEntries chooses entries before report next (Abort conflict) =
+-- it ends there in this way
+abbrev pub StopsAs : Handler → List PlacedEntry → State → Report → Report → Ending → Type 0
+StopsAs chooses entries before report next (Aborted conflict) =
     Stops chooses entries before report next conflict × chooses conflict choice.Abort
-RefusesEntries chooses entries before report next (Misuse conflict) =
+StopsAs chooses entries before report next (Misused conflict) =
     Stops chooses entries before report next conflict × chooses conflict choice.Replace × (conflict.kind ≡ NotFound)
-RefusesEntries chooses entries before report next (Store error) = error ≡ StoreFault
-RefusesEntries chooses entries before report next NoMemory = Unit {0}
-RefusesEntries chooses entries before report next (Read fault) = ⊥
-RefusesEntries chooses entries before report next (Wider place) = ⊥
+
+-- what a run that ended so is refused with
+abbrev pub refusal_of : Ending → ApplyFault
+refusal_of (Aborted conflict) = Abort conflict
+refusal_of (Misused conflict) = Misuse conflict
 
 -- the entry, with the table that it is of
 abbrev pub placed_in_table : List ℕ → FlaggedEntry → PlacedEntry
@@ -68,10 +75,10 @@ abbrev pub header_in : List ℕ → FlaggedEntry → HeaderData
 header_in table seen = record { name = table; flags = seen.flags }
 
 -- what an entry comes to: it is carried out or passed over, or the run ends at it, and the rows are as they were
-abbrev pub ComesTo : Handler → PlacedEntry → State → Report → State → Report → Option ApplyFault → Type 0
+abbrev pub ComesTo : Handler → PlacedEntry → State → Report → State → Report → Option Ending → Type 0
 ComesTo chooses p before report after next None = Carries chooses (p ∷ []) before report after next
-ComesTo chooses p before report after next (Some fault) =
-    RefusesEntries chooses (p ∷ []) before report next fault × (after ≡ before)
+ComesTo chooses p before report after next (Some ending) =
+    StopsAs chooses (p ∷ []) before report next ending × (after ≡ before)
 
 -- an entry, before it is carried out: what it meets, what was chosen for that, and whether it is carried out
 pub record Settles (chooses : Handler) (p : PlacedEntry) (row : Option (List OwnedValue)) (conflicts next : List Met)
@@ -83,11 +90,11 @@ pub record Settles (chooses : Handler) (p : PlacedEntry) (row : Option (List Own
       ++ option_to_list (option_map (λ k. record { conflict = k; choice = choice }) (conflict_with p row))
   pub chosen : All (GoesOn chooses) conflicts → All (GoesOn chooses) next
 
--- why the run ends at a conflict
-abbrev pub fault_by : Conflict → Choice → ApplyFault
-fault_by conflict choice.Omit = Misuse conflict
-fault_by conflict choice.Replace = Misuse conflict
-fault_by conflict choice.Abort = Abort conflict
+-- how the run ends at a conflict
+abbrev pub ending_by : Conflict → Choice → Ending
+ending_by conflict choice.Omit = Misused conflict
+ending_by conflict choice.Replace = Misused conflict
+ending_by conflict choice.Abort = Aborted conflict
 
 -- it ends the run, and is told no more
 pub record EndsRun (p : PlacedEntry) (row : Option (List OwnedValue)) (conflicts next : List Met) (conflict : Conflict) :
@@ -95,15 +102,11 @@ pub record EndsRun (p : PlacedEntry) (row : Option (List OwnedValue)) (conflicts
   pub is : conflict_with p row ≡ Some (conflict_of conflict)
   pub same : next ≡ conflicts
 
-abbrev pub Unsettled : Handler → PlacedEntry → Option (List OwnedValue) → List Met → List Met → ApplyFault → Type 0
-Unsettled chooses p row conflicts next (Abort conflict) =
+abbrev pub Unsettled : Handler → PlacedEntry → Option (List OwnedValue) → List Met → List Met → Ending → Type 0
+Unsettled chooses p row conflicts next (Aborted conflict) =
     EndsRun p row conflicts next conflict × chooses conflict choice.Abort
-Unsettled chooses p row conflicts next (Misuse conflict) =
+Unsettled chooses p row conflicts next (Misused conflict) =
     EndsRun p row conflicts next conflict × chooses conflict choice.Replace × (conflict.kind ≡ NotFound)
-Unsettled chooses p row conflicts next NoMemory = Unit {0}
-Unsettled chooses p row conflicts next (Store error) = ⊥
-Unsettled chooses p row conflicts next (Read fault) = ⊥
-Unsettled chooses p row conflicts next (Wider place) = ⊥
 
 -- what is done where the run goes on
 abbrev pub settled_as : Choice → Settled
@@ -114,7 +117,7 @@ settled_as choice.Abort = Passed
 abbrev pub SettlesAs : Handler → PlacedEntry → Option (List OwnedValue) → List Met → List Met → Settled → Type 0
 SettlesAs chooses p row conflicts next Carried = Settles chooses p row conflicts next true
 SettlesAs chooses p row conflicts next Passed = Settles chooses p row conflicts next false
-SettlesAs chooses p row conflicts next (Ended fault) = Unsettled chooses p row conflicts next fault
+SettlesAs chooses p row conflicts next (Ended ending) = Unsettled chooses p row conflicts next ending
 
 -- the row stands at the key, or none does
 abbrev pub with_result : State → List ℕ → List ℕ → Option (List OwnedValue) → State

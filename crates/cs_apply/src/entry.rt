@@ -6,10 +6,11 @@ ghost use Rattle.cs_store.specs.Editing.{written_of};
 ghost use Rattle.cs_store.specs.Rows.{Fits};
 ghost use Rattle.cs_group.specs.declared.conflict.Kind.TheVariants.{NotFound as NotFoundKind};
 ghost use Rattle.cs_group.specs.Conflicts.{conflict_kind as kind_of, row_after as row_of_change, ends};
-ghost use Rattle.cs_apply.specs.Running.{IsResource, IsNamed};
-ghost use Rattle.cs_apply.specs.Steps.{HasTable, ComesTo, SettlesAs, fault_by, header_in, placed_in_table, settled_as, with_result};
+ghost use Rattle.cs_apply.specs.Running.{IsResource};
+ghost use Rattle.cs_apply.specs.Steps.{HasTable, ComesTo, IsStoreRefusal, SettlesAs, header_in, placed_in_table, settled_as, with_result};
 
 use crate::conflict::{Conflict, Met};
+use crate::ending::Ending;
 use crate::fault::ApplyFault;
 use crate::report::Report;
 use cs_group::{Choice, Kind, conflict_kind, row_after};
@@ -26,11 +27,11 @@ pub(crate) enum Settled {
     /// It is passed over.
     Passed,
     /// The run ends at it.
-    Ended(ApplyFault),
+    Ended(Ending),
 }
 
 /// Carries out an entry of a table that is compatible, or does what the handler chooses where the entry
-/// meets a conflict. Answers why the run ends at it, if it does: the rows are as they were then.
+/// meets a conflict. Answers how the run ends at it, if it does: the rows are as they were then.
 pub(crate) fn apply_entry<B: Rows, H: Fn(&Conflict) -> Choice>(
     alloc: Global,
     rows: &mut B,
@@ -38,15 +39,14 @@ pub(crate) fn apply_entry<B: Rows, H: Fn(&Conflict) -> Choice>(
     entry: &EntryRef<'_>,
     handler: &H,
     report: &mut Report,
-) -> Result<Option<ApplyFault>, ApplyFault>
+) -> Result<Option<Ending>, ApplyFault>
     requires callable { H.IsAlwaysCallable handler.now }
     requires table { B.is_honest rows.old → HasTable (B.state rows.old) (header_in table.now entry.now) }
     ensures comes_to { B.is_honest rows.new → IfOk result (ComesTo (FnReturnsAt H.Fn handler.now)
         (placed_in_table table.now entry.now) (B.state rows.old) report.old (B.state rows.new) report.new) }
-    ensures ended { IfOk result (λ ended. IfSome ended IsNamed) }
     ensures skipped { report.new.skipped ≡ report.old.skipped }
     ensures refused { B.is_honest rows.new → IfErr result IsResource }
-    ensures named { IfErr result IsNamed }
+    ensures named { IfErr result IsStoreRefusal }
     ensures was_honest { B.is_honest rows.new → B.is_honest rows.old }
     ensures kept { B.keeps rows.old rows.new }
 {
@@ -60,7 +60,7 @@ pub(crate) fn apply_entry<B: Rows, H: Fn(&Conflict) -> Choice>(
             Ok(None)
         }
         Settled::Passed => Ok(None),
-        Settled::Ended(fault) => Ok(Some(fault)),
+        Settled::Ended(ending) => Ok(Some(ending)),
     }
 }
 
@@ -84,7 +84,7 @@ fn settle<H: Fn(&Conflict) -> Choice>(
     let conflict = Conflict::copy_of(alloc, kind, table, entry, current)?;
     let choice = handler(&conflict);
     if ends_run(kind, choice) {
-        return Ok(Settled::Ended(fault_at(conflict, choice)));
+        return Ok(Settled::Ended(Ending::at(conflict, choice)));
     }
     conflicts.push(Met { conflict, choice })?;
     Ok(settled_by(choice))
@@ -108,17 +108,6 @@ fn ends_run(kind: Kind, choice: Choice) -> bool
         Choice::Omit => false,
         Choice::Replace => kind == Kind::NotFound,
         Choice::Abort => true,
-    }
-}
-
-/// Why a run ends at a conflict.
-fn fault_at(conflict: Conflict, choice: Choice) -> ApplyFault
-    ensures { result ≡ fault_by conflict choice }
-{
-    if choice == Choice::Abort {
-        ApplyFault::Abort(conflict)
-    } else {
-        ApplyFault::Misuse(conflict)
     }
 }
 

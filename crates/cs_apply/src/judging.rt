@@ -2,7 +2,8 @@
 ghost use Rattle.std.specs.Prelude.{◌≡◌, IfOk, IfErr, OnOk, option_map};
 ghost use Rattle.cs_value.specs.State.{schema_at};
 ghost use Rattle.cs_group.specs.Judging.{judgement};
-ghost use Rattle.cs_apply.specs.Running.{IsResource, IsNamed};
+ghost use Rattle.cs_apply.specs.Running.{IsResource};
+ghost use Rattle.cs_apply.specs.Steps.{IsStoreRefusal};
 
 use crate::fault::ApplyFault;
 use cs_group::{Judgement, judge};
@@ -20,7 +21,7 @@ pub(crate) fn judge_table<B: Rows>(
         (option_map (λ s. s.flags) (schema_at (B.state rows.old) header.now.name.now))) }
     ensures same { B.is_honest rows.new → OnOk result (B.state rows.new ≡ B.state rows.old) }
     ensures refused { B.is_honest rows.new → IfErr result IsResource }
-    ensures named { IfErr result IsNamed }
+    ensures named { IfErr result IsStoreRefusal }
     ensures was_honest { B.is_honest rows.new → B.is_honest rows.old }
     ensures kept { B.keeps rows.old rows.new }
 {

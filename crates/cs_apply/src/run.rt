@@ -1,16 +1,17 @@
 //! A run through the items of a changeset, from one to the next.
-ghost use Rattle.std.specs.Prelude.{◌≡◌, ◌↔◌, ◌<◌, ◌+◌, ◌∷◌, ◌++◌, [], ℕ, List, IfErr, IfSome, IsTrue, OnOk};
+ghost use Rattle.std.specs.Prelude.{◌≡◌, ◌↔◌, ◌<◌, ◌+◌, ◌∷◌, ◌++◌, [], ℕ, List, IfErr, IsTrue, OnOk};
 ghost use Rattle.std.specs.Fn.{FnReturnsAt};
 ghost use Rattle.cs_value.specs.State.{State, schema_at};
 ghost use Rattle.cs_wire.specs.declared.entry.Entry.{Entry as EntryData};
 ghost use Rattle.cs_wire.specs.Changeset.{GroupData, HeaderData};
 ghost use Rattle.cs_wire.specs.Items.{header_of};
 ghost use Rattle.cs_group.specs.declared.judging.Judgement.TheVariants.{Compatible as CompatibleTable};
-ghost use Rattle.cs_apply.specs.Running.{IsResource, IsNamed};
-ghost use Rattle.cs_apply.specs.Steps.{HasTable, header_in};
+ghost use Rattle.cs_apply.specs.Running.{IsResource};
+ghost use Rattle.cs_apply.specs.Steps.{HasTable, IsStoreRefusal, header_in};
 ghost use Rattle.cs_apply.specs.Run.{IsAtStart, IsBehind, IsNewEntry, TakesEntries, TakesTable, answer_of, group_of};
 
 use crate::conflict::Conflict;
+use crate::ending::Ending;
 use crate::entry::apply_entry;
 use crate::fault::ApplyFault;
 use crate::judging::judge_table;
@@ -30,8 +31,8 @@ pub(crate) struct Run<'a> {
     tables: usize,
     // The place of the first of them that is wider.
     wider: Option<usize>,
-    // Why the run ended at an entry.
-    ended: Option<ApplyFault>,
+    // How the run ended at an entry.
+    ended: Option<Ending>,
     report: Report,
 }
 
@@ -62,9 +63,8 @@ impl<'a> Run<'a> {
         ensures takes { B.is_honest rows.new → OnOk result
             (TakesTable (B.state rows.old) self.old (header_of header.entry) self.new (B.state rows.new)) }
         ensures tables { OnOk result (self.new.tables ≡ self.old.tables + 1) }
-        ensures ended { self.new.ended ≡ self.old.ended }
         ensures refused { B.is_honest rows.new → IfErr result IsResource }
-        ensures named { IfErr result IsNamed }
+        ensures named { IfErr result IsStoreRefusal }
         ensures was_honest { B.is_honest rows.new → B.is_honest rows.old }
         ensures kept { B.keeps rows.old rows.new }
     {
@@ -112,9 +112,8 @@ impl<'a> Run<'a> {
             → schema_at (B.state rows.new) name ≡ schema_at (B.state rows.old) name) }
         ensures table { (self.new.table ≡ self.old.table) × (self.new.judgement ≡ self.old.judgement) }
         ensures tables { self.new.tables ≡ self.old.tables }
-        ensures ended { IfSome self.old.ended IsNamed → IfSome self.new.ended IsNamed }
         ensures refused { B.is_honest rows.new → IfErr result IsResource }
-        ensures named { IfErr result IsNamed }
+        ensures named { IfErr result IsStoreRefusal }
         ensures was_honest { B.is_honest rows.new → B.is_honest rows.old }
         ensures kept { B.keeps rows.old rows.new }
     {
@@ -137,7 +136,7 @@ impl<'a> Run<'a> {
         } = self;
         match (wider, ended) {
             (Some(place), _) => Err(ApplyFault::Wider(place)),
-            (None, Some(fault)) => Err(fault),
+            (None, Some(ending)) => Err(ending.into_fault()),
             (None, None) => Ok(report),
         }
     }

@@ -1,12 +1,9 @@
-//! A changeset, applied to rows.
-ghost use Rattle.std.specs.Prelude.{◌≡◌, ◌≢◌, ◌<◌, ◌+◌, [], ◌∷◌, ◌++◌, List, IfOk, IfErr, IfSome, OnOk};
-ghost use Rattle.std.specs.List.{AllByRecursion};
+//! The changeset of a file, applied to rows.
+ghost use Rattle.std.specs.Prelude.{◌≡◌, IfOk, IfErr};
 ghost use Rattle.std.specs.Fn.{FnReturnsAt};
-ghost use Rattle.cs_value.specs.State.{State};
 ghost use Rattle.cs_wire.specs.Entry.{IsEntry};
-ghost use Rattle.cs_wire.specs.Changeset.{GroupData, file_bytes};
-ghost use Rattle.cs_apply.specs.Running.{Applies, Refuses, IsNamed, IsResource, directed_entry, directed_group};
-ghost use Rattle.cs_apply.specs.Run.{IsBehind};
+ghost use Rattle.cs_apply.specs.Running.{Applies, Refuses, IsNamed};
+ghost use Rattle.cs_apply.specs.Run.{directed_entry};
 
 use crate::conflict::Conflict;
 use crate::fault::ApplyFault;
@@ -14,7 +11,7 @@ use crate::report::Report;
 use crate::run::Run;
 use cs_group::Choice;
 use cs_store::Rows;
-use cs_wire::{Changeset, Cursor, EntryRef, Group, HeaderRef, Item};
+use cs_wire::{Cursor, EntryRef, Item};
 use std::alloc::Global;
 
 /// Whether a file is applied as it is, or as its inverse.
@@ -69,67 +66,8 @@ pub fn run_in<B: Rows, H: Fn(&Conflict) -> Choice>(
     run.finish()
 }
 
-/// Applies a changeset to rows, or its inverse, as [`run_in`] does with its file; no file is written.
-pub fn run_changeset_in<B: Rows, H: Fn(&Conflict) -> Choice>(
-    alloc: Global,
-    rows: &mut B,
-    changeset: &Changeset,
-    direction: Direction,
-    handler: &H,
-) -> Result<Report, ApplyFault>
-    requires { H.IsAlwaysCallable handler.now }
-    ensures applied { B.is_honest rows.new → IfOk result (λ report.
-        Applies (FnReturnsAt H.Fn handler.now) (file_bytes changeset.now) direction (B.state rows.old) report (B.state rows.new)) }
-    ensures refused { B.is_honest rows.new → IfErr result
-        (Refuses (FnReturnsAt H.Fn handler.now) (file_bytes changeset.now) direction (B.state rows.old)) }
-    ensures named { IfErr result IsNamed }
-    ensures was_honest { B.is_honest rows.new → B.is_honest rows.old }
-    ensures kept { B.keeps rows.old rows.new }
-{
-    let mut run = Run::new(alloc);
-    for group in changeset.groups() {
-        take_group(alloc, rows, group, direction, handler, &mut run)?;
-    }
-    run.finish()
-}
-
-/// Goes on with a group: its table, and its entries.
-fn take_group<'a, B: Rows, H: Fn(&Conflict) -> Choice>(
-    alloc: Global,
-    rows: &mut B,
-    group: &'a Group,
-    direction: Direction,
-    handler: &H,
-    run: &mut Run<'a>,
-) -> Result<(), ApplyFault>
-    requires callable { H.IsAlwaysCallable handler.now }
-    requires count { run.old.tables < usize.MAX }
-    ensures behind { B.is_honest rows.new → OnOk result ((before : State) (closed : List GroupData)
-        → AllByRecursion (λ g. g.header.name ≢ group.now.header.name) closed
-        → IsBehind (FnReturnsAt H.Fn handler.now) before closed run.old (B.state rows.old)
-        → IsBehind (FnReturnsAt H.Fn handler.now) before
-        (closed ++ directed_group direction group.now ∷ []) run.new (B.state rows.new)) }
-    ensures tables { OnOk result (run.new.tables ≡ run.old.tables + 1) }
-    ensures ended { IfSome run.old.ended IsNamed → IfSome run.new.ended IsNamed }
-    ensures refused { B.is_honest rows.new → IfErr result IsResource }
-    ensures named { IfErr result IsNamed }
-    ensures was_honest { B.is_honest rows.new → B.is_honest rows.old }
-    ensures kept { B.keeps rows.old rows.new }
-{
-    let header = HeaderRef {
-        name: group.header().name(),
-        flags: group.flags(),
-    };
-    run.take_table(alloc, rows, header)?;
-    for entry in group.entries() {
-        let entry = EntryRef::from_entry(header.flags, entry);
-        run.take_entry(alloc, rows, directed(entry, direction), handler)?;
-    }
-    Ok(())
-}
-
 /// The entry that is carried out: this one, or the one that undoes it.
-fn directed(entry: EntryRef<'_>, direction: Direction) -> EntryRef<'_>
+pub(crate) fn directed(entry: EntryRef<'_>, direction: Direction) -> EntryRef<'_>
     requires { IsEntry entry.flags entry.entry }
     ensures { result ≡ record { flags = entry.entry.flags; entry = directed_entry direction entry.entry.flags entry.entry.entry } }
 {

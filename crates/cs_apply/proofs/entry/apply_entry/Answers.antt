@@ -1,4 +1,4 @@
--- `entry::apply_entry`: the clauses `comes_to` and `ended`.
+-- `entry::apply_entry`: the clause `comes_to`.
 use Rattle.std.proofs.Common.{◌≡◌, ℕ, List, refl, ap, ◌∙◌}
 use Rattle.std.specs.Fn.{FnReturnsAt}
 use Rattle.std.specs.FinMap.{get}
@@ -7,12 +7,8 @@ use Rattle.cs_value.proofs.StateLemmas.{table_of_schema}
 use Rattle.cs_group.specs.Conflicts.{row_after}
 use Rattle.cs_group.specs.Applying.{current}
 use Rattle.cs_apply.specs.Steps.{placed_in_table, with_result}
-use Rattle.cs_apply.proofs.CarryLemmas.{carries_written, carries_passed, refuses_here}
-use Rattle.cs_apply.proofs.EntryLemmas.{ended_named}
+use Rattle.cs_apply.proofs.CarryLemmas.{carries_written, carries_passed, stops_as_here}
 use Rattle.cs_apply.proofs.entry.apply_entry.Goals as goal
-
-pub returns-in-Ended-clause-ended : goal.returns-in-Ended-clause-ended
-returns-in-Ended-clause-ended g c = ended_named (FnReturnsAt g.H.Fn c.args.handler.now) (placed_in_table c.args.table.now c.args.entry.now) c.in_ok-current.current _ _ _ (rw (c.as_ref.ensures.value, c.in-Ended.is) at c.in_ok-settle.ensures)
 
 pub returns-in-Ended-clause-comes_to : goal.returns-in-Ended-clause-comes_to
 returns-in-Ended-clause-comes_to g c = λ honest.
@@ -20,8 +16,8 @@ returns-in-Ended-clause-comes_to g c = λ honest.
     let p = placed_in_table c.args.table.now c.args.entry.now in
     let found = c.in_ok-current.ensures.found honest in
     let is : c.in_ok-current.current ≡ current state p = rw c.in_ok-key.ensures at found in
-    let refused = rw (c.as_ref.ensures.value, c.in-Ended.is) at c.in_ok-settle.ensures in
-    (refuses_here (FnReturnsAt g.H.Fn c.args.handler.now) state p c.in_ok-current.current _ _ is _ refused, c.in_ok-current.ensures.same honest)
+    let stopped = rw (c.as_ref.ensures.value, c.in-Ended.is) at c.in_ok-settle.ensures in
+    (stops_as_here (FnReturnsAt g.H.Fn c.args.handler.now) state p c.in_ok-current.current _ _ is _ stopped, c.in_ok-current.ensures.same honest)
 
 pub returns-in-Passed-clause-comes_to : goal.returns-in-Passed-clause-comes_to
 returns-in-Passed-clause-comes_to g c = λ honest.

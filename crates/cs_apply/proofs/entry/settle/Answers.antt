@@ -19,7 +19,7 @@ returns-then-ends_run g c =
     let is = conflict_is p row c.in-Some.kind conflict met c.in_ok-conflict.ensures in
     let given : FnReturnsAt g.H.Fn c.args.handler.now conflict choice = says_at g.H.Fn c.handler-choice.ensures refl in
     let ended : ends (Some conflict.kind) choice ≡ true = rw kind (sym c.ends_run.ensures ∙ c.if-ends_run.true) in
-    rw c.fault_at.ensures (unsettled (FnReturnsAt g.H.Fn c.args.handler.now) p row c.args.conflicts.now.items conflict choice ended is given)
+    rw c.at.ensures (unsettled (FnReturnsAt g.H.Fn c.args.handler.now) p row c.args.conflicts.now.items conflict choice ended is given)
 
 pub returns : goal.returns
 returns g c =

@@ -1,15 +1,13 @@
 -- The items so far are behind the run.
 use Rattle.std.proofs.Common.{◌≡◌, ◌≤◌, ◌-◌, length}
-use Rattle.std.specs.Prelude.{IfSome}
 use Rattle.std.specs.Fn.{FnReturnsAt}
-use Rattle.cs_apply.specs.Running.{IsNamed}
 use Rattle.cs_apply.proofs.DirectedLemmas.{RunsFront}
 use Rattle.cs_apply.proofs.running.run_in.Given as goal
 
 abbrev pub invariant-items : goal.invariant-items
 invariant-items g l =
     let rows = g.B.Rows in
-    goal.H-IsAlwaysCallable g l.handler × rows.keeps l.fn.rows l.rows × (l.cursor.file ≡ l.file) × (l.run.tables ≤ l.cursor.place) × (l.cursor.place ≤ length l.cursor.file) × IfSome l.run.ended IsNamed
+    goal.H-IsAlwaysCallable g l.handler × rows.keeps l.fn.rows l.rows × (l.cursor.file ≡ l.file) × (l.run.tables ≤ l.cursor.place) × (l.cursor.place ≤ length l.cursor.file)
     × RunsFront (FnReturnsAt g.H.Fn l.handler) l.direction l.cursor.file l.cursor.place l.run (rows.is_honest l.rows) (rows.is_honest l.fn.rows) (rows.state l.fn.rows) (rows.state l.rows)
 
 abbrev pub decreases-items : goal.decreases-items

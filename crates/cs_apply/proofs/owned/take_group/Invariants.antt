@@ -1,20 +1,18 @@
 -- The entries so far are behind the run.
 use Rattle.std.proofs.Common.{◌≡◌, ◌≢◌, ◌+◌, ◌++◌, ◌∷◌, [], List, take}
-use Rattle.std.specs.Prelude.{IfSome}
 use Rattle.std.specs.List.{AllByRecursion}
 use Rattle.std.specs.Fn.{FnReturnsAt}
 use Rattle.cs_value.specs.State.{State}
 use Rattle.cs_wire.specs.Changeset.{GroupData}
 use Rattle.cs_group.specs.Judging.{judged}
-use Rattle.cs_apply.specs.Running.{IsNamed}
 use Rattle.cs_apply.specs.Run.{IsBehind, group_of}
 use Rattle.cs_apply.proofs.DirectedLemmas.{directed_entries}
-use Rattle.cs_apply.proofs.running.take_group.Given as goal
+use Rattle.cs_apply.proofs.owned.take_group.Given as goal
 
 abbrev pub invariant-loop-entry : goal.invariant-loop-entry
 invariant-loop-entry g l =
     let rows = g.B.Rows in
-    goal.H-IsAlwaysCallable g l.handler × rows.keeps l.fn.rows l.rows × (l.run.tables ≡ l.fn.run.tables + 1) × (IfSome l.fn.run.ended IsNamed → IfSome l.run.ended IsNamed)
+    goal.H-IsAlwaysCallable g l.handler × rows.keeps l.fn.rows l.rows × (l.run.tables ≡ l.fn.run.tables + 1)
     × (rows.is_honest l.rows → rows.is_honest l.fn.rows × (l.run.table.now ≡ l.group.header.name) × (l.run.judgement ≡ judged (rows.state l.rows) (group_of l.group.header []))
     × ((before : State) (closed : List GroupData) → AllByRecursion (λ k. k.header.name ≢ l.group.header.name) closed → IsBehind (FnReturnsAt g.H.Fn l.handler) before closed l.fn.run (rows.state l.fn.rows)
     → IsBehind (FnReturnsAt g.H.Fn l.handler) before (closed ++ group_of l.group.header (directed_entries l.direction l.group.header.flags (take l.entry-index l.group.entries)) ∷ []) l.run (rows.state l.rows)))

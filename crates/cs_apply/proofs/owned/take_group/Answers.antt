@@ -1,4 +1,4 @@
--- `running::take_group`: the invariant of the loop at `entry`, what `take_entry` asks for, the clauses `behind` and `kept`.
+-- `owned::take_group`: the invariant of the loop at `entry`, what `take_entry` asks for, the clauses `behind` and `kept`.
 use Rattle.std.proofs.Common.{◌≡◌, ◌<◌, [], List, ℕ, length, take, get_or, refl, sym, ap, ap₂, ◌∙◌}
 use Rattle.std.specs.Fn.{FnReturnsAt}
 use Rattle.std.proofs.lemmas.List.{take_all}
@@ -6,11 +6,10 @@ use Rattle.cs_wire.specs.declared.entry.Entry.{Entry}
 use Rattle.cs_wire.specs.Changeset.{HeaderData}
 use Rattle.cs_wire.specs.Items.{FlaggedEntry, header_of}
 use Rattle.cs_group.proofs.ApplyLemmas.{judged_same}
-use Rattle.cs_apply.specs.Running.{directed_entry}
-use Rattle.cs_apply.specs.Run.{group_of}
+use Rattle.cs_apply.specs.Run.{directed_entry, group_of}
 use Rattle.cs_apply.proofs.BehindLemmas.{behind_table, has_judged_table}
 use Rattle.cs_apply.proofs.DirectedLemmas.{directed_entries, entries_more, entry_new, group_begun, group_whole}
-use Rattle.cs_apply.proofs.running.take_group.Goals as goal
+use Rattle.cs_apply.proofs.owned.take_group.Goals as goal
 
 pub loop-entry-init : goal.loop-entry-init
 loop-entry-init g c =
@@ -20,7 +19,6 @@ loop-entry-init g c =
       c.requires.callable,
       c.take_table.ensures.kept,
       c.in_ok-take_table.ensures.tables,
-      (λ named. rw c.take_table.ensures.ended named),
       λ honest.
           let takes = rw same at c.in_ok-take_table.ensures.takes honest in (
             c.take_table.ensures.was_honest honest,
@@ -35,7 +33,7 @@ loop-entry-init g c =
 pub take_entry-requires-clause-table : goal.take_entry-requires-clause-table
 take_entry-requires-clause-table g c = λ honest compatible.
     let so = c.loop-entry.invariant in
-    has_judged_table (g.B.Rows.state c.loop-entry.rows) c.loop-entry.run c.args.group.now.header c.directed.result (so.4 honest).1 (so.4 honest).2
+    has_judged_table (g.B.Rows.state c.loop-entry.rows) c.loop-entry.run c.args.group.now.header c.directed.result (so.3 honest).1 (so.3 honest).2
     (ap (λ (x : FlaggedEntry). x.flags) c.directed.ensures ∙ ap (λ (x : FlaggedEntry). x.flags) c.from_entry-entry.ensures ∙ c.flags.ensures.same) compatible
 
 pub returns-in_err-take_entry-clause-kept : goal.returns-in_err-take_entry-clause-kept
@@ -59,9 +57,8 @@ loop-entry-preserved g c =
       so.0,
       g.B.Rows.keeps_then _ _ _ so.1 c.take_entry.ensures.kept,
       c.take_entry.ensures.tables ∙ so.2,
-      (λ named. c.take_entry.ensures.ended (so.3 named)),
       λ honest.
-          let was = so.4 (c.take_entry.ensures.was_honest honest) in (
+          let was = so.3 (c.take_entry.ensures.was_honest honest) in (
             was.0,
             ap (λ t. t.now) c.take_entry.ensures.table.0 ∙ was.1,
             c.take_entry.ensures.table.1 ∙ was.2 ∙ sym (judged_same (g.B.Rows.state c.loop-entry.rows) (g.B.Rows.state c.take_entry.new.rows) (c.in_ok-take_entry.ensures.schemas honest) (group_of h []) (group_of h []) refl),
@@ -78,4 +75,4 @@ returns-clause-behind g c = λ honest before closed names is.
     let group = c.args.group.now in
     let all = take_all c.loop-entry.entry-index group.entries (rw c.entries-entry-items.ensures.same at c.loop-entry-test.false) in
     let whole = ap (λ (es : List Entry). group_of group.header (directed_entries c.args.direction group.header.flags es)) all ∙ group_whole c.args.direction group in
-    rw (← whole) ((so.4 honest).3 before closed names is)
+    rw (← whole) ((so.3 honest).3 before closed names is)

@@ -1,13 +1,11 @@
 -- The groups so far are behind the run.
 use Rattle.std.proofs.Common.{◌≡◌, take}
-use Rattle.std.specs.Prelude.{IfSome}
 use Rattle.std.specs.Fn.{FnReturnsAt}
-use Rattle.cs_apply.specs.Running.{IsNamed, directed}
-use Rattle.cs_apply.specs.Run.{IsBehind}
-use Rattle.cs_apply.proofs.running.run_changeset_in.Given as goal
+use Rattle.cs_apply.specs.Run.{IsBehind, directed}
+use Rattle.cs_apply.proofs.owned.run_changeset_in.Given as goal
 
 abbrev pub invariant-loop-group : goal.invariant-loop-group
 invariant-loop-group g l =
     let rows = g.B.Rows in
-    goal.H-IsAlwaysCallable g l.handler × rows.keeps l.fn.rows l.rows × (l.run.tables ≡ l.group-index) × IfSome l.run.ended IsNamed
+    goal.H-IsAlwaysCallable g l.handler × rows.keeps l.fn.rows l.rows × (l.run.tables ≡ l.group-index)
     × (rows.is_honest l.rows → rows.is_honest l.fn.rows × IsBehind (FnReturnsAt g.H.Fn l.handler) (rows.state l.fn.rows) (directed l.direction (take l.group-index l.changeset)) l.run (rows.state l.rows))

@@ -1,19 +1,18 @@
--- `running::run_changeset_in`: the invariant of the loop at `group`, the clauses `applied` and `refused`.
+-- `owned::run_changeset_in`: the invariant of the loop at `group`, the clauses `applied`, `refused`, `named` and `read`.
 use Rattle.std.proofs.Common.{◌≡◌, ◌<◌, ◌+◌, ℕ, List, length, get_or, refl, ap, ◌∙◌}
 use Rattle.std.specs.Fn.{FnReturnsAt}
 use Rattle.std.proofs.lemmas.List.{take_all}
 use Rattle.cs_wire.specs.Changeset.{GroupData, file_bytes}
-use Rattle.cs_apply.specs.Running.{directed}
+use Rattle.cs_apply.specs.Run.{directed}
 use Rattle.cs_apply.proofs.BehindLemmas.{behind_start}
-use Rattle.cs_apply.proofs.DirectedLemmas.{directed_none, group_names, groups_more, read_as, run_outcome}
-use Rattle.cs_apply.proofs.running.run_changeset_in.Goals as goal
+use Rattle.cs_apply.proofs.DirectedLemmas.{directed_none, group_names, groups_more, outcome_named, outcome_read, read_as, run_outcome}
+use Rattle.cs_apply.proofs.owned.run_changeset_in.Goals as goal
 
 pub loop-group-init : goal.loop-group-init
 loop-group-init g c = (
   c.requires,
   g.B.Rows.keeps_itself _,
   c.new-run.ensures.tables,
-  rw c.new-run.ensures.ended tt,
   λ honest. (honest, rw (directed_none c.args.direction) (behind_start (FnReturnsAt g.H.Fn c.args.handler.now) (g.B.Rows.state c.args.rows.now) c.new-run.result c.new-run.ensures)),
 )
 
@@ -29,9 +28,8 @@ loop-group-preserved g c =
       so.0,
       g.B.Rows.keeps_then _ _ _ so.1 c.take_group.ensures.kept,
       c.in_ok-take_group.ensures.tables ∙ ap (λ (n : ℕ). n + 1) so.2,
-      c.take_group.ensures.ended so.3,
       λ honest.
-          let was = so.4 (c.take_group.ensures.was_honest honest) in (
+          let was = so.3 (c.take_group.ensures.was_honest honest) in (
             was.0,
             rw (groups_more c.args.direction all i group within is)
                 (c.in_ok-take_group.ensures.behind honest (g.B.Rows.state c.args.rows.now) _ (group_names c.args.direction all i group groups.well_formed within is) was.1),
@@ -43,7 +41,7 @@ returns-clause-applied g c = λ honest.
     let all = c.args.changeset.now in
     let groups = c.groups-group-items.ensures in
     let whole = take_all c.loop-group.group-index all (rw groups.same at c.loop-group-test.false) in
-    let behind = rw whole at (c.loop-group.invariant.4 honest).1 in
+    let behind = rw whole at (c.loop-group.invariant.3 honest).1 in
     (run_outcome (FnReturnsAt g.H.Fn c.args.handler.now) c.args.direction (file_bytes all) (directed c.args.direction all) _ c.loop-group.run _ (read_as c.args.direction (file_bytes all) all (groups.well_formed, refl)) behind
     c.finish.result c.finish.ensures).0
 
@@ -52,6 +50,12 @@ returns-clause-refused g c = λ honest.
     let all = c.args.changeset.now in
     let groups = c.groups-group-items.ensures in
     let whole = take_all c.loop-group.group-index all (rw groups.same at c.loop-group-test.false) in
-    let behind = rw whole at (c.loop-group.invariant.4 honest).1 in
+    let behind = rw whole at (c.loop-group.invariant.3 honest).1 in
     (run_outcome (FnReturnsAt g.H.Fn c.args.handler.now) c.args.direction (file_bytes all) (directed c.args.direction all) _ c.loop-group.run _ (read_as c.args.direction (file_bytes all) all (groups.well_formed, refl)) behind
     c.finish.result c.finish.ensures).1
+
+pub returns-clause-named : goal.returns-clause-named
+returns-clause-named g c = outcome_named c.loop-group.run c.finish.result c.finish.ensures
+
+pub returns-clause-read : goal.returns-clause-read
+returns-clause-read g c = outcome_read c.loop-group.run c.finish.result c.finish.ensures
