@@ -51,6 +51,9 @@ CREATE = "CREATE TABLE t(a, b, PRIMARY KEY(a));"
 INSERT = T + insert(1, "x")
 DELETE = T + delete(1, "x")
 UPDATE = T + update((1, "x"), (UNDEFINED, "y"))
+# So many inserts, and their file.
+MANY = 20_000
+MANY_INSERTS = T + b"".join(insert(key, "x") for key in range(MANY))
 WIDER_INSERT = header("t", 1, 0, 0) + insert(1, None, None)
 
 INPUT_FAULT = "error 71 InputFault\n"
@@ -248,6 +251,14 @@ class Files(ProgramTest):
         self.expect(["b.cs", "concat", "a.cs", "b.cs"], 0)
         self.assertEqual(self.bytes_of("b.cs"), DELETE)
         self.assertEqual(self.bytes_of("a.cs"), UPDATE)
+
+    def test_many_keys(self):
+        self.make("a.cs", MANY_INSERTS)
+        self.expect(["a.cs", "invert", "inverse.cs"], 0)
+        self.expect(["a.cs", "concat", "inverse.cs", "o.cs"], 0)
+        self.assertEqual(self.bytes_of("o.cs"), b"")
+        self.make("a.cs", MANY_INSERTS + insert(MANY - 1, "x"))
+        self.expect(["a.cs", "dump"], 1, "", f"error 18 DuplicateKey {len(MANY_INSERTS)}\n")
 
     def test_join_that_is_refused(self):
         self.make("a.cs", INSERT)
@@ -751,6 +762,13 @@ class Shells(StoreTest):
         printed = "conflict 3 conflict replace 't'\napplied 1\napplied 2\n1|'z'\n"
         self.assertEqual(self.run_shell(lines), (0, printed, ""))
         self.assertEqual(self.read(), tables_of((1, "z")))
+
+    def test_session_of_many_keys(self):
+        lines = [
+            CREATE, ".session open", ".session attach t", f".load a {MANY_INSERTS.hex()}", ".apply a",
+            ".session changeset net", ".hex net",
+        ]
+        self.assertEqual(self.run_shell(lines), (0, f"applied {MANY}\n{MANY_INSERTS.hex()}\n", ""))
 
     def test_store_in_memory(self):
         lines = [CREATE, "INSERT INTO t VALUES(1, 'x');", "SELECT * FROM t;"]

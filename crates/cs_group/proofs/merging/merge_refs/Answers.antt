@@ -1,5 +1,5 @@
 -- `merging::merge_refs`: the clause `fits`.
-use Rattle.std.proofs.Common.{◌≡◌, sym, rules}
+use Rattle.std.proofs.Common.{◌≡◌, rules}
 use Rattle.cs_group.specs.Joining.{merged}
 use Rattle.cs_group.proofs.KeyPlaceLemmas.{fits_same}
 use Rattle.cs_group.proofs.MergeLemmas.{merged_fits}
