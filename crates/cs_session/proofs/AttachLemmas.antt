@@ -1,48 +1,34 @@
 -- Tables that are attached, as the code and as the definitions have them.
-use Rattle.std.proofs.Common.{◌≡◌, ◌≢◌, ◌↔◌, ◌==◌, ℕ, zero, suc, Bool, true, false, ◌||◌, List, [], ◌∷◌, ◌++◌, length, map, All, Any, IsTrue, refl, sym, ap, subst, ◌∙◌, arith}
-use Rattle.std.specs.Prelude.{string_bytes, Some, Result, Ok, Err, OnOk}
-use Rattle.std.specs.List.{AllByRecursion, list_all, list_any}
-use Rattle.std.specs.Cmp.Lexicographic.{same_text, other_text}
+use Rattle.std.proofs.Common.{◌≡◌, ◌≢◌, ◌↔◌, ◌==◌, ℕ, Bool, true, false, List, [], ◌∷◌, ◌++◌, length, get_or, map, All, Any, IsTrue, refl, sym, ap, subst, ◌∙◌, arith}
+use Rattle.std.specs.Prelude.{is_some, Option, None, Some, IfSome, IfNone, Result, Ok, Err, OnOk}
+use Rattle.std.specs.List.{AllByRecursion, list_all}
 use Rattle.std.proofs.lemmas.Bool.{and_parts, eqb-true}
-use Rattle.std.proofs.lemmas.List.{nil_from_length, map-append}
+use Rattle.std.proofs.lemmas.List.{nil_from_length, map-append, length-map, get_or-map}
 use Rattle.std.proofs.lemmas.List.Elements.{recursion_from_All, All-from_recursion, All-push}
 use Rattle.std.proofs.lemmas.List.Quantifiers.{all_pairs_push}
 use Rattle.cs_value.specs.Table.{IsName}
 use Rattle.cs_value.specs.State.{SchemaData, IsSchema, State, schema_at, rows_at}
-use Rattle.cs_value.proofs.ListLemmas.{AllByRecursion-push}
-use Rattle.cs_store.specs.Records.{same_bytes}
 use Rattle.cs_session.specs.declared.attached.Attached.{Attached}
-use Rattle.cs_session.specs.FirstImages.{NotedImages, AttachedTable, Notes, IsAttachedTable, IsNotes, rewound_rows, rewound}
+use Rattle.cs_session.specs.FirstImages.{AttachedTable, Notes, IsAttachedTable, IsNotes, rewound_rows, rewound}
 use Rattle.cs_session.specs.Attaching.{IsNewTable, Attaches}
-use Rattle.cs_session.specs.Views.{attached_of, IsSettled}
+use Rattle.cs_session.specs.Views.{attached_of, IsPlace, IsSettled}
 
 -- ---- a name
 
-abbrev tests : List ℕ → Attached → Bool
-tests name table = same_bytes (string_bytes table.name) name
+-- a table has the name where one is found
+pub is_attached : (name : List ℕ) (tables : List Attached) (place : ℕ) → IsPlace tables name place → Any (λ t. t.name ≡ name) (map attached_of tables)
+is_attached name [] place found = absurd (omega (arith, found.0))
+is_attached name (table ∷ tables) place found =
+    let t = get_or (table ∷ tables) place table in
+    (place, attached_of t, omega (arith, found.0, length-map (table ∷ tables) attached_of), get_or-map attached_of (table ∷ tables) place table (attached_of t) found.0, found.1 table)
 
-not_attached : (name : List ℕ) (tables : List Attached) → list_any (tests name) tables ≡ false → AllByRecursion (λ t. t.name ≢ name) (map attached_of tables)
-not_attached name [] e = tt
-not_attached name (table ∷ tables) e = at (tests name table) refl e (not_attached name tables)
-  where
-    at : (b : Bool) → tests name table ≡ b → (b || list_any (tests name) tables) ≡ false → (list_any (tests name) tables ≡ false → AllByRecursion (λ t. t.name ≢ name) (map attached_of tables))
-        → AllByRecursion (λ t. t.name ≢ name) (attached_of table ∷ map attached_of tables)
-    at true same e next = absurd (let apart : true ≡ false = e in cc)
-    at false same e next = (other_text (string_bytes table.name) name (sym same), next e)
+pub attached_where_some : (name : List ℕ) (tables : List Attached) (place : Option ℕ) → is_some place ≡ true → IfSome place (IsPlace tables name) → Any (λ t. t.name ≡ name) (map attached_of tables)
+attached_where_some name tables None e found = absurd (let apart : true ≡ false = sym e in cc)
+attached_where_some name tables (Some i) e found = is_attached name tables i found
 
--- no table has the name where none is found
-pub is_new : (name : List ℕ) (tables : List Attached) → list_any (tests name) tables ≡ false → IsNewTable (map attached_of tables) name
-is_new name tables e = All-from_recursion (λ (t : AttachedTable). t.name ≢ name) (map attached_of tables) (not_attached name tables e)
-
--- and one has it where one is found
-pub is_attached : (name : List ℕ) (tables : List Attached) → list_any (tests name) tables ≡ true → Any (λ t. t.name ≡ name) (map attached_of tables)
-is_attached name [] e = absurd (let apart : true ≡ false = sym e in cc)
-is_attached name (table ∷ tables) e = at (tests name table) refl e (is_attached name tables)
-  where
-    at : (b : Bool) → tests name table ≡ b → (b || list_any (tests name) tables) ≡ true → (list_any (tests name) tables ≡ true → Any (λ t. t.name ≡ name) (map attached_of tables))
-        → Any (λ t. t.name ≡ name) (attached_of table ∷ map attached_of tables)
-    at true same e next = (zero, attached_of table, omega arith, refl, same_text (string_bytes table.name) name (sym same))
-    at false same e next = let found = next e in (suc found.0, found.1, omega arith, found.3, found.4)
+pub new_where_none : (name : List ℕ) (tables : List Attached) (place : Option ℕ) → is_some place ≡ false → IfNone place (IsNewTable (map attached_of tables) name) → IsNewTable (map attached_of tables) name
+new_where_none name tables None e fresh = fresh
+new_where_none name tables (Some i) e fresh = absurd (let apart : true ≡ false = e in cc)
 
 -- ---- no key is written
 
@@ -83,20 +69,11 @@ one_more notes name schema is named is_schema fresh =
       once = all_pairs_push (λ (s t : AttachedTable). s.name ≢ t.name) notes new is.once fresh;
     }
 
--- as the code appends it
-pub pushed : (old new : List Attached) (value : Attached) (name : List ℕ) (schema : SchemaData) → new ≡ old ++ value ∷ [] → string_bytes value.name ≡ name → value.schema ≡ schema
-    → value.firsts ≡ record { kept = []; pending = [] } → map attached_of new ≡ map attached_of old ++ record { name = name; schema = schema; firsts = [] } ∷ []
-pushed old new value name schema is named of_schema none =
-    ap (map attached_of) is ∙ map-append attached_of old (value ∷ [])
-    ∙ ap (λ (t : AttachedTable). map attached_of old ++ t ∷ []) (λ i. record { name = named i; schema = of_schema i; firsts = (none i).kept ++ (none i).pending })
-
-pub push_keeps : (old new : List Attached) (value : Attached) (name : List ℕ) (schema : SchemaData) → new ≡ old ++ value ∷ [] → string_bytes value.name ≡ name → value.schema ≡ schema
-    → value.firsts ≡ record { kept = []; pending = [] } → IsNotes (map attached_of old) × AllByRecursion IsSettled old → IsName name → IsSchema schema → IsNewTable (map attached_of old) name
+-- what the code keeps of its tables
+pub push_keeps : (old new : List Attached) (name : List ℕ) (schema : SchemaData) → map attached_of new ≡ map attached_of old ++ record { name = name; schema = schema; firsts = [] } ∷ []
+    → (AllByRecursion IsSettled old → AllByRecursion IsSettled new) → IsNotes (map attached_of old) × AllByRecursion IsSettled old → IsName name → IsSchema schema → IsNewTable (map attached_of old) name
     → IsNotes (map attached_of new) × AllByRecursion IsSettled new
-push_keeps old new value name schema is named of_schema none are name_is schema_is fresh = (
-  subst IsNotes (sym (pushed old new value name schema is named of_schema none)) (one_more (map attached_of old) name schema are.0 name_is schema_is fresh),
-  subst (AllByRecursion IsSettled) (sym is) (AllByRecursion-push IsSettled old value are.1 (ap (λ (n : NotedImages). n.pending) none)),
-)
+push_keeps old new name schema pushed settled are name_is schema_is fresh = (subst IsNotes (sym pushed) (one_more (map attached_of old) name schema are.0 name_is schema_is fresh), settled are.1)
 
 -- ---- what attaching answers
 

@@ -1,20 +1,22 @@
 -- The tables and first images of a session, one after another, and the changes that are made of them.
-use Rattle.std.proofs.Common.{◌≡◌, ◌≢◌, inl, inr, ℕ, false, List, [], ◌∷◌, ◌++◌, length, All, AllPairs, Option, Some, None, option_map, option_to_list, refl, sym, ◌∙◌}
+use Rattle.std.proofs.Common.{◌≡◌, ◌≢◌, inl, inr, ℕ, false, List, [], ◌∷◌, ◌++◌, length, All, AllPairs, filter_map, Option, Some, None, option_map, option_to_list, refl, sym, ap, ◌∙◌, arith}
 use Rattle.std.specs.Prelude.{IfSome}
 use Rattle.std.specs.Borrow.{Bor}
 use Rattle.std.proofs.lemmas.List.{append-nil}
-use Rattle.std.proofs.lemmas.List.Elements.{All-push, All-pop}
+use Rattle.std.specs.List.{AllByRecursion}
+use Rattle.std.proofs.lemmas.List.Elements.{All-push, All-pop, recursion_from_All, All-from_recursion, filter_map-append}
 use Rattle.std.proofs.lemmas.List.Quantifiers.{all_pairs_push}
 use Rattle.cs_value.specs.declared.value.OwnedValue.{OwnedValue}
 use Rattle.cs_value.specs.State.{State, IsRowAt}
 use Rattle.cs_value.proofs.KeyedRows.{length-IsKeyedRow}
+use Rattle.cs_value.proofs.ListLemmas.{AllByRecursion-append_right, PairsByRecursion, recursion_from_AllPairs, cons_option-nil}
 use Rattle.cs_wire.specs.declared.entry.Change.{Change}
 use Rattle.cs_wire.specs.declared.entry.Entry.{Entry}
 use Rattle.cs_wire.specs.Entry.{IsChange, IsEntry, key_of}
 use Rattle.cs_group.specs.Net.{net_row_change}
 use Rattle.cs_group.proofs.NetLemmas.{NetLeads, net_leads}
 use Rattle.cs_session.specs.declared.fault.SessionFault.{SessionFault}
-use Rattle.cs_session.specs.FirstImages.{FirstImage, AttachedTable, Notes, HasAttached}
+use Rattle.cs_session.specs.FirstImages.{FirstImage, AttachedTable, Notes, IsAttachedTable, HasAttached}
 use Rattle.cs_session.specs.Changes.{LacksTable, LacksNamed, RefusesTable, RefusesNamed, RefusesChanges}
 
 -- ---- a refusal
@@ -91,3 +93,32 @@ key_more flags firsts entries so first apart (Some change) fits = record {
   once = all_pairs_push (λ (d e : Entry). key_of flags d.change ≢ key_of flags e.change) entries (entry_of change) so.once (rw fits.1 (so.no_other first.key apart));
   no_other = no_other_more (λ (f : FirstImage). f.key) (λ (e : Entry). key_of flags e.change) firsts entries so.no_other first (Some (entry_of change)) fits.1;
 }
+
+-- ---- one first image after another
+
+before_one : {X : Type 0} (R : X → X → Type 0) (done rest : List X) (x : X) → PairsByRecursion R (done ++ x ∷ rest) → AllByRecursion (λ y. R y x) done
+before_one R [] rest x each = tt
+before_one R (y ∷ done) rest x each = ((AllByRecursion-append_right (R y) done (x ∷ rest) each.0).0, before_one R done rest x each.1)
+
+pub filter_map_then : {X Y : Type 0} (h : X → Option Y) (done : List X) (x : X) → filter_map h (done ++ x ∷ []) ≡ filter_map h done ++ option_to_list (h x)
+filter_map_then h done x = filter_map-append h done (x ∷ []) ∙ ap (λ (l : List _). filter_map h done ++ l) (cons_option-nil (h x))
+
+-- the next of a table's first images
+module _ (table : AttachedTable) (is : IsAttachedTable table) (done rest : List FirstImage) (first : FirstImage) (all : done ++ first ∷ rest ≡ table.firsts) where
+  abbrev FitsIn : FirstImage → Type 0
+  FitsIn f = IfSome f.row (IsRowAt table.schema.flags f.key)
+
+  pub next_fits : IfSome first.row (IsRowAt table.schema.flags first.key)
+  next_fits = (AllByRecursion-append_right FitsIn done (first ∷ rest) (recursion_from_All FitsIn (done ++ first ∷ rest) (rw all is.rows))).0
+
+  pub next_apart : All (λ f. f.key ≢ first.key) done
+  next_apart = All-from_recursion (λ (f : FirstImage). f.key ≢ first.key) done
+      (before_one (λ (f h : FirstImage). f.key ≢ h.key) done rest first (recursion_from_AllPairs (λ (f h : FirstImage). f.key ≢ h.key) (done ++ first ∷ rest) (rw all is.once)))
+
+-- no entry is of no key
+pub no_keys : (flags : List ℕ) (entries : List Entry) → entries ≡ [] → AreOfKeys flags [] entries
+no_keys flags entries none = rw none (record {
+  each = λ k d lt. absurd (omega arith);
+  once = λ i j d lt within. absurd (omega arith);
+  no_other = λ key apart k d lt. absurd (omega arith);
+})

@@ -7,6 +7,8 @@ pub mod Examples
 pub mod AttachLemmas
 pub mod ImageLemmas
 pub mod NotingLemmas
+pub mod TablesLemmas
+pub mod PlacesLemmas
 pub mod EntriesLemmas
 pub mod SchemaLemmas
 pub mod OutcomeLemmas

@@ -1,10 +1,9 @@
 -- What is noted of writes is well formed.
-use Rattle.std.proofs.Common.{◌≡◌, ◌≢◌, ◌⊎◌, inl, inr, ℕ, zero, suc, ◌<◌, Bool, true, false, cond, List, [], ◌∷◌, ◌++◌, length, get_or, Option, Some, refl, sym, ap, ◌∙◌, subst, arith}
+use Rattle.std.proofs.Common.{◌≡◌, ◌≢◌, ◌⊎◌, inl, inr, ℕ, Bool, true, false, cond, List, [], ◌∷◌, ◌++◌, Option, Some, refl, sym, subst}
 use Rattle.std.specs.Prelude.{IfSome, is_some}
 use Rattle.std.specs.List.{AllByRecursion}
 use Rattle.std.specs.Cmp.Lexicographic.{other_text}
-use Rattle.std.proofs.lemmas.List.{append-nil}
-use Rattle.std.proofs.lemmas.List.Elements.{recursion_from_All, All-from_recursion, filter-append}
+use Rattle.std.proofs.lemmas.List.Elements.{recursion_from_All, All-from_recursion}
 use Rattle.cs_value.specs.declared.value.OwnedValue.{OwnedValue}
 use Rattle.cs_value.specs.State.{State, WrittenData, IsState, IsRowAt, row_at}
 use Rattle.cs_value.proofs.ListLemmas.{AllByRecursion-map, AllByRecursion-push, AllByRecursion-weaker, PairsByRecursion, recursion_from_AllPairs, AllPairs-from_recursion}
@@ -119,69 +118,3 @@ module _ (old : State) (is_state : IsState old) where
 pub only_writes : (name other : List ℕ) (written : List WrittenData) → AllByRecursion (λ w. w.table ≡ name) written → same_bytes name other ≡ false → writes_of other written ≡ []
 only_writes name other [] all apart = refl
 only_writes name other (w ∷ written) all apart = rw (all.0, apart) (only_writes name other written all.1 apart)
-
--- ---- one write more
-
--- noting goes on
-noted_then : (firsts : List FirstImage) (xs ys : List WrittenData) → noted (noted firsts xs) ys ≡ noted firsts (xs ++ ys)
-noted_then firsts [] ys = refl
-noted_then firsts (w ∷ xs) ys = at (is_some (first_at firsts w.key)) (noted_then firsts xs ys) (noted_then (firsts ++ record { key = w.key; row = w.former } ∷ []) xs ys)
-  where
-    at : (b : Bool) → noted (noted firsts xs) ys ≡ noted firsts (xs ++ ys)
-        → noted (noted (firsts ++ record { key = w.key; row = w.former } ∷ []) xs) ys ≡ noted (firsts ++ record { key = w.key; row = w.former } ∷ []) (xs ++ ys)
-        → noted (cond b (noted firsts xs) (noted (firsts ++ record { key = w.key; row = w.former } ∷ []) xs)) ys
-        ≡ cond b (noted firsts (xs ++ ys)) (noted (firsts ++ record { key = w.key; row = w.former } ∷ []) (xs ++ ys))
-    at true here there = here
-    at false here there = there
-
-module _ (table : AttachedTable) (xs : List WrittenData) (w : WrittenData) where
-  writes_then : (b : Bool) → same_bytes w.table table.name ≡ b → writes_of table.name (xs ++ w ∷ []) ≡ writes_of table.name xs ++ cond b (w ∷ []) []
-  writes_then b same = filter-append (λ (v : WrittenData). same_bytes v.table table.name) xs (w ∷ []) ∙ rw same refl
-
-  pub noted_more : (t : AttachedTable) → t ≡ noted_in xs table → same_bytes w.table t.name ≡ true → record t { firsts = noted t.firsts (w ∷ []) } ≡ noted_in (xs ++ w ∷ []) table
-  noted_more t is same =
-      let here : same_bytes w.table table.name ≡ true = ap (λ (a : AttachedTable). same_bytes w.table a.name) (sym is) ∙ same in
-      ap (λ (a : AttachedTable). let b : AttachedTable = record a { firsts = noted a.firsts (w ∷ []) } in b) is
-      ∙ ap (λ (fs : List FirstImage). let b : AttachedTable = record table { firsts = fs } in b)
-      (noted_then table.firsts (writes_of table.name xs) (w ∷ []) ∙ ap (noted table.firsts) (sym (writes_then true here)))
-
-  pub noted_else : (t : AttachedTable) → t ≡ noted_in xs table → same_bytes w.table t.name ≡ false → t ≡ noted_in (xs ++ w ∷ []) table
-  noted_else t is other =
-      let there : same_bytes w.table table.name ≡ false = ap (λ (a : AttachedTable). same_bytes w.table a.name) (sym is) ∙ other in
-      is ∙ ap (λ (writes : List WrittenData). let b : AttachedTable = record table { firsts = noted table.firsts writes } in b)
-      (sym (writes_then false there ∙ append-nil (writes_of table.name xs)))
-
-  abbrev Fit : WrittenData → Type 0
-  Fit v = IfSome v.former (IsRowAt table.schema.flags v.key)
-
-  pub formers_more : (t : AttachedTable) → t ≡ noted_in xs table → HasFormers xs table → same_bytes w.table t.name ≡ true → IfSome w.former (IsRowAt t.schema.flags w.key)
-      → HasFormers (xs ++ w ∷ []) table
-  formers_more t is formers same fits =
-      let here : same_bytes w.table table.name ≡ true = ap (λ (a : AttachedTable). same_bytes w.table a.name) (sym is) ∙ same in
-      rw (writes_then true here)
-      (AllByRecursion-push Fit (writes_of table.name xs) w formers (subst (λ (a : AttachedTable). IfSome w.former (IsRowAt a.schema.flags w.key)) is fits))
-
-  pub formers_else : (t : AttachedTable) → t ≡ noted_in xs table → HasFormers xs table → same_bytes w.table t.name ≡ false → HasFormers (xs ++ w ∷ []) table
-  formers_else t is formers other =
-      let there : same_bytes w.table table.name ≡ false = ap (λ (a : AttachedTable). same_bytes w.table a.name) (sym is) ∙ other in
-      rw (writes_then false there, append-nil (writes_of table.name xs)) formers
-
--- a write of the table among them
-former_at : (table : AttachedTable) (written : List WrittenData) (i : ℕ) (w : WrittenData) → i < length written → w ≡ get_or written i w → HasFormers written table
-    → same_bytes w.table table.name ≡ true → IfSome w.former (IsRowAt table.schema.flags w.key)
-former_at table [] i w lt is formers same = absurd (omega arith)
-former_at table (v ∷ written) zero w lt is formers same =
-    let here : same_bytes v.table table.name ≡ true = ap (λ (x : WrittenData). same_bytes x.table table.name) (sym is) ∙ same in
-    let all = subst (λ (b : Bool). AllByRecursion (λ x. IfSome x.former (IsRowAt table.schema.flags x.key)) (cond b (v ∷ writes_of table.name written) (writes_of table.name written))) here formers in
-    subst (λ (x : WrittenData). IfSome x.former (IsRowAt table.schema.flags x.key)) (sym is) all.0
-former_at table (v ∷ written) (suc i) w lt is formers same = former_at table written i w (omega arith) is (at (same_bytes v.table table.name) formers) same
-  where
-    at : (b : Bool) → AllByRecursion (λ x. IfSome x.former (IsRowAt table.schema.flags x.key)) (cond b (v ∷ writes_of table.name written) (writes_of table.name written)) → HasFormers written table
-    at true formers = formers.1
-    at false formers = formers
-
-pub former_here : (table : AttachedTable) (xs written : List WrittenData) (i : ℕ) (w : WrittenData) → i < length written → w ≡ get_or written i w → (t : AttachedTable) → t ≡ noted_in xs table
-    → same_bytes w.table t.name ≡ true → HasFormers written table → IfSome w.former (IsRowAt t.schema.flags w.key)
-former_here table xs written i w lt at t is same formers =
-    subst (λ (a : AttachedTable). IfSome w.former (IsRowAt a.schema.flags w.key)) (sym is)
-    (former_at table written i w lt at formers (ap (λ (a : AttachedTable). same_bytes w.table a.name) (sym is) ∙ same))

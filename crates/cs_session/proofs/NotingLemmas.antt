@@ -3,7 +3,7 @@ use Rattle.std.proofs.Common.{◌≡◌, ◌⊎◌, inl, inr, List, [], ◌∷�
 use Rattle.std.proofs.lemmas.List.{append-nil}
 use Rattle.std.specs.List.{AllByRecursion}
 use Rattle.cs_session.specs.declared.attached.Attached.{Attached}
-use Rattle.cs_session.specs.Views.{attached_of, kept_of, IsSettled}
+use Rattle.cs_session.specs.Views.{attached_of, kept_of, name_in, IsSettled}
 
 -- a refusal for something that does not hold is one for what it follows from
 pub still_fails : {A B P Q : Type 0} → (Q → P) → A ⊎ (B × ¬ P) → A ⊎ (B × ¬ Q)
@@ -33,6 +33,15 @@ keeping_settles (table ∷ tables) = (refl, keeping_settles tables)
 pub cutting_settles : (tables : List Attached) → AllByRecursion IsSettled (map cutting tables)
 cutting_settles [] = tt
 cutting_settles (table ∷ tables) = (refl, cutting_settles tables)
+
+-- the names stay
+pub keeping_names : (tables : List Attached) → map name_in (map keeping tables) ≡ map name_in tables
+keeping_names [] = refl
+keeping_names (table ∷ tables) = let others = keeping_names tables in cc (others)
+
+pub cutting_names : (tables : List Attached) → map name_in (map cutting tables) ≡ map name_in tables
+cutting_names [] = refl
+cutting_names (table ∷ tables) = let others = cutting_names tables in cc (others)
 
 -- where nothing is noted since, what is kept is all
 pub settled_kept : (tables : List Attached) → AllByRecursion IsSettled tables → map attached_of tables ≡ map kept_of tables

@@ -1,7 +1,11 @@
 -- What types of the code stand for.
-use Rattle.std.specs.Prelude.{◌≡◌, [], ◌++◌, string_bytes}
+use Rattle.std.specs.Prelude.{◌≡◌, ℕ, List, [], ◌++◌, ◌<◌, length, get_or, string_bytes}
 use Rattle.cs_session.specs.declared.attached.Attached.{Attached}
 use Rattle.cs_session.specs.FirstImages.{AttachedTable}
+
+-- its name
+abbrev pub name_in : Attached → List ℕ
+name_in table = string_bytes table.name
 
 -- a table with all that is noted of it
 abbrev pub attached_of : Attached → AttachedTable
@@ -22,3 +26,7 @@ kept_of table = record {
 -- nothing is noted since
 abbrev pub IsSettled : Attached → Type 0
 IsSettled table = table.firsts.pending ≡ []
+
+-- a table with this name stands there
+abbrev pub IsPlace : List Attached → List ℕ → ℕ → Type 0
+IsPlace tables name place = (place < length tables) × ((d : Attached) → name_in (get_or tables place d) ≡ name)

@@ -14,9 +14,9 @@ ghost use Rattle.cs_session.specs.FirstImages.{IsNotes};
 ghost use Rattle.cs_session.specs.Recording.{RecordsApply, RefusesApply};
 ghost use Rattle.cs_session.specs.Views.{attached_of, kept_of, IsSettled};
 
-use crate::attached::{Attached, cut_back_all, keep_all, note_all};
 use crate::checking::check_tables;
 use crate::fault::SessionFault;
+use crate::tables::Tables;
 use cs_apply::{Choice, Conflict, Direction, Report, run_in};
 use cs_store::{Rows, Store};
 use sqlite::Alter;
@@ -25,7 +25,7 @@ use std::alloc::Global;
 /// Applies a file, notes the keys that were written, and commits. A refusal changes nothing.
 pub(crate) fn apply_noted<S: Alter, H: Fn(&Conflict) -> Choice>(
     alloc: Global,
-    tables: &mut [Attached],
+    tables: &mut Tables,
     store: &mut Store<S>,
     file: &[u8],
     handler: &H,
@@ -50,11 +50,11 @@ pub(crate) fn apply_noted<S: Alter, H: Fn(&Conflict) -> Choice>(
 {
     match apply_batch(alloc, tables, store, file, handler) {
         Ok(report) => {
-            keep_all(tables);
+            tables.keep();
             Ok(report)
         }
         Err(fault) => {
-            cut_back_all(tables);
+            tables.cut_back();
             Err(fault)
         }
     }
@@ -64,7 +64,7 @@ pub(crate) fn apply_noted<S: Alter, H: Fn(&Conflict) -> Choice>(
 /// it is refused, what was noted at the last commit stands.
 fn apply_batch<S: Alter, H: Fn(&Conflict) -> Choice>(
     alloc: Global,
-    tables: &mut [Attached],
+    tables: &mut Tables,
     store: &mut Store<S>,
     file: &[u8],
     handler: &H,
@@ -95,7 +95,7 @@ fn apply_batch<S: Alter, H: Fn(&Conflict) -> Choice>(
 /// Applies a file to rows, and notes the keys that were written.
 fn apply_rows<B: Rows, H: Fn(&Conflict) -> Choice>(
     alloc: Global,
-    tables: &mut [Attached],
+    tables: &mut Tables,
     rows: &mut B,
     file: &[u8],
     handler: &H,
@@ -113,8 +113,8 @@ fn apply_rows<B: Rows, H: Fn(&Conflict) -> Choice>(
     ensures was_honest { B.is_honest rows.new → B.is_honest rows.old }
     ensures kept { B.keeps rows.old rows.new }
 {
-    check_tables(alloc, rows, tables)?;
+    check_tables(alloc, rows, tables.as_slice())?;
     let report = run_in(alloc, rows, file, Direction::Forward, handler)?;
-    note_all(alloc, tables, &report.written)?;
+    tables.note_copies(alloc, &report.written)?;
     Ok(report)
 }

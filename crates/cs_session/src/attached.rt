@@ -1,17 +1,15 @@
-//! The tables that are attached to a session.
-ghost use Rattle.std.specs.Prelude.{◌≡◌, ◌⊎◌, ◌==◌, [], ◌∷◌, ◌++◌, length, map, OnOk, IfErr, string_bytes};
-ghost use Rattle.std.specs.List.{AllByRecursion, list_all, list_any};
-ghost use Rattle.cs_store.specs.Records.{same_bytes};
-ghost use Rattle.cs_store.specs.Editing.{written_of};
+//! A table that is attached, and what is noted of it.
+ghost use Rattle.std.specs.Prelude.{◌≡◌, ◌⊎◌, ◌==◌, ◌++◌, length, map, option_map, OnOk, IfErr};
+ghost use Rattle.std.specs.List.{AllByRecursion, list_all};
 ghost use Rattle.cs_session.specs.declared.fault.SessionFault.TheVariants.{NoMemory as OutOfMemory};
-ghost use Rattle.cs_session.specs.FirstImages.{noted_in, recorded};
-ghost use Rattle.cs_session.specs.Noting.{HasFormers, AreFormers, IsDamage};
-ghost use Rattle.cs_session.specs.Views.{attached_of, kept_of, IsSettled};
+ghost use Rattle.cs_session.specs.Noting.{Fits, IsDamage, with_write};
+ghost use Rattle.cs_session.specs.Views.{attached_of, kept_of, name_in, IsSettled};
 
 use crate::checking::check_row;
 use crate::fault::SessionFault;
 use crate::first_images::FirstImages;
-use cs_store::{Schema, Written};
+use cs_store::Schema;
+use cs_value::{Key, Row};
 use std::alloc::Global;
 
 /// A table that is attached.
@@ -22,13 +20,6 @@ pub(crate) struct Attached {
     pub(crate) firsts: FirstImages,
 }
 
-/// Whether one of the tables has this name.
-pub(crate) fn has_name(tables: &[Attached], name: &str) -> bool
-    ensures { result ≡ list_any (λ t. same_bytes (string_bytes t.name) name.now) tables.now }
-{
-    tables.iter().any(|table| table.name.as_str() == name)
-}
-
 /// Whether no key of the tables was written.
 pub(crate) fn are_unwritten(tables: &[Attached]) -> bool
     ensures { result ≡ list_all (λ t. length (t.firsts.kept ++ t.firsts.pending) == 0) tables.now }
@@ -36,44 +27,45 @@ pub(crate) fn are_unwritten(tables: &[Attached]) -> bool
     tables.iter().all(|table| table.firsts.is_empty())
 }
 
-/// Notes the keys that were written in each of the tables.
+/// Notes a key that was written in a table, and the row that stood there.
 ///
 /// Refuses with [`NoMemory`](SessionFault::NoMemory), and with
-/// [`DamagedStore`](cs_store::StoreError::DamagedStore) for a former row that cannot have stood there.
-/// What was noted at the last commit stands then.
-pub(crate) fn note_all(
+/// [`DamagedStore`](cs_store::StoreError::DamagedStore) for a row that cannot have stood there. What was
+/// noted at the last commit stands then.
+pub(crate) fn note_write(
     alloc: Global,
-    tables: &mut [Attached],
-    written: &[Written],
+    table: &mut Attached,
+    key: Key,
+    former: Option<Row>,
 ) -> Result<(), SessionFault>
-    ensures noted { OnOk result (map attached_of tables.new
-        ≡ recorded (map attached_of tables.old) (map written_of written.now)) }
-    ensures formers { OnOk result (AreFormers (map attached_of tables.old) (map written_of written.now)) }
-    ensures kept { map kept_of tables.new ≡ map kept_of tables.old }
+    ensures noted { OnOk result (attached_of table.new ≡ with_write (attached_of table.old) key former) }
+    ensures fits { OnOk result (Fits (attached_of table.old) key former) }
+    ensures kept { kept_of table.new ≡ kept_of table.old }
     ensures refused { IfErr result (λ e. (e ≡ OutOfMemory)
-        ⊎ (IsDamage e × ¬ AreFormers (map attached_of tables.old) (map written_of written.now))) }
+        ⊎ (IsDamage e × ¬ Fits (attached_of table.old) key former)) }
 {
-    for table in tables.iter_mut() {
-        note_writes(alloc, table, written)?;
-    }
+    check_row(alloc, table.schema.flags(), &key, former.as_ref())?;
+    table.firsts.note(key, former)?;
     Ok(())
 }
 
-/// Notes the keys that were written in a table.
-fn note_writes(alloc: Global, table: &mut Attached, written: &[Written]) -> Result<(), SessionFault>
+/// Notes a copy of a key that was written in a table, and of the row that stood there, and refuses, as
+/// [`note_write`] does.
+pub(crate) fn note_write_copy(
+    alloc: Global,
+    table: &mut Attached,
+    key: &Key,
+    former: Option<&Row>,
+) -> Result<(), SessionFault>
     ensures noted { OnOk result (attached_of table.new
-        ≡ noted_in (map written_of written.now) (attached_of table.old)) }
-    ensures formers { OnOk result (HasFormers (map written_of written.now) (attached_of table.old)) }
+        ≡ with_write (attached_of table.old) key.now (option_map (λ r. r.now) former.entry)) }
+    ensures fits { OnOk result (Fits (attached_of table.old) key.now (option_map (λ r. r.now) former.entry)) }
     ensures kept { kept_of table.new ≡ kept_of table.old }
     ensures refused { IfErr result (λ e. (e ≡ OutOfMemory)
-        ⊎ (IsDamage e × ¬ HasFormers (map written_of written.now) (attached_of table.old))) }
+        ⊎ (IsDamage e × ¬ Fits (attached_of table.old) key.now (option_map (λ r. r.now) former.entry))) }
 {
-    for one in written {
-        if one.table == table.name {
-            check_row(alloc, table.schema.flags(), &one.key, one.former.as_ref())?;
-            table.firsts.note(alloc, one)?;
-        }
-    }
+    check_row(alloc, table.schema.flags(), key, former)?;
+    table.firsts.note_copy(alloc, key, former)?;
     Ok(())
 }
 
@@ -81,6 +73,7 @@ fn note_writes(alloc: Global, table: &mut Attached, written: &[Written]) -> Resu
 pub(crate) fn keep_all(tables: &mut [Attached])
     ensures kept { map attached_of tables.new ≡ map attached_of tables.old }
     ensures settled { AllByRecursion IsSettled tables.new }
+    ensures named { map name_in tables.new ≡ map name_in tables.old }
 {
     for table in tables.iter_mut() {
         table.firsts.keep();
@@ -91,6 +84,7 @@ pub(crate) fn keep_all(tables: &mut [Attached])
 pub(crate) fn cut_back_all(tables: &mut [Attached])
     ensures kept { map attached_of tables.new ≡ map kept_of tables.old }
     ensures settled { AllByRecursion IsSettled tables.new }
+    ensures named { map name_in tables.new ≡ map name_in tables.old }
 {
     for table in tables.iter_mut() {
         table.firsts.cut_back();

@@ -1,5 +1,5 @@
 //! The net changes of tables.
-ghost use Rattle.std.specs.Prelude.{◌≡◌, ◌≢◌, map, filter_map, All, AllPairs, IfOk, IfErr, OnOk, IfSome, string_bytes};
+ghost use Rattle.std.specs.Prelude.{◌≡◌, ◌≢◌, map, filter_map, option_map, All, AllPairs, IfOk, IfErr, OnOk, IfSome, string_bytes};
 ghost use Rattle.cs_value.specs.State.{IsRowAt, row_at};
 ghost use Rattle.cs_wire.specs.Entry.{IsChange, IsEntry, key_of};
 ghost use Rattle.cs_group.specs.Net.{net_row_change as change_between};
@@ -11,9 +11,9 @@ ghost use Rattle.cs_session.specs.Views.{attached_of};
 use crate::attached::Attached;
 use crate::checking::{check_row, check_tables};
 use crate::fault::SessionFault;
-use crate::first_images::First;
 use cs_group::net_row_change;
 use cs_store::Rows;
+use cs_value::{Key, Row};
 use cs_wire::{Change, Changeset, Entry, Group, Header};
 use std::alloc::Global;
 
@@ -94,8 +94,8 @@ fn table_entries<B: Rows>(
     ensures kept { B.keeps rows.old rows.new }
 {
     let mut entries = Vec::new(alloc);
-    for first in table.firsts.firsts() {
-        if let Some(change) = row_change(alloc, rows, table, first)? {
+    for (key, row) in table.firsts.iter() {
+        if let Some(change) = row_change(alloc, rows, table, key, row.as_ref())? {
             entries.push(Entry {
                 indirect: false,
                 change,
@@ -110,22 +110,23 @@ fn row_change<B: Rows>(
     alloc: Global,
     rows: &mut B,
     table: &Attached,
-    first: &First,
+    key: &Key,
+    former: Option<&Row>,
 ) -> Result<Option<Change>, SessionFault>
-    requires fits { IfSome first.now.row (IsRowAt table.now.schema.flags first.now.key) }
+    requires fits { IfSome (option_map (λ r. r.now) former) (IsRowAt table.now.schema.flags key.now) }
     requires attached { B.is_honest rows.old → HasAttached (B.state rows.old) (attached_of table.now) }
     ensures made { B.is_honest rows.new → IfOk result (λ change. change ≡ change_between table.now.schema.flags
-        first.now.row (row_at (B.state rows.old) (string_bytes table.now.name) first.now.key)) }
+        (option_map (λ r. r.now) former.entry) (row_at (B.state rows.old) (string_bytes table.now.name) key.now)) }
     ensures fits { IfOk result (λ change. IfSome change (λ c. IsChange table.now.schema.flags c
-        × (key_of table.now.schema.flags c ≡ first.now.key))) }
+        × (key_of table.now.schema.flags c ≡ key.now))) }
     ensures same { B.is_honest rows.new → OnOk result (B.state rows.new ≡ B.state rows.old) }
     ensures refused { B.is_honest rows.new → IfErr result IsResource }
     ensures named { IfErr result IsNamed }
     ensures was_honest { B.is_honest rows.new → B.is_honest rows.old }
     ensures kept { B.keeps rows.old rows.new }
 {
-    let row = rows.get(alloc, table.name.as_str(), &first.key)?;
+    let row = rows.get(alloc, table.name.as_str(), key)?;
     let flags = table.schema.flags();
-    check_row(alloc, flags, &first.key, row.as_ref())?;
-    Ok(net_row_change(alloc, flags, first.row.as_ref(), row.as_ref())?)
+    check_row(alloc, flags, key, row.as_ref())?;
+    Ok(net_row_change(alloc, flags, former, row.as_ref())?)
 }

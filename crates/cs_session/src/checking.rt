@@ -3,12 +3,13 @@ ghost use Rattle.std.specs.Prelude.{◌≡◌, ◌⊎◌, map, IsTrue, ◌↔◌
 ghost use Rattle.cs_value.specs.State.{IsRowAt};
 ghost use Rattle.cs_session.specs.declared.fault.SessionFault.TheVariants.{NoMemory as OutOfMemory};
 ghost use Rattle.cs_session.specs.FirstImages.{HasAttached};
-ghost use Rattle.cs_session.specs.Noting.{IsDamage};
+ghost use Rattle.cs_session.specs.Noting.{AreApart, IsDamage};
 ghost use Rattle.cs_session.specs.Changes.{HasTables, HasNamed, RefusesTable, RefusesNamed, RefusesChanges, IsNamed};
 ghost use Rattle.cs_session.specs.Views.{attached_of};
 
 use crate::attached::Attached;
 use crate::fault::SessionFault;
+use crate::tables::Tables;
 use cs_store::{Rows, Schema, StoreError};
 use cs_value::{Key, Row};
 use std::alloc::Global;
@@ -37,9 +38,10 @@ pub(crate) fn check_tables<B: Rows>(
 pub(crate) fn check_named<B: Rows>(
     alloc: Global,
     rows: &mut B,
-    tables: &[Attached],
+    tables: &Tables,
     name: &str,
 ) -> Result<(), SessionFault>
+    requires { AreApart (map attached_of tables.now) }
     ensures attached { B.is_honest rows.new
         → OnOk result (HasNamed (B.state rows.old) name.now (map attached_of tables.now)) }
     ensures same { B.is_honest rows.new → OnOk result (B.state rows.new ≡ B.state rows.old) }
@@ -49,12 +51,10 @@ pub(crate) fn check_named<B: Rows>(
     ensures was_honest { B.is_honest rows.new → B.is_honest rows.old }
     ensures kept { B.keeps rows.old rows.new }
 {
-    for table in tables {
-        if table.name.as_str() == name {
-            check_table(alloc, rows, table)?;
-        }
+    match tables.place_of(name) {
+        None => Ok(()),
+        Some(place) => check_table(alloc, rows, &tables.as_slice()[place]),
     }
-    Ok(())
 }
 
 /// Refuses where the table is not there as it was attached.

@@ -11,9 +11,9 @@ ghost use Rattle.cs_session.specs.FirstImages.{IsNotes};
 ghost use Rattle.cs_session.specs.Recording.{Records, RefusesEdit, MayEdit, table_of};
 ghost use Rattle.cs_session.specs.Views.{attached_of, kept_of, IsSettled};
 
-use crate::attached::{Attached, cut_back_all, keep_all, note_all};
 use crate::checking::check_named;
 use crate::fault::SessionFault;
+use crate::tables::Tables;
 use cs_store::{Edit, Rows, Store, edit_in};
 use sqlite::Alter;
 use std::alloc::Global;
@@ -21,7 +21,7 @@ use std::alloc::Global;
 /// Carries out an edit, notes the keys that it wrote, and commits. A refusal changes nothing.
 pub(crate) fn edit_noted<S: Alter>(
     alloc: Global,
-    tables: &mut [Attached],
+    tables: &mut Tables,
     store: &mut Store<S>,
     edit: &Edit,
 ) -> Result<(), SessionFault>
@@ -44,11 +44,11 @@ pub(crate) fn edit_noted<S: Alter>(
 {
     match edit_batch(alloc, tables, store, edit) {
         Ok(()) => {
-            keep_all(tables);
+            tables.keep();
             Ok(())
         }
         Err(fault) => {
-            cut_back_all(tables);
+            tables.cut_back();
             Err(fault)
         }
     }
@@ -58,7 +58,7 @@ pub(crate) fn edit_noted<S: Alter>(
 /// it is refused, what was noted at the last commit stands.
 fn edit_batch<S: Alter>(
     alloc: Global,
-    tables: &mut [Attached],
+    tables: &mut Tables,
     store: &mut Store<S>,
     edit: &Edit,
 ) -> Result<(), SessionFault>
@@ -87,7 +87,7 @@ fn edit_batch<S: Alter>(
 /// Carries out an edit on rows, and notes the keys that it wrote.
 fn edit_rows<B: Rows>(
     alloc: Global,
-    tables: &mut [Attached],
+    tables: &mut Tables,
     rows: &mut B,
     edit: &Edit,
 ) -> Result<(), SessionFault>
@@ -104,7 +104,7 @@ fn edit_rows<B: Rows>(
 {
     check_named(alloc, rows, tables, edited_table(edit))?;
     let written = edit_in(alloc, rows, edit)?;
-    note_all(alloc, tables, &written)
+    tables.note_all(alloc, written)
 }
 
 /// The name of the table that an edit is of.

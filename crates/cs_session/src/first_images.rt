@@ -1,27 +1,19 @@
 //! The first images of a table: what stood under each key that was written, when it was written first.
-ghost use Rattle.std.specs.Prelude.{◌≡◌, ◌==◌, [], ◌∷◌, ◌++◌, length, option_map, IfOk, OnOk};
-ghost use Rattle.std.specs.List.{list_any};
-ghost use Rattle.cs_store.specs.Records.{same_bytes};
-ghost use Rattle.cs_store.specs.Editing.{written_of};
-ghost use Rattle.cs_session.specs.FirstImages.{noted};
+ghost use Rattle.std.specs.Prelude.{◌≡◌, ◌==◌, [], ◌++◌, length, option_map, is_some, IfOk, OnOk};
+ghost use Rattle.cs_session.specs.FirstImages.{first_at};
+ghost use Rattle.cs_session.specs.Images.{with_first};
 
-use cs_store::Written;
 use cs_value::{Key, NoMemory, Row};
+use indexmap::IndexMap;
+use indexmap::map::Iter;
 use std::alloc::Global;
 use std::marker::Model;
 
-/// A key that was written, and the row that stood under it first, or none.
-#[derive(Debug, Drop)]
-pub(crate) struct First {
-    pub(crate) key: Key,
-    pub(crate) row: Option<Row>,
-}
-
-/// The keys of a table that were written, each once, in the order of the first write. Those behind
-/// the last commit can be cut back.
+/// The keys of a table that were written, each once, in the order of the first write, and the row that
+/// stood under each first, or none. Those behind the last commit can be cut back.
 #[derive(Debug, Drop)]
 pub(crate) struct FirstImages {
-    firsts: Vec<First>,
+    firsts: IndexMap<Key, Option<Row>>,
     // How many there were at the last commit.
     kept: usize,
 }
@@ -34,11 +26,11 @@ impl Model for FirstImages {
     ghost Value = { NotedImages };
 
     ghost view = { λ f. record {
-      kept = take f.kept (map first_of f.firsts.items);
-      pending = drop f.kept (map first_of f.firsts.items);
+      kept = take f.kept (map first_of f.firsts.entries);
+      pending = drop f.kept (map first_of f.firsts.entries);
     } };
 
-    ghost invariant = { λ f. f.kept ≤ length f.firsts.items };
+    ghost invariant = { λ f. f.kept ≤ length f.firsts.entries };
 }
 
 impl FirstImages {
@@ -50,16 +42,16 @@ impl FirstImages {
         ensures { result ≡ record { kept = []; pending = [] } }
     {
         FirstImages {
-            firsts: Vec::new(alloc),
+            firsts: IndexMap::new(alloc),
             kept: 0,
         }
     }
 
-    /// The keys, with those behind the last commit.
-    pub(crate) fn firsts(&self) -> &[First]
-        ensures { map first_of result.now ≡ self.now.kept ++ self.now.pending }
+    /// The keys, each with its row, and with those behind the last commit.
+    pub(crate) fn iter(&self) -> Iter<'_, Key, Option<Row>>
+        ensures { map first_of result ≡ self.now.kept ++ self.now.pending }
     {
-        &self.firsts
+        self.firsts.iter()
     }
 
     /// Whether no key was written.
@@ -69,19 +61,43 @@ impl FirstImages {
         self.firsts.is_empty()
     }
 
+    /// Whether the key was written.
+    pub(crate) fn has_key(&self, key: &Key) -> bool
+        ensures { result ≡ is_some (first_at (self.now.kept ++ self.now.pending) key.now) }
+    {
+        self.firsts.contains_key(key)
+    }
+
     /// Notes a key that was written, unless it is there. [`NoMemory`] changes nothing.
-    pub(crate) fn note(&mut self, alloc: Global, written: &Written) -> Result<(), NoMemory>
+    pub(crate) fn note(&mut self, key: Key, row: Option<Row>) -> Result<(), NoMemory>
         ensures noted { OnOk result (self.new.kept ++ self.new.pending
-            ≡ noted (self.old.kept ++ self.old.pending) (written_of written.now ∷ [])) }
+            ≡ with_first (self.old.kept ++ self.old.pending) key row) }
         ensures kept { self.new.kept ≡ self.old.kept }
     {
-        if has_key(&self.firsts, &written.key) {
+        if self.has_key(&key) {
             return Ok(());
         }
-        let row = copy_of(alloc, written.former.as_ref())?;
-        let key = written.key.copy(alloc)?;
-        self.firsts.push(First { key, row })?;
+        self.firsts.insert(key, row)?;
         Ok(())
+    }
+
+    /// Notes a copy of a key that was written, and of its row, unless the key is there. [`NoMemory`]
+    /// changes nothing.
+    pub(crate) fn note_copy(
+        &mut self,
+        alloc: Global,
+        key: &Key,
+        row: Option<&Row>,
+    ) -> Result<(), NoMemory>
+        ensures noted { OnOk result (self.new.kept ++ self.new.pending
+            ≡ with_first (self.old.kept ++ self.old.pending) key.now (option_map (λ r. r.now) row.entry)) }
+        ensures kept { self.new.kept ≡ self.old.kept }
+    {
+        if self.has_key(key) {
+            return Ok(());
+        }
+        let row = copy_of(alloc, row)?;
+        self.note(key.copy(alloc)?, row)
     }
 
     /// The keys that were noted since the last commit are committed.
@@ -97,13 +113,6 @@ impl FirstImages {
     {
         self.firsts.truncate(self.kept);
     }
-}
-
-/// Whether the key was written.
-fn has_key(firsts: &[First], key: &Key) -> bool
-    ensures { result ≡ list_any (λ f. same_bytes f.key key.now) firsts.now }
-{
-    firsts.iter().any(|first| first.key == *key)
 }
 
 /// A copy of a row, if there is one.

@@ -26,6 +26,7 @@ mod fault;
 mod first_images;
 mod laws;
 mod session;
+mod tables;
 mod undoing;
 
 pub use fault::SessionFault;

@@ -17,11 +17,11 @@ ghost use Rattle.cs_apply.specs.Crash.{MayCommit};
 ghost use Rattle.cs_session.specs.Undoing.{LeadsBackTo, Undoes, MayUndo};
 
 use crate::applying::apply_noted;
-use crate::attached::{Attached, are_unwritten, has_name};
+use crate::attached::are_unwritten;
 use crate::changes::net_changeset;
 use crate::editing::edit_noted;
 use crate::fault::SessionFault;
-use crate::first_images::FirstImages;
+use crate::tables::Tables;
 use crate::undoing::undo_rows;
 use cs_apply::{Choice, Conflict, Report};
 use cs_store::{Edit, Schema, Store, StoreError};
@@ -34,7 +34,7 @@ use std::marker::Model;
 /// What was written to the rows of the tables that are attached to it, each since it was attached.
 #[derive(Debug, Drop)]
 pub struct Session {
-    tables: Vec<Attached>,
+    tables: Tables,
 }
 
 impl Model for Session {
@@ -45,10 +45,10 @@ impl Model for Session {
 
     ghost Value = { Notes };
 
-    ghost view = { λ s. map attached_of s.tables.items };
+    ghost view = { λ s. map attached_of s.tables };
 
-    ghost invariant = { λ s. IsNotes (map attached_of s.tables.items)
-        × AllByRecursion IsSettled s.tables.items };
+    ghost invariant = { λ s. IsNotes (map attached_of s.tables)
+        × AllByRecursion IsSettled s.tables };
 }
 
 impl Session {
@@ -57,7 +57,7 @@ impl Session {
         ensures { result ≡ [] }
     {
         Session {
-            tables: Vec::new(alloc),
+            tables: Tables::new(alloc),
         }
     }
 
@@ -66,7 +66,7 @@ impl Session {
     pub fn is_empty(&self) -> bool
         ensures { IsTrue result ↔ All (λ t. t.firsts ≡ []) self.now }
     {
-        are_unwritten(&self.tables)
+        are_unwritten(self.tables.as_slice())
     }
 
     /// What a session remembers is well formed: no table stands in it twice, no key of a table twice, and
@@ -102,7 +102,7 @@ impl Session {
             → OnOk result ((state S.Store store.new).now ≡ (state S.Store store.old).now) }
         ensures kept { KeepsStore (state S.Store store.old) (state S.Store store.new) }
     {
-        if has_name(&self.tables, name) {
+        if self.tables.place_of(name).is_some() {
             return Err(SessionFault::AlreadyAttached);
         }
         let Some(schema) = store.schema(alloc, name)? else {
@@ -208,7 +208,7 @@ impl Session {
     {
         store.tables_law();
         let mut batch = store.begin()?;
-        net_changeset(alloc, &mut batch, &self.tables)
+        net_changeset(alloc, &mut batch, self.tables.as_slice())
     }
 
     /// Gives the attached tables the rows from before back, by the inverse of the net changeset, in one
@@ -237,7 +237,7 @@ impl Session {
     {
         store.tables_law();
         let mut batch = store.begin()?;
-        let report = undo_rows(alloc, &mut batch, &self.tables)?;
+        let report = undo_rows(alloc, &mut batch, self.tables.as_slice())?;
         batch.commit()?;
         Ok(report)
     }
@@ -254,13 +254,7 @@ impl Session {
         ensures same { OnErr result (self.new ≡ self.old) }
         ensures refused { IfErr result (λ e. e ≡ OutOfMemory) }
     {
-        let name = String::from_str(alloc, name)?;
-        let firsts = FirstImages::new(alloc);
-        self.tables.push(Attached {
-            name,
-            schema,
-            firsts,
-        })?;
+        self.tables.push(alloc, name, schema)?;
         Ok(())
     }
 }

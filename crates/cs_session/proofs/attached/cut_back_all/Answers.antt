@@ -1,9 +1,9 @@
--- `attached::cut_back_all`: the invariant of the loop at `table`, the clauses `kept` and `settled`.
+-- `attached::cut_back_all`: the invariant of the loop at `table`, the clauses `kept`, `settled` and `named`.
 use Rattle.std.proofs.Common.{get_or, ap, arith}
 use Rattle.std.proofs.lemmas.List.Edits.{map_over_more}
 use Rattle.cs_session.specs.declared.attached.Attached.{Attached}
 use Rattle.cs_value.proofs.ListLemmas.{map_over_all}
-use Rattle.cs_session.proofs.NotingLemmas.{cutting, all_cut, cutting_settles}
+use Rattle.cs_session.proofs.NotingLemmas.{cutting, cutting_names, all_cut, cutting_settles}
 use Rattle.cs_session.proofs.attached.cut_back_all.Goals as goal
 
 pub loop-table-preserved : goal.loop-table-preserved
@@ -19,3 +19,6 @@ returns-clause-kept c = rw (map_over_all cutting c.args.tables.now c.loop-table.
 
 pub returns-clause-settled : goal.returns-clause-settled
 returns-clause-settled c = rw (map_over_all cutting c.args.tables.now c.loop-table.tables c.loop-table.table-index c.loop-table.invariant (omega (arith, c.loop-table-test.false))) (cutting_settles c.args.tables.now)
+
+pub returns-clause-named : goal.returns-clause-named
+returns-clause-named c = rw (map_over_all cutting c.args.tables.now c.loop-table.tables c.loop-table.table-index c.loop-table.invariant (omega (arith, c.loop-table-test.false))) (cutting_names c.args.tables.now)

@@ -1,26 +1,24 @@
 -- `changes::row_change`: what `net_row_change` asks for, the clause `fits`.
+use Rattle.std.proofs.Common.{refl}
 use Rattle.cs_value.specs.State.{IsRowAt}
 use Rattle.cs_session.proofs.EntriesLemmas.{widths, change_fits}
 use Rattle.cs_value.proofs.ListLemmas.{IfSome-mapped}
 use Rattle.cs_session.proofs.changes.row_change.Goals as goal
 
 pub net_row_change-requires-clause-before : goal.net_row_change-requires-clause-before
-net_row_change-requires-clause-before g c =
-    let table = c.args.table.now in
-    let first = c.args.first.now in
-    rw c.flags-flags.ensures.same (widths table.schema.flags first.key c.as_ref-2.result first.row c.as_ref-2.ensures.value c.requires.fits)
+net_row_change-requires-clause-before g c = rw c.flags-flags.ensures.same (widths c.args.table.now.schema.flags c.args.key.now c.args.former _ refl c.requires.fits)
 
 pub net_row_change-requires-clause-after : goal.net_row_change-requires-clause-after
 net_row_change-requires-clause-after g c =
     let flags = c.flags-flags.result.now in
-    let key = c.args.first.now.key in
+    let key = c.args.key.now in
     let fits = IfSome-mapped _ (IsRowAt flags key) c.as_ref.result c.in_ok-row.row c.as_ref.ensures.value c.in_ok-check_row.ensures.fits in
-    widths flags key c.as_ref-3.result c.in_ok-row.row c.as_ref-3.ensures.value fits
+    widths flags key c.as_ref-2.result c.in_ok-row.row c.as_ref-2.ensures.value fits
 
 pub returns-clause-fits : goal.returns-clause-fits
 returns-clause-fits g c =
     let flags = c.args.table.now.schema.flags in
-    let first = c.args.first.now in
-    let fits = rw c.flags-flags.ensures.same at (IfSome-mapped _ (IsRowAt c.flags-flags.result.now first.key) c.as_ref.result c.in_ok-row.row c.as_ref.ensures.value c.in_ok-check_row.ensures.fits) in
-    let is = rw (c.flags-flags.ensures.same, c.as_ref-2.ensures.value, c.as_ref-3.ensures.value) at c.in_ok-net_row_change.ensures in
-    rw is (change_fits flags first.key first.row c.in_ok-row.row c.requires.fits fits)
+    let key = c.args.key.now in
+    let fits = rw c.flags-flags.ensures.same at (IfSome-mapped _ (IsRowAt c.flags-flags.result.now key) c.as_ref.result c.in_ok-row.row c.as_ref.ensures.value c.in_ok-check_row.ensures.fits) in
+    let is = rw (c.flags-flags.ensures.same, c.as_ref-2.ensures.value) at c.in_ok-net_row_change.ensures in
+    rw is (change_fits flags key _ c.in_ok-row.row c.requires.fits fits)

@@ -1,48 +1,81 @@
--- `changes::table_entries`: what `row_change` asks for, the invariant of the loop at `first`.
-use Rattle.std.proofs.Common.{◌≡◌, ◌≢◌, ◌++◌, option_map, option_to_list, sym, ap, ◌∙◌}
-use Rattle.std.specs.Prelude.{IfSome}
+-- `changes::table_entries`: what `row_change` asks for, the invariant of the loop at `key`.
+use Rattle.std.proofs.Common.{◌≡◌, ℕ, List, [], ◌∷◌, ◌++◌, map, filter_map, Option, option_map, option_to_list, rules, refl, sym, ap, subst, append_assoc, ◌∙◌}
 use Rattle.std.proofs.lemmas.List.{append-nil}
-use Rattle.cs_value.specs.State.{IsRowAt}
-use Rattle.cs_session.specs.FirstImages.{FirstImage, entry_since}
+use Rattle.cs_value.specs.declared.value.OwnedValue.{OwnedValue}
+use Rattle.cs_wire.specs.declared.entry.Entry.{Entry}
+use Rattle.cs_session.specs.FirstImages.{entry_since}
 use Rattle.cs_session.specs.Images.{first_of}
 use Rattle.cs_session.specs.Views.{attached_of}
-use Rattle.cs_value.proofs.ListLemmas.{All-map_at, AllPairs-map_before, filter_map-map_more, map_more_at}
-use Rattle.cs_session.proofs.EntriesLemmas.{entry_of, key_more}
-use Rattle.cs_session.proofs.changes.table_entries.Goals.{in-Some+in_ok-push, in_default}
+use Rattle.cs_session.proofs.EntriesLemmas.{AreOfKeys, entry_of, key_more, no_keys, next_fits, next_apart, filter_map_then}
 use Rattle.cs_session.proofs.changes.table_entries.Goals as goal
+
+abbrev Images : Type 0
+Images = List (List ℕ × Option (List OwnedValue))
+
+pub loop-key-init : goal.loop-key-init
+loop-key-init g c =
+    let same : c.into_iter-key-iterator.result ≡ c.iter-key-items.result = search rules in (
+      search rules,
+      ([], ap (map first_of) same ∙ c.iter-key-items.ensures, no_keys c.args.table.now.schema.flags _ c.new-entries.ensures.items, λ honest. (honest, refl, c.new-entries.ensures.items)),
+    )
 
 pub row_change-requires-clause-fits : goal.row_change-requires-clause-fits
 row_change-requires-clause-fits g c =
-    let flags = c.args.table.now.schema.flags in
-    let firsts = c.firsts-first-items in
-    All-map_at firsts.result.now c.loop-first.first-index c.first-item.result c.loop-first-test.true c.first-item.is first_of
-    (λ (f : FirstImage). IfSome f.row (IsRowAt flags f.key)) (rw firsts.ensures c.requires.table.rows)
+    let so = c.loop-key.invariant.1 in
+    let first = first_of (c.in-Some.key.now, c.in-Some.row.now) in
+    let all = ap (λ (l : Images). so.0 ++ map first_of l) (sym c.in-Some.ensures.steps) ∙ so.1 in
+    rw c.as_ref.ensures.value (next_fits (attached_of c.args.table.now) c.requires.table so.0 _ first all)
 
-pub loop-first-preserved : goal.loop-first-preserved
-loop-first-preserved g c =
+pub loop-key-preserved-in-Continue-branch-3 : goal.loop-key-preserved-in-Continue-branch-3
+loop-key-preserved-in-Continue-branch-3 g c =
     let table = attached_of c.args.table.now in
-    let items = c.firsts-first-items.result.now in
-    let i = c.loop-first.first-index in
-    let first = c.first-item.result in
-    let lt = c.loop-first-test.true in
-    let is = c.first-item.is in
-    let before = c.loop-first.entries.items in
+    let so = c.loop-key.invariant.1 in
+    let first = first_of (c.in-Some.key.now, c.in-Some.row.now) in
+    let all = ap (λ (l : Images). so.0 ++ map first_of l) (sym c.in-Some.ensures.steps) ∙ so.1 in
+    let before = c.loop-key.entries.items in
     let change = c.in_ok-change.field-0 in
-    let grown : c.match-branch-2.entries.items ≡ before ++ option_to_list (option_map entry_of change) =
-    elim c.match-branch-2.branch [
-      | in-Some+in_ok-push w ↦ rw (w.entries-is, w.in-Some.is) w.in_ok-push.ensures.items
-      | in_default w ↦ rw (w.entries-is, w.in_default.is) (sym (append-nil before))
-    ] in
-    let apart = AllPairs-map_before items i first lt is first_of (λ (f h : FirstImage). f.key ≢ h.key) (rw c.firsts-first-items.ensures c.requires.table.once) in (
-      g.B.Rows.keeps_then _ _ _ c.loop-first.invariant.0 c.row_change.ensures.kept,
-      rw (grown, map_more_at items i first lt is first_of)
-          (key_more table.schema.flags _ before c.loop-first.invariant.1 (first_of first) apart change c.in_ok-change.ensures.fits),
-      λ honest.
-          let so = c.loop-first.invariant.2 (c.row_change.ensures.was_honest honest) in
-          let made = rw so.1 at (c.in_ok-change.ensures.made honest) in
-          let entries = entry_since (g.B.Rows.state c.args.rows.now) table in (
-            so.0,
-            c.in_ok-change.ensures.same honest ∙ so.1,
-            grown ∙ filter_map-map_more items i first lt is first_of entries (option_map entry_of change) before (ap (option_map entry_of) made) so.2,
-          ),
+    let grown : c.push.new.self.items ≡ before ++ option_to_list (option_map entry_of change) = rw c.in-Some-2.is c.in_ok-push.ensures.items in
+    let apart = next_apart table c.requires.table so.0 _ first all in (
+      g.B.Rows.keeps_then _ _ _ c.loop-key.invariant.0 c.row_change.ensures.kept,
+      (
+        so.0 ++ first ∷ [],
+        append_assoc so.0 (first ∷ []) (map first_of c.next.new.self) ∙ all,
+        subst (AreOfKeys table.schema.flags (so.0 ++ first ∷ [])) (sym grown) (key_more table.schema.flags so.0 before so.2 first apart change c.in_ok-change.ensures.fits),
+        λ honest.
+            let was = so.3 (c.row_change.ensures.was_honest honest) in
+            let made = rw (was.1, c.as_ref.ensures.value) at (c.in_ok-change.ensures.made honest) in
+            let entries = entry_since (g.B.Rows.state c.args.rows.now) table in (
+              was.0,
+              c.in_ok-change.ensures.same honest ∙ was.1,
+              grown ∙ ap (λ (l : List Entry). l ++ option_to_list (option_map entry_of change)) was.2
+                  ∙ ap (λ (o : Option Entry). filter_map entries so.0 ++ option_to_list o) (ap (option_map entry_of) made) ∙ sym (filter_map_then entries so.0 first),
+            ),
+      ),
+    )
+
+pub loop-key-preserved : goal.loop-key-preserved
+loop-key-preserved g c =
+    let table = attached_of c.args.table.now in
+    let so = c.loop-key.invariant.1 in
+    let first = first_of (c.in-Some.key.now, c.in-Some.row.now) in
+    let all = ap (λ (l : Images). so.0 ++ map first_of l) (sym c.in-Some.ensures.steps) ∙ so.1 in
+    let before = c.loop-key.entries.items in
+    let change = c.in_ok-change.field-0 in
+    let grown : c.loop-key.entries.items ≡ before ++ option_to_list (option_map entry_of change) = rw c.in_default.is (sym (append-nil before)) in
+    let apart = next_apart table c.requires.table so.0 _ first all in (
+      g.B.Rows.keeps_then _ _ _ c.loop-key.invariant.0 c.row_change.ensures.kept,
+      (
+        so.0 ++ first ∷ [],
+        append_assoc so.0 (first ∷ []) (map first_of c.next.new.self) ∙ all,
+        subst (AreOfKeys table.schema.flags (so.0 ++ first ∷ [])) (sym grown) (key_more table.schema.flags so.0 before so.2 first apart change c.in_ok-change.ensures.fits),
+        λ honest.
+            let was = so.3 (c.row_change.ensures.was_honest honest) in
+            let made = rw (was.1, c.as_ref.ensures.value) at (c.in_ok-change.ensures.made honest) in
+            let entries = entry_since (g.B.Rows.state c.args.rows.now) table in (
+              was.0,
+              c.in_ok-change.ensures.same honest ∙ was.1,
+              grown ∙ ap (λ (l : List Entry). l ++ option_to_list (option_map entry_of change)) was.2
+                  ∙ ap (λ (o : Option Entry). filter_map entries so.0 ++ option_to_list o) (ap (option_map entry_of) made) ∙ sym (filter_map_then entries so.0 first),
+            ),
+      ),
     )

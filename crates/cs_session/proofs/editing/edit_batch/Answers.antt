@@ -1,5 +1,6 @@
 -- `editing::edit_batch`: what `edit_rows` asks for, the clause `survives`.
 use Rattle.std.proofs.Common.{◌≡◌, rules}
+use Rattle.std.proofs.lemmas.Result.{err_from_is_err_and}
 use Rattle.sqlite.specs.Held.{state}
 use Rattle.cs_store.specs.Editing.{EditsInto}
 use Rattle.cs_store.proofs.CrashLemmas.{made_survives}
@@ -29,3 +30,8 @@ returns-clause-survives g c =
     let same : c.commit.new.self.0 ≡ c.store-2-1.given.0 = search rules in
     rw (← same) (made_survives old begun mid last c.in_ok-batch.ensures.survives c.edit_rows.ensures.kept.1 (λ before. EditsInto before c.args.edit.now)
     c.in_ok-batch.ensures.begun (λ clean. let done = c.in_ok-edit_rows.ensures.recorded clean in (done.written, done.edited)) c.commit.ensures.survives)
+
+pub returns-in_err-edit_rows-clause-kept : goal.returns-in_err-edit_rows-clause-kept
+returns-in_err-edit_rows-clause-kept g c = λ clean.
+    let p = err_from_is_err_and c.from_residual-in_err-edit_rows.result c.from_residual-in_err-edit_rows.ensures.1 in
+    rw p.1 (search rules)

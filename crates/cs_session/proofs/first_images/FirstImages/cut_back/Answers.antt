@@ -7,7 +7,7 @@ use Rattle.cs_session.proofs.first_images.FirstImages.cut_back.Goals as goal
 pub returns : goal.returns
 returns c =
     let n = c.self.inside.kept in
-    let items = c.self.inside.firsts.items in
+    let items = c.self.inside.firsts.entries in
     let kept = ap (take n) (sym (take-map first_of n items)) ∙ take-take n n (map first_of items) (omega arith) in
     let pending = drop_all n (map first_of (take n items)) (omega (arith, length-map (take n items) first_of, length-take n items)) in
-    rw (c.truncate.ensures.items, kept, pending) (rw (← c.self.view_is) refl)
+    rw (c.truncate.ensures.entries, kept, pending) (rw (← c.self.view_is) refl)

@@ -1,37 +1,39 @@
 -- `session::Session::attach`: what `push` asks for, the clauses `refused`, `shut`, `attached` and `rewound`.
-use Rattle.std.proofs.Common.{inl, refl, sym, ◌∙◌}
+use Rattle.std.proofs.Common.{inl, inr, refl, sym, rules, ◌∙◌}
+use Rattle.cs_value.specs.Table.{IsName}
 use Rattle.cs_session.specs.Attaching.{IsNewTable}
-use Rattle.cs_session.proofs.AttachLemmas.{is_new, is_attached, attaches, attached_rewound}
+use Rattle.cs_session.proofs.AttachLemmas.{attached_where_some, new_where_none, attaches, attached_rewound}
 use Rattle.cs_session.proofs.session.Session.attach.Goals as goal
 
-pub returns-then-has_name-clause-refused : goal.returns-then-has_name-clause-refused
-returns-then-has_name-clause-refused g c = λ clean.
-    let tested = rw c.deref.ensures.value at c.has_name.ensures in
-    rw (← c.self.view_is) (is_attached c.args.name.now c.self.inside.tables.items (sym tested ∙ c.if-has_name.true))
+pub returns-then-is_some-clause-refused : goal.returns-then-is_some-clause-refused
+returns-then-is_some-clause-refused g c = λ clean.
+    rw (← c.self.view_is) (attached_where_some c.args.name.now c.self.inside.tables c.place_of.result (sym c.is_some.ensures ∙ c.if-is_some.true) c.place_of.ensures.found)
 
-pub returns-then-has_name-clause-shut : goal.returns-then-has_name-clause-shut
-returns-then-has_name-clause-shut g c = λ clean shut. inl (refl, returns-then-has_name-clause-refused g c clean)
+pub returns-then-is_some-clause-shut : goal.returns-then-is_some-clause-shut
+returns-then-is_some-clause-shut g c = λ clean shut. inl (refl, returns-then-is_some-clause-refused g c clean)
 
 pub push-requires-clause-fresh : goal.push-requires-clause-fresh
 push-requires-clause-fresh g c =
-    let tested = rw c.deref.ensures.value at c.has_name.ensures in
-    rw (← c.self.view_is) (is_new c.args.name.now c.self.inside.tables.items (sym tested ∙ c.if-has_name.false))
+    rw (← c.self.view_is) (new_where_none c.args.name.now c.self.inside.tables c.place_of.result (sym c.is_some.ensures ∙ c.if-is_some.false) c.place_of.ensures.none)
 
 pub returns-clause-attached : goal.returns-clause-attached
 returns-clause-attached g c = λ clean.
-    let tested = rw c.deref.ensures.value at c.has_name.ensures in
-    let fresh : IsNewTable c.args.self.now c.args.name.now = rw (← c.self.view_is) (is_new c.args.name.now c.self.inside.tables.items (sym tested ∙ c.if-has_name.false)) in
+    let fresh : IsNewTable c.args.self.now c.args.name.now = rw (← c.self.view_is) (new_where_none c.args.name.now c.self.inside.tables c.place_of.result (sym c.is_some.ensures ∙ c.if-is_some.false) c.place_of.ensures.none) in
     attaches c.push.result _ c.args.name.now c.args.self.now c.push.new.self c.in-Some.schema (sym (c.in_ok-schema.ensures.found clean) ∙ c.in-Some.is) fresh c.push.ensures.pushed
 
 pub returns-in_default-clause-refused : goal.returns-in_default-clause-refused
 returns-in_default-clause-refused g c = λ clean.
-    let tested = rw c.deref.ensures.value at c.has_name.ensures in
-    let fresh : IsNewTable c.args.self.now c.args.name.now = rw (← c.self.view_is) (is_new c.args.name.now c.self.inside.tables.items (sym tested ∙ c.if-has_name.false)) in
+    let fresh : IsNewTable c.args.self.now c.args.name.now = rw (← c.self.view_is) (new_where_none c.args.name.now c.self.inside.tables c.place_of.result (sym c.is_some.ensures ∙ c.if-is_some.false) c.place_of.ensures.none) in
     inl (fresh, refl, inl (sym (c.in_ok-schema.ensures.found clean) ∙ c.in_default.is))
+
+pub returns-then-not-is_table_name-clause-refused : goal.returns-then-not-is_table_name-clause-refused
+returns-then-not-is_table_name-clause-refused g c = λ clean.
+    let fresh : IsNewTable c.args.self.now c.args.name.now = rw (← c.self.view_is) (new_where_none c.args.name.now c.self.inside.tables c.place_of.result (sym c.is_some.ensures ∙ c.if-is_some.false) c.place_of.ensures.none) in
+    let unnamed : IsName c.args.name.now → ⊥ = search rules in
+    inl (fresh, refl, inr unnamed)
 
 pub returns-clause-rewound : goal.returns-clause-rewound
 returns-clause-rewound g c = λ clean.
-    let tested = rw c.deref.ensures.value at c.has_name.ensures in
-    let fresh : IsNewTable c.args.self.now c.args.name.now = rw (← c.self.view_is) (is_new c.args.name.now c.self.inside.tables.items (sym tested ∙ c.if-has_name.false)) in
+    let fresh : IsNewTable c.args.self.now c.args.name.now = rw (← c.self.view_is) (new_where_none c.args.name.now c.self.inside.tables c.place_of.result (sym c.is_some.ensures ∙ c.if-is_some.false) c.place_of.ensures.none) in
     attached_rewound c.push.result _ c.args.name.now c.args.self.now c.push.new.self
     (attaches c.push.result _ c.args.name.now c.args.self.now c.push.new.self c.in-Some.schema (sym (c.in_ok-schema.ensures.found clean) ∙ c.in-Some.is) fresh c.push.ensures.pushed)

@@ -15,7 +15,7 @@ returns-clause-attached g c = λ clean.
     let same : c.drop-batch.new.self.0 ≡ c.store-2-1.given.0 = search rules in
     let mid_clean = was_clean mid last c.drop-batch.ensures.survives (rw (same) clean) in
     let shown = (c.in_ok-batch.ensures.begun (c.net_changeset.ensures.was_honest mid_clean)).shown in
-    rw (← c.self.view_is, ← c.deref.ensures.value) (read_attached c.net_changeset.result begun.now old.now shown.now_is (map attached_of c.deref.result.now) (c.net_changeset.ensures.attached mid_clean))
+    rw (← c.self.view_is, ← c.as_slice.ensures) (read_attached c.net_changeset.result begun.now old.now shown.now_is (map attached_of c.as_slice.result.now) (c.net_changeset.ensures.attached mid_clean))
 
 pub returns-clause-leads : goal.returns-clause-leads
 returns-clause-leads g c = λ clean.
@@ -28,7 +28,7 @@ returns-clause-leads g c = λ clean.
     let begun_clean = c.net_changeset.ensures.was_honest mid_clean in
     let shown = (c.in_ok-batch.ensures.begun begun_clean).shown in
     let is_state = begun_state old begun c.in_ok-batch.ensures.survives c.in_ok-batch.ensures.begun c.tables_law.ensures begun_clean in
-    let notes = rw (← c.deref.ensures.value) at c.self.invariant.0 in
-    rw (← c.self.view_is, ← c.deref.ensures.value)
-    (read_leads c.net_changeset.result begun.now old.now shown.now_is is_state (map attached_of c.deref.result.now) notes (c.net_changeset.ensures.attached mid_clean)
+    let notes = rw (← c.as_slice.ensures) at c.self.invariant.0 in
+    rw (← c.self.view_is, ← c.as_slice.ensures)
+    (read_leads c.net_changeset.result begun.now old.now shown.now_is is_state (map attached_of c.as_slice.result.now) notes (c.net_changeset.ensures.attached mid_clean)
     (c.net_changeset.ensures.made mid_clean))

@@ -3,4 +3,4 @@ use Rattle.cs_session.proofs.AttachLemmas.{unwritten}
 use Rattle.cs_session.proofs.session.Session.is_empty.Goals as goal
 
 pub returns : goal.returns
-returns c = rw (c.are_unwritten.ensures, c.deref.ensures.value, ← c.self.view_is) (unwritten c.self.inside.tables.items)
+returns c = rw (c.are_unwritten.ensures, c.as_slice.ensures, ← c.self.view_is) (unwritten c.self.inside.tables)

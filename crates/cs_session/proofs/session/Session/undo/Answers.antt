@@ -18,7 +18,7 @@ returns-in_err-commit-clause-survives g c =
     let mid = state g.S.Store c.undo_rows.new.rows.store.now in
     let last = state g.S.Store c.commit.new.self.0 in
     let same : c.commit.new.self.0 ≡ c.store-2-1.given.0 = search rules in
-    let notes : map attached_of c.deref.result.now ≡ c.args.self.now = search rules in
+    let notes : map attached_of c.as_slice.result.now ≡ c.args.self.now = search rules in
     rw (← same) (made_survives old begun mid last c.in_ok-batch.ensures.survives c.undo_rows.ensures.kept.1 (λ before left. left ≡ rewound_state c.args.self.now before)
     c.in_ok-batch.ensures.begun (λ clean. rw notes at ((c.in_ok-report.ensures.undone clean).rewound)) c.commit.ensures.survives)
 
@@ -29,6 +29,6 @@ returns-clause-survives g c =
     let mid = state g.S.Store c.undo_rows.new.rows.store.now in
     let last = state g.S.Store c.commit.new.self.0 in
     let same : c.commit.new.self.0 ≡ c.store-2-1.given.0 = search rules in
-    let notes : map attached_of c.deref.result.now ≡ c.args.self.now = search rules in
+    let notes : map attached_of c.as_slice.result.now ≡ c.args.self.now = search rules in
     rw (← same) (made_survives old begun mid last c.in_ok-batch.ensures.survives c.undo_rows.ensures.kept.1 (λ before left. left ≡ rewound_state c.args.self.now before)
     c.in_ok-batch.ensures.begun (λ clean. rw notes at ((c.in_ok-report.ensures.undone clean).rewound)) c.commit.ensures.survives)

@@ -1,0 +1,185 @@
+//! The tables that are attached to a session, each found by its name.
+ghost use Rattle.std.specs.Prelude.{◌≡◌, ◌⊎◌, [], ◌∷◌, ◌++◌, map, IfSome, IfNone, OnOk, OnErr, IfErr};
+ghost use Rattle.std.specs.List.{AllByRecursion};
+ghost use Rattle.cs_store.specs.Editing.{written_of};
+ghost use Rattle.cs_session.specs.declared.fault.SessionFault.TheVariants.{NoMemory as OutOfMemory};
+ghost use Rattle.cs_session.specs.Attaching.{IsNewTable};
+ghost use Rattle.cs_session.specs.FirstImages.{AttachedTable, recorded};
+ghost use Rattle.cs_session.specs.Noting.{AreFormers, AreApart, IsDamage};
+ghost use Rattle.cs_session.specs.Views.{attached_of, kept_of, IsPlace, IsSettled};
+
+use crate::attached::{Attached, cut_back_all, keep_all, note_write, note_write_copy};
+use crate::fault::SessionFault;
+use crate::first_images::FirstImages;
+use cs_store::{Schema, Written};
+use cs_value::NoMemory;
+use indexmap::IndexSet;
+use std::alloc::Global;
+use std::marker::Model;
+
+/// The tables that are attached, in the order in which they were attached.
+#[derive(Debug, Drop)]
+pub(crate) struct Tables {
+    tables: Vec<Attached>,
+    // The name of each, at its place.
+    names: IndexSet<String>,
+}
+
+impl Model for Tables {
+    ghost use Rattle.std.specs.Prelude.{◌≡◌, List, map, string_bytes};
+    ghost use Rattle.cs_session.specs.declared.attached.Attached.{Attached};
+    ghost use Rattle.cs_session.specs.Views.{name_in};
+
+    ghost Value = { List Attached };
+
+    ghost view = { λ t. t.tables.items };
+
+    ghost invariant = { λ t. map string_bytes t.names.keys ≡ map name_in t.tables.items };
+}
+
+impl Tables {
+    /// No table is attached.
+    pub(crate) fn new(alloc: Global) -> Tables
+        ensures { result ≡ [] }
+    {
+        Tables {
+            tables: Vec::new(alloc),
+            names: IndexSet::new(alloc),
+        }
+    }
+
+    /// The tables, in the order in which they were attached.
+    pub(crate) fn as_slice(&self) -> &[Attached]
+        ensures { result.now ≡ self.now }
+    {
+        &self.tables
+    }
+
+    /// Where the table with this name stands, if one has it.
+    pub(crate) fn place_of(&self, name: &str) -> Option<usize>
+        ensures found { IfSome result (IsPlace self.now name.now) }
+        ensures none { IfNone result (IsNewTable (map attached_of self.now) name.now) }
+    {
+        self.names.get_index_of(name)
+    }
+
+    /// Attaches a table that is not attached, behind the others. [`NoMemory`] changes nothing.
+    pub(crate) fn push(&mut self, alloc: Global, name: &str, schema: Schema) -> Result<(), NoMemory>
+        requires { IsNewTable (map attached_of self.old) name.now }
+        ensures pushed { OnOk result (map attached_of self.new ≡ map attached_of self.old
+            ++ (let t : AttachedTable = record { name = name.now; schema = schema; firsts = [] } in t) ∷ []) }
+        ensures settled { AllByRecursion IsSettled self.old → AllByRecursion IsSettled self.new }
+        ensures same { OnErr result (self.new ≡ self.old) }
+    {
+        let key = String::from_str(alloc, name)?;
+        let name = String::from_str(alloc, name)?;
+        let firsts = FirstImages::new(alloc);
+        self.tables.reserve(1)?;
+        self.names.insert(key)?;
+        self.tables.push(Attached {
+            name,
+            schema,
+            firsts,
+        })?;
+        Ok(())
+    }
+
+    /// Notes the keys that were written, with the rows that stood there, each in its table.
+    ///
+    /// Refuses with [`NoMemory`](SessionFault::NoMemory), and with
+    /// [`DamagedStore`](cs_store::StoreError::DamagedStore) for a former row that cannot have stood there.
+    /// What was noted at the last commit stands then.
+    pub(crate) fn note_all(
+        &mut self,
+        alloc: Global,
+        written: Vec<Written>,
+    ) -> Result<(), SessionFault>
+        requires { AreApart (map attached_of self.old) }
+        ensures noted { OnOk result (map attached_of self.new
+            ≡ recorded (map attached_of self.old) (map written_of written.items)) }
+        ensures formers { OnOk result (AreFormers (map attached_of self.old) (map written_of written.items)) }
+        ensures kept { map kept_of self.new ≡ map kept_of self.old }
+        ensures refused { IfErr result (λ e. (e ≡ OutOfMemory)
+            ⊎ (IsDamage e × ¬ AreFormers (map attached_of self.old) (map written_of written.items))) }
+    {
+        for one in written {
+            self.note(alloc, one)?;
+        }
+        Ok(())
+    }
+
+    /// Notes copies of the keys that were written, and of the rows, and refuses, as
+    /// [`note_all`](Tables::note_all) does.
+    pub(crate) fn note_copies(
+        &mut self,
+        alloc: Global,
+        written: &[Written],
+    ) -> Result<(), SessionFault>
+        requires { AreApart (map attached_of self.old) }
+        ensures noted { OnOk result (map attached_of self.new
+            ≡ recorded (map attached_of self.old) (map written_of written.now)) }
+        ensures formers { OnOk result (AreFormers (map attached_of self.old) (map written_of written.now)) }
+        ensures kept { map kept_of self.new ≡ map kept_of self.old }
+        ensures refused { IfErr result (λ e. (e ≡ OutOfMemory)
+            ⊎ (IsDamage e × ¬ AreFormers (map attached_of self.old) (map written_of written.now))) }
+    {
+        for one in written {
+            self.note_copy(alloc, one)?;
+        }
+        Ok(())
+    }
+
+    /// Notes a key that was written, where its table is attached.
+    fn note(&mut self, alloc: Global, one: Written) -> Result<(), SessionFault>
+        requires { AreApart (map attached_of self.old) }
+        ensures noted { OnOk result (map attached_of self.new
+            ≡ recorded (map attached_of self.old) (written_of one ∷ [])) }
+        ensures formers { OnOk result (AreFormers (map attached_of self.old) (written_of one ∷ [])) }
+        ensures kept { map kept_of self.new ≡ map kept_of self.old }
+        ensures refused { IfErr result (λ e. (e ≡ OutOfMemory)
+            ⊎ (IsDamage e × ¬ AreFormers (map attached_of self.old) (written_of one ∷ []))) }
+    {
+        let Written { table, key, former } = one;
+        let Some(place) = self.place_of(table.as_str()) else {
+            return Ok(());
+        };
+        note_write(alloc, &mut self.tables[place], key, former)
+    }
+
+    /// Notes a copy of a key that was written, where its table is attached.
+    fn note_copy(&mut self, alloc: Global, one: &Written) -> Result<(), SessionFault>
+        requires { AreApart (map attached_of self.old) }
+        ensures noted { OnOk result (map attached_of self.new
+            ≡ recorded (map attached_of self.old) (written_of one.now ∷ [])) }
+        ensures formers { OnOk result (AreFormers (map attached_of self.old) (written_of one.now ∷ [])) }
+        ensures kept { map kept_of self.new ≡ map kept_of self.old }
+        ensures refused { IfErr result (λ e. (e ≡ OutOfMemory)
+            ⊎ (IsDamage e × ¬ AreFormers (map attached_of self.old) (written_of one.now ∷ []))) }
+    {
+        let Some(place) = self.place_of(one.table.as_str()) else {
+            return Ok(());
+        };
+        note_write_copy(
+            alloc,
+            &mut self.tables[place],
+            &one.key,
+            one.former.as_ref(),
+        )
+    }
+
+    /// What was noted since the last commit is committed.
+    pub(crate) fn keep(&mut self)
+        ensures kept { map attached_of self.new ≡ map attached_of self.old }
+        ensures settled { AllByRecursion IsSettled self.new }
+    {
+        keep_all(&mut self.tables);
+    }
+
+    /// What was noted since the last commit is forgotten.
+    pub(crate) fn cut_back(&mut self)
+        ensures kept { map attached_of self.new ≡ map kept_of self.old }
+        ensures settled { AllByRecursion IsSettled self.new }
+    {
+        cut_back_all(&mut self.tables);
+    }
+}
