@@ -25,7 +25,7 @@ module _ (flags out written grown : List ℕ) (now next : TablesData) (entries :
   inverted_next seen inverse is flags_stay well_formed undoes grown_is =
       let fits : IsEntry seen.flags seen.entry = rw is.flags_are (rw is.is at so.passed.are_left.each).0 in
       let same : inverse.entry ≡ inverse_entry flags seen.entry =
-          inverse_is seen.flags seen.entry inverse.entry fits (rw flags_stay at well_formed) undoes ∙ ap (λ (f : List ℕ). inverse_entry f seen.entry) (is.flags_are ∙ so.same) in
+      inverse_is seen.flags seen.entry inverse.entry fits (rw flags_stay at well_formed) undoes ∙ ap (λ (f : List ℕ). inverse_entry f seen.entry) (is.flags_are ∙ so.same) in
       WritesEntries-next (λ e. entry_bytes (inverse_entry flags e)) flags out written now entries groups so grown next seen is (grown_is ∙ ap (λ (e : Entry). written ++ entry_bytes e) same)
 
 -- ---- tables

@@ -37,9 +37,9 @@ pub ListedFront-next : (file : List ℕ) (tables : List NamedTable) (now next : 
     → IsNextTable so.others header next → next.file ≡ file → table ≡ record { header = header_of header; start = next.place } → ListedFront file (tables ++ table ∷ []) next groups
 ListedFront-next file tables now next groups so header table is same table_is =
     let at : tables_from file table ≡ next =
-        ap (tables_from file) table_is ∙ ap (λ (h : HeaderData). record { file = file; place = next.place; flags = h.flags }) is.header_is
-        ∙ ap (λ (flags : List ℕ). record { file = file; place = next.place; flags = flags }) (sym is.flags_are)
-        ∙ ap (λ (f : List ℕ). record { file = f; place = next.place; flags = next.flags }) (sym same) in
+    ap (tables_from file) table_is ∙ ap (λ (h : HeaderData). record { file = file; place = next.place; flags = h.flags }) is.header_is
+    ∙ ap (λ (flags : List ℕ). record { file = file; place = next.place; flags = flags }) (sym is.flags_are)
+    ∙ ap (λ (f : List ℕ). record { file = f; place = next.place; flags = next.flags }) (sym same) in
     record {
       before = so.before ++ is.group ∷ [];
       others = is.others;

@@ -1,4 +1,4 @@
--- `joining::write_join`: the clause `joined`.
+-- `joining::write_join`: the clauses `joined` and `refused`.
 use Rattle.std.specs.Prelude.{filter, filter_map}
 use Rattle.cs_wire.specs.Changeset.{group_bytes}
 use Rattle.cs_group.specs.Joining.{is_new, joined_group, outcome, table_name}
@@ -12,3 +12,7 @@ returns-clause-joined c = λ groups others left right p q.
     let joinable = c.in_default.ensures.none groups others known p added in
     joined_bytes group_bytes c.args.out.now.items c.write_kept_tables.new.out.items c.write_new_tables.new.out.items (filter_map (outcome table_name joined_group others) groups) (filter (is_new table_name groups) others)
     (c.in_ok-write_kept_tables.ensures groups others known added q joinable) (c.in_ok-write_new_tables.ensures groups others known p added)
+
+pub returns-in-Some-clause-refused : goal.returns-in-Some-clause-refused
+returns-in-Some-clause-refused c = λ groups others left right p q.
+    c.in-Some.ensures.clash groups others (c.in_ok-known.ensures groups left) p (c.in_ok-added.ensures others right)

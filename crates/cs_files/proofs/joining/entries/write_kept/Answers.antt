@@ -37,12 +37,11 @@ entries-preserved-in-Some-2 c =
       c.in-Some.ensures.flags.0 ∙ so.0,
       length-set c.entries.met.items place true ∙ so.1,
       λ entries groups left apart.
-          let both = so.2 entries groups left apart in
-          (
+          let both = so.2 entries groups left apart in (
             WritesEntries-next (λ e. some_bytes entry_bytes (outcome (λ (f : Entry). key_of flags f.change) (joined_entry flags) seconds.entries e)) flags c.args.out.now.items c.entries.out.items c.entries.left entries groups both.0
-            c.write_outcome.new.out.items c.next_entry.new.self seen (c.in-Some.ensures.next both.0.passed.others groups both.0.passed.are_left) (rw here at (c.in_ok-place.ensures.written apart)),
+                c.write_outcome.new.out.items c.next_entry.new.self seen (c.in-Some.ensures.next both.0.passed.others groups both.0.passed.are_left) (rw here at (c.in_ok-place.ensures.written apart)),
             AreMet-marked flags c.entries.met.items both.0.before seconds.entries seen.entry both.1 place (apart_of seconds.flags flags seconds.entries seen.entry c.requires.agree apart) so.1
-            (place_of seconds.flags flags seconds.entries seen.entry c.requires.agree place at),
+                (place_of seconds.flags flags seconds.entries seen.entry c.requires.agree place at),
           ),
     )
 
@@ -58,10 +57,9 @@ entries-preserved c =
       c.in-Some.ensures.flags.0 ∙ so.0,
       so.1,
       λ entries groups left apart.
-          let both = so.2 entries groups left apart in
-          (
+          let both = so.2 entries groups left apart in (
             WritesEntries-next (λ e. some_bytes entry_bytes (outcome (λ (f : Entry). key_of flags f.change) (joined_entry flags) seconds.entries e)) flags c.args.out.now.items c.entries.out.items c.entries.left entries groups both.0
-            c.write_outcome.new.out.items c.next_entry.new.self seen (c.in-Some.ensures.next both.0.passed.others groups both.0.passed.are_left) (rw here at (c.in_ok-place.ensures.written apart)),
+                c.write_outcome.new.out.items c.next_entry.new.self seen (c.in-Some.ensures.next both.0.passed.others groups both.0.passed.are_left) (rw here at (c.in_ok-place.ensures.written apart)),
             AreMet-other flags c.entries.met.items both.0.before seconds.entries seen.entry both.1 (keys_of seconds.flags flags seconds.entries seen.entry c.requires.agree absent),
           ),
     )

@@ -29,5 +29,5 @@ tables-preserved c =
       λ groups left.
           let front = so.3 groups left in
           rw grown (ListedFront-next c.file-file.result.now listed c.tables.left next groups front c.in-Some.header table (c.in-Some.ensures.next front.entries front.others front.are_left) file
-              (ap (λ (start : ℕ). record { header = header_of c.in-Some.header; start = start }) c.place.ensures)),
+          (ap (λ (start : ℕ). record { header = header_of c.in-Some.header; start = start }) c.place.ensures)),
     )
