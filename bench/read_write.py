@@ -5,7 +5,8 @@ The program reads a file, inverts it and writes the inverse, so a time is that o
 repeated keys and tables, inverting and writing. It reads two files and writes their join: half of the entries of
 each have a key that the other has too, in each pair of operations. And it reads a file and prints it, or its SQL,
 into another. Two shapes of 1000, 10000, 100000 and 1000000 entries, which each of the two files of a join has:
-all in one table, and ten in each table. The bytes are those of what is read. The floor beside each is `cp` of the
+all in one table, and ten in each table; then 100000 tables of one entry, and one entry with a blob of 100 million
+bytes. The bytes are those of what is read. The floor beside each is `cp` of the
 same file, or `cat` of the two: a process that does nothing but copy. A peak below about 15 MiB is that of this
 script, from which the program is started. Calls that write are counted by the system, where it has /proc.
 The program has to be built first: `cd crates/changeset && rt run`.
@@ -20,6 +21,7 @@ import time
 
 COUNTS = (1_000, 10_000, 100_000, 1_000_000)
 RUNS = 3
+BLOB = 100_000_000
 
 
 def header(name):
@@ -66,6 +68,50 @@ def tables_of_ten_more(entries):
             yield entry(number + key // 3, key)
 
 
+def tables_of_one(entries):
+    for number in range(entries):
+        yield header(b"t%d" % number)
+        yield entry(number, 1)
+
+
+def tables_of_one_more(entries):
+    """A second file, the first half of whose tables are those of the second half of the first."""
+    for number in range(entries // 2, entries // 2 + entries):
+        yield header(b"t%d" % number)
+        yield entry(number // 3, 1)
+
+
+def varint(number):
+    """A number as seven bits a byte, the first bits first, where all but the last byte have the eighth bit."""
+    parts = [number & 0x7F]
+    while number > 0x7F:
+        number >>= 7
+        parts.append(number & 0x7F | 0x80)
+    return bytes(reversed(parts))
+
+
+def one_blob(entries):
+    yield header(b"t")
+    for key in range(entries):
+        yield b"\x12\x00\x01" + key.to_bytes(8, "big") + b"\x04" + varint(BLOB) + bytes(BLOB)
+
+
+def one_blob_more(entries):
+    """A second file, which deletes what the first inserts."""
+    yield header(b"t")
+    for key in range(entries):
+        yield b"\x09\x00\x01" + key.to_bytes(8, "big") + b"\x04" + varint(BLOB) + bytes(BLOB)
+
+
+# The files of the two sides of a join, and of how many entries each.
+SHAPES = (
+    (one_table, one_table_more, COUNTS),
+    (tables_of_ten, tables_of_ten_more, COUNTS),
+    (tables_of_one, tables_of_one_more, (100_000,)),
+    (one_blob, one_blob_more, (1,)),
+)
+
+
 def written(child):
     """How many calls of a process that has ended wrote something, or `-` where that is not known."""
     try:
@@ -104,10 +150,10 @@ def main():
     program = sys.argv[1] if len(sys.argv) > 1 else os.path.join(top, "crates/changeset/out/changeset")
     with tempfile.TemporaryDirectory() as folder:
         file, more, out, printed = (os.path.join(folder, name) for name in ("file.cs", "more.cs", "out.cs", "printed"))
-        for shape, shape_more in ((one_table, one_table_more), (tables_of_ten, tables_of_ten_more)):
+        for shape, shape_more, counts in SHAPES:
             print(shape.__name__.replace("_", " "))
             print("  entries  command      bytes   seconds    floor   peak MiB  peak/file   writes")
-            for entries in COUNTS:
+            for entries in counts:
                 fill(file, shape(entries))
                 fill(more, shape_more(entries))
                 for command, files, arguments in (
