@@ -12,7 +12,7 @@ ghost use Rattle.cs_files.specs.Printing.{IfUnread, IfUnwritten, PrintsTo, Print
 
 use crate::fault::{PrintFault, ToolFault, first_fault, second_fault, text_fault};
 use crate::inverting::write_inverse;
-use crate::joining::write_join;
+use crate::joining::join_tables;
 use crate::texts::{Form, write_tables};
 use crate::told::Told;
 use cs_wire::{ReadError, Tables};
@@ -39,8 +39,9 @@ pub fn invert_bytes(alloc: Global, file: &[u8]) -> Result<Vec<u8>, ReadError>
 }
 
 /// The file of the changeset that does what the one of the first file does and then what that of
-/// the second does, as [`cs_group::concat`] makes it. It is at most as long as both. Beside as many bytes as both
-/// files have it takes memory for the names of their tables, and for the keys of one table of the second at a time.
+/// the second does, as [`cs_group::concat`] makes it. It is at most as long as both. It takes as many bytes as both
+/// files have, whatever comes out; beside these what reading them takes, the tables of both by their names, and of one
+/// table of the second at a time its entries by their keys.
 ///
 /// # Errors
 ///
@@ -54,9 +55,12 @@ pub fn concat_bytes(alloc: Global, first: &[u8], second: &[u8]) -> Result<Vec<u8
 {
     let firsts = Tables::read(alloc, first).map_err(first_fault)?;
     let seconds = Tables::read(alloc, second).map_err(second_fault)?;
-    let mut out = Vec::with_capacity(alloc, first.len() + second.len())?;
-    write_join(alloc, &mut out, firsts, seconds)?;
-    Ok(out)
+    Ok(join_tables(
+        alloc,
+        firsts,
+        seconds,
+        first.len() + second.len(),
+    )?)
 }
 
 /// Reads a file to its end, and then writes what it holds, as [`dump_text`](crate::dump_text) does. Only the

@@ -1,5 +1,5 @@
 //! The join of two files, written as they are gone through.
-ghost use Rattle.std.specs.Prelude.{◌≡◌, ◌++◌, [], List, IfErr, OnOk};
+ghost use Rattle.std.specs.Prelude.{◌≡◌, [], List, IfErr, IfOk};
 ghost use Rattle.cs_value.specs.Refusals.{Refuses};
 ghost use Rattle.cs_wire.specs.Changeset.{GroupData, IsChangeset, file_bytes};
 ghost use Rattle.cs_wire.specs.Tables.{AreLeft};
@@ -17,20 +17,20 @@ use cs_group::SchemaFault;
 use cs_wire::{NamedTables, Tables};
 use std::alloc::Global;
 
-/// Appends the join of two files that were read.
+/// The join of two files that were read, in memory that is taken once.
 ///
 /// Refuses where a table has other columns or another key in the second file, with the place of the first such table
-/// there, and where memory is refused.
-pub(crate) fn write_join<'a>(
+/// there, before the memory for the join is taken; and where memory is refused.
+pub(crate) fn join_tables<'a>(
     alloc: Global,
-    out: &mut Vec<u8>,
     firsts: Tables<'a>,
     seconds: Tables<'a>,
-) -> Result<(), ToolFault>
+    capacity: usize,
+) -> Result<Vec<u8>, ToolFault>
     ensures joinable { (groups others : List GroupData) → AreLeft firsts.entry [] groups → AreLeft seconds.entry [] others → IsChangeset groups → IsChangeset others
-        → OnOk result (AreJoinable groups others) }
+        → IfOk result (λ _. AreJoinable groups others) }
     ensures joined { (groups others : List GroupData) → AreLeft firsts.entry [] groups → AreLeft seconds.entry [] others → IsChangeset groups → IsChangeset others
-        → OnOk result (out.new.items ≡ out.old.items ++ file_bytes (joined groups others)) }
+        → IfOk result (λ out. out.items ≡ file_bytes (joined groups others)) }
     ensures refused { (groups others : List GroupData) → AreLeft firsts.entry [] groups → AreLeft seconds.entry [] others → IsChangeset groups → IsChangeset others
         → IfErr result (Refuses (AreUnjoined groups others)) }
 {
@@ -39,7 +39,8 @@ pub(crate) fn write_join<'a>(
     if let Some(place) = first_clash(&known, &added) {
         return Err(ToolFault::Fault(FileFault::Schema(SchemaFault { place })));
     }
-    write_kept_tables(alloc, out, &known, &added)?;
-    write_new_tables(out, &known, &added)?;
-    Ok(())
+    let mut out = Vec::with_capacity(alloc, capacity)?;
+    write_kept_tables(alloc, &mut out, &known, &added)?;
+    write_new_tables(&mut out, &known, &added)?;
+    Ok(out)
 }

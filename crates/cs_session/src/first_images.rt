@@ -1,5 +1,5 @@
 //! The first images of a table: what stood under each key that was written, when it was written first.
-ghost use Rattle.std.specs.Prelude.{◌≡◌, ◌==◌, [], ◌++◌, length, option_map, is_some, IfOk, OnOk};
+ghost use Rattle.std.specs.Prelude.{◌≡◌, ◌==◌, [], ◌++◌, length, option_map, is_some, IfOk, OnErr, OnOk};
 ghost use Rattle.cs_session.specs.FirstImages.{first_at};
 ghost use Rattle.cs_session.specs.Images.{with_first};
 
@@ -62,7 +62,7 @@ impl FirstImages {
     }
 
     /// Whether the key was written.
-    pub(crate) fn has_key(&self, key: &Key) -> bool
+    fn has_key(&self, key: &Key) -> bool
         ensures { result ≡ is_some (first_at (self.now.kept ++ self.now.pending) key.now) }
     {
         self.firsts.contains_key(key)
@@ -73,6 +73,7 @@ impl FirstImages {
         ensures noted { OnOk result (self.new.kept ++ self.new.pending
             ≡ with_first (self.old.kept ++ self.old.pending) key row) }
         ensures kept { self.new.kept ≡ self.old.kept }
+        ensures same { OnErr result (self.new ≡ self.old) }
     {
         if self.has_key(&key) {
             return Ok(());
@@ -92,6 +93,7 @@ impl FirstImages {
         ensures noted { OnOk result (self.new.kept ++ self.new.pending
             ≡ with_first (self.old.kept ++ self.old.pending) key.now (option_map (λ r. r.now) row.entry)) }
         ensures kept { self.new.kept ≡ self.old.kept }
+        ensures same { OnErr result (self.new ≡ self.old) }
     {
         if self.has_key(key) {
             return Ok(());

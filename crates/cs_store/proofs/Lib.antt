@@ -21,6 +21,7 @@ pub mod RemoveLemmas
 pub mod RowLemmas
 pub mod SchemaLemmas
 pub mod SetLemmas
+pub mod AddLemmas
 pub mod StateOf
 pub mod StatementLemmas
 pub mod StoreExamples

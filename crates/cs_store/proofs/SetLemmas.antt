@@ -53,7 +53,7 @@ abbrev set_text : List ℕ
 set_text = codes "INSERT INTO rec VALUES(?1, ?2, ?3) ON CONFLICT(tab, keyb) DO UPDATE SET rowb = ?3"
 
 -- the rowid is chosen
-abbrev source : Source
+abbrev pub source : Source
 source = Values (lit Null ∷ col 0 0 ∷ col 0 1 ∷ col 0 2 ∷ []) 4
 
 -- of the row with the rowid that is the fourth parameter, that rowid, and the row with the new value
@@ -99,7 +99,7 @@ set_keeps_crash params = inside_keeps_crash set_text params record_schema set_co
 -- ---- the row
 
 -- the row of a record with this number
-abbrev record_at : ℤ → List ℕ → List ℕ → List ℕ → Row
+abbrev pub record_at : ℤ → List ℕ → List ℕ → List ℕ → Row
 record_at n tab key value = Int n ∷ Text tab ∷ Blob key ∷ Blob value ∷ []
 
 -- a choice of one value
@@ -117,17 +117,17 @@ unfolding unary
 cast_null = either _ Null
 
 -- a record is stored as it is
-cast_record : (n : ℤ) (tab key value : List ℕ) → cast_row record_table (record_at n tab key value) ≡ record_at n tab key value
+pub cast_record : (n : ℤ) (tab key value : List ℕ) → cast_row record_table (record_at n tab key value) ≡ record_at n tab key value
 cast_record n tab key value = ap (λ v. v ∷ Text tab ∷ Blob key ∷ Blob value ∷ []) (cast_number n)
 
 -- and takes the next number
-numbered_record : (rows : List Row) (tab key value : List ℕ)
+pub numbered_record : (rows : List Row) (tab key value : List ℕ)
     → with_rowid Chosen rows (cast_row record_table (Null ∷ Text tab ∷ Blob key ∷ Blob value ∷ [])) ≡ record_at (next_rowid rows) tab key value
 numbered_record rows tab key value = ap (λ v. with_rowid Chosen rows (v ∷ Text tab ∷ Blob key ∷ Blob value ∷ [])) cast_null
 
 module _ (limit : Option ℕ) (keys : Keys) (tab key value : List ℕ) where
   -- what the statement reads
-  abbrev task : Task
+  abbrev pub task : Task
   task = record { limit = limit; keys = keys; schema = record_schema; table = record_table; params = Text tab ∷ Blob key ∷ Blob value ∷ [] }
 
   -- ---- no record is there

@@ -1,6 +1,6 @@
 -- What a store over a connection holds: a state, as its records stand for it.
 use Rattle.std.specs.Prelude.{◌≡◌, ◌⊎◌, ℕ, List, [], map as map_list, Vec, IsTrue, true, false}
-use Rattle.std.specs.Prelude.{Option, None, Some, IfSome, Result, Ok, Err, IsErrAnd, string_bytes}
+use Rattle.std.specs.Prelude.{Option, None, Some, IfSome, option_map, Result, Ok, Err, IsErrAnd, string_bytes}
 use Rattle.std.specs.List.{AllByRecursion}
 use Rattle.std.specs.FinMap as map
 use Rattle.std.specs.declared.alloc.Global.{Global}
@@ -51,9 +51,27 @@ pub record IsStore (s : State) : Type 0 where
 abbrev pub IsSound : State → Type 0
 IsSound s = HasCleanDisk s → IsStore s
 
--- what is known of a table is so, if the disk has returned what was written
-abbrev pub Knows : State → Option (List ℕ × tables.SchemaData) → Type 0
-Knows s known = HasCleanDisk s → IfSome known (λ t. tables.schema_at (tables_in s.now) t.0 ≡ Some t.1)
+-- what is known of a table: its name, its schema, and a key that no row of it has
+abbrev pub KnownData : Type 0
+KnownData = List ℕ × tables.SchemaData × Option (List ℕ)
+
+-- it is so
+pub record IsKnown (held : tables.State) (known : KnownData) : Type 0 where
+  pub schema : tables.schema_at held known.0 ≡ Some known.1
+  pub free : IfSome known.2 (λ key. tables.row_at held known.0 key ≡ None)
+
+-- it is so, if the disk has returned what was written
+abbrev pub Knows : State → Option KnownData → Type 0
+Knows s known = HasCleanDisk s → IfSome known (IsKnown (tables_in s.now))
+
+-- the key is the one that no row of this table has
+abbrev pub IsFreeKey : Option KnownData → List ℕ → List ℕ → Type 0
+IsFreeKey None name key = ⊥
+IsFreeKey (Some known) name key = (known.0 ≡ name) × (known.2 ≡ Some key)
+
+-- what is known but for the key
+abbrev pub forgotten : Option KnownData → Option KnownData
+forgotten known = option_map (λ t. (t.0, t.1, None)) known
 
 -- what a call that commits nothing keeps: what a crash leaves, what was committed last, and that this is a store;
 -- outside a transaction, where what is shown was committed, all that is shown

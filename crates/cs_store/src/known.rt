@@ -1,5 +1,6 @@
 //! What is read and written through a store. The table that was looked up last is known: inside a transaction, where
-//! nobody else writes, its schema is not read again.
+//! nobody else writes, its schema is not read again. So is the key that was looked up last, where no row has it: a row
+//! that is put there is new, and none is looked for to be replaced.
 ghost use Rattle.std.specs.Prelude.{◌≡◌, ◌⊎◌, IsTrue, IfOk, IfErr, OnOk, IfSome, None, Some, option_map};
 ghost use Rattle.std.specs.FinMap as map;
 ghost use Rattle.cs_value.specs.Table.{IsName};
@@ -7,7 +8,7 @@ ghost use Rattle.cs_value.specs.State.{schema_at, row_at, rows_at, with_row, wit
 ghost use Rattle.cs_store.specs.declared.fault.StoreError.TheVariants.{TableExists as TakenName};
 ghost use Rattle.cs_store.specs.Faults.{IsResource, IsReadRefusal};
 ghost use Rattle.cs_store.specs.Rows.{IsDeclared, Fits};
-ghost use Rattle.cs_store.specs.Store.{AddsTable, IsSound, KeepsStore, Knows, RefusesShut, tables_in};
+ghost use Rattle.cs_store.specs.Store.{AddsTable, IsSound, KeepsStore, Knows, IsFreeKey, RefusesShut, forgotten, tables_in};
 ghost use Rattle.sqlite.specs.State.{HasCleanDisk};
 ghost use Rattle.sqlite.specs.Held.{state};
 
@@ -24,15 +25,17 @@ use std::marker::Model;
 pub(crate) struct KnownTable {
     name: String,
     schema: Schema,
+    // A key that no row of the table has.
+    free: Option<Key>,
 }
 
 impl Model for KnownTable {
-    ghost use Rattle.std.specs.Prelude.{List, ℕ, string_bytes};
-    ghost use Rattle.cs_value.specs.State.{SchemaData};
+    ghost use Rattle.std.specs.Prelude.{string_bytes};
+    ghost use Rattle.cs_store.specs.Store.{KnownData};
 
-    ghost Value = { List ℕ × SchemaData };
+    ghost Value = { KnownData };
 
-    ghost view = { λ t. (string_bytes t.name, t.schema) };
+    ghost view = { λ t. (string_bytes t.name, t.schema, t.free) };
 }
 
 /// The schema of a table, and none where no table has the name.
@@ -90,7 +93,11 @@ pub(crate) fn find_row<S: Alter>(
     look_up(conn, known, alloc, name)?;
     match known {
         Some(table) => match tables::find_row(conn, alloc, name, &table.schema, key) {
-            Ok(found) => Ok(found),
+            Ok(Some(row)) => Ok(Some(row)),
+            Ok(None) => {
+                table.free = Some(key.copy(alloc)?);
+                Ok(None)
+            }
             Err(error) => {
                 *known = None;
                 Err(error)
@@ -157,8 +164,12 @@ pub(crate) fn put_row<S: Alter>(
     if conn.is_autocommit() {
         return Err(StoreError::StoreFault);
     }
-    match tables::put_row(conn, alloc, name, key, row) {
-        Ok(()) => Ok(()),
+    let is_new = is_free(known, name, key);
+    match tables::put_row(conn, alloc, name, key, row, is_new) {
+        Ok(()) => {
+            forget_key(known);
+            Ok(())
+        }
         Err(error) => {
             *known = None;
             Err(error)
@@ -187,7 +198,10 @@ pub(crate) fn remove_row<S: Alter>(
         return Err(StoreError::StoreFault);
     }
     match tables::remove_row(conn, name, key) {
-        Ok(()) => Ok(()),
+        Ok(()) => {
+            forget_key(known);
+            Ok(())
+        }
         Err(error) => {
             *known = None;
             Err(error)
@@ -260,6 +274,7 @@ fn look_up<S: Alter>(
     ensures found { HasCleanDisk (state S.Store conn.new)
         → OnOk result (option_map (λ t. t.1) known.new
         ≡ schema_at (tables_in (state S.Store conn.old).now) name.now) }
+    ensures is_it { OnOk result (IfSome known.new (λ t. t.0 ≡ name.now)) }
     ensures same { HasCleanDisk (state S.Store conn.new) → OnOk result ((state S.Store conn.new).now
         ≡ (state S.Store conn.old).now) }
     ensures refused { HasCleanDisk (state S.Store conn.new)
@@ -275,7 +290,11 @@ fn look_up<S: Alter>(
     *known = None;
     if let Some(schema) = tables::find_schema(conn, alloc, name)? {
         let name = String::from_str(alloc, name)?;
-        *known = Some(KnownTable { name, schema });
+        *known = Some(KnownTable {
+            name,
+            schema,
+            free: None,
+        });
     }
     Ok(())
 }
@@ -287,5 +306,34 @@ fn has_name(known: &Option<KnownTable>, name: &str) -> bool
     match known {
         Some(table) => table.name.as_str() == name,
         None => false,
+    }
+}
+
+/// Whether it is known that no row of this table has this key.
+fn is_free(known: &Option<KnownTable>, name: &str, key: &Key) -> bool
+    ensures { IsTrue result → IsFreeKey known.now name.now key.now }
+{
+    match known {
+        Some(table) => table.name.as_str() == name && has_free(table, key),
+        None => false,
+    }
+}
+
+/// Whether this is the key that no row of a table has.
+fn has_free(table: &KnownTable, key: &Key) -> bool
+    ensures { IsTrue result → table.now.2 ≡ Some key.now }
+{
+    match &table.free {
+        Some(free) => free.bytes() == key.bytes(),
+        None => false,
+    }
+}
+
+/// Forgets which key no row has.
+fn forget_key(known: &mut Option<KnownTable>)
+    ensures { known.new ≡ forgotten known.old }
+{
+    if let Some(table) = known {
+        table.free = None;
     }
 }

@@ -124,6 +124,68 @@ pub(crate) fn set_record<S: Alter>(
     Ok(())
 }
 
+/// Puts the value under a table's name and a key that no record has, inside a transaction. It is refused where one has
+/// them: what [`set_record`] looks for first, to replace it, is not looked for.
+fn add_record<S: Alter>(
+    conn: &mut Connection<S>,
+    tab: &str,
+    key: &[u8],
+    value: &[u8],
+) -> Result<(), StoreError>
+    requires { HasCleanDisk (state S.Store conn.old) → HoldsRecords (state S.Store conn.old).now
+        → records_in (state S.Store conn.old).now tab.now key.now ≡ None }
+    ensures set { HasCleanDisk (state S.Store conn.new) → HoldsRecords (state S.Store conn.old).now
+        → OnOk result (Sets (state S.Store conn.old).now (state S.Store conn.new).now
+        tab.now key.now (Some value.now)) }
+    ensures goes_on { HasCleanDisk (state S.Store conn.new) → HoldsRecords (state S.Store conn.old).now
+        → IsTrue (state S.Store conn.old).in_transaction
+        → OnOk result (GoesOn (state S.Store conn.old) (state S.Store conn.new)) }
+    ensures refused { IfErr result IsResource }
+    ensures rests { HasCleanDisk (state S.Store conn.new)
+        → OnErr result (Rests (state S.Store conn.old) (state S.Store conn.new)) }
+    ensures was_clean { HasCleanDisk (state S.Store conn.new) → HasCleanDisk (state S.Store conn.old) }
+    ensures survives { (HasCleanDisk (state S.Store conn.old) → HoldsRecords (state S.Store conn.old).now)
+        → (HasCleanDisk (state S.Store conn.old) → IsTrue (state S.Store conn.old).in_transaction)
+        → KeepsCrash (state S.Store conn.old) (state S.Store conn.new) }
+{
+    conn.execute(
+        "INSERT INTO rec VALUES(?1, ?2, ?3)",
+        params![tab, key, value],
+    )?;
+    Ok(())
+}
+
+/// Puts the value under a table's name and a key, inside a transaction: a new record, where it is known that none is there.
+pub(crate) fn put_record<S: Alter>(
+    conn: &mut Connection<S>,
+    tab: &str,
+    key: &[u8],
+    value: &[u8],
+    is_new: bool,
+) -> Result<(), StoreError>
+    requires { IsTrue is_new → HasCleanDisk (state S.Store conn.old) → HoldsRecords (state S.Store conn.old).now
+        → records_in (state S.Store conn.old).now tab.now key.now ≡ None }
+    ensures set { HasCleanDisk (state S.Store conn.new) → HoldsRecords (state S.Store conn.old).now
+        → OnOk result (Sets (state S.Store conn.old).now (state S.Store conn.new).now
+        tab.now key.now (Some value.now)) }
+    ensures goes_on { HasCleanDisk (state S.Store conn.new) → HoldsRecords (state S.Store conn.old).now
+        → IsTrue (state S.Store conn.old).in_transaction
+        → OnOk result (GoesOn (state S.Store conn.old) (state S.Store conn.new)) }
+    ensures refused { IfErr result IsResource }
+    ensures rests { HasCleanDisk (state S.Store conn.new)
+        → OnErr result (Rests (state S.Store conn.old) (state S.Store conn.new)) }
+    ensures was_clean { HasCleanDisk (state S.Store conn.new) → HasCleanDisk (state S.Store conn.old) }
+    ensures survives { (HasCleanDisk (state S.Store conn.old) → HoldsRecords (state S.Store conn.old).now)
+        → (HasCleanDisk (state S.Store conn.old) → IsTrue (state S.Store conn.old).in_transaction)
+        → KeepsCrash (state S.Store conn.old) (state S.Store conn.new) }
+{
+    if is_new {
+        add_record(conn, tab, key, value)
+    } else {
+        set_record(conn, tab, key, value)
+    }
+}
+
 /// Removes the record under a table's name and a key, if there is one, inside a transaction.
 pub(crate) fn remove_record<S: Alter>(
     conn: &mut Connection<S>,

@@ -17,12 +17,12 @@ ghost use Rattle.sqlite.specs.Held.{state};
 ghost use Rattle.cs_store.specs.Faults.{IsResource, IsReadRefusal};
 ghost use Rattle.cs_store.specs.Rows.{IsDeclared, Fits};
 ghost use Rattle.cs_store.specs.Store.{IsSound, KeepsStore, Recovers, RecoversList, RefusesShut};
-ghost use Rattle.cs_store.specs.Store.{AddsTable, AreNamed, AreStored, tables_in};
+ghost use Rattle.cs_store.specs.Store.{AddsTable, AreNamed, AreStored, HoldsState, tables_in};
 
 use crate::check::read_name;
 use crate::declaration::{read_declaration, write_declaration};
 use crate::fault::StoreError;
-use crate::records::{Keyed, find_record, list_records, remove_record, set_record};
+use crate::records::{Keyed, find_record, list_records, put_record, remove_record, set_record};
 use crate::schema::Schema;
 use crate::stored_row::read_row;
 use cs_value::{Key, Row, row_write};
@@ -140,16 +140,20 @@ fn rows_in(alloc: Global, flags: &[u8], listed: &[Keyed]) -> Result<Vec<Row>, St
     Ok(rows)
 }
 
-/// Puts a row under its key in a table that it fits, inside a transaction.
+/// Puts a row under its key in a table that it fits, inside a transaction: a new row, where it is known that none has the
+/// key.
 pub(crate) fn put_row<S: Alter>(
     conn: &mut Connection<S>,
     alloc: Global,
     name: &str,
     key: &Key,
     row: &Row,
+    is_new: bool,
 ) -> Result<(), StoreError>
-    requires { HasCleanDisk (state S.Store conn.old)
+    requires fits { HasCleanDisk (state S.Store conn.old)
         → Fits (tables_in (state S.Store conn.old).now) name.now key.now row.now }
+    requires new { IsTrue is_new → HasCleanDisk (state S.Store conn.old) → HoldsState (state S.Store conn.old).now
+        × (row_at (tables_in (state S.Store conn.old).now) name.now key.now ≡ None) }
     ensures put { IsSound (state S.Store conn.old) → IsTrue (state S.Store conn.old).in_transaction
         → HasCleanDisk (state S.Store conn.new)
         → OnOk result (tables_in (state S.Store conn.new).now
@@ -160,7 +164,7 @@ pub(crate) fn put_row<S: Alter>(
 {
     let mut bytes = Vec::new(alloc);
     row_write(&mut bytes, row)?;
-    set_record(conn, name, key.bytes(), &bytes)
+    put_record(conn, name, key.bytes(), &bytes, is_new)
 }
 
 /// Removes the row under a key of a declared table, if there is one, inside a transaction.

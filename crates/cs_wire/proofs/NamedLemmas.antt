@@ -29,9 +29,9 @@ pub record ListedFront (file : List ℕ) (tables : List NamedTable) (now : Table
   pub listed : AreTablesOf file tables before others
   pub are_left : AreLeft now entries others
 
-pub ListedFront-none : (file : List ℕ) (now : TablesData) (groups : List GroupData) → AreLeft now [] groups → ListedFront file [] now groups
+pub ListedFront-none : (file : List ℕ) (now : TablesData) (entries : List Entry) (groups : List GroupData) → AreLeft now entries groups → ListedFront file [] now groups
 unfolding AreTablesOf
-ListedFront-none file now groups left = record { before = []; others = groups; entries = []; whole = refl; listed = tt; are_left = left }
+ListedFront-none file now entries groups left = record { before = []; others = groups; entries = entries; whole = refl; listed = tt; are_left = left }
 
 pub ListedFront-next : (file : List ℕ) (tables : List NamedTable) (now next : TablesData) (groups : List GroupData) (so : ListedFront file tables now groups) (header : HeaderRef) (table : NamedTable)
     → IsNextTable so.others header next → next.file ≡ file → table ≡ record { header = header_of header; start = next.place } → ListedFront file (tables ++ table ∷ []) next groups

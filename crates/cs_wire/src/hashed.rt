@@ -1,5 +1,5 @@
 //! Where texts stand in a list, found by their hashes.
-ghost use Rattle.std.specs.Prelude.{◌≡◌, OnOk, OnErr};
+ghost use Rattle.std.specs.Prelude.{◌≡◌, IfOk, OnOk, OnErr};
 ghost use Rattle.std.specs.Cow.{cow_slice_items};
 ghost use Rattle.std.specs.FinMap as map;
 
@@ -10,7 +10,7 @@ use std::borrow::CowSlice;
 use std::marker::Model;
 
 /// The place of each of some texts, which are lists of bytes, each there once. Contracts see the
-/// map from text to place. A look-up takes the same time however many there are, unless the texts were made to have
+/// map from text to place. A look-up takes time in proportion to the text's length, however many there are, unless the texts were made to have
 /// one hash: [`Places`](crate::places::Places) takes no longer for such.
 #[derive(Debug, Drop)]
 pub(crate) struct HashedPlaces<'a> {
@@ -32,6 +32,15 @@ impl<'a> Model for HashedPlaces<'a> {
 }
 
 impl<'a> HashedPlaces<'a> {
+    /// No text has a place, and there is room for some.
+    pub(crate) fn with_capacity(alloc: Global, capacity: usize) -> Result<HashedPlaces<'a>, NoMemory>
+        ensures { IfOk result (λ places. places ≡ map.empty) }
+    {
+        Ok(HashedPlaces {
+            places: IndexMap::with_capacity(alloc, capacity)?,
+        })
+    }
+
     /// No text has a place.
     pub(crate) fn new(alloc: Global) -> HashedPlaces<'a>
         ensures { result ≡ map.empty }

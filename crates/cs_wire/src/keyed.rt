@@ -40,24 +40,29 @@ impl<'a> Model for KeyedEntries<'a> {
 impl<'a> KeyedEntries<'a> {
     ghost use Rattle.cs_wire.specs.Entry.{key_of};
 
-    /// No entry of a table with these flags.
-    pub fn new(alloc: Global, flags: &'a [u8]) -> KeyedEntries<'a>
-        ensures { result ≡ record { flags = flags.now; entries = [] } }
+    /// No entry of a table with these flags, and room for some.
+    fn with_capacity(
+        alloc: Global,
+        flags: &'a [u8],
+        capacity: usize,
+    ) -> Result<KeyedEntries<'a>, NoMemory>
+        ensures { IfOk result (λ keyed. keyed ≡ record { flags = flags.now; entries = [] }) }
     {
-        KeyedEntries {
+        Ok(KeyedEntries {
             flags,
-            entries: Vec::new(alloc),
-            places: HashedPlaces::new(alloc),
-        }
+            entries: Vec::with_capacity(alloc, capacity)?,
+            places: HashedPlaces::with_capacity(alloc, capacity)?,
+        })
     }
 
-    /// Lists the entries that are left of the table that is open, which were read.
+    /// Lists the entries that are left of the table that is open, which were read. They are counted first, so that the
+    /// list has as much memory as they need. [`NoMemory`] where memory is refused.
     pub fn list(alloc: Global, tables: Tables<'a>) -> Result<KeyedEntries<'a>, NoMemory>
         ensures flags { IfOk result (λ keyed. keyed.flags ≡ tables.entry.flags) }
         ensures entries { (entries : List EntryData) (groups : List GroupData) → AreLeft tables.entry entries groups
             → IfOk result (λ keyed. keyed.entries ≡ entries) }
     {
-        let mut keyed = KeyedEntries::new(alloc, tables.flags());
+        let mut keyed = KeyedEntries::with_capacity(alloc, tables.flags(), tables.count_entries())?;
         let mut left = tables;
         'entries: while let Some(entry) = left.next_entry() {
             keyed.push(alloc, entry)?;
@@ -82,7 +87,7 @@ impl<'a> KeyedEntries<'a> {
     }
 
     /// Adds an entry of the table. [`NoMemory`] leaves all as it was, and drops the entry.
-    pub fn push(&mut self, alloc: Global, entry: EntryRef<'a>) -> Result<(), NoMemory>
+    fn push(&mut self, alloc: Global, entry: EntryRef<'a>) -> Result<(), NoMemory>
         requires { entry.flags ≡ self.old.flags }
         ensures flags { self.new.flags ≡ self.old.flags }
         ensures ok { OnOk result (self.new.entries ≡ self.old.entries ++ entry.entry.entry ∷ []) }

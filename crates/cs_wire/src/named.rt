@@ -1,5 +1,6 @@
 //! The tables of a changeset's file, found by their names.
-ghost use Rattle.std.specs.Prelude.{◌≡◌, ◌≢◌, ◌<◌, [], ◌↔◌, All, IfOk, IfSome, IsTrue, List, is_none, length, slice_index_or};
+ghost use Rattle.std.specs.Prelude.{◌≡◌, ◌≢◌, ◌<◌, ◌↔◌, All, IfOk, IfSome, IsTrue, List, is_none, length};
+ghost use Rattle.cs_wire.specs.declared.entry.Entry.{Entry as EntryData};
 ghost use Rattle.cs_wire.specs.Changeset.{GroupData, IsHeader};
 ghost use Rattle.cs_wire.specs.Items.{header_of};
 ghost use Rattle.cs_wire.specs.Named.{AreListed, header_at, tables_at};
@@ -48,9 +49,10 @@ impl<'a> Model for NamedTables<'a> {
 }
 
 impl<'a> NamedTables<'a> {
-    /// Lists the tables that are left, which were read.
+    /// Lists the tables that are left, which were read. Entries that are left of a table that is open are passed over.
+    /// [`NoMemory`] where memory is refused.
     pub fn list(alloc: Global, tables: Tables<'a>) -> Result<NamedTables<'a>, NoMemory>
-        ensures { (groups : List GroupData) → AreLeft tables.entry [] groups → IfOk result (λ named. AreListed named groups) }
+        ensures { (entries : List EntryData) (groups : List GroupData) → AreLeft tables.entry entries groups → IfOk result (λ named. AreListed named groups) }
     {
         let file = tables.file();
         let mut listed = Vec::new(alloc);
@@ -85,7 +87,7 @@ impl<'a> NamedTables<'a> {
         self.places.get(name.as_bytes())
     }
 
-    /// The header of the table at a place.
+    /// The header of the table at a place, from 0 and below [`NamedTables::len`].
     pub fn header(&self, place: usize) -> HeaderRef<'a>
         requires { place < length self.now.tables }
         ensures same { header_of result ≡ header_at self.now place }
@@ -94,7 +96,7 @@ impl<'a> NamedTables<'a> {
         self.tables[place].header
     }
 
-    /// The file, where the entries of the table at a place begin.
+    /// The file, where the entries of the table at a place begin, from 0 and below [`NamedTables::len`].
     pub fn open(&self, place: usize) -> Tables<'a>
         requires { place < length self.now.tables }
         ensures { result ≡ tables_at self.now place }

@@ -87,6 +87,16 @@ impl<'a> Tables<'a> {
         self.place
     }
 
+    /// How many entries are left of the table that is open.
+    pub(crate) fn count_entries(&self) -> usize {
+        let mut left = Tables::at(self.file, self.place, self.flags);
+        let mut count: usize = 0;
+        'entries: while left.next_entry().is_some() {
+            count = count.saturating_add(1);
+        }
+        count
+    }
+
     /// The header of the next table, or None behind the last. Entries of the one before it that are left are passed over.
     pub fn next_table(&mut self) -> Option<HeaderRef<'a>>
         ensures next { (entries : List EntryData) (groups : List GroupData) → AreLeft self.old entries groups → NextTable groups result self.new }

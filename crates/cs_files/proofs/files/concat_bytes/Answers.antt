@@ -1,5 +1,5 @@
 -- `files::concat_bytes`: the clauses `joined` and `length`.
-use Rattle.std.proofs.Common.{◌≡◌, ◌++◌, [], List, ap, ◌∙◌, rules}
+use Rattle.std.proofs.Common.{◌≡◌, [], List, rules}
 use Rattle.cs_wire.specs.Changeset.{GroupData, IsFileOf, file_bytes}
 use Rattle.cs_wire.specs.Tables.{AreLeft}
 use Rattle.cs_group.specs.Joining.{joined}
@@ -10,14 +10,14 @@ pub returns-clause-joined : goal.returns-clause-joined
 returns-clause-joined c =
     let one : (groups : List GroupData) × IsFileOf c.args.first.now groups × AreLeft c.in_ok-firsts.firsts [] groups = search rules in
     let other : (groups : List GroupData) × IsFileOf c.args.second.now groups × AreLeft c.in_ok-seconds.seconds [] groups = search rules in
-    let join = c.in_ok-write_join.ensures in
-    let written : c.write_join.new.out.items ≡ file_bytes (joined one.0 other.0) = join.joined one.0 other.0 one.2 other.2 one.1.0 other.1.0 ∙ ap (λ l. l ++ file_bytes (joined one.0 other.0)) c.in_ok-out.ensures.items in
-    (joins c.args.first.now c.args.second.now c.write_join.new.out.items one.0 other.0 one.1 other.1 (join.joinable one.0 other.0 one.2 other.2 one.1.0 other.1.0) written).0
+    let join = c.in_ok-join_tables.ensures in
+    let written : c.in_ok-join_tables.field-0.items ≡ file_bytes (joined one.0 other.0) = join.joined one.0 other.0 one.2 other.2 one.1.0 other.1.0 in
+    (joins c.args.first.now c.args.second.now c.in_ok-join_tables.field-0.items one.0 other.0 one.1 other.1 (join.joinable one.0 other.0 one.2 other.2 one.1.0 other.1.0) written).0
 
 pub returns-clause-length : goal.returns-clause-length
 returns-clause-length c =
     let one : (groups : List GroupData) × IsFileOf c.args.first.now groups × AreLeft c.in_ok-firsts.firsts [] groups = search rules in
     let other : (groups : List GroupData) × IsFileOf c.args.second.now groups × AreLeft c.in_ok-seconds.seconds [] groups = search rules in
-    let join = c.in_ok-write_join.ensures in
-    let written : c.write_join.new.out.items ≡ file_bytes (joined one.0 other.0) = join.joined one.0 other.0 one.2 other.2 one.1.0 other.1.0 ∙ ap (λ l. l ++ file_bytes (joined one.0 other.0)) c.in_ok-out.ensures.items in
-    (joins c.args.first.now c.args.second.now c.write_join.new.out.items one.0 other.0 one.1 other.1 (join.joinable one.0 other.0 one.2 other.2 one.1.0 other.1.0) written).1
+    let join = c.in_ok-join_tables.ensures in
+    let written : c.in_ok-join_tables.field-0.items ≡ file_bytes (joined one.0 other.0) = join.joined one.0 other.0 one.2 other.2 one.1.0 other.1.0 in
+    (joins c.args.first.now c.args.second.now c.in_ok-join_tables.field-0.items one.0 other.0 one.1 other.1 (join.joinable one.0 other.0 one.2 other.2 one.1.0 other.1.0) written).1

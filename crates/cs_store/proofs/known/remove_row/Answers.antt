@@ -14,8 +14,8 @@ returns-in-Ok-clause-knows g c =
     let new = state g.S.Store c.remove_row.new.conn in
     let inside = in_transaction _ c.if-is_autocommit.ensures.value in
     let kept = c.remove_row.ensures.kept c.requires.sound inside in
-    knows_written old new c.args.known.now c.args.name.now (remove (rows_at (tables_in old.now) c.args.name.now) c.args.key.now) (was_clean old new kept.crash)
-    c.requires.declared (λ clean. c.in-Ok.ensures.removed c.requires.sound inside clean) c.requires.knows
+    rw c.forget_key.ensures (knows_written old new c.args.known.now c.args.name.now (remove (rows_at (tables_in old.now) c.args.name.now) c.args.key.now) (was_clean old new kept.crash)
+    c.requires.declared (λ clean. c.in-Ok.ensures.removed c.requires.sound inside clean) c.requires.knows)
 
 pub returns-in-Ok-clause-kept : goal.returns-in-Ok-clause-kept
 returns-in-Ok-clause-kept g c = c.remove_row.ensures.kept c.requires.sound (in_transaction _ c.if-is_autocommit.ensures.value)

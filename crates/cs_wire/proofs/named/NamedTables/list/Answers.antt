@@ -11,7 +11,7 @@ use Rattle.cs_wire.proofs.NamedLemmas.{ListedFront-none, ListedFront-next}
 use Rattle.cs_wire.proofs.named.NamedTables.list.Goals as goal
 
 pub tables-init : goal.tables-init
-tables-init c = rw (c.new-listed.ensures.items, c.new-places.ensures) (sym c.file-file.ensures, IsIndex-none, tt, λ groups left. ListedFront-none c.file-file.result.now c.args.tables groups left)
+tables-init c = rw (c.new-listed.ensures.items, c.new-places.ensures) (sym c.file-file.ensures, IsIndex-none, tt, λ entries groups left. ListedFront-none c.file-file.result.now c.args.tables entries groups left)
 
 pub tables-preserved : goal.tables-preserved
 tables-preserved c =
@@ -26,8 +26,8 @@ tables-preserved c =
       file,
       rw grown (IsIndex-grown (λ (t : NamedTable). t.header.name) c.tables.places c.insert.new.self listed table c.as_bytes.result.now c.len.result so.1 (sym name) place c.in_ok-insert.ensures.ok),
       rw c.in_ok-push.ensures.items (AllByRecursion-push (λ (t : ListedTable). IsHeader (header_of t.header)) c.tables.listed.items (record { header = c.in-Some.header; start = c.place.result }) so.2 c.in-Some.ensures.well_formed),
-      λ groups left.
-          let front = so.3 groups left in
+      λ entries groups left.
+          let front = so.3 entries groups left in
           rw grown (ListedFront-next c.file-file.result.now listed c.tables.left next groups front c.in-Some.header table (c.in-Some.ensures.next front.entries front.others front.are_left) file
           (ap (λ (start : ℕ). record { header = header_of c.in-Some.header; start = start }) c.place.ensures)),
     )
