@@ -2,7 +2,7 @@
 //!
 //! `value`, `wire`, `group`, `lines`, `files`, `store`, `apply` and `session` have those of a crate each, and `refusals`
 //! the numbers, names and texts of what they refuse with. `stores` has those of stores over SQL,
-//! `adoption` those of what is taken over as a store, and `calling` the callers of `CALLING.md`.
+//! `adoption` those of what is taken over as a store, `fused` those of sessions whose disks fail, and `calling` the callers of `CALLING.md`.
 #![tactic(auto)]
 
 #[cfg(test)]
@@ -13,6 +13,8 @@ mod apply;
 mod calling;
 #[cfg(test)]
 mod files;
+#[cfg(test)]
+mod fused;
 #[cfg(test)]
 mod group;
 #[cfg(test)]

@@ -28,7 +28,7 @@ fn numbers_session_faults(rt: HostRuntime) {
 }
 
 /// A session to which these tables of a store are attached, in this order.
-fn session_of<S: Alter>(
+pub(crate) fn session_of<S: Alter>(
     rt: &(impl Abort + AllocGlobal),
     store: &mut Store<S>,
     tables: &[&str],
@@ -43,7 +43,7 @@ fn session_of<S: Alter>(
 }
 
 /// What a session answers to an edit: the number of a refusal, or 0.
-fn edited<S: Alter>(
+pub(crate) fn edited<S: Alter>(
     rt: &(impl Abort + AllocGlobal),
     session: &mut Session,
     store: &mut Store<S>,

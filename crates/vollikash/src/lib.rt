@@ -19,7 +19,7 @@ mod answer;
 pub use answer::{FaultReport, NO_ROOM, OK};
 use answer::{hand_out, report, report_plain};
 use cs_files::{concat_bytes, dump_file, first_fault, invert_bytes, sql_file};
-use cs_wire::read;
+use cs_wire::Tables;
 use std::alloc::Global;
 
 /// The version of the library, as one number: a million times the major one, a thousand times the minor one,
@@ -42,7 +42,7 @@ pub extern "C" fn vollikash_check(alloc: Global, file: &[u8], fault: &mut FaultR
     ensures code { fault.new.code ≡ result }
     ensures plain { IsMadeCode result → fault.new ≡ no_fault result }
 {
-    *fault = match read(alloc, file) {
+    *fault = match Tables::read(alloc, file) {
         Ok(_) => report_plain(OK),
         Err(error) => report(&first_fault(error)),
     };

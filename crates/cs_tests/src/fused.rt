@@ -1,0 +1,102 @@
+//! A session whose store lies on disks that stop to answer.
+//!
+//! The table t of these tests has the columns a and b, of which a is the key.
+
+use crate::session::{edited, session_of};
+use crate::stores::{Call, declaration, edit_of, end, store_with_table};
+use cs_session::Session;
+use cs_store::Store;
+use cs_value::Value;
+use cs_wire::write;
+use sqlite::{Alter, Connection, FileStore, MemStore, Options};
+use sqlite_disk::{Files, Fuse, Memory};
+use std::process::Abort;
+
+/// A database whose log is on a disk that answers so many calls.
+fn database(
+    rt: &(impl Abort + AllocGlobal),
+    calls: u64,
+) -> Connection<FileStore<Fuse<Memory>>> {
+    let files = Files {
+        log: Fuse::new(Memory::new(rt.alloc()), calls),
+        db: Fuse::new(Memory::new(rt.alloc()), u64::MAX),
+    };
+    match Connection::open_files(rt.alloc(), files, Options::new(1)) {
+        Ok(conn) => conn,
+        Err((error, _)) => panic!(rt; "no database: {error}"),
+    }
+}
+
+/// A store with t there.
+fn store_on(rt: &(impl Abort + AllocGlobal), calls: u64) -> Store<FileStore<Fuse<Memory>>> {
+    match Store::adopt(rt.alloc(), database(rt, calls)) {
+        Ok(mut store) => {
+            declaration(rt, &mut store, "t", &[true, false]).expect(rt, "a table");
+            store
+        }
+        Err((error, _)) => panic!(rt; "no store: {error}"),
+    }
+}
+
+/// The bytes of the changeset that a session tells of a store.
+fn told<S: Alter>(
+    rt: &(impl Abort + AllocGlobal),
+    session: &Session,
+    store: &mut Store<S>,
+) -> Vec<u8> {
+    let changeset = session.changeset(rt.alloc(), store).expect(rt, "a store");
+    write(rt.alloc(), &changeset).expect(rt, "memory")
+}
+
+/// Whether a session carries an edit out on its store. Where it refuses, it has noted what it had before: it tells
+/// the same of a store in memory that has the same rows.
+fn edits<S: Alter>(
+    rt: &(impl Abort + AllocGlobal),
+    session: &mut Session,
+    store: &mut Store<S>,
+    twin: &mut Store<MemStore>,
+    call: Call,
+) -> bool {
+    let before = told(rt, session, twin);
+    if edited(rt, session, store, call) == 0 {
+        twin.edit(rt.alloc(), &edit_of(rt, call))
+            .expect(rt, "no refusal");
+        return true;
+    }
+    assert!(rt; told(rt, session, twin) == before);
+    false
+}
+
+/// Edits of t, each of a key that no other writes.
+const EDITS: &[Call] = &[
+    Call::Insert("t", &[Value::Int(1), Value::Text("x")]),
+    Call::Insert("t", &[Value::Int(2), Value::Text("y")]),
+    Call::Insert("t", &[Value::Int(3), Value::Text("z")]),
+];
+
+/// How many edits a session carries out on a store before it refuses one.
+fn count_edits<S: Alter>(rt: &(impl Abort + AllocGlobal), store: &mut Store<S>) -> usize {
+    let mut twin = store_with_table(rt);
+    let mut session = session_of(rt, &mut twin, &["t"]);
+    let mut count: usize = 0;
+    for call in EDITS {
+        if !edits(rt, &mut session, store, &mut twin, *call) {
+            break;
+        }
+        count = count.saturating_add(1);
+    }
+    end(twin);
+    count
+}
+
+/// After how many calls the disk stops, and how many edits are committed then. The first stops where an edit begins,
+/// the others where one is noted and about to be committed.
+const STOPS: &[(u64, usize)] = &[(28, 0), (31, 0), (36, 1)];
+
+#[test]
+fn a_refused_commit_is_not_noted(rt: HostRuntime) {
+    for (calls, count) in STOPS {
+        let mut store = store_on(&rt, *calls);
+        assert!(rt; count_edits(&rt, &mut store) == *count, "behind {calls} calls");
+    }
+}
