@@ -1,13 +1,14 @@
 #!/usr/bin/env python3
-"""Times scripts of 1000, 10000 and 100000 lines, on a store in memory and on one in a new file.
+"""Times scripts of 1000, 10000 and 100000 lines, on a store in memory and on one in a new file, with a session and without.
 
-INSERT lines alone; lines in a session, of which a half inserts a row each, a quarter updates one and a quarter deletes
-one; `.load` and `.hex` in turn, of files of 24 bytes; and one `.apply`, of as many INSERT entries, in a session: alone,
-with `.session changeset` behind it, and with `.session undo` behind that. Each script has to print what it is known to,
-with no line refused.
+INSERT lines, each of a row of its own; INSERT lines of rows of a hundred tables; UPDATE lines of one row; lines of which
+a half inserts a row each, a quarter updates one and a quarter deletes one; and one `.apply`, of as many INSERT entries.
+Each of these alone, in a session to which the tables are attached, and so with `.session changeset` behind it and with
+`.session undo` behind that. And `.load` and `.hex` in turn, of files of 24 bytes. Each script has to print what it is
+known to, with no line refused.
 A time is that of the whole process, the shortest of three runs, or that of one that takes more than five seconds. A run
-that takes more than a minute is ended, and `-` is printed for it. The file lies in the folder for temporary files, or in that of TMPDIR. Microseconds are those of a line, or of an entry that
-is applied.
+that takes more than a minute is ended, and `-` is printed for it. The file lies in the folder for temporary files, or in
+that of TMPDIR. Microseconds are those of a line, or of an entry that is applied.
 The program has to be built first: `cd crates/changeset && rt run`.
 
 usage: bench/scripts.py [PROGRAM]
@@ -30,18 +31,70 @@ COUNTS = (1_000, 10_000, 100_000)
 # How many seconds a run may take, and those of a run that is not done again.
 LONGEST, LONG = 60, 5
 
-CREATE = "CREATE TABLE t(a, b, PRIMARY KEY(a));"
-SESSION = [".session open", ".session attach t"]
+# The tables of scripts of many.
+TABLES = 100
+
+
+def created(tables):
+    """Lines that make tables."""
+    return [f"CREATE TABLE {table}(a, b, PRIMARY KEY(a));" for table in tables]
+
+
+class Script:
+    """The tables of a script, its lines, what these print, and what is printed as they are undone."""
+
+    def __init__(self, tables, lines, printed, undone):
+        self.tables = tables
+        self.lines = lines
+        self.printed = printed
+        self.undone = undone
+
+    def alone(self):
+        """The lines, and what they print."""
+        return created(self.tables) + self.lines, self.printed
+
+    def noted(self):
+        """The same in a session."""
+        attach = [f".session attach {table}" for table in self.tables]
+        return created(self.tables) + [".session open"] + attach + self.lines, self.printed
+
+    def told(self):
+        """The same, and the session tells its changeset."""
+        lines, printed = self.noted()
+        return lines + [".session changeset c"], printed
+
+    def given_back(self):
+        """The same, and the session undoes it."""
+        lines, printed = self.told()
+        return lines + [".session undo"], printed + self.undone
+
+
+def applied(count):
+    """What an apply of so many entries prints."""
+    return f"applied {count}\n"
 
 
 def inserts(count):
-    """INSERT lines alone."""
-    return [CREATE] + [f"INSERT INTO t VALUES({key}, 'hello');" for key in range(count)], ""
+    """INSERT lines, each of a row of its own."""
+    lines = [f"INSERT INTO t VALUES({key}, 'hello');" for key in range(count)]
+    return Script(["t"], lines, "", applied(count))
+
+
+def inserts_everywhere(count):
+    """INSERT lines of rows of many tables, in turn."""
+    lines = [f"INSERT INTO t{key % TABLES} VALUES({key}, 'hello');" for key in range(count)]
+    return Script([f"t{table}" for table in range(TABLES)], lines, "", applied(count))
+
+
+def updates(count):
+    """UPDATE lines of one row."""
+    lines = [f"UPDATE t SET b={value} WHERE a=0;" for value in range(1, count)]
+    return Script(["t"], ["INSERT INTO t VALUES(0, 'hello');"] + lines, "", applied(1))
 
 
 def edits(count):
-    """Lines in a session: of each four, two insert a row, one updates the first and one deletes the second."""
-    lines = [CREATE] + SESSION
+    """Of each four lines, two insert a row, one updates the first and one deletes the second."""
+    lines = []
     for key in range(0, count // 2, 2):
         lines += [
             f"INSERT INTO t VALUES({key}, 'hello');",
@@ -49,42 +102,39 @@ def edits(count):
             f"UPDATE t SET b='world' WHERE a={key};",
             f"DELETE FROM t WHERE a={key + 1};",
         ]
-    return lines, ""
+    return Script(["t"], lines, "", applied(count // 4))
+
+
+def applies(count):
+    """A file of so many entries is applied."""
+    file = stores.header("t", 1, 0) + b"".join(stores.insert(key, "hello") for key in range(count))
+    return Script(["t"], [f".load a {file.hex()}", ".apply a"], applied(count), applied(count))
 
 
 def slots(count):
     """A file is loaded into one of ten slots, and printed, in turn."""
     files = [(stores.header("t", 1, 0) + stores.insert(key, "hello")).hex() for key in range(count // 2)]
     lines = [line for key, file in enumerate(files) for line in (f".load s{key % 10} {file}", f".hex s{key % 10}")]
-    return lines, "".join(file + "\n" for file in files)
-
-
-def applied(count):
-    """A file of so many entries is applied in a session."""
-    file = stores.header("t", 1, 0) + b"".join(stores.insert(key, "hello") for key in range(count))
-    return [CREATE] + SESSION + [f".load a {file.hex()}", ".apply a"], f"applied {count}\n"
-
-
-def told(count):
-    """The same, and the session tells its changeset."""
-    lines, printed = applied(count)
-    return lines + [".session changeset c"], printed
-
-
-def undone(count):
-    """The same, and the session undoes it."""
-    lines, printed = told(count)
-    return lines + [".session undo"], printed * 2
+    return Script([], lines, "".join(file + "\n" for file in files), "")
 
 
 SHAPES = (
     ("INSERT", inserts),
-    ("INSERT, UPDATE, DELETE in a session", edits),
-    (".load, .hex", slots),
-    (".apply in a session", applied),
-    (".apply, .session changeset", told),
-    (".apply, .session changeset, .session undo", undone),
+    ("INSERT into a hundred tables", inserts_everywhere),
+    ("UPDATE of one row", updates),
+    ("INSERT, UPDATE, DELETE", edits),
+    (".apply", applies),
 )
+
+WAYS = (
+    ("", Script.alone),
+    (" in a session", Script.noted),
+    (" in a session, .session changeset", Script.told),
+    (" in a session, .session changeset, .session undo", Script.given_back),
+)
+
+SCRIPTS = [(what + how, shape, way) for what, shape in SHAPES for how, way in WAYS]
+SCRIPTS.append((".load, .hex", slots, Script.alone))
 
 
 def run(program, store, script, printed):
@@ -127,10 +177,10 @@ def measure(run_once, program, script, printed):
 def main():
     program = sys.argv[1] if len(sys.argv) > 1 else os.path.join(TOP, "crates/changeset/out/changeset")
     print("    lines    seconds    us/line  store   what")
-    for what, shape in SHAPES:
+    for what, shape, way in SCRIPTS:
         for store, run_once in STORES:
             for count in COUNTS:
-                lines, printed = shape(count)
+                lines, printed = way(shape(count))
                 taken = measure(run_once, program, "".join(line + "\n" for line in lines).encode(), printed.encode())
                 if taken is None:
                     print(f"{count:>9} {'-':>10} {'-':>10}  {store:<7} {what}", flush=True)

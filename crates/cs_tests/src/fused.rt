@@ -48,8 +48,8 @@ fn told<S: Alter>(
     write(rt.alloc(), &changeset).expect(rt, "memory")
 }
 
-/// Whether a session carries an edit out on its store. Where it refuses, it has noted what it had before: it tells
-/// the same of a store in memory that has the same rows.
+/// Whether a session carries an edit out on its store. Where it refuses, it has not noted the key that was written: of a
+/// store in memory that has the row it tells what it told before.
 fn edits<S: Alter>(
     rt: &(impl Abort + AllocGlobal),
     session: &mut Session,
@@ -58,13 +58,11 @@ fn edits<S: Alter>(
     call: Call,
 ) -> bool {
     let before = told(rt, session, twin);
-    if edited(rt, session, store, call) == 0 {
-        twin.edit(rt.alloc(), &edit_of(rt, call))
-            .expect(rt, "no refusal");
-        return true;
-    }
-    assert!(rt; told(rt, session, twin) == before);
-    false
+    let is_done = edited(rt, session, store, call) == 0;
+    twin.edit(rt.alloc(), &edit_of(rt, call))
+        .expect(rt, "no refusal");
+    assert!(rt; is_done || told(rt, session, twin) == before);
+    is_done
 }
 
 /// Edits of t, each of a key that no other writes.

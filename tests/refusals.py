@@ -1,0 +1,252 @@
+#!/usr/bin/env python3
+"""Tests of the program as it is built, to which memory is refused: one allocation of a run, then the next, and so on.
+
+A line of a script is answered as with memory, or by `error 60 NoMemory` and as if it did not stand there; a command is
+carried out, or says the same on standard error and leaves its files. `refuse.c` is what refuses: it is loaded in front
+of the C library. The store in the file is read by Python's own sqlite3.
+A run of the gate tries some allocations of each script and command; `all` in front tries each of them, for minutes.
+
+usage: tests/refusals.py [all] [PROGRAM]
+"""
+import os
+import pathlib
+import random
+import subprocess
+import sys
+import tempfile
+import unittest
+
+from stores import UNDEFINED, Table, delete, header, insert, read_store, update, write_store
+
+HERE = pathlib.Path(__file__).resolve().parent
+PROGRAM = HERE.parent / "crates/changeset/out/changeset"
+
+NO_MEMORY = "error 60 NoMemory\n"
+
+# How many seconds a run may take.
+PATIENCE = 120
+
+# How many of the first allocations of a run are tried in the gate, and how many of the others.
+FIRST, OTHERS = 40, 60
+
+TRIES_ALL = False
+
+T = header("t", 1, 0)
+INSERT = T + insert(1, "x")
+DELETE = T + delete(1, "x")
+UPDATE = T + update((1, "x"), (UNDEFINED, "y"))
+TWO_TABLES = INSERT + insert(2, None) + header("w", 0, 1) + insert("blob", b"\x00\xff") + delete(None, 5)
+
+CREATE = "CREATE TABLE t(a, b, PRIMARY KEY(a));"
+
+# Scripts, by what they show.
+SCRIPTS = {
+    "an update that is applied and reverted": [
+        CREATE, "INSERT INTO t VALUES(1, 'x');", f".load u {UPDATE.hex()}", ".apply u", "SELECT * FROM t;", ".revert u",
+        "SELECT * FROM t;",
+    ],
+    "joins": [
+        f".load i {INSERT.hex()}", f".load d {DELETE.hex()}", f".load u {UPDATE.hex()}", ".concat i u a", ".hex a",
+        ".concat d i b", ".hex b", ".invert u v", ".concat u v c", ".hex c", ".concat i i i", ".dump i",
+        f".load w {(header('t', 1) + insert(5)).hex()}", ".concat i w x", ".hex x",
+    ],
+    "a session whose key changes": [
+        CREATE, "INSERT INTO t VALUES(1, 'x');", ".session open", ".session attach t", "UPDATE t SET a=2 WHERE a=1;",
+        ".session changeset c", ".dump c", "INSERT INTO t VALUES(3, 'z');", "UPDATE t SET a=3 WHERE a=2;",
+        ".session changeset d", ".dump d", ".session isempty",
+    ],
+    "conflicts in a session": [
+        CREATE, "INSERT INTO t VALUES(1, 'z');", ".session open", ".session attach t", "INSERT INTO t VALUES(2, 'w');",
+        f".load a {INSERT.hex()}", ".apply a conflict=replace", ".apply a", "INSERT INTO t VALUES(2, 'v');",
+        "SELECT * FROM t;", ".session undo", "SELECT * FROM t;", ".session changeset c", ".hex c",
+    ],
+    "a line of each form": [
+        "-- nothing", "", CREATE, 'CREATE TABLE "a b"(c, "d ""e", PRIMARY KEY("d ""e", c));',
+        "INSERT INTO t VALUES(1, X'00ff');", "INSERT INTO \"a b\" VALUES('x''y', NULL);", "DELETE FROM t WHERE a=9;",
+        "UPDATE t SET b=NULL, a=7 WHERE a=1;", "SELECT * FROM t;", 'SELECT * FROM "a b";', ".load e",
+        f".load f {TWO_TABLES.hex()}", ".invert f g", ".dump g", ".hex g", ".concat f g h", ".hex h", ".apply f",
+        ".apply f data=omit notfound=omit conflict=replace", ".revert f", ".session open", ".session attach t",
+        ".session attach t", ".session attach nowhere", "INSERT INTO t VALUES(8, 'eight');", "DELETE FROM t WHERE a=7;",
+        ".session isempty", ".session changeset s", ".dump s", ".session undo", ".session close", ".session undo",
+        "no line", ".load f 54", ".invert f f", "SELECT * FROM t;",
+    ],
+}
+
+# The files of commands.
+FILES = {"two": TWO_TABLES, "insert": INSERT, "update": UPDATE, "broken": TWO_TABLES[:-1], "out": b"as it was"}
+
+# Commands, by their words; `out` is what they write.
+COMMANDS = [
+    ["two", "invert", "out"], ["two", "dump"], ["two", "sql"], ["insert", "concat", "update", "out"],
+    ["two", "concat", "two", "out"], ["broken", "invert", "out"], ["broken", "dump"], ["insert", "apply", "store"],
+    ["--data", "replace", "--conflict=omit", "two", "apply", "store"], ["broken", "apply", "store"], ["--help"],
+    ["two", "nothing"],
+]
+
+# The store that they find.
+STORE = {"t": Table(("a", "b"), (True, False), [(1, "z"), (3, None)])}
+
+
+def build_shim(folder):
+    """Builds what refuses."""
+    shim = os.path.join(folder, "refuse.so")
+    subprocess.run(["cc", "-shared", "-fPIC", "-O2", "-o", shim, HERE / "refuse.c", "-ldl"], check=True)
+    return shim
+
+
+def run(folder, words, stdin, refusing=None):
+    """Runs the program in a folder: its exit status, and what it prints to both streams."""
+    done = subprocess.run(
+        [PROGRAM, *words], cwd=folder, input=stdin, capture_output=True, timeout=PATIENCE,
+        env={**os.environ, **refusing} if refusing else None, pass_fds=[int(refusing["REFUSE_MARK"])] if refusing else [],
+    )
+    return done.returncode, done.stdout.decode(), done.stderr.decode()
+
+
+class Trial:
+    """Something that the program does in a folder, and the ways in which it may end."""
+
+    def __init__(self, words, stdin=b""):
+        self.words = words
+        self.stdin = stdin
+
+    def prepare(self, folder):
+        """Makes the files that it finds."""
+
+    def left(self, folder):
+        """What it leaves."""
+
+    def once(self, refusing=None):
+        """How it ends, in a new folder: its exit status, what it prints, and what it leaves."""
+        with tempfile.TemporaryDirectory() as folder:
+            self.prepare(folder)
+            return run(folder, self.words, self.stdin, refusing), self.left(folder)
+
+    def refused(self, shim, at):
+        """How it ends where this allocation is refused, and whether one was."""
+        reading, writing = os.pipe()
+        try:
+            refusing = {
+                "LD_PRELOAD": shim, "REFUSE_CALL": "malloc", "REFUSE_AT": str(at), "REFUSE_MARK": str(writing),
+            }
+            ended = self.once(refusing)
+        finally:
+            os.close(writing)
+        with os.fdopen(reading, "rb") as mark:
+            return ended, mark.read() != b""
+
+    def count(self, shim):
+        """How many allocations it makes."""
+        most = 1
+        while self.refused(shim, most)[1]:
+            most *= 2
+        least = most // 2
+        while least + 1 < most:
+            middle = (least + most) // 2
+            if self.refused(shim, middle)[1]:
+                least = middle
+            else:
+                most = middle
+        return least
+
+
+class Script(Trial):
+    """Lines that are run on a store in a new file."""
+
+    def __init__(self, lines):
+        super().__init__(["store", "shell"], "".join(line + "\n" for line in lines).encode())
+        self.lines = lines
+
+    def left(self, folder):
+        """The tables of the store."""
+        store = os.path.join(folder, "store")
+        return shown_tables(read_store(store)) if os.path.exists(store) else {}
+
+    def ends(self):
+        """All ways in which it may end: as with memory, or with one line refused, or with none read."""
+        ends = [self.once()]
+        for place in range(len(self.lines)):
+            before = Script(self.lines[:place]).once()[0][1]
+            (_, printed, reported), left = Script(self.lines[:place] + self.lines[place + 1:]).once()
+            ends.append(((1, before + NO_MEMORY + printed[len(before):], reported), left))
+        ends.append(((1, "", NO_MEMORY), {}))
+        return ends
+
+
+class Command(Trial):
+    """A command on files."""
+
+    def prepare(self, folder):
+        """Makes its files, and the store."""
+        for name, content in FILES.items():
+            pathlib.Path(folder, name).write_bytes(content)
+        write_store(os.path.join(folder, "store"), STORE)
+
+    def left(self, folder):
+        """The files, and the tables of the store."""
+        names = sorted(name for name in os.listdir(folder) if not name.startswith("store"))
+        return [(name, pathlib.Path(folder, name).read_bytes()) for name in names], shown_tables(
+            read_store(os.path.join(folder, "store"))
+        )
+
+    def ends(self):
+        """Both ways in which it may end: as with memory, or refused."""
+        with tempfile.TemporaryDirectory() as folder:
+            self.prepare(folder)
+            return [self.once(), ((1, "", NO_MEMORY), self.left(folder))]
+
+
+def shown_tables(tables):
+    """Tables, as they are compared."""
+    return {name: (table.columns, table.keys, table.rows) for name, table in tables.items()}
+
+
+def tried(count):
+    """Which of so many allocations are refused."""
+    if TRIES_ALL or count <= FIRST + OTHERS:
+        return range(1, count + 1)
+    return [*range(1, FIRST + 1), *sorted(random.Random(count).sample(range(FIRST + 1, count + 1), OTHERS))]
+
+
+class MemoryTest(unittest.TestCase):
+    """Runs to which one allocation is refused."""
+
+    @classmethod
+    def setUpClass(cls):
+        folder = tempfile.TemporaryDirectory()
+        cls.addClassCleanup(folder.cleanup)
+        cls.shim = build_shim(folder.name)
+
+    def expect_ends(self, trial):
+        """Refuses one allocation after another, and asserts that each run ends in a way in which it may."""
+        ends = trial.ends()
+        count = trial.count(self.shim)
+        self.assertGreater(count, 0)
+        refusals = 0
+        for at in tried(count):
+            ended, was_refused = trial.refused(self.shim, at)
+            self.assertTrue(was_refused)
+            self.assertIn(ended, ends, f"allocation {at} of {count}")
+            refusals += ended != ends[0]
+        self.assertGreater(refusals, 0)
+
+    def test_scripts(self):
+        """Each line is answered as with memory, or refused and passed over."""
+        for what, lines in SCRIPTS.items():
+            with self.subTest(what):
+                self.expect_ends(Script(lines))
+
+    def test_commands(self):
+        """Each command is carried out, or leaves its files."""
+        for words in COMMANDS:
+            with self.subTest(" ".join(words)):
+                self.expect_ends(Command(words))
+
+
+if __name__ == "__main__":
+    if sys.argv[1:2] == ["all"]:
+        TRIES_ALL = True
+        del sys.argv[1]
+    if sys.argv[1:2] and not sys.argv[1].startswith("-"):
+        PROGRAM = pathlib.Path(sys.argv.pop(1)).resolve()
+    unittest.main()

@@ -1,0 +1,117 @@
+/* Refuses one call of the C library, for tests: it is loaded in front of the library, by LD_PRELOAD, and lets every
+ * call through but one.
+ *
+ * REFUSE_CALL names the call: malloc (with calloc, realloc and those for aligned memory), read, write, pwrite, fsync
+ * or ftruncate. REFUSE_AT is which of these calls is refused, from 1. REFUSE_WITH is what it answers: the number of an
+ * error; 0 for a read or a write that moves one byte; or -1, where the process ends there. Memory is refused by a null
+ * pointer. One byte is written to the descriptor REFUSE_MARK then.
+ */
+#define _GNU_SOURCE
+#include <dlfcn.h>
+#include <errno.h>
+#include <stdlib.h>
+#include <string.h>
+#include <sys/types.h>
+#include <unistd.h>
+
+extern void *__libc_malloc(size_t size);
+extern void *__libc_calloc(size_t count, size_t size);
+extern void *__libc_realloc(void *memory, size_t size);
+extern void *__libc_memalign(size_t alignment, size_t size);
+
+static const char *call = NULL;
+static long left = 0;
+static int answer = 0;
+static int mark = -1;
+
+static ssize_t (*real_write)(int, const void *, size_t);
+
+static long number(const char *name, long otherwise)
+{
+    const char *text = getenv(name);
+    return text == NULL ? otherwise : atol(text);
+}
+
+__attribute__((constructor)) static void begin(void)
+{
+    real_write = (ssize_t(*)(int, const void *, size_t))dlsym(RTLD_NEXT, "write");
+    left = number("REFUSE_AT", 0);
+    answer = (int)number("REFUSE_WITH", 0);
+    mark = (int)number("REFUSE_MARK", -1);
+    call = getenv("REFUSE_CALL");
+}
+
+/* Whether this call is the one that is refused. */
+static int is_refused(const char *name)
+{
+    if (call == NULL || strcmp(call, name) != 0 || --left != 0)
+        return 0;
+    if (mark >= 0 && real_write(mark, "!", 1) != 1)
+        _exit(99);
+    if (answer < 0)
+        _exit(0);
+    errno = strcmp(name, "malloc") == 0 ? ENOMEM : answer;
+    return 1;
+}
+
+void *malloc(size_t size)
+{
+    return is_refused("malloc") ? NULL : __libc_malloc(size);
+}
+
+void *calloc(size_t count, size_t size)
+{
+    return is_refused("malloc") ? NULL : __libc_calloc(count, size);
+}
+
+void *realloc(void *memory, size_t size)
+{
+    return is_refused("malloc") ? NULL : __libc_realloc(memory, size);
+}
+
+void *aligned_alloc(size_t alignment, size_t size)
+{
+    return is_refused("malloc") ? NULL : __libc_memalign(alignment, size);
+}
+
+int posix_memalign(void **memory, size_t alignment, size_t size)
+{
+    if (is_refused("malloc"))
+        return ENOMEM;
+    *memory = __libc_memalign(alignment, size);
+    return *memory == NULL ? ENOMEM : 0;
+}
+
+/* The next call of this name behind this file. */
+#define NEXT(name) ((__typeof__(&name))dlsym(RTLD_NEXT, #name))
+
+ssize_t read(int file, void *bytes, size_t count)
+{
+    if (!is_refused("read"))
+        return NEXT(read)(file, bytes, count);
+    return answer == 0 ? NEXT(read)(file, bytes, count < 1 ? count : 1) : -1;
+}
+
+ssize_t write(int file, const void *bytes, size_t count)
+{
+    if (!is_refused("write"))
+        return NEXT(write)(file, bytes, count);
+    return answer == 0 ? NEXT(write)(file, bytes, count < 1 ? count : 1) : -1;
+}
+
+ssize_t pwrite(int file, const void *bytes, size_t count, off_t place)
+{
+    if (!is_refused("pwrite"))
+        return NEXT(pwrite)(file, bytes, count, place);
+    return answer == 0 ? NEXT(pwrite)(file, bytes, count < 1 ? count : 1, place) : -1;
+}
+
+int fsync(int file)
+{
+    return is_refused("fsync") ? -1 : NEXT(fsync)(file);
+}
+
+int ftruncate(int file, off_t length)
+{
+    return is_refused("ftruncate") ? -1 : NEXT(ftruncate)(file, length);
+}
