@@ -3,7 +3,7 @@ use Rattle.std.proofs.Common.{◌≡◌, ◌⊎◌, inl, inr, List, [], ◌∷�
 use Rattle.std.proofs.lemmas.List.{append-nil}
 use Rattle.std.specs.List.{AllByRecursion}
 use Rattle.cs_session.specs.declared.attached.Attached.{Attached}
-use Rattle.cs_session.specs.Views.{attached_of, kept_of, name_in, IsSettled}
+use Rattle.cs_session.specs.Views.{attached_of, kept_of, IsSettled}
 
 -- a refusal for something that does not hold is one for what it follows from
 pub still_fails : {A B P Q : Type 0} → (Q → P) → A ⊎ (B × ¬ P) → A ⊎ (B × ¬ Q)

@@ -1,5 +1,5 @@
 -- Tables of a session that are settled, but for those at some places.
-use Rattle.std.proofs.Common.{◌≡◌, ◌≢◌, ◌⊎◌, ◌<◌, ◌+◌, ℕ, zero, suc, List, [], ◌∷◌, ◌++◌, length, get_or, set, drop, map, refl, sym, ap, ◌∙◌, subst, ⊎_elim, arith}
+use Rattle.std.proofs.Common.{◌≡◌, ◌≢◌, ◌<◌, ◌+◌, ℕ, suc, List, [], ◌∷◌, ◌++◌, length, get_or, set, drop, map, refl, sym, ap, ◌∙◌, subst, ⊎_elim, arith}
 use Rattle.std.specs.List.{AllByRecursion}
 use Rattle.std.proofs.lemmas.Bool.{cases_eq}
 use Rattle.std.proofs.lemmas.List.{append-nil, length-append, length-set, get_or-set_same, get_or-set_other, get_or_append_left, get_or_push, drop_more}
@@ -39,8 +39,10 @@ module _ (tables : List Attached) (p : ℕ) (new : Attached) where
         where
           short : i < length tables
           short = rw (← length-set tables p new) lt
+
           same : p ≡ i → IsSettled t
           same e = subst IsSettled (sym (at_i ∙ ap (λ (n : ℕ). get_or (set tables p new) n t) (sym e) ∙ get_or-set_same tables p new t (rw e short))) settled
+
           other : p ≢ i → IsSettled t
           other ne = but.1 i t (rw is (ne, apart)) short (other_stands i t ne at_i)
 
@@ -53,6 +55,7 @@ module _ (tables : List Attached) (p : ℕ) (new : Attached) where
         where
           same : p ≡ i → IsSettled t
           same e = absurd (is_open (rw e apart))
+
           other : p ≢ i → IsSettled t
           other ne = but.1 i t apart (rw (← length-set tables p new) lt) (other_stands i t ne at_i)
 
@@ -67,11 +70,13 @@ settled_push places tables new settled but = (AllByRecursion-weaker (λ q. q < l
   where
     within : (q : ℕ) → q < length tables → q < length (tables ++ new ∷ [])
     within q lt = omega (arith, length-append tables (new ∷ []), lt)
+
     each : (i : ℕ) (t : Attached) → AllByRecursion (λ q. q ≢ i) places → i < length (tables ++ new ∷ []) → t ≡ get_or (tables ++ new ∷ []) i t → IsSettled t
     each i t apart lt at_i = ⊎_elim last before (cases_eq i (length tables))
       where
         last : i ≡ length tables → IsSettled t
         last e = subst IsSettled (sym (at_i ∙ get_or_push tables new t i (sym e))) settled
+
         before : i ≢ length tables → IsSettled t
         before ne = let short : i < length tables = omega (arith, length-append tables (new ∷ []), lt, ne) in but.1 i t apart short (at_i ∙ get_or_append_left tables (new ∷ []) t i short)
 

@@ -1,8 +1,7 @@
 -- `attached::cut_back_at`: the invariant of the loop at `place`, the clauses `kept` and `settled`.
-use Rattle.std.proofs.Common.{get_or, ap, ◌∙◌, arith}
+use Rattle.std.proofs.Common.{get_or, ap, ◌∙◌}
 use Rattle.std.proofs.lemmas.List.{drop_all}
-use Rattle.cs_session.specs.declared.attached.Attached.{Attached}
-use Rattle.cs_session.specs.FirstImages.{NotedImages, FirstImage}
+use Rattle.cs_session.specs.FirstImages.{NotedImages}
 use Rattle.cs_session.specs.Views.{kept_of}
 use Rattle.cs_session.proofs.SettledLemmas.{settled_all, one_settled, kept_stays}
 use Rattle.cs_session.proofs.NotingLemmas.{settled_kept}

@@ -1,8 +1,7 @@
 -- `attached::keep_at`: the invariant of the loop at `place`, the clause `settled`.
-use Rattle.std.proofs.Common.{get_or, ap, arith}
+use Rattle.std.proofs.Common.{get_or, ap}
 use Rattle.std.proofs.lemmas.List.{drop_all}
-use Rattle.cs_session.specs.declared.attached.Attached.{Attached}
-use Rattle.cs_session.specs.FirstImages.{NotedImages, FirstImage}
+use Rattle.cs_session.specs.FirstImages.{NotedImages}
 use Rattle.cs_session.specs.Views.{attached_of}
 use Rattle.cs_session.proofs.SettledLemmas.{settled_all, one_settled, attached_stays}
 use Rattle.cs_session.proofs.attached.keep_at.Goals as goal

@@ -13,9 +13,10 @@ invariant_of-self c = (c.self.invariant.0, rw c.deref.ensures.value at c.open_at
 
 pub invariant_of-self-2 : goal.invariant_of-self-2
 invariant_of-self-2 c =
-    let found = rw (← c.self.view_is, c.as_str.ensures.value) at c.in-Some.ensures.found in
-    (names_stand c.self.inside.tables.items _ c.in-Some.place found c.index_mut.result.now c.index_mut.ensures.value string_bytes c.self.inside.names.keys _ c.self.invariant.0 c.note_write_copy.ensures.kept,
-    open_stands c.self.inside.tables.items c.in-Some.place c.note_write_copy.new.table c.open_at.new.places.items c.in_ok-open_at.ensures.open (rw c.deref.ensures.value at c.open_at.ensures.settled))
+    let found = rw (← c.self.view_is, c.as_str.ensures.value) at c.in-Some.ensures.found in (
+      names_stand c.self.inside.tables.items _ c.in-Some.place found c.index_mut.result.now c.index_mut.ensures.value string_bytes c.self.inside.names.keys _ c.self.invariant.0 c.note_write_copy.ensures.kept,
+      open_stands c.self.inside.tables.items c.in-Some.place c.note_write_copy.new.table c.open_at.new.places.items c.in_ok-open_at.ensures.open (rw c.deref.ensures.value at c.open_at.ensures.settled),
+    )
 
 pub returns-in_default-clause-noted : goal.returns-in_default-clause-noted
 returns-in_default-clause-noted c =
