@@ -11,6 +11,7 @@ pub mod TablesLemmas
 pub mod PlacesLemmas
 pub mod EntriesLemmas
 pub mod SchemaLemmas
+pub mod SettledLemmas
 pub mod OutcomeLemmas
 pub mod RecordLemmas
 pub mod RunsLemmas

@@ -11,10 +11,6 @@ use Rattle.cs_value.proofs.StateLemmas.{table_of_schema}
 use Rattle.cs_store.proofs.WrittenRows.{same_schemas, rows_here, rows_other}
 use Rattle.cs_session.specs.FirstImages.{AttachedTable, Notes, HasAttached, rewound_rows, rewound, rewound_state}
 
--- no name twice
-abbrev pub AreApart : Notes → Type 0
-AreApart notes = PairsByRecursion (λ s t. s.name ≢ t.name) notes
-
 pub other_name : (name table : List ℕ) → ¬ (table ≡ name) → is_eq (slice_cmp nat_cmp name table) ≡ false
 other_name name table apart = at (is_eq (slice_cmp nat_cmp name table)) refl
   where
@@ -52,7 +48,7 @@ module _ (state : State) where
     others_rewound table before found is notes apart.1 rows.1,
   )
 
-  pub rewound_here : (notes : Notes) → AllByRecursion (HasAttached state) notes → AreApart notes → AllByRecursion (IsRewound (rewound_state notes state)) notes
+  pub rewound_here : (notes : Notes) → AllByRecursion (HasAttached state) notes → PairsByRecursion (λ s t. s.name ≢ t.name) notes → AllByRecursion (IsRewound (rewound_state notes state)) notes
   rewound_here [] has apart = tt
   rewound_here (table ∷ notes) has apart =
       let found = table_of_schema (get (rewound_state notes state) table.name) table.schema (rewound_schemas notes has.1 table.name ∙ has.0) in (

@@ -1,5 +1,6 @@
 -- What types of the code stand for.
-use Rattle.std.specs.Prelude.{◌≡◌, ℕ, List, [], ◌++◌, ◌<◌, length, get_or, string_bytes}
+use Rattle.std.specs.Prelude.{◌≡◌, ◌≢◌, ℕ, List, [], ◌++◌, ◌<◌, length, get_or, string_bytes}
+use Rattle.std.specs.List.{AllByRecursion}
 use Rattle.cs_session.specs.declared.attached.Attached.{Attached}
 use Rattle.cs_session.specs.FirstImages.{AttachedTable}
 
@@ -30,3 +31,12 @@ IsSettled table = table.firsts.pending ≡ []
 -- a table with this name stands there
 abbrev pub IsPlace : List Attached → List ℕ → ℕ → Type 0
 IsPlace tables name place = (place < length tables) × ((d : Attached) → name_in (get_or tables place d) ≡ name)
+
+-- each table at another place than these is settled, and there is a table at each of these
+abbrev pub AreSettledBut : List ℕ → List Attached → Type 0
+AreSettledBut places tables = AllByRecursion (λ p. p < length tables) places
+    × ((i : ℕ) (t : Attached) → AllByRecursion (λ p. p ≢ i) places → i < length tables → t ≡ get_or tables i t → IsSettled t)
+
+-- the place is one of these
+abbrev pub IsOpen : List ℕ → ℕ → Type 0
+IsOpen places place = ¬ AllByRecursion (λ p. p ≢ place) places

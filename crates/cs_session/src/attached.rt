@@ -1,15 +1,15 @@
 //! A table that is attached, and what is noted of it.
-ghost use Rattle.std.specs.Prelude.{◌≡◌, ◌⊎◌, ◌==◌, ◌++◌, length, map, option_map, OnOk, IfErr};
+ghost use Rattle.std.specs.Prelude.{◌≡◌, ◌<◌, ◌⊎◌, ◌==◌, ◌++◌, length, map, option_map, OnOk, IfErr};
 ghost use Rattle.std.specs.List.{AllByRecursion, list_all};
 ghost use Rattle.cs_session.specs.declared.fault.SessionFault.TheVariants.{NoMemory as OutOfMemory};
 ghost use Rattle.cs_session.specs.Noting.{Fits, IsDamage, with_write};
-ghost use Rattle.cs_session.specs.Views.{attached_of, kept_of, name_in, IsSettled};
+ghost use Rattle.cs_session.specs.Views.{attached_of, kept_of, AreSettledBut, IsOpen, IsSettled};
 
 use crate::checking::check_row;
 use crate::fault::SessionFault;
 use crate::first_images::FirstImages;
 use cs_store::Schema;
-use cs_value::{Key, Row};
+use cs_value::{Key, NoMemory, Row};
 use std::alloc::Global;
 
 /// A table that is attached.
@@ -69,24 +69,41 @@ pub(crate) fn note_write_copy(
     Ok(())
 }
 
-/// What was noted since the last commit is committed.
-pub(crate) fn keep_all(tables: &mut [Attached])
+/// What was noted since the last commit is committed, where it was noted in the tables at these places.
+pub(crate) fn keep_at(tables: &mut [Attached], places: &[usize])
+    requires { AreSettledBut places.now tables.old }
     ensures kept { map attached_of tables.new ≡ map attached_of tables.old }
     ensures settled { AllByRecursion IsSettled tables.new }
-    ensures named { map name_in tables.new ≡ map name_in tables.old }
 {
-    for table in tables.iter_mut() {
-        table.firsts.keep();
+    for place in places {
+        tables[*place].firsts.keep();
     }
 }
 
-/// What was noted since the last commit is forgotten.
-pub(crate) fn cut_back_all(tables: &mut [Attached])
+/// What was noted since the last commit is forgotten, where it was noted in the tables at these places.
+pub(crate) fn cut_back_at(tables: &mut [Attached], places: &[usize])
+    requires { AreSettledBut places.now tables.old }
     ensures kept { map attached_of tables.new ≡ map kept_of tables.old }
     ensures settled { AllByRecursion IsSettled tables.new }
-    ensures named { map name_in tables.new ≡ map name_in tables.old }
 {
-    for table in tables.iter_mut() {
-        table.firsts.cut_back();
+    for place in places {
+        tables[*place].firsts.cut_back();
     }
+}
+
+/// Something may be noted in the table at a place: it stands behind the other places, unless it is the last of them.
+pub(crate) fn open_at(
+    tables: &[Attached],
+    places: &mut Vec<usize>,
+    place: usize,
+) -> Result<(), NoMemory>
+    requires within { place < length tables.now }
+    requires settled { AreSettledBut places.old.items tables.now }
+    ensures settled { AreSettledBut places.new.items tables.now }
+    ensures open { OnOk result (IsOpen places.new.items place) }
+{
+    if places.last() != Some(&place) {
+        places.push(place)?;
+    }
+    Ok(())
 }

@@ -8,7 +8,7 @@ ghost use Rattle.cs_session.specs.FirstImages.{AttachedTable, recorded};
 ghost use Rattle.cs_session.specs.Noting.{AreFormers, AreApart, IsDamage};
 ghost use Rattle.cs_session.specs.Views.{attached_of, kept_of, IsPlace, IsSettled};
 
-use crate::attached::{Attached, cut_back_all, keep_all, note_write, note_write_copy};
+use crate::attached::{Attached, cut_back_at, keep_at, note_write, note_write_copy, open_at};
 use crate::fault::SessionFault;
 use crate::first_images::FirstImages;
 use cs_store::{Schema, Written};
@@ -23,18 +23,21 @@ pub(crate) struct Tables {
     tables: Vec<Attached>,
     // The name of each, at its place.
     names: IndexSet<String>,
+    // The places of those in which something may be noted since the last commit.
+    noted: Vec<usize>,
 }
 
 impl Model for Tables {
     ghost use Rattle.std.specs.Prelude.{◌≡◌, List, map, string_bytes};
     ghost use Rattle.cs_session.specs.declared.attached.Attached.{Attached};
-    ghost use Rattle.cs_session.specs.Views.{name_in};
+    ghost use Rattle.cs_session.specs.Views.{name_in, AreSettledBut};
 
     ghost Value = { List Attached };
 
     ghost view = { λ t. t.tables.items };
 
-    ghost invariant = { λ t. map string_bytes t.names.keys ≡ map name_in t.tables.items };
+    ghost invariant = { λ t. (map string_bytes t.names.keys ≡ map name_in t.tables.items)
+        × AreSettledBut t.noted.items t.tables.items };
 }
 
 impl Tables {
@@ -45,6 +48,7 @@ impl Tables {
         Tables {
             tables: Vec::new(alloc),
             names: IndexSet::new(alloc),
+            noted: Vec::new(alloc),
         }
     }
 
@@ -143,6 +147,7 @@ impl Tables {
         let Some(place) = self.place_of(table.as_str()) else {
             return Ok(());
         };
+        open_at(&self.tables, &mut self.noted, place)?;
         note_write(alloc, &mut self.tables[place], key, former)
     }
 
@@ -159,6 +164,7 @@ impl Tables {
         let Some(place) = self.place_of(one.table.as_str()) else {
             return Ok(());
         };
+        open_at(&self.tables, &mut self.noted, place)?;
         note_write_copy(
             alloc,
             &mut self.tables[place],
@@ -172,7 +178,8 @@ impl Tables {
         ensures kept { map attached_of self.new ≡ map attached_of self.old }
         ensures settled { AllByRecursion IsSettled self.new }
     {
-        keep_all(&mut self.tables);
+        keep_at(&mut self.tables, &self.noted);
+        self.noted.clear();
     }
 
     /// What was noted since the last commit is forgotten.
@@ -180,6 +187,7 @@ impl Tables {
         ensures kept { map attached_of self.new ≡ map kept_of self.old }
         ensures settled { AllByRecursion IsSettled self.new }
     {
-        cut_back_all(&mut self.tables);
+        cut_back_at(&mut self.tables, &self.noted);
+        self.noted.clear();
     }
 }

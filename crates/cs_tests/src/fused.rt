@@ -13,10 +13,7 @@ use sqlite_disk::{Files, Fuse, Memory};
 use std::process::Abort;
 
 /// A database whose log is on a disk that answers so many calls.
-fn database(
-    rt: &(impl Abort + AllocGlobal),
-    calls: u64,
-) -> Connection<FileStore<Fuse<Memory>>> {
+fn database(rt: &(impl Abort + AllocGlobal), calls: u64) -> Connection<FileStore<Fuse<Memory>>> {
     let files = Files {
         log: Fuse::new(Memory::new(rt.alloc()), calls),
         db: Fuse::new(Memory::new(rt.alloc()), u64::MAX),
@@ -95,6 +92,9 @@ const STOPS: &[(u64, usize)] = &[(28, 0), (31, 0), (36, 1)];
 fn a_refused_commit_is_not_noted(rt: HostRuntime) {
     for (calls, count) in STOPS {
         let mut store = store_on(&rt, *calls);
-        assert!(rt; count_edits(&rt, &mut store) == *count, "behind {calls} calls");
+        assert!(rt;
+            count_edits(&rt, &mut store) == *count,
+            "behind {calls} calls"
+        );
     }
 }

@@ -4,13 +4,19 @@ use Rattle.std.specs.Prelude.{string_bytes}
 use Rattle.std.proofs.lemmas.List.Elements.{recursion_from_All}
 use Rattle.cs_store.specs.Editing.{written_of}
 use Rattle.cs_session.specs.FirstImages.{AttachedTable}
+use Rattle.cs_session.proofs.SettledLemmas.{open_stands}
 use Rattle.cs_session.proofs.TablesLemmas.{none_noted, none_formers, names_stand, kept_stands, place_noted, place_formers, place_refused}
 use Rattle.cs_session.proofs.tables.Tables.note_copy.Goals as goal
 
 pub invariant_of-self : goal.invariant_of-self
-invariant_of-self c =
-    let found = rw (← c.self.view_is, c.as_str.ensures.value) at c.in-Some.ensures.found in
-    names_stand c.self.inside.tables.items _ c.in-Some.place found c.index_mut.result.now c.index_mut.ensures.value string_bytes c.self.inside.names.keys _ c.self.invariant c.note_write_copy.ensures.kept
+invariant_of-self c = (c.self.invariant.0, rw c.deref.ensures.value at c.open_at.ensures.settled)
+
+pub invariant_of-self-2 : goal.invariant_of-self-2
+invariant_of-self-2 c =
+    let found = rw (← c.self.view_is, c.as_str.ensures.value) at c.in-Some.ensures.found in (
+      names_stand c.self.inside.tables.items _ c.in-Some.place found c.index_mut.result.now c.index_mut.ensures.value string_bytes c.self.inside.names.keys _ c.self.invariant.0 c.note_write_copy.ensures.kept,
+      open_stands c.self.inside.tables.items c.in-Some.place c.note_write_copy.new.table c.open_at.new.places.items c.in_ok-open_at.ensures.open (rw c.deref.ensures.value at c.open_at.ensures.settled),
+    )
 
 pub returns-in_default-clause-noted : goal.returns-in_default-clause-noted
 returns-in_default-clause-noted c =

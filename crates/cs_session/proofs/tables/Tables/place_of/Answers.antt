@@ -5,8 +5,8 @@ use Rattle.cs_session.proofs.tables.Tables.place_of.Goals as goal
 
 pub returns-clause-found : goal.returns-clause-found
 returns-clause-found c =
-    rw (← c.self.view_is) (place_where_found string_bytes c.args.name.now c.self.inside.names.keys c.self.inside.tables.items c.self.invariant c.get_index_of.result c.get_index_of.ensures.index)
+    rw (← c.self.view_is) (place_where_found string_bytes c.args.name.now c.self.inside.names.keys c.self.inside.tables.items c.self.invariant.0 c.get_index_of.result c.get_index_of.ensures.index)
 
 pub returns-clause-none : goal.returns-clause-none
 returns-clause-none c =
-    rw (← c.self.view_is) (new_from_none string_bytes c.args.name.now c.self.inside.names.keys c.self.inside.tables.items c.self.invariant c.get_index_of.result c.get_index_of.ensures.found)
+    rw (← c.self.view_is) (new_from_none string_bytes c.args.name.now c.self.inside.names.keys c.self.inside.tables.items c.self.invariant.0 c.get_index_of.result c.get_index_of.ensures.found)
