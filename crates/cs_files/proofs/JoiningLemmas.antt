@@ -1,28 +1,26 @@
 -- What is written of the join of two files.
-use Rattle.std.proofs.Common.{◌≡◌, ◌≢◌, ℕ, suc, ◌+◌, ◌<◌, ◌≤◌, ◌&&◌, not, nat_eq, Bool, true, false, true≢false, cond, if◌then◌else◌, List, [], ◌∷◌, ◌++◌, length, length-append, map, get_or, set, take, drop, replicate, All, AllPairs, Option, Some, None, refl, sym, ap, subst, ◌∙◌, append_assoc, append-nil, ⊎_elim, arith}
-use Rattle.std.specs.Prelude.{IfSome, is_none, filter, filter_map}
+use Rattle.std.proofs.Common.{◌≡◌, ◌≢◌, ℕ, suc, ◌+◌, ◌<◌, ◌≤◌, Bool, true, false, cond, if◌then◌else◌, List, [], ◌∷◌, ◌++◌, length, length-append, get_or, take, drop, All, AllPairs, Option, Some, None, refl, sym, ap, subst, ◌∙◌, append_assoc, append-nil, arith}
+use Rattle.std.specs.Prelude.{IfSome, filter, filter_map}
 use Rattle.std.specs.List.{flat_map, cons_option}
-use Rattle.std.specs.Cmp.Lexicographic.{pointwise, nat_list_eq_equiv}
 use Rattle.std.proofs.lemmas.Grind.{flat_map-append}
 use Rattle.std.proofs.Math.Seq.{take-append_seam}
-use Rattle.std.proofs.lemmas.Bool.{cases_order}
-use Rattle.std.proofs.lemmas.List.{get_or-replicate, get_or-set_same, get_or-set_other, get_or_default, get_or-map, length-map}
+use Rattle.std.proofs.lemmas.List.{get_or_default}
 use Rattle.cs_wire.specs.declared.entry.Entry.{Entry}
 use Rattle.cs_wire.specs.Entry.{entry_bytes, key_of}
 use Rattle.cs_wire.specs.Changeset.{HeaderData, GroupData, IsChangeset, IsFileOf, IsGroup, entries_bytes, file_bytes, group_bytes, header_bytes}
-use Rattle.cs_wire.specs.Items.{FlaggedEntry}
 use Rattle.cs_wire.specs.Named.{NamedData, IsTableOf, AreListed, header_at, tables_at, no_table}
 use Rattle.cs_wire.specs.Tables.{TablesData, AreLeft}
 use Rattle.cs_wire.specs.Views.{IsPlaceOf}
 use Rattle.cs_wire.proofs.EntryLemmas.{entry_bytes_some}
 use Rattle.cs_wire.proofs.NamedLemmas.{table_at, tables_length, no_group_named, group_named}
-use Rattle.cs_group.specs.Joining.{AgreesWith, AreJoinable, IsJoined, is_new, if_new, joined, joined_entry, joined_group, key_places, left_of, merged, outcome, some_group, table_name, with_text}
+use Rattle.cs_group.specs.Joining.{AgreesWith, AreJoinable, IsJoined, is_new, if_new, joined, joined_group, key_places, some_group, table_name, with_text}
 use Rattle.cs_group.proofs.JoinLemmas.{agree_found, agrees_found, found_agrees, joined_is_changeset}
 use Rattle.cs_group.proofs.JoinLengths.{join_length}
-use Rattle.cs_group.proofs.KeyPlaceLemmas.{key_of_same}
-use Rattle.cs_group.proofs.TextLemmas.{not_same, with_text-none, with_text-place, with_text-same, with_text-found}
+use Rattle.cs_group.proofs.TextLemmas.{with_text-none, with_text-place, with_text-found}
 use Rattle.cs_files.specs.Files.{Joins}
-use Rattle.cs_files.specs.Writing.{some_bytes, AreMet, IsPartner}
+use Rattle.cs_group.specs.Marks.{AreMet}
+use Rattle.cs_group.proofs.MarkLemmas.{unmet_is}
+use Rattle.cs_files.specs.Writing.{some_bytes, IsPartner}
 
 -- ---- what is left of things is written in turn
 
@@ -50,90 +48,16 @@ module _ {X : Type 0} (bytes_of : X → List ℕ) where
       of true so = ap (λ (l : List ℕ). bytes_of x ++ l) so
       of false so = so
 
--- ---- which of the second things have the text of one of the first
+-- ---- what is written of a second entry that is not marked
 
-module _ {X : Type 0} (text_of : X → List ℕ) where
-  abbrev same : X → X → Bool
-  same y x = pointwise nat_eq (text_of y) (text_of x)
-
-  -- a thing is new where it was and has not the text of one more
-  is_new-push : (xs : List X) (y x : X) → is_new text_of (xs ++ y ∷ []) x ≡ (is_new text_of xs x && not (same y x))
-  is_new-push [] y x = of (same y x)
-    where
-      of : (b : Bool) → is_none (cond b (Some y) None) ≡ not b
-      of true = refl
-      of false = refl
-  is_new-push (z ∷ xs) y x = of (same z x) (is_new-push xs y x)
-    where
-      of : (b : Bool) → is_new text_of (xs ++ y ∷ []) x ≡ (is_new text_of xs x && not (same y x)) → is_none (cond b (Some z) (with_text text_of (xs ++ y ∷ []) (text_of x))) ≡ (is_none (cond b (Some z) (with_text text_of xs (text_of x))) && not (same y x))
-      of true so = refl
-      of false so = so
-
-  pub is_new-other : (xs : List X) (y x : X) → text_of y ≢ text_of x → is_new text_of (xs ++ y ∷ []) x ≡ is_new text_of xs x
-  is_new-other xs y x other = is_new-push xs y x ∙ ap (λ b. is_new text_of xs x && not b) (not_same (text_of y) (text_of x) (same y x) refl other) ∙ of (is_new text_of xs x)
-    where
-      of : (b : Bool) → (b && not false) ≡ b
-      of true = refl
-      of false = refl
-
-  pub is_new-same : (xs : List X) (y x : X) → text_of y ≡ text_of x → is_new text_of (xs ++ y ∷ []) x ≡ false
-  is_new-same xs y x is =
-      let yes : same y x ≡ true = rw is (nat_list_eq_equiv.refl (text_of x)) in
-      is_new-push xs y x ∙ ap (λ b. is_new text_of xs x && not b) yes ∙ of (is_new text_of xs x)
-    where
-      of : (b : Bool) → (b && not true) ≡ false
-      of true = refl
-      of false = refl
-
--- ---- which of the second entries have the key of one of the first
-
-pub AreMet-none : (flags : List ℕ) (seconds : List Entry) (met : List Bool) → met ≡ replicate (length seconds) false → AreMet flags met [] seconds
-AreMet-none flags seconds met is j d lt = ap (λ (m : List Bool). get_or m j false) is ∙ get_or-replicate (length seconds) j false false lt
-
-module _ (flags : List ℕ) (met : List Bool) (firsts seconds : List Entry) (entry : Entry) (so : AreMet flags met firsts seconds) where
-  -- one more that has no key of theirs
-  pub AreMet-other : All (λ e. key_of flags e.change ≢ key_of flags entry.change) seconds → AreMet flags met (firsts ++ entry ∷ []) seconds
-  AreMet-other none j d lt =
-      so j d lt ∙ ap not (sym (is_new-other (λ (e : Entry). key_of flags e.change) firsts entry (get_or seconds j d) (λ same. none j d lt (sym same))))
-
-  -- one more that has the key of the one at this place
-  pub AreMet-marked : (place : ℕ) → AllPairs (λ d e. key_of flags d.change ≢ key_of flags e.change) seconds → length met ≡ length seconds
-      → IsPlaceOf (λ e. key_of flags e.change ≡ key_of flags entry.change) seconds place → AreMet flags (set met place true) (firsts ++ entry ∷ []) seconds
-  AreMet-marked place apart width at j d lt = ⊎_elim there (⊎_elim before behind) (cases_order j place)
-    where
-      key : ℕ → List ℕ
-      key i = key_of flags (get_or seconds i d).change
-
-      here : key place ≡ key_of flags entry.change
-      here = at.holds d
-
-      there : j ≡ place → get_or (set met place true) j false ≡ not (is_new (λ (e : Entry). key_of flags e.change) (firsts ++ entry ∷ []) (get_or seconds j d))
-      there is =
-          ap (λ i. get_or (set met place true) i false) is ∙ get_or-set_same met place true false (omega (arith, width, at.within))
-          ∙ ap not (sym (is_new-same (λ (e : Entry). key_of flags e.change) firsts entry (get_or seconds j d) (sym here ∙ ap key (sym is))))
-
-      elsewhere : (j ≡ place → ⊥) → key place ≢ key j → get_or (set met place true) j false ≡ not (is_new (λ (e : Entry). key_of flags e.change) (firsts ++ entry ∷ []) (get_or seconds j d))
-      elsewhere not_there other =
-          get_or-set_other met place j true false not_there ∙ so j d lt
-          ∙ ap not (sym (is_new-other (λ (e : Entry). key_of flags e.change) firsts entry (get_or seconds j d) (λ same. other (here ∙ same))))
-
-      before : j < place → get_or (set met place true) j false ≡ not (is_new (λ (e : Entry). key_of flags e.change) (firsts ++ entry ∷ []) (get_or seconds j d))
-      before lt_place = elsewhere (λ is. omega (arith, lt_place, is)) (λ same. apart j place d lt_place at.within (sym same))
-
-      behind : place < j → get_or (set met place true) j false ≡ not (is_new (λ (e : Entry). key_of flags e.change) (firsts ++ entry ∷ []) (get_or seconds j d))
-      behind gt_place = elsewhere (λ is. omega (arith, gt_place, is)) (apart place j d gt_place lt)
-
--- what is written of a second entry that is not marked
-pub unmet_bytes : (flags : List ℕ) (met : List Bool) (firsts seconds : List Entry) (place : ℕ) (entry : Entry) (marked : Bool) → AreMet flags met firsts seconds → place < length seconds → entry ≡ get_or seconds place entry
+pub unmet_bytes : (flags : List ℕ) (met : List Bool) (firsts seconds : List Entry) (place : ℕ) (entry : Entry) (marked : Bool) → AreMet (λ e. key_of flags e.change) met firsts seconds → place < length seconds → entry ≡ get_or seconds place entry
     → marked ≡ get_or met place false → (cond marked [] (entry_bytes entry)) ≡ some_bytes entry_bytes (if_new (λ e. key_of flags e.change) firsts entry)
 unmet_bytes flags met firsts seconds place entry marked so lt is marked_is =
-    by marked (is_new (λ (e : Entry). key_of flags e.change) firsts entry) (marked_is ∙ so place entry lt ∙ ap (λ (e : Entry). not (is_new (λ (f : Entry). key_of flags f.change) firsts e)) (sym is))
+    by marked ∙ ap (some_bytes entry_bytes) (unmet_is (λ (e : Entry). key_of flags e.change) met firsts seconds so place entry lt is marked marked_is)
   where
-    by : (m n : Bool) → m ≡ not n → cond m [] (entry_bytes entry) ≡ some_bytes entry_bytes (if n then Some entry else None)
-    by true true e = absurd (true≢false e)
-    by true false e = refl
-    by false true e = refl
-    by false false e = absurd (true≢false (sym e))
+    by : (m : Bool) → cond m [] (entry_bytes entry) ≡ some_bytes entry_bytes (if m then None else Some entry)
+    by true = refl
+    by false = refl
 
 -- ---- a table of which entries are left
 
@@ -150,49 +74,6 @@ unfolding group_bytes
 joined_some header out opened grown [] opened_is grown_is other = absurd (other (ap length (grown_is ∙ append-nil opened)))
 joined_some header out opened grown (entry ∷ entries) opened_is grown_is other =
     grown_is ∙ ap (λ (l : List ℕ). l ++ entries_bytes (entry ∷ entries)) opened_is ∙ append_assoc out (header_bytes header) (entries_bytes (entry ∷ entries))
-
--- ---- an entry, and the one of its key among those of a table whose flags mark the same columns
-
-module _ (own flags : List ℕ) (seconds : List Entry) (entry : Entry) (agree : key_places own ≡ key_places flags) where
-  abbrev key : Entry → List ℕ
-  key e = key_of flags e.change
-
-  abbrev own_key : Entry → List ℕ
-  own_key e = key_of own e.change
-
-  one : (e : Entry) → own_key e ≡ key e
-  one e = key_of_same own flags e.change agree
-
-  pub apart_of : AllPairs (λ d e. key_of own d.change ≢ key_of own e.change) seconds → AllPairs (λ d e. key_of flags d.change ≢ key_of flags e.change) seconds
-  apart_of apart = λ i j d lt within same. apart i j d lt within (one (get_or seconds i d) ∙ same ∙ sym (one (get_or seconds j d)))
-
-  pub keys_of : All (λ e. key_of own e.change ≢ key_of flags entry.change) seconds → All (λ e. key_of flags e.change ≢ key_of flags entry.change) seconds
-  keys_of none = λ k d lt same. none k d lt (one (get_or seconds k d) ∙ same)
-
-  pub place_of : (place : ℕ) → IsPlaceOf (λ e. key_of own e.change ≡ key_of flags entry.change) seconds place → IsPlaceOf (λ e. key_of flags e.change ≡ key_of flags entry.change) seconds place
-  place_of place at = record { within = at.within; holds = λ d. sym (one (get_or seconds place d)) ∙ at.holds d }
-
-  pub outcome_alone : All (λ e. key_of own e.change ≢ key_of flags entry.change) seconds → outcome (λ e. key_of flags e.change) (joined_entry flags) seconds entry ≡ Some entry
-  outcome_alone none = ap (joined_entry flags entry) (with_text-none key seconds (key entry) (keys_of none))
-
-  module _ (place : ℕ) (second : Entry) (at : IsPlaceOf (λ e. key_of own e.change ≡ key_of flags entry.change) seconds place) (is : second ≡ get_or seconds place second) where
-    pub one_key : key_of flags entry.change ≡ key_of flags second.change
-    one_key = sym (at.holds second) ∙ ap own_key (sym is) ∙ one second
-
-    pub outcome_both : AllPairs (λ d e. key_of own d.change ≢ key_of own e.change) seconds
-        → outcome (λ e. key_of flags e.change) (joined_entry flags) seconds entry ≡ left_of entry (merged flags entry second)
-    outcome_both apart =
-        ap (joined_entry flags entry) (sym (with_text-place own_key seconds (key entry) place second apart at is ∙ with_text-same own_key key one seconds (key entry)))
-
--- the entry at a place, of what is shown of them
-module _ (shown : List FlaggedEntry) (entries : List Entry) (same : map (λ e. e.entry) shown ≡ entries) where
-  pub as_many : length shown ≡ length entries
-  as_many = sym (length-map shown (λ (e : FlaggedEntry). e.entry)) ∙ ap length same
-
-  pub entry_at : (place : ℕ) (seen : FlaggedEntry) → place < length entries → seen ≡ get_or shown place seen → seen.entry ≡ get_or entries place seen.entry
-  entry_at place seen lt is =
-      let within : place < length shown = omega (arith, lt, as_many) in
-      ap (λ (e : FlaggedEntry). e.entry) is ∙ sym (get_or-map (λ (e : FlaggedEntry). e.entry) shown place seen seen.entry within) ∙ ap (λ (es : List Entry). get_or es place seen.entry) same
 
 -- ---- tables that are listed
 

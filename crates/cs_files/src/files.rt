@@ -55,12 +55,7 @@ pub fn concat_bytes(alloc: Global, first: &[u8], second: &[u8]) -> Result<Vec<u8
 {
     let firsts = Tables::read(alloc, first).map_err(first_fault)?;
     let seconds = Tables::read(alloc, second).map_err(second_fault)?;
-    Ok(join_tables(
-        alloc,
-        firsts,
-        seconds,
-        first.len() + second.len(),
-    )?)
+    Ok(join_tables(alloc, firsts, seconds, first.len() + second.len())?)
 }
 
 /// Reads a file to its end, and then writes what it holds, as [`dump_text`](crate::dump_text) does. Only the

@@ -1,6 +1,6 @@
 -- What two groups, and two changesets, make together.
-use Rattle.std.proofs.Common.{◌≡◌, ℕ, ◌<◌, if◌then◌else◌, List, [], ◌∷◌, length, get_or, Option, Some, None, All, refl, sym, ap, ◌∙◌, arith}
-use Rattle.std.specs.Prelude.{IfSome, is_none}
+use Rattle.std.proofs.Common.{◌≡◌, ℕ, ◌<◌, List, [], ◌∷◌, length, get_or, Option, Some, None, All, refl, sym, ap, ◌∙◌, arith}
+use Rattle.std.specs.Prelude.{IfSome}
 use Rattle.std.proofs.lemmas.List.Elements.{All-weaker}
 use Rattle.std.proofs.lemmas.Option.{same_Some}
 use Rattle.cs_wire.specs.declared.entry.Entry.{Entry}
@@ -8,26 +8,12 @@ use Rattle.cs_wire.specs.Entry.{IsEntry, key_of}
 use Rattle.cs_wire.specs.Changeset.{HeaderData, GroupData, IsGroup, IsChangeset}
 use Rattle.cs_group.specs.declared.merging.Merged.{Merged}
 use Rattle.cs_group.specs.declared.merging.Merged.TheVariants.{Keep, Becomes, Vanish}
-use Rattle.cs_group.specs.Joining.{merged, IfBecomes, FitsKey, table_name, with_text, is_new, outcome, left_of, joined_entry, joined_entries, some_group, joined_group, joined, key_places, Agrees, AgreesWith, AreJoinable}
+use Rattle.cs_group.specs.Joining.{merged, IfBecomes, FitsKey, table_name, with_text, outcome, left_of, joined_entry, joined_entries, some_group, joined_group, joined, key_places, Agrees, AgreesWith, AreJoinable}
 use Rattle.cs_group.proofs.KeyPlaceLemmas.{key_of_same, fits_same}
 use Rattle.cs_group.proofs.MergeLemmas.{merged_fits}
 use Rattle.cs_group.proofs.TextLemmas.{Once, with_text-new, with_text-at, with_text-found, joined-once, joined-each}
 
 -- ---- entries
-
-module _ (flags : List ℕ) (entries : List Entry) (entry : Entry) (key : List ℕ) (key_is : key ≡ key_of flags entry.change) where
-  -- what becomes of an entry where the one with its key was looked for
-  pub outcome_found : (found : Option Entry) → found ≡ with_text (λ e. key_of flags e.change) entries key → joined_entry flags entry found ≡ outcome (λ e. key_of flags e.change) (joined_entry flags) entries entry
-  outcome_found found is = ap (joined_entry flags entry) (is ∙ ap (with_text (λ (e : Entry). key_of flags e.change) entries) key_is)
-
-  pub outcome_merged : (second : Entry) (merge : Merged) → Some second ≡ with_text (λ e. key_of flags e.change) entries key → merge ≡ merged flags entry second
-      → left_of entry merge ≡ outcome (λ e. key_of flags e.change) (joined_entry flags) entries entry
-  outcome_merged second merge is merge_is = ap (left_of entry) merge_is ∙ outcome_found (Some second) is
-
-  -- and whether there is one
-  pub is_new_found : (found : Option Entry) → found ≡ with_text (λ e. key_of flags e.change) entries key
-      → (if is_none found then Some entry else None) ≡ (if is_new (λ e. key_of flags e.change) entries entry then Some entry else None)
-  is_new_found found is = ap (λ (o : Option Entry). if is_none o then Some entry else None) (is ∙ ap (with_text (λ (e : Entry). key_of flags e.change) entries) key_is)
 
 module _ (flags : List ℕ) (entry : Entry) (fits : IsEntry flags entry) where
   left_fits : (merge : Merged) → IfBecomes merge (FitsKey flags (key_of flags entry.change)) → IfSome (left_of entry merge) (FitsKey flags (key_of flags entry.change))

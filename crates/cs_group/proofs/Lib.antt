@@ -3,6 +3,7 @@ pub mod ImageLemmas
 pub mod KeyPlaceLemmas
 pub mod MergeLemmas
 pub mod TextLemmas
+pub mod MarkLemmas
 pub mod JoinLemmas
 pub mod EntryJoinLemmas
 pub mod EntryLengths

@@ -1,6 +1,7 @@
 pub mod Inverse
 pub mod Net
 pub mod Joining
+pub mod Marks
 pub mod JoinLaw
 pub mod Views
 pub mod Judging

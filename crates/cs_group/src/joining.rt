@@ -1,16 +1,18 @@
 //! Two changesets as one.
-ghost use Rattle.std.specs.Prelude.{◌≡◌, ◌+◌, ◌≤◌, [], ◌++◌, length, IfOk, IfErr, IfSome, OnOk, Some};
-ghost use Rattle.std.specs.Prelude.{filter, filter_map};
+ghost use Rattle.std.specs.Prelude.{◌≡◌, ◌≢◌, ◌+◌, ◌≤◌, [], ◌++◌, All, List, length, IfOk, IfErr, IfSome, IsTrue, OnOk, Some};
+ghost use Rattle.std.specs.Prelude.{filter, filter_map, is_none, option_to_list};
 ghost use Rattle.cs_value.specs.declared.refusal.OrNoMemory.TheVariants.{NoMemory as OutOfMemory};
 ghost use Rattle.cs_value.specs.Refusals.{Refuses};
-ghost use Rattle.cs_wire.specs.Changeset.{IsChangeset, file_bytes};
+ghost use Rattle.cs_wire.specs.Changeset.{GroupData, IsChangeset, file_bytes};
+ghost use Rattle.cs_wire.specs.Views.{IsPlaceOf};
 ghost use Rattle.cs_group.specs.Inverse.{IsInverse};
 ghost use Rattle.cs_group.specs.JoinLaw.{DoesBoth, NetsBoth};
 ghost use Rattle.cs_group.specs.Joining.{table_name, key_places, AreJoinable, FirstClash, IsJoined};
-ghost use Rattle.cs_group.specs.Joining.{with_text, is_new, if_new, outcome, joined_group};
+ghost use Rattle.cs_group.specs.Joining.{with_text, is_new, outcome, joined_group};
+ghost use Rattle.cs_group.specs.Marks.{AreMet};
 
-use crate::columns::{first_clash, group_with};
-use crate::entries::{join_entries, push_some};
+use crate::columns::first_clash;
+use crate::entries::{join_entries, push_some, unmarked};
 use crate::fault::{ConcatFault, SchemaFault};
 use cs_value::NoMemory;
 use cs_wire::{Changeset, Group};
@@ -46,61 +48,80 @@ pub fn concat(
     if let Some(place) = first_clash(first, second) {
         return Err(ConcatFault::Fault(SchemaFault { place }));
     }
-    let mut groups = kept_groups(alloc, first, second)?;
-    add_new_groups(alloc, first, second, &mut groups)?;
+    let mut groups = Vec::new(alloc);
+    let met = keep_groups(alloc, first, second, &mut groups)?;
+    add_new_groups(alloc, second, met.as_slice(), &mut groups)?;
     Ok(Changeset::from_groups(alloc, groups)?)
 }
 
-/// What becomes of the groups of the first changeset.
-fn kept_groups(alloc: Global, first: &Changeset, second: &Changeset) -> Result<Vec<Group>, NoMemory>
-    requires { AreJoinable first.now second.now }
-    ensures kept { IfOk result (λ groups. groups.items
-        ≡ filter_map (outcome table_name joined_group second.now) first.now) }
-    ensures well_formed { IfOk result (λ _. IsChangeset first.now) }
-{
-    let mut groups = Vec::new(alloc);
-    for group in first.groups() {
-        push_some(&mut groups, join_group(alloc, second, group)?)?;
-    }
-    Ok(groups)
-}
-
-/// Appends the groups of the second changeset whose tables the first has not.
-fn add_new_groups(
+/// Appends what becomes of the groups of the first changeset, and answers which tables of the second it has.
+fn keep_groups(
     alloc: Global,
     first: &Changeset,
     second: &Changeset,
     groups: &mut Vec<Group>,
+) -> Result<Vec<bool>, NoMemory>
+    requires { AreJoinable first.now second.now }
+    ensures kept { IfOk result (λ _. groups.new.items ≡ groups.old.items
+        ++ filter_map (outcome table_name joined_group second.now) first.now) }
+    ensures met { IfOk result (λ met. AreMet table_name met.items first.now second.now) }
+    ensures width { IfOk result (λ met. length met.items ≡ length second.now) }
+    ensures well_formed { IfOk result (λ _. IsChangeset first.now) }
+{
+    let mut met = unmarked(alloc, second.groups().len())?;
+    for group in first.groups() {
+        if let Some(place) = join_group(alloc, group, second, groups)? {
+            met[place] = true;
+        }
+    }
+    Ok(met)
+}
+
+/// Appends the groups of the second changeset that are not marked.
+fn add_new_groups(
+    alloc: Global,
+    second: &Changeset,
+    met: &[bool],
+    groups: &mut Vec<Group>,
 ) -> Result<(), NoMemory>
-    ensures grown { OnOk result (groups.new.items ≡ groups.old.items
-        ++ filter (is_new table_name first.now) second.now) }
+    requires width { length met.now ≡ length second.now }
+    ensures grown { (firsts : List GroupData) → AreMet table_name met.now firsts second.now
+        → OnOk result (groups.new.items ≡ groups.old.items ++ filter (is_new table_name firsts) second.now) }
     ensures well_formed { IsChangeset second.now }
 {
-    for group in second.groups() {
-        push_some(groups, new_group(alloc, first, group)?)?;
+    for (place, group) in second.groups().iter().enumerate() {
+        if !met[place] {
+            groups.push(group.copy(alloc)?)?;
+        }
     }
     Ok(())
 }
 
-/// What becomes of a group of the first changeset.
-fn join_group(alloc: Global, second: &Changeset, group: &Group) -> Result<Option<Group>, NoMemory>
+/// Appends what becomes of a group of the first changeset with the one of its table in the second, and answers the place of
+/// that one, if there is one.
+fn join_group(
+    alloc: Global,
+    group: &Group,
+    second: &Changeset,
+    groups: &mut Vec<Group>,
+) -> Result<Option<usize>, NoMemory>
     requires agree { IfSome (with_text table_name second.now group.now.header.name)
         (λ g. key_places g.header.flags ≡ key_places group.now.header.flags) }
-    ensures { IfOk result (λ joined. joined ≡ outcome table_name joined_group second.now group.now) }
+    ensures joined { IfOk result (λ _. groups.new.items ≡ groups.old.items
+        ++ option_to_list (outcome table_name joined_group second.now group.now)) }
+    ensures found { IfOk result (λ place. IfSome place (IsPlaceOf (λ g. g.header.name ≡ group.now.header.name) second.now)) }
+    ensures absent { IfOk result (λ place. IsTrue (is_none place)
+        → All (λ g. g.header.name ≢ group.now.header.name) second.now) }
 {
-    match group_with(second, group.header().name()) {
-        None => Ok(Some(group.copy(alloc)?)),
-        Some(other) => join_groups(alloc, group, other),
-    }
-}
-
-/// A group of the second changeset, where the first has none of its table.
-fn new_group(alloc: Global, first: &Changeset, group: &Group) -> Result<Option<Group>, NoMemory>
-    ensures { IfOk result (λ new. new ≡ if_new table_name first.now group.now) }
-{
-    match group_with(first, group.header().name()) {
-        None => Ok(Some(group.copy(alloc)?)),
-        Some(_) => Ok(None),
+    match second.find(group.header().name()) {
+        None => {
+            groups.push(group.copy(alloc)?)?;
+            Ok(None)
+        }
+        Some(place) => {
+            push_some(groups, join_groups(alloc, group, &second.groups()[place])?)?;
+            Ok(Some(place))
+        }
     }
 }
 

@@ -33,7 +33,10 @@ impl<'a> Model for HashedPlaces<'a> {
 
 impl<'a> HashedPlaces<'a> {
     /// No text has a place, and there is room for some.
-    pub(crate) fn with_capacity(alloc: Global, capacity: usize) -> Result<HashedPlaces<'a>, NoMemory>
+    pub(crate) fn with_capacity(
+        alloc: Global,
+        capacity: usize,
+    ) -> Result<HashedPlaces<'a>, NoMemory>
         ensures { IfOk result (λ places. places ≡ map.empty) }
     {
         Ok(HashedPlaces {

@@ -6,7 +6,8 @@ ghost use Rattle.cs_wire.specs.Changeset.{GroupData, entries_bytes};
 ghost use Rattle.cs_wire.specs.Tables.{AreLeft};
 ghost use Rattle.cs_wire.specs.Views.{IsPlaceOf};
 ghost use Rattle.cs_group.specs.Joining.{entry_key, is_new, joined_entries, joined_entry, key_places, left_of, merged, outcome};
-ghost use Rattle.cs_files.specs.Writing.{AreApart, AreMet, some_bytes};
+ghost use Rattle.cs_group.specs.Marks.{AreApart, AreMet};
+ghost use Rattle.cs_files.specs.Writing.{some_bytes};
 
 use cs_group::{Merged, merge_refs};
 use cs_value::NoMemory;
@@ -43,7 +44,7 @@ fn write_kept<'a>(
         → IfOk result (λ _. out.new.items ≡ out.old.items
         ++ entries_bytes (filter_map (outcome (entry_key firsts.entry.flags) (joined_entry firsts.entry.flags) seconds.now.entries) entries)) }
     ensures met { (entries : List EntryData) (groups : List GroupData) → AreLeft firsts.entry entries groups → AreApart seconds.now
-        → IfOk result (λ met. AreMet firsts.entry.flags met.items entries seconds.now.entries) }
+        → IfOk result (λ met. AreMet (entry_key firsts.entry.flags) met.items entries seconds.now.entries) }
     ensures width { IfOk result (λ met. length met.items ≡ length seconds.now.entries) }
 {
     let mut met = unmarked(alloc, seconds.entries().len())?;
@@ -63,7 +64,7 @@ fn write_new<'a>(
     met: &[bool],
 ) -> Result<(), NoMemory>
     requires width { length met.now ≡ length seconds.now.entries }
-    ensures { (flags : List ℕ) (firsts : List EntryData) → AreMet flags met.now firsts seconds.now.entries
+    ensures { (flags : List ℕ) (firsts : List EntryData) → AreMet (entry_key flags) met.now firsts seconds.now.entries
         → OnOk result (out.new.items ≡ out.old.items ++ entries_bytes (filter (is_new (entry_key flags) firsts) seconds.now.entries)) }
 {
     for (place, entry) in seconds.entries().iter().enumerate() {

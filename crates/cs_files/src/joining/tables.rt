@@ -7,7 +7,8 @@ ghost use Rattle.cs_wire.specs.Items.{header_of};
 ghost use Rattle.cs_wire.specs.Named.{AreListed};
 ghost use Rattle.cs_wire.specs.Tables.{AreLeft};
 ghost use Rattle.cs_group.specs.Joining.{AreJoinable, if_new, is_new, joined_entries, joined_group, key_places, outcome, some_group, table_name, with_text};
-ghost use Rattle.cs_files.specs.Writing.{AreApart, some_bytes};
+ghost use Rattle.cs_group.specs.Marks.{AreApart};
+ghost use Rattle.cs_files.specs.Writing.{some_bytes};
 
 use crate::joining::columns::partner_of;
 use crate::joining::entries::write_joined;

@@ -16,8 +16,8 @@ returns-clause-joined c = λ groups others left right p q.
     let added = c.in_ok-added.ensures [] others right in
     let joinable = c.in_default.ensures.none groups others known p added in
     rw c.in_ok-out.ensures.items at (
-      joined_bytes group_bytes c.in_ok-out.out.items c.write_kept_tables.new.out.items c.write_new_tables.new.out.items (filter_map (outcome table_name joined_group others) groups) (filter (is_new table_name groups) others)
-      (c.in_ok-write_kept_tables.ensures groups others known added q joinable) (c.in_ok-write_new_tables.ensures groups others known p added)
+    joined_bytes group_bytes c.in_ok-out.out.items c.write_kept_tables.new.out.items c.write_new_tables.new.out.items (filter_map (outcome table_name joined_group others) groups) (filter (is_new table_name groups) others)
+    (c.in_ok-write_kept_tables.ensures groups others known added q joinable) (c.in_ok-write_new_tables.ensures groups others known p added)
     )
 
 pub returns-in-Some-clause-refused : goal.returns-in-Some-clause-refused

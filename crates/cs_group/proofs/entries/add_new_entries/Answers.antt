@@ -1,24 +1,33 @@
--- `entries::add_new_entries`: what `new_entry` asks for, the invariant of the loop at `entry`.
-use Rattle.std.proofs.Common.{List, get_or, ap, ◌∙◌}
+-- `entries::add_new_entries`: the invariant of the loop at `place`, what it ensures.
+use Rattle.std.proofs.Common.{◌++◌, [], ◌∷◌, ◌<◌, List, length, get_or, ap, ◌∙◌, arith}
+use Rattle.std.proofs.lemmas.List.{take_all}
 use Rattle.cs_wire.specs.declared.entry.Entry.{Entry}
-use Rattle.cs_wire.specs.Entry.{IsEntry, key_of}
-use Rattle.cs_group.specs.Joining.{is_new}
-use Rattle.cs_group.proofs.KeyPlaceLemmas.{fits_same}
-use Rattle.cs_value.proofs.ListLemmas.{filter_more_behind}
+use Rattle.cs_wire.specs.Entry.{key_of}
+use Rattle.cs_group.proofs.MarkLemmas.{unmarked_added, marked_passed}
+use Rattle.cs_group.proofs.entries.add_new_entries.Goals.{then-not-met-place+in_ok-copy+in_ok-push, else-not-met-place}
 use Rattle.cs_group.proofs.entries.add_new_entries.Goals as goal
 
-pub new_entry-requires : goal.new_entry-requires
-new_entry-requires c =
-    let second = c.args.second.now in
-    let i = c.loop-entry.entry-index in
+pub loop-place-preserved : goal.loop-place-preserved
+loop-place-preserved c = λ flags firsts so.
+    let key = λ (e : Entry). key_of flags e.change in
+    let entries = c.args.second.now.entries in
+    let place = c.loop-place.place in
     let entry = c.entry-item.result in
     let same = c.entries-entry-items.ensures.same in
-    let is = c.entry-item.is ∙ ap (λ (es : List Entry). get_or es i entry) same in
-    let fits : IsEntry second.header.flags entry = rw is (c.entries-entry-items.ensures.well_formed.each i entry (rw same at c.loop-entry-test.true)) in
-    record { fits = fits_same second.header.flags c.args.first.now.header.flags entry.change c.requires.agree fits }
+    let lt : place < length entries = rw same at c.loop-place-test.true in
+    let is = c.entry-item.is ∙ ap (λ (es : List Entry). get_or es place entry) same in
+    let start = c.args.entries.now.items in
+    let now = c.loop-place.entries.items in
+    let so_far = c.loop-place.invariant flags firsts so in
+    elim c.if-not-met-place.branch [
+      | then-not-met-place+in_ok-copy+in_ok-push w ↦
+          rw w.entries-is (unmarked_added key c.args.met.now firsts entries so place entry lt is start now so_far _ w.if-not-met-place.true
+          (w.in_ok-push.ensures.items ∙ ap (λ (e : Entry). now ++ e ∷ []) w.in_ok-copy.ensures))
+      | else-not-met-place w ↦ rw w.entries-is (marked_passed key c.args.met.now firsts entries so place entry lt is start now so_far w.if-not-met-place.false)
+    ]
 
-pub loop-entry-preserved : goal.loop-entry-preserved
-loop-entry-preserved c =
-    let new = is_new (λ (e : Entry). key_of c.args.first.now.header.flags e.change) c.args.first.now.entries in
-    filter_more_behind c.entries-entry-items.result.now c.loop-entry.entry-index c.entry-item.result c.loop-entry-test.true c.entry-item.is
-    new c.args.entries.now.items c.loop-entry.entries.items c.push_some.new.list.items c.in_ok-new_entry.field-0 c.loop-entry.invariant c.in_ok-new_entry.ensures c.in_ok-push_some.ensures
+pub returns-clause-grown : goal.returns-clause-grown
+returns-clause-grown c = λ flags firsts so.
+    let entries = c.args.second.now.entries in
+    let le = rw c.entries-entry-items.ensures.same at c.loop-place-test.false in
+    rw (take_all c.loop-place.place entries (omega (arith, le))) at (c.loop-place.invariant flags firsts so)

@@ -4,7 +4,7 @@ use Rattle.std.specs.Prelude.{filter, filter_map}
 use Rattle.cs_wire.specs.declared.entry.Entry.{Entry}
 use Rattle.cs_wire.specs.Entry.{entry_bytes, key_of}
 use Rattle.cs_group.specs.Joining.{is_new, joined_entry, outcome}
-use Rattle.cs_files.specs.Writing.{AreMet}
+use Rattle.cs_group.specs.Marks.{AreMet}
 use Rattle.cs_files.proofs.JoiningLemmas.{joined_bytes}
 use Rattle.cs_files.proofs.joining.entries.write_joined.Goals as goal
 
@@ -16,6 +16,6 @@ returns c = λ entries others groups behind left right apart.
     let all = c.in_ok-keyed.ensures.entries others behind right in
     let seconds = c.in_ok-keyed.keyed in
     let distinct : AllPairs (λ d e. key_of seconds.flags d.change ≢ key_of seconds.flags e.change) seconds.entries = rw (all, own) apart in
-    let met : AreMet flags c.as_slice.result.now entries seconds.entries = rw c.as_slice.ensures.value (c.in_ok-met.ensures.met entries groups left distinct) in
+    let met : AreMet key c.as_slice.result.now entries seconds.entries = rw c.as_slice.ensures.value (c.in_ok-met.ensures.met entries groups left distinct) in
     joined_bytes entry_bytes c.args.out.now.items c.write_kept.new.out.items c.write_new.new.out.items (filter_map (outcome key (joined_entry flags) others) entries) (filter (is_new key entries) others)
     (rw all at (c.in_ok-met.ensures.written entries groups left distinct)) (rw all at (c.in_ok-write_new.ensures flags entries met))

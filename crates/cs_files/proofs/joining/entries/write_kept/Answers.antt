@@ -7,7 +7,10 @@ use Rattle.cs_wire.specs.Entry.{entry_bytes, key_of}
 use Rattle.cs_wire.specs.Views.{IsPlaceOf}
 use Rattle.cs_group.specs.Joining.{joined_entry, outcome}
 use Rattle.cs_files.specs.Writing.{some_bytes}
-use Rattle.cs_files.proofs.JoiningLemmas.{AreMet-none, AreMet-other, AreMet-marked, apart_of, as_many, keys_of, place_of, some_flat}
+use Rattle.cs_wire.proofs.TablesLemmas.{PassedEntries-all}
+use Rattle.cs_group.specs.Marks.{AreMet}
+use Rattle.cs_group.proofs.MarkLemmas.{AreMet-none, AreMet-other, AreMet-marked, apart_of, as_many, keys_of, place_of}
+use Rattle.cs_files.proofs.JoiningLemmas.{some_flat}
 use Rattle.cs_files.proofs.PassLemmas.{WritesEntries-none, WritesEntries-next, WritesEntries-all}
 use Rattle.cs_files.proofs.joining.entries.write_kept.Goals as goal
 
@@ -20,7 +23,7 @@ entries-init c =
       ap length none ∙ length-replicate (length seconds) false,
       λ entries groups left apart. (
         WritesEntries-none (λ e. some_bytes entry_bytes (outcome (λ (f : Entry). key_of flags f.change) (joined_entry flags) seconds e)) c.args.out.now.items c.args.firsts entries groups left,
-        AreMet-none flags seconds c.in_ok-met.met.items none,
+        AreMet-none (λ (e : Entry). key_of flags e.change) seconds c.in_ok-met.met.items none,
       ),
     )
 
@@ -40,7 +43,7 @@ entries-preserved-in-Some-2 c =
           let both = so.2 entries groups left apart in (
             WritesEntries-next (λ e. some_bytes entry_bytes (outcome (λ (f : Entry). key_of flags f.change) (joined_entry flags) seconds.entries e)) flags c.args.out.now.items c.entries.out.items c.entries.left entries groups both.0
                 c.write_outcome.new.out.items c.next_entry.new.self seen (c.in-Some.ensures.next both.0.passed.others groups both.0.passed.are_left) (rw here at (c.in_ok-place.ensures.written apart)),
-            AreMet-marked flags c.entries.met.items both.0.before seconds.entries seen.entry both.1 place (apart_of seconds.flags flags seconds.entries seen.entry c.requires.agree apart) so.1
+            AreMet-marked (λ (e : Entry). key_of flags e.change) c.entries.met.items both.0.before seconds.entries seen.entry both.1 place (apart_of seconds.flags flags seconds.entries seen.entry c.requires.agree apart) so.1
                 (place_of seconds.flags flags seconds.entries seen.entry c.requires.agree place at),
           ),
     )
@@ -60,7 +63,7 @@ entries-preserved c =
           let both = so.2 entries groups left apart in (
             WritesEntries-next (λ e. some_bytes entry_bytes (outcome (λ (f : Entry). key_of flags f.change) (joined_entry flags) seconds.entries e)) flags c.args.out.now.items c.entries.out.items c.entries.left entries groups both.0
                 c.write_outcome.new.out.items c.next_entry.new.self seen (c.in-Some.ensures.next both.0.passed.others groups both.0.passed.are_left) (rw here at (c.in_ok-place.ensures.written apart)),
-            AreMet-other flags c.entries.met.items both.0.before seconds.entries seen.entry both.1 (keys_of seconds.flags flags seconds.entries seen.entry c.requires.agree absent),
+            AreMet-other (λ (e : Entry). key_of flags e.change) c.entries.met.items both.0.before seconds.entries seen.entry both.1 (keys_of seconds.flags flags seconds.entries seen.entry c.requires.agree absent),
           ),
     )
 
@@ -73,3 +76,14 @@ returns-clause-written c = λ entries groups left apart.
     let none = c.in_default.ensures.next so.passed.others groups so.passed.are_left in
     WritesEntries-all text flags c.args.out.now.items c.entries.out.items c.entries.left entries groups so none.0
     ∙ ap (λ l. c.args.out.now.items ++ l) (some_flat entry_bytes (outcome (λ (f : Entry). key_of flags f.change) (joined_entry flags) seconds) entries)
+
+pub returns-clause-met : goal.returns-clause-met
+returns-clause-met c = λ entries groups left apart.
+    let key = λ (e : Entry). key_of c.args.firsts.flags e.change in
+    let seconds = c.args.seconds.now.entries in
+    let both = c.entries.invariant.2 entries groups left apart in
+    let so = both.0 in
+    let none = c.in_default.ensures.next so.passed.others groups so.passed.are_left in
+    let all = PassedEntries-all so.before c.entries.left entries groups so.passed none.0 in
+    let met : AreMet key c.entries.met.items entries seconds = rw all both.1 in
+    met

@@ -5,7 +5,8 @@ use Rattle.cs_wire.specs.Entry.{entry_bytes, key_of}
 use Rattle.cs_wire.specs.Changeset.{GroupData}
 use Rattle.cs_wire.specs.Tables.{AreLeft}
 use Rattle.cs_group.specs.Joining.{joined_entry, outcome}
-use Rattle.cs_files.specs.Writing.{AreApart, AreMet, some_bytes}
+use Rattle.cs_group.specs.Marks.{AreApart, AreMet}
+use Rattle.cs_files.specs.Writing.{some_bytes}
 use Rattle.cs_files.proofs.PassLemmas.{WritesEntries}
 use Rattle.cs_files.proofs.joining.entries.write_kept.Given as goal
 
@@ -14,7 +15,7 @@ invariant-entries l =
     (l.left.flags ≡ l.fn.firsts.flags) × (length l.met.items ≡ length l.seconds.entries)
     × ((entries : List Entry) (groups : List GroupData) → AreLeft l.fn.firsts entries groups → AreApart l.seconds
     → (so : WritesEntries (λ e. some_bytes entry_bytes (outcome (λ f. key_of l.fn.firsts.flags f.change) (joined_entry l.fn.firsts.flags) l.seconds.entries e)) l.fn.firsts.flags l.fn.out.items l.out.items l.left entries groups)
-    × AreMet l.fn.firsts.flags l.met.items so.before l.seconds.entries)
+    × AreMet (λ e. key_of l.fn.firsts.flags e.change) l.met.items so.before l.seconds.entries)
 
 abbrev pub decreases-entries : goal.decreases-entries
 decreases-entries l = length l.left.file - l.left.place

@@ -4,7 +4,8 @@ use Rattle.cs_wire.specs.declared.entry.Entry.{Entry}
 use Rattle.cs_wire.specs.Entry.{entry_bytes, key_of}
 use Rattle.cs_group.specs.Joining.{if_new}
 use Rattle.cs_files.specs.Writing.{some_bytes}
-use Rattle.cs_files.proofs.JoiningLemmas.{as_many, entry_at, new_flat, unmet_bytes}
+use Rattle.cs_group.proofs.MarkLemmas.{as_many, entry_at}
+use Rattle.cs_files.proofs.JoiningLemmas.{new_flat, unmet_bytes}
 use Rattle.cs_files.proofs.PassLemmas.{written_next, written_last}
 use Rattle.cs_files.proofs.joining.entries.write_new.Goals as goal
 

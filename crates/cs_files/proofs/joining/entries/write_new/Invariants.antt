@@ -4,9 +4,10 @@ use Rattle.std.specs.List.{flat_map}
 use Rattle.cs_wire.specs.declared.entry.Entry.{Entry}
 use Rattle.cs_wire.specs.Entry.{entry_bytes, key_of}
 use Rattle.cs_group.specs.Joining.{if_new}
-use Rattle.cs_files.specs.Writing.{AreMet, some_bytes}
+use Rattle.cs_group.specs.Marks.{AreMet}
+use Rattle.cs_files.specs.Writing.{some_bytes}
 use Rattle.cs_files.proofs.joining.entries.write_new.Given as goal
 
 abbrev pub invariant-loop-place : goal.invariant-loop-place
-invariant-loop-place l = (flags : List ℕ) (firsts : List Entry) → AreMet flags l.met firsts l.seconds.entries
+invariant-loop-place l = (flags : List ℕ) (firsts : List Entry) → AreMet (λ e. key_of flags e.change) l.met firsts l.seconds.entries
     → l.out.items ≡ l.initial.out.items ++ flat_map (λ e. some_bytes entry_bytes (if_new (λ f. key_of flags f.change) firsts e)) (take l.place l.seconds.entries)

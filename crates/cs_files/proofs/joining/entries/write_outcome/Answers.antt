@@ -3,7 +3,7 @@ use Rattle.std.proofs.Common.{◌≡◌, ◌≢◌, ◌++◌, All, ap, sym, ◌�
 use Rattle.cs_wire.specs.Entry.{entry_bytes, key_of}
 use Rattle.cs_wire.specs.Views.{IsPlaceOf}
 use Rattle.cs_files.specs.Writing.{some_bytes}
-use Rattle.cs_files.proofs.JoiningLemmas.{outcome_alone, outcome_both, one_key, entry_at}
+use Rattle.cs_group.proofs.MarkLemmas.{outcome_alone, outcome_both, one_key, entry_at}
 use Rattle.cs_files.proofs.joining.entries.write_outcome.Goals as goal
 
 pub returns-in-None-clause-written : goal.returns-in-None-clause-written

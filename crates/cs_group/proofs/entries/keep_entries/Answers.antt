@@ -1,0 +1,62 @@
+-- `entries::keep_entries`: the invariant of the loop at `entry`, what it ensures.
+use Rattle.std.proofs.Common.{◌≡◌, ◌≢◌, ◌++◌, ◌+◌, List, All, true, false, length, replicate, take, refl, sym, ap, ◌∙◌, append_assoc, append-nil}
+use Rattle.std.specs.Prelude.{IsTrue, is_none, filter_map, option_to_list}
+use Rattle.std.proofs.lemmas.List.{length-replicate, length-set, take_all}
+use Rattle.cs_wire.specs.declared.entry.Entry.{Entry}
+use Rattle.cs_wire.specs.Entry.{key_of}
+use Rattle.cs_wire.specs.Views.{IsPlaceOf}
+use Rattle.cs_group.specs.Joining.{outcome, joined_entry}
+use Rattle.cs_group.proofs.MarkLemmas.{AreMet-none, AreMet-other, AreMet-marked, apart_of, as_many}
+use Rattle.cs_value.proofs.ListLemmas.{filter_map_more, take_more_at}
+use Rattle.cs_group.proofs.entries.keep_entries.Goals.{in-Some, in_default}
+use Rattle.cs_group.proofs.entries.keep_entries.Goals as goal
+
+pub loop-entry-preserved : goal.loop-entry-preserved
+loop-entry-preserved c =
+    let flags = c.args.first.now.header.flags in
+    let key = λ (e : Entry). key_of flags e.change in
+    let seconds = c.args.seconds.now.entries in
+    let items = c.entries-entry-items.result.now in
+    let i = c.loop-entry.entry-index in
+    let entry = c.entry-item.result in
+    let becomes = outcome key (joined_entry flags) seconds in
+    let start = c.args.entries.now.items in
+    let so = c.loop-entry.invariant in
+    let joined = rw c.flags.ensures.same at c.in_ok-place.ensures.joined in
+    let grown : c.join_entry.new.entries.items ≡ start ++ filter_map becomes (take (i + 1) items) =
+    joined ∙ ap (λ (l : List Entry). l ++ option_to_list (becomes entry)) so.0 ∙ append_assoc start (filter_map becomes (take i items)) (option_to_list (becomes entry))
+    ∙ ap (λ (l : List Entry). start ++ l) (filter_map_more items i entry c.loop-entry-test.true c.entry-item.is becomes) in
+    let own = c.flags.ensures.same in
+    let at = take_more_at items i entry c.loop-entry-test.true c.entry-item.is in
+    elim c.match-branch-3.branch [
+      | in-Some w ↦
+          let place = w.in-Some.place in
+          let found : IsPlaceOf (λ e. key e ≡ key entry) seconds place = rw (own, w.in-Some.is) at c.in_ok-place.ensures.found in (
+            grown,
+            rw (w.met-is, at) (AreMet-marked key c.loop-entry.met.items (take i items) seconds entry so.1 place (apart_of c.args.seconds.now.flags flags seconds entry c.requires.agree c.requires.apart) so.2 found),
+            rw w.met-is (length-set c.loop-entry.met.items place true ∙ so.2),
+          )
+      | in_default w ↦
+          let absent : IsTrue (is_none c.in_ok-place.field-0) → All (λ e. key e ≢ key entry) seconds = rw own at c.in_ok-place.ensures.absent in
+          let none : IsTrue (is_none c.in_ok-place.field-0) = rw w.in_default.is refl in (
+            grown,
+            rw (w.met-is, at) (AreMet-other key c.loop-entry.met.items (take i items) seconds entry so.1 (absent none)),
+            rw w.met-is so.2,
+          )
+    ]
+
+pub loop-entry-init : goal.loop-entry-init
+loop-entry-init c =
+    let flags = c.args.first.now.header.flags in
+    let seconds = c.args.seconds.now.entries in
+    let none = c.in_ok-met.ensures ∙ ap (λ n. replicate n false) (as_many c.entries.result.now seconds c.entries.ensures.entries) in (
+      sym (append-nil c.args.entries.now.items),
+      AreMet-none (λ (e : Entry). key_of flags e.change) seconds c.in_ok-met.met.items none,
+      ap length none ∙ length-replicate (length seconds) false,
+    )
+
+pub returns-clause-met : goal.returns-clause-met
+returns-clause-met c =
+    let items = c.entries-entry-items.result.now in
+    let all = take_all c.loop-entry.entry-index items c.loop-entry-test.false ∙ c.entries-entry-items.ensures.same in
+    rw all at c.loop-entry.invariant.1
