@@ -53,12 +53,6 @@ FirstFails file (First f) = ReadFails file f.kind f.place
 FirstFails file (Second f) = ⊥
 FirstFails file (Schema s) = ⊥
 
--- why the second file is not read
-abbrev pub SecondFails : List ℕ → FileFault → Type 0
-SecondFails file (First f) = ⊥
-SecondFails file (Second f) = ReadFails file f.kind f.place
-SecondFails file (Schema s) = ⊥
-
 -- why two changesets are not joined
 abbrev pub AreUnjoined : List GroupData → List GroupData → FileFault → Type 0
 AreUnjoined changeset other (First f) = ⊥

@@ -2,9 +2,7 @@
 ghost use Rattle.std.specs.Prelude.{◌≡◌, ◌+◌, ◌≤◌, length, IfOk, IfErr, IsTrue, OnOk};
 ghost use Rattle.cs_value.specs.Refusals.{Refuses};
 ghost use Rattle.cs_wire.specs.ReadFaults.{ReadFails};
-ghost use Rattle.cs_wire.specs.Changeset.{IsChangeset, file_bytes};
-ghost use Rattle.cs_group.specs.Joining.{IsJoined};
-ghost use Rattle.cs_files.specs.Files.{Inverts, Joins, Prints, JoinFails, FirstFails, SecondFails, AreUnjoined};
+ghost use Rattle.cs_files.specs.Files.{Inverts, Joins, Prints, JoinFails, FirstFails};
 ghost use Rattle.cs_files.specs.Told.{has_failed};
 ghost use Rattle.cs_files.specs.Texts.{dump_of, sql_of};
 ghost use Rattle.cs_files.specs.Forms.{form_text};

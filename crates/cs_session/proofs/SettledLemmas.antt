@@ -4,7 +4,7 @@ use Rattle.std.specs.List.{AllByRecursion}
 use Rattle.std.proofs.lemmas.Bool.{cases_eq}
 use Rattle.std.proofs.lemmas.List.{append-nil, length-append, length-set, get_or-set_same, get_or-set_other, get_or_append_left, get_or_push, drop_more}
 use Rattle.std.proofs.Math.Seq.{map-set_same}
-use Rattle.cs_value.proofs.ListLemmas.{AllByRecursion-at, AllByRecursion-append_left, AllByRecursion-push, AllByRecursion-weaker}
+use Rattle.cs_value.proofs.ListLemmas.{AllByRecursion-at, AllByRecursion-weaker}
 use Rattle.cs_session.specs.declared.attached.Attached.{Attached}
 use Rattle.cs_session.specs.FirstImages.{AttachedTable, NotedImages}
 use Rattle.cs_session.specs.Views.{attached_of, kept_of, name_in, IsSettled, AreSettledBut, IsOpen}
@@ -58,11 +58,6 @@ module _ (tables : List Attached) (p : ℕ) (new : Attached) where
 
           other : p ≢ i → IsSettled t
           other ne = but.1 i t apart (rw (← length-set tables p new) lt) (other_stands i t ne at_i)
-
--- one place more
-pub settled_more : (places : List ℕ) (tables : List Attached) (p : ℕ) → p < length tables → AreSettledBut places tables → AreSettledBut (places ++ p ∷ []) tables
-settled_more places tables p lt but =
-    (AllByRecursion-push (λ q. q < length tables) places p but.0 lt, λ i t apart. but.1 i t (AllByRecursion-append_left (λ q. q ≢ i) places (p ∷ []) apart))
 
 -- a table that is settled, behind the others
 pub settled_push : (places : List ℕ) (tables : List Attached) (new : Attached) → IsSettled new → AreSettledBut places tables → AreSettledBut places (tables ++ new ∷ [])

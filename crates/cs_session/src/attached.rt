@@ -91,7 +91,8 @@ pub(crate) fn cut_back_at(tables: &mut [Attached], places: &[usize])
     }
 }
 
-/// Something may be noted in the table at a place: it stands behind the other places, unless it is the last of them.
+/// Adds the place of a table in which something is about to be noted, unless it is the last of them. [`NoMemory`] changes
+/// nothing.
 pub(crate) fn open_at(
     tables: &[Attached],
     places: &mut Vec<usize>,

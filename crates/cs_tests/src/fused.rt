@@ -69,7 +69,8 @@ const EDITS: &[Call] = &[
     Call::Insert("t", &[Value::Int(3), Value::Text("z")]),
 ];
 
-/// How many edits a session carries out on a store before it refuses one.
+/// How many edits a session carries out on a store before it refuses one, be it where it begins, as a row is read, or as
+/// what was noted is committed.
 fn count_edits<S: Alter>(rt: &(impl Abort + AllocGlobal), store: &mut Store<S>) -> usize {
     let mut twin = store_with_table(rt);
     let mut session = session_of(rt, &mut twin, &["t"]);
@@ -84,17 +85,17 @@ fn count_edits<S: Alter>(rt: &(impl Abort + AllocGlobal), store: &mut Store<S>) 
     count
 }
 
-/// After how many calls the disk stops, and how many edits are committed then. The first stops where an edit begins,
-/// the others where one is noted and about to be committed.
-const STOPS: &[(u64, usize)] = &[(28, 0), (31, 0), (36, 1)];
-
 #[test]
 fn a_refused_commit_is_not_noted(rt: HostRuntime) {
-    for (calls, count) in STOPS {
-        let mut store = store_on(&rt, *calls);
+    let mut most = 0;
+    for calls in 28..=36 {
+        let mut store = store_on(&rt, calls);
+        let count = count_edits(&rt, &mut store);
         assert!(rt;
-            count_edits(&rt, &mut store) == *count,
+            most <= count && count < EDITS.len(),
             "behind {calls} calls"
         );
+        most = count;
     }
+    assert!(rt; most > 0);
 }

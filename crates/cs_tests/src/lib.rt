@@ -2,7 +2,8 @@
 //!
 //! `value`, `wire`, `group`, `lines`, `files`, `store`, `apply` and `session` have those of a crate each, and `refusals`
 //! the numbers, names and texts of what they refuse with. `stores` has those of stores over SQL,
-//! `adoption` those of what is taken over as a store, `fused` those of sessions whose disks fail, and `calling` the callers of `CALLING.md`.
+//! `adoption` those of what is taken over as a store, `fused` those of disks that stop to answer, and `calling` the
+//! callers of `CALLING.md`.
 #![tactic(auto)]
 
 #[cfg(test)]

@@ -1,7 +1,6 @@
 //! The tables of a join.
-ghost use Rattle.std.specs.Prelude.{◌≡◌, ◌≢◌, ◌++◌, AllPairs, List, IfSome, OnOk, filter, filter_map};
+ghost use Rattle.std.specs.Prelude.{◌≡◌, ◌++◌, List, IfSome, OnOk, filter, filter_map};
 ghost use Rattle.cs_wire.specs.declared.entry.Entry.{Entry as EntryData};
-ghost use Rattle.cs_wire.specs.Entry.{key_of};
 ghost use Rattle.cs_wire.specs.Changeset.{GroupData, IsChangeset, IsHeader, file_bytes, group_bytes};
 ghost use Rattle.cs_wire.specs.Items.{header_of};
 ghost use Rattle.cs_wire.specs.Named.{AreListed};

@@ -1,0 +1,60 @@
+#!/usr/bin/env python3
+"""Times keys that are made to have nearly one hash under the fixed seed of the maps of sessions and joins, beside others.
+
+`collide.c` finds the keys. So many rows with such keys, and as many with the keys 0, 1 and so on, are joined with their
+inverse, and applied to a store in a new file, in a session that tells its changeset behind that. A time is that of the
+whole process, the shortest of three runs.
+A C compiler is needed, and the program has to be built first: `cd crates/changeset && rt run`.
+
+usage: bench/collisions.py [PROGRAM]
+"""
+import os
+import subprocess
+import sys
+import tempfile
+
+import scripts
+from scripts import Script, stores
+
+# How many keys, and how many bits of a hash choose the place of the first look in a map of so many.
+COUNTS = ((2_500, 9), (5_000, 10), (10_000, 11))
+
+
+def collided(finder, count, bits):
+    """Keys that are made to collide."""
+    said = subprocess.run([finder, str(count), str(bits)], stdout=subprocess.PIPE, check=True).stdout
+    return list(map(int, said.split()))
+
+
+def loaded(slot, entry, keys):
+    """A line that loads a file of these rows into a slot."""
+    return f".load {slot} " + (stores.header("t", 1, 0) + b"".join(entry(key, "hello") for key in keys)).hex()
+
+
+def joined(keys):
+    """Rows are inserted by one changeset and deleted by another, and both are joined."""
+    return Script([], [loaded("a", stores.insert, keys), loaded("b", stores.delete, keys), ".concat a b c"], "", "").alone()
+
+
+def noted(keys):
+    """Rows are inserted in a session, which tells its changeset."""
+    return Script(["t"], [loaded("a", stores.insert, keys), ".apply a"], scripts.applied(len(keys)), "").told()
+
+
+def main():
+    program = sys.argv[1] if len(sys.argv) > 1 else os.path.join(scripts.TOP, "crates/changeset/out/changeset")
+    print("     keys    seconds   what")
+    with tempfile.TemporaryDirectory() as folder:
+        finder = os.path.join(folder, "collide")
+        subprocess.run(["cc", "-O2", "-o", finder, os.path.join(scripts.TOP, "bench/collide.c")], check=True)
+        for count, bits in COUNTS:
+            for what, keys in (("made to collide", collided(finder, count, bits)), ("rising", range(count))):
+                for how, shape in (("joined", joined), ("applied in a session", noted)):
+                    lines, printed = shape(keys)
+                    script = "".join(line + "\n" for line in lines).encode()
+                    taken = scripts.measure(scripts.run_on_file, program, script, printed.encode())
+                    print(f"{count:>9} {taken:>10.3f}   {what}, {how}", flush=True)
+
+
+if __name__ == "__main__":
+    main()

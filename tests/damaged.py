@@ -1,0 +1,128 @@
+#!/usr/bin/env python3
+"""Tests of the program as it is built on damaged files: each file cut at each place, and each byte set to each other value.
+
+What it has to answer comes from a reader that shares no code with it (`reader.py`): the inverse of what the bytes hold,
+or the fault, by number, name and place; and after a refusal the slot that a line would fill, and the store, are as
+before. And files that claim more than they have take no more memory than others of their length.
+The program has to be built first, as the gate does, or by `rt run` in `crates/changeset`.
+
+usage: tests/damaged.py [PROGRAM]
+"""
+import pathlib
+import subprocess
+import sys
+import unittest
+
+import reader
+from stores import UNDEFINED, delete, header, insert, update
+
+HERE = pathlib.Path(__file__).resolve().parent
+PROGRAM = HERE.parent / "crates/changeset/out/changeset"
+
+# How many seconds a run may take, how many bytes a script has at most, and how many of memory a run may have.
+PATIENCE, LONGEST, MEMORY = 300, 16_000_000, 96 << 20
+
+T = header("t", 1, 0)
+K1, K2 = (b"\x01" + key.to_bytes(8, "big") for key in (1, 2))
+INSERT = T + insert(1, "x")
+
+FILES = {
+    "an INSERT": INSERT,
+    "a DELETE": T + delete(1, "x"),
+    "an UPDATE": T + update((1, "x"), (UNDEFINED, "y")),
+    "the least integer": T + b"\x12\x00\x01\x80" + bytes(7) + b"\x05",
+    "a blob of 128 bytes": T + b"\x12\x00" + K1 + b"\x04\x81\x00" + bytes(128),
+    "a key of two columns": b"\x54\x02\x02\x01k\x00\x12\x00" + K1 + K2,
+    "two tables": header("z", 1, 0) + insert(1, "x") + INSERT,
+    "an UPDATE to what was there": T + update((1, "x"), (UNDEFINED, "x")),
+    "an UPDATE of nothing": T + b"\x17\x00" + K1 + b"\x00\x00\x00",
+    "an entry of each operation": T + insert(1, "x") + delete(2, "q") + b"\x17\x00\x01" + bytes(7) + b"\x03\x03\x01x\x00\x03\x01y",
+}
+
+
+def damaged(file):
+    """The file cut at each place, and with each byte set to each other value."""
+    yield from (file[:end] for end in range(len(file) + 1))
+    for place, byte in enumerate(file):
+        yield from (file[:place] + bytes([other]) + file[place + 1:] for other in range(256) if other != byte)
+
+
+def wanted(data):
+    """The inverse of what bytes hold, or why they are refused."""
+    try:
+        groups = reader.Reader(data).groups()
+    except reader.Fault as fault:
+        return None, f"{fault}\n"
+    assert reader.write(groups) == data
+    return reader.write(reader.inverted(groups)), ""
+
+
+def scripts(datas):
+    """Scripts that invert each of these bytes into one slot, print it, and undo what is refused on a store; and what they print.
+
+    Each begins with a store of one row, and ends with it."""
+    begin = "CREATE TABLE t(a, b, PRIMARY KEY(a));\nINSERT INTO t VALUES(7, 'seven');\n.load y\n"
+    lines, printed, size, slot = [begin], [], len(begin), b""
+    for data in datas:
+        inverse, said = wanted(data)
+        slot = slot if inverse is None else inverse
+        line = f".load x {data.hex()}\n.invert x y\n.hex y\n" + (".apply x\n" if inverse is None else "")
+        lines.append(line)
+        printed.append(said + slot.hex() + "\n" + said)
+        size += len(line)
+        if size > LONGEST:
+            yield "".join(lines), "".join(printed)
+            lines, printed, size, slot = [begin], [], len(begin), b""
+    yield "".join(lines), "".join(printed)
+
+
+def run(script, limit=None):
+    """What the program prints where it runs a script, with so many bytes of memory."""
+    words = [PROGRAM] if limit is None else ["sh", "-c", f"ulimit -v {limit >> 10}; exec \"$0\"", PROGRAM]
+    done = subprocess.run(words, input=script.encode(), capture_output=True, timeout=PATIENCE)
+    return done.stdout.decode() + done.stderr.decode()
+
+
+class DamageTest(unittest.TestCase):
+    """Files that are cut, changed, or claim what is not there."""
+
+    maxDiff = 2000
+
+    def expect_each(self, datas):
+        """Asserts what is answered of each of these bytes."""
+        for script, printed in scripts(datas):
+            self.assertEqual(run(script + "SELECT * FROM t;\n"), printed + "7|'seven'\n")
+
+    def test_each_byte(self):
+        """Each file, cut at each place, and with each byte set to each other value."""
+        for what, file in FILES.items():
+            with self.subTest(what):
+                self.expect_each(damaged(file))
+
+    def test_claims(self):
+        """Files that claim more than they have are refused in the memory of short ones."""
+        claims = {
+            "a text": T + b"\x12\x00" + K1 + b"\x03\x87\xff\xff\xff\x7f" + b"x",
+            "a blob": T + b"\x12\x00" + K1 + b"\x04\x87\xff\xff\xff\x7f" + b"x",
+            "columns": b"\x54\x81\xff\x7f",
+            "columns with their flags": b"\x54\x81\xff\x7f" + b"\x01" * 32767 + b"t\x00\x12\x00" + K1,
+            "a count of columns": b"\x54\x87\xff\xff\xff\x7f",
+        }
+        for what, file in claims.items():
+            with self.subTest(what):
+                inverse, said = wanted(file)
+                self.assertIsNone(inverse)
+                self.assertEqual(run(f".load x {file.hex()}\n.invert x y\n", MEMORY), said)
+
+    def test_empty_groups(self):
+        """Many tables, of which the last has no entry."""
+        file = b"".join(b"\x54\x01\x01%d\x00\x12\x00\x01" % number + bytes(8) for number in range(300_000)) + header("t", 1)
+        inverse, said = wanted(file)
+        self.assertIsNone(inverse)
+        self.assertEqual(run(f".load x {file.hex()}\n.invert x y\n", 4 * MEMORY), said)
+
+
+if __name__ == "__main__":
+    if sys.argv[1:2] and not sys.argv[1].startswith("-"):
+        PROGRAM = pathlib.Path(sys.argv.pop(1)).resolve()
+    unittest.main()
