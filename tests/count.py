@@ -3,11 +3,14 @@
 import re
 import sys
 
+# How many parts are told by unittest: those of the bindings, and three of the program.
+PARTS = 4
+
 said = sys.stdin.read()
 gate = [tuple(map(int, counts)) for counts in re.findall(r"^(\d+) passed, (\d+) failed$", said, re.M)]
 runs = [int(count) for count in re.findall(r"^Ran (\d+) tests? in ", said, re.M)]
 ends = re.findall(r"^(OK|FAILED)(?: \((.*)\))?$", said, re.M)
-if not gate or len(runs) != 2 or len(ends) != 2:
+if not gate or len(runs) != PARTS or len(ends) != PARTS:
     sys.exit("tests/count.py: a part of the gate did not say what it ran")
 
 

@@ -8,9 +8,11 @@ A run of the gate tries some allocations of each script and command; `all` in fr
 
 usage: tests/refusals.py [all] [PROGRAM]
 """
+import contextlib
 import os
 import pathlib
 import random
+import sqlite3
 import subprocess
 import sys
 import tempfile
@@ -158,9 +160,9 @@ class Script(Trial):
         self.lines = lines
 
     def left(self, folder):
-        """The tables of the store."""
+        """The tables of the store: none where it is not yet one."""
         store = os.path.join(folder, "store")
-        return shown_tables(read_store(store)) if os.path.exists(store) else {}
+        return shown_tables(read_store(store)) if is_store(store) else {}
 
     def ends(self):
         """All ways in which it may end: as with memory, or with one line refused, or with none read."""
@@ -194,6 +196,14 @@ class Command(Trial):
         with tempfile.TemporaryDirectory() as folder:
             self.prepare(folder)
             return [self.once(), ((1, "", NO_MEMORY), self.left(folder))]
+
+
+def is_store(path):
+    """Whether a file has the records of a store."""
+    if not os.path.exists(path):
+        return False
+    with contextlib.closing(sqlite3.connect(path)) as base:
+        return base.execute("SELECT count(*) FROM sqlite_master WHERE name = 'rec'").fetchone() == (1,)
 
 
 def shown_tables(tables):
