@@ -6,120 +6,137 @@ ghost use Rattle.cs_wire.specs.Entry.{IsEntry, key_of};
 ghost use Rattle.cs_wire.specs.Changeset.{IsGroup};
 ghost use Rattle.cs_wire.specs.Views.{IsPlaceOf};
 ghost use Rattle.cs_group.specs.Joining.{entry_key, key_places, is_new, left_of, merged, outcome, joined_entry, joined_entries};
-ghost use Rattle.cs_group.specs.Marks.{AreApart, AreMet};
+ghost use Rattle.cs_group.specs.Marks.{AreMet};
 
+use crate::joined::JoinedEntries;
+use crate::keyed::KeyedGroup;
 use crate::merging::{Merged, merge_refs};
 use cs_value::NoMemory;
-use cs_wire::{Entry, EntryRef, Group, KeyedEntries};
+use cs_wire::{Entry, EntryRef, Group};
 use std::alloc::Global;
 
 /// The entries of what two groups of one table make together. The key of each entry is made once.
-pub(crate) fn join_entries(
+pub(crate) fn join_entries<'a>(
     alloc: Global,
-    first: &Group,
+    first: &'a Group,
     second: &Group,
-) -> Result<Vec<Entry>, NoMemory>
+) -> Result<JoinedEntries<'a>, NoMemory>
     requires agree { key_places second.now.header.flags ≡ key_places first.now.header.flags }
-    ensures same { IfOk result (λ entries. entries.items
+    ensures flags { IfOk result (λ joined. joined.flags ≡ first.now.header.flags) }
+    ensures same { IfOk result (λ joined. joined.entries
         ≡ joined_entries first.now.header.flags first.now.entries second.now.entries) }
     ensures well_formed { IfOk result (λ _. IsGroup second.now) }
 {
-    let seconds = KeyedEntries::of_group(alloc, second)?;
-    let mut entries = Vec::new(alloc);
-    let met = keep_entries(alloc, first, &seconds, &mut entries)?;
-    add_new_entries(alloc, second, met.as_slice(), &mut entries)?;
-    Ok(entries)
+    let seconds = KeyedGroup::list(alloc, second)?;
+    let mut joined = JoinedEntries::new(alloc, first.flags());
+    let met = keep_entries(alloc, first, &seconds, &mut joined)?;
+    add_new_entries(alloc, seconds, met.as_slice(), &mut joined)?;
+    Ok(joined)
 }
 
 /// Appends what becomes of the entries of the first group, and answers which of the second have the key of one.
-fn keep_entries<'a>(
+fn keep_entries(
     alloc: Global,
-    first: &'a Group,
-    seconds: &KeyedEntries<'a>,
-    entries: &mut Vec<Entry>,
+    first: &Group,
+    second: &KeyedGroup<'_>,
+    joined: &mut JoinedEntries<'_>,
 ) -> Result<Vec<bool>, NoMemory>
-    requires agree { key_places seconds.now.flags ≡ key_places first.now.header.flags }
-    requires apart { AreApart seconds.now }
-    ensures kept { IfOk result (λ _. entries.new.items ≡ entries.old.items
-        ++ filter_map (outcome (entry_key first.now.header.flags) (joined_entry first.now.header.flags) seconds.now.entries) first.now.entries) }
-    ensures met { IfOk result (λ met. AreMet (entry_key first.now.header.flags) met.items first.now.entries seconds.now.entries) }
-    ensures width { IfOk result (λ met. length met.items ≡ length seconds.now.entries) }
+    requires agree { key_places second.now.header.flags ≡ key_places first.now.header.flags }
+    requires flags { joined.old.flags ≡ first.now.header.flags }
+    ensures kept { IfOk result (λ _. joined.new.entries ≡ joined.old.entries
+        ++ filter_map (outcome (entry_key first.now.header.flags) (joined_entry first.now.header.flags) second.now.entries) first.now.entries) }
+    ensures met { IfOk result (λ met. AreMet (entry_key first.now.header.flags) met.items first.now.entries second.now.entries) }
+    ensures width { IfOk result (λ met. length met.items ≡ length second.now.entries) }
+    ensures same_flags { joined.new.flags ≡ joined.old.flags }
 {
-    let mut met = unmarked(alloc, seconds.entries().len())?;
+    let mut met = unmarked(alloc, second.group().entries().len())?;
     for entry in first.entries() {
-        if let Some(place) = join_entry(alloc, first.flags(), entry, seconds, entries)? {
+        if let Some(place) = join_entry(alloc, first, entry, second, joined)? {
             met[place] = true;
         }
     }
     Ok(met)
 }
 
-/// Appends the entries of the second group that are not marked.
+/// Appends the entries of the second group that are not marked, with their keys.
 fn add_new_entries(
     alloc: Global,
-    second: &Group,
+    second: KeyedGroup<'_>,
     met: &[bool],
-    entries: &mut Vec<Entry>,
+    joined: &mut JoinedEntries<'_>,
 ) -> Result<(), NoMemory>
-    requires width { length met.now ≡ length second.now.entries }
-    ensures grown { (flags : List ℕ) (firsts : List EntryData) → AreMet (entry_key flags) met.now firsts second.now.entries
-        → OnOk result (entries.new.items ≡ entries.old.items ++ filter (is_new (entry_key flags) firsts) second.now.entries) }
-    ensures well_formed { IsGroup second.now }
+    requires width { length met.now ≡ length second.entries }
+    requires agree { key_places second.header.flags ≡ key_places joined.old.flags }
+    ensures grown { (firsts : List EntryData) → AreMet (entry_key joined.old.flags) met.now firsts second.entries
+        → OnOk result (joined.new.entries ≡ joined.old.entries ++ filter (is_new (entry_key joined.old.flags) firsts) second.entries) }
+    ensures same_flags { joined.new.flags ≡ joined.old.flags }
+    ensures well_formed { IsGroup second }
 {
-    for (place, entry) in second.entries().iter().enumerate() {
+    let entries = second.group().entries();
+    let mut place = 0;
+    for key in second.into_keys() {
         if !met[place] {
-            entries.push(entry.copy(alloc)?)?;
+            joined.push(key, entries[place].copy(alloc)?)?;
         }
+        place += 1;
     }
     Ok(())
 }
 
-/// Appends what becomes of an entry with the one of its key among those of the second group, and answers the place of that
+/// Appends what becomes of an entry of the first group with the one of its key in the second, and answers the place of that
 /// one, if there is one.
-fn join_entry<'a>(
+fn join_entry(
     alloc: Global,
-    flags: &'a [u8],
-    entry: &'a Entry,
-    seconds: &KeyedEntries<'a>,
-    entries: &mut Vec<Entry>,
+    first: &Group,
+    entry: &Entry,
+    second: &KeyedGroup<'_>,
+    joined: &mut JoinedEntries<'_>,
 ) -> Result<Option<usize>, NoMemory>
-    requires agree { key_places seconds.now.flags ≡ key_places flags.now }
-    requires apart { AreApart seconds.now }
-    requires fits { IsEntry flags.now entry.now }
-    ensures joined { IfOk result (λ _. entries.new.items ≡ entries.old.items
-        ++ option_to_list (outcome (entry_key flags.now) (joined_entry flags.now) seconds.now.entries entry.now)) }
-    ensures found { IfOk result (λ place. IfSome place (IsPlaceOf (λ e. key_of flags.now e.change
-        ≡ key_of flags.now entry.now.change) seconds.now.entries)) }
+    requires agree { key_places second.now.header.flags ≡ key_places first.now.header.flags }
+    requires flags { joined.old.flags ≡ first.now.header.flags }
+    requires fits { IsEntry first.now.header.flags entry.now }
+    ensures joined { IfOk result (λ _. joined.new.entries ≡ joined.old.entries
+        ++ option_to_list (outcome (entry_key first.now.header.flags) (joined_entry first.now.header.flags) second.now.entries entry.now)) }
+    ensures found { IfOk result (λ place. IfSome place (IsPlaceOf (λ e. key_of first.now.header.flags e.change
+        ≡ key_of first.now.header.flags entry.now.change) second.now.entries)) }
     ensures absent { IfOk result (λ place. IsTrue (is_none place)
-        → All (λ e. key_of flags.now e.change ≢ key_of flags.now entry.now.change) seconds.now.entries) }
+        → All (λ e. key_of first.now.header.flags e.change ≢ key_of first.now.header.flags entry.now.change) second.now.entries) }
+    ensures same_flags { joined.new.flags ≡ joined.old.flags }
 {
-    let seen = EntryRef::from_entry(flags, entry);
-    let key = seen.key_slice(alloc)?;
-    match seconds.find(key.as_slice()) {
+    let key = first.key_of(alloc, entry)?;
+    match second.find(&key) {
         None => {
-            entries.push(entry.copy(alloc)?)?;
+            joined.push(key, entry.copy(alloc)?)?;
             Ok(None)
         }
         Some(place) => {
-            let left = merge_entry(alloc, &seen, &seconds.entries()[place])?;
-            push_some(entries, left)?;
+            let other = &second.group().entries()[place];
+            if let Some(left) = merge_entry(alloc, first, entry, second.group(), other)? {
+                joined.push(key, left)?;
+            }
             Ok(Some(place))
         }
     }
 }
 
-/// What is left of an entry when a second one of its key comes after it.
-fn merge_entry<'a>(
+/// What is left of an entry of the first group when one of its key, of the second, comes after it.
+fn merge_entry(
     alloc: Global,
-    first: &EntryRef<'a>,
-    second: &EntryRef<'a>,
+    first: &Group,
+    entry: &Entry,
+    second: &Group,
+    other: &Entry,
 ) -> Result<Option<Entry>, NoMemory>
-    requires agree { key_places second.now.flags ≡ key_places first.now.flags }
-    requires one_key { key_of first.now.flags first.now.entry.change ≡ key_of first.now.flags second.now.entry.change }
-    ensures { IfOk result (λ left. left ≡ left_of first.now.entry (merged first.now.flags first.now.entry second.now.entry)) }
+    requires agree { key_places second.now.header.flags ≡ key_places first.now.header.flags }
+    requires one_key { key_of first.now.header.flags entry.now.change ≡ key_of first.now.header.flags other.now.change }
+    requires fits { IsEntry first.now.header.flags entry.now }
+    ensures left { IfOk result (λ left. left ≡ left_of entry.now (merged first.now.header.flags entry.now other.now)) }
+    ensures keyed { IfOk result (λ left. IfSome left (λ e. key_of first.now.header.flags e.change
+        ≡ key_of first.now.header.flags entry.now.change)) }
 {
-    match merge_refs(alloc, first, second)? {
-        Merged::Keep => Ok(Some(first.to_entry(alloc)?)),
+    let added = EntryRef::from_entry(second.flags(), other);
+    match merge_refs(alloc, &EntryRef::from_entry(first.flags(), entry), &added)? {
+        Merged::Keep => Ok(Some(entry.copy(alloc)?)),
         Merged::Becomes(entry) => Ok(Some(entry)),
         Merged::Vanish => Ok(None),
     }

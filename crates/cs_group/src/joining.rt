@@ -14,6 +14,7 @@ ghost use Rattle.cs_group.specs.Marks.{AreMet};
 use crate::columns::first_clash;
 use crate::entries::{join_entries, push_some, unmarked};
 use crate::fault::{ConcatFault, SchemaFault};
+use crate::keyed::NamedGroups;
 use cs_value::NoMemory;
 use cs_wire::{Changeset, Group};
 use std::alloc::Global;
@@ -48,8 +49,9 @@ pub fn concat(
     if let Some(place) = first_clash(first, second) {
         return Err(ConcatFault::Fault(SchemaFault { place }));
     }
+    let named = NamedGroups::list(alloc, second)?;
     let mut groups = Vec::new(alloc);
-    let met = keep_groups(alloc, first, second, &mut groups)?;
+    let met = keep_groups(alloc, first, &named, &mut groups)?;
     add_new_groups(alloc, second, met.as_slice(), &mut groups)?;
     Ok(Changeset::from_groups(alloc, groups)?)
 }
@@ -58,7 +60,7 @@ pub fn concat(
 fn keep_groups(
     alloc: Global,
     first: &Changeset,
-    second: &Changeset,
+    second: &NamedGroups<'_>,
     groups: &mut Vec<Group>,
 ) -> Result<Vec<bool>, NoMemory>
     requires { AreJoinable first.now second.now }
@@ -102,7 +104,7 @@ fn add_new_groups(
 fn join_group(
     alloc: Global,
     group: &Group,
-    second: &Changeset,
+    second: &NamedGroups<'_>,
     groups: &mut Vec<Group>,
 ) -> Result<Option<usize>, NoMemory>
     requires agree { IfSome (with_text table_name second.now group.now.header.name)
@@ -130,9 +132,9 @@ fn join_groups(alloc: Global, first: &Group, second: &Group) -> Result<Option<Gr
     requires agree { key_places second.now.header.flags ≡ key_places first.now.header.flags }
     ensures { IfOk result (λ group. group ≡ joined_group first.now (Some second.now)) }
 {
-    let entries = join_entries(alloc, first, second)?;
-    if entries.is_empty() {
+    let joined = join_entries(alloc, first, second)?;
+    if joined.is_empty() {
         return Ok(None);
     }
-    Ok(Some(Group::from_entries(alloc, first.header().copy(alloc)?, entries)?))
+    Ok(Some(joined.into_group(alloc, first.header().copy(alloc)?)?))
 }

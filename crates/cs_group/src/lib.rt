@@ -11,8 +11,8 @@
 //! ```
 //!
 //! `inverse` makes the changeset that undoes another one, and `joining` one changeset of two: `columns`
-//! tells whether that can be, `entries` goes by the keys of a table, and `merging` makes one entry of
-//! two. `net` has the change from one row to another, `image` what entries say of rows before and
+//! tells whether that can be, `entries` goes by the keys of a table, `keyed` finds groups by names and entries by keys,
+//! `joined` gathers what comes out, and `merging` makes one entry of two. `net` has the change from one row to another, `image` what entries say of rows before and
 //! after, and `fault` says why two changesets are not joined.
 //!
 //! What a changeset does to the tables of a database: `judging` tells which tables it is for, `conflict`
@@ -26,8 +26,10 @@ mod entries;
 mod fault;
 mod image;
 mod inverse;
+mod joined;
 mod joining;
 mod judging;
+mod keyed;
 mod laws;
 mod merging;
 mod net;

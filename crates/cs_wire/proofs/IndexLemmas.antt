@@ -1,5 +1,5 @@
 -- Indexes: where each of some texts stands.
-use Rattle.std.proofs.Common.{◌≡◌, ◌≢◌, ℕ, ◌+◌, ◌<◌, List, [], ◌∷◌, ◌++◌, length, map, Bool, true, false, cond, Option, Some, None, All, get_or, take, refl, sym, ap, ◌∙◌, subst, arith}
+use Rattle.std.proofs.Common.{◌≡◌, ◌≢◌, ℕ, ◌+◌, ◌<◌, List, [], ◌∷◌, ◌++◌, length, map, Bool, true, false, cond, Option, Some, None, All, get_or, take, refl, sym, ap, ◌∙◌, subst, append_assoc, append-nil, ◌≤◌, arith}
 use Rattle.std.specs.Prelude.{◌↔◌, is_none, is_some, IfSome, IsTrue, slice_get}
 use Rattle.std.specs.Ordering.{nat_cmp, eq_by_cmp}
 use Rattle.std.specs.Cmp.{Equal-is}
@@ -148,3 +148,31 @@ module _ {X : Type 0} (text_of : X → List ℕ) (seen : List (List ℕ)) (xs : 
 
   pub Knows-new : All (λ t. t ≢ text) seen → All (λ x. text_of x ≢ text) xs
   Knows-new none = λ k d lt known. (so text).0 none k [] (omega (arith, length-map xs text_of, lt)) (get_or-map text_of xs k d [] lt ∙ known)
+
+-- ---- texts that are given places one after another
+
+-- of these texts so many have their places, and the others are left
+pub record IsIndexed (texts left : List (List ℕ)) (places : ByBytes ℕ) (place : ℕ) : Type 0 where
+  pub before : List (List ℕ)
+  pub whole : texts ≡ before ++ left
+  pub count : place ≡ length before
+  pub index : IsIndex places before
+
+pub IsIndexed-none : (texts left : List (List ℕ)) (places : ByBytes ℕ) → left ≡ texts → places ≡ empty → IsIndexed texts left places 0
+IsIndexed-none texts left places all none = record { before = []; whole = sym all; count = refl; index = rw none IsIndex-none }
+
+pub IsIndexed-next : (texts left others : List (List ℕ)) (places new : ByBytes ℕ) (place : ℕ) (text : List ℕ) → IsIndexed texts left places place → left ≡ text ∷ others
+    → new ≡ insert places text place → IsIndexed texts others new (place + 1)
+IsIndexed-next texts left others places new place text so is grown = record {
+  before = so.before ++ text ∷ [];
+  whole = so.whole ∙ ap (λ (l : List (List ℕ)). so.before ++ l) is ∙ sym (append_assoc so.before (text ∷ []) others);
+  count = omega (arith, so.count, length-append so.before (text ∷ []));
+  index = rw (grown, so.count) (IsIndex-push places so.before text so.index);
+}
+
+pub IsIndexed-all : (texts left : List (List ℕ)) (places : ByBytes ℕ) (place : ℕ) → IsIndexed texts left places place → left ≡ [] → IsIndex places texts
+IsIndexed-all texts left places place so none = rw (so.whole ∙ ap (λ (l : List (List ℕ)). so.before ++ l) none ∙ append-nil so.before) so.index
+
+-- no more texts have places than there are
+pub IsIndexed-within : (texts left : List (List ℕ)) (places : ByBytes ℕ) (place : ℕ) → IsIndexed texts left places place → place ≤ length texts
+IsIndexed-within texts left places place so = omega (arith, so.count, ap length so.whole, length-append so.before left)

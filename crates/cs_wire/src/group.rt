@@ -58,7 +58,23 @@ impl Group {
         ensures made { IfOk result (λ g. g ≡ record { header = header; entries = entries.items }) }
         ensures well_formed { IfOk result IsGroup }
     {
-        let places = places_of(alloc, &header, &entries)?;
+        let keys = keys_of(alloc, &header, &entries)?;
+        Group::from_keyed_entries(alloc, header, entries, keys)
+    }
+
+    /// The same, where the keys of the entries are there already, in their order ([`Header::key_of`]).
+    pub fn from_keyed_entries(
+        alloc: Global,
+        header: Header,
+        entries: Vec<Entry>,
+        keys: Vec<Key>,
+    ) -> Result<Group, NoMemory>
+        requires group { IsGroup (record { header = header; entries = entries.items }) }
+        requires keys { keys.items ≡ group_keys header.flags entries.items }
+        ensures made { IfOk result (λ g. g ≡ record { header = header; entries = entries.items }) }
+        ensures well_formed { IfOk result IsGroup }
+    {
+        let places = places_of(alloc, keys)?;
         Ok(Group {
             header,
             entries,
@@ -210,15 +226,27 @@ impl Eq for Group {
     ghost laws = { Prim.search (comparing, laws-law, header_laws, rules) };
 }
 
-/// The place of the key of each of some entries, which make a group with this header.
-fn places_of(alloc: Global, header: &Header, entries: &[Entry]) -> Result<Places, NoMemory>
+/// The keys of some entries, which make a group with this header.
+fn keys_of(alloc: Global, header: &Header, entries: &[Entry]) -> Result<Vec<Key>, NoMemory>
     requires { IsGroup (record { header = header.now; entries = entries.now }) }
-    ensures { IfOk result (λ places. IsIndex places (group_keys header.now.flags entries.now)) }
+    ensures { IfOk result (λ keys. keys.items ≡ group_keys header.now.flags entries.now) }
+{
+    let mut keys = Vec::with_capacity(alloc, entries.len())?;
+    for entry in entries {
+        keys.push(header.key_of(alloc, entry)?)?;
+    }
+    Ok(keys)
+}
+
+/// The place of each of some keys.
+fn places_of(alloc: Global, keys: Vec<Key>) -> Result<Places, NoMemory>
+    ensures { IfOk result (λ places. IsIndex places keys.items) }
 {
     let mut places = Places::new(alloc);
-    for (place, entry) in entries.iter().enumerate() {
-        let key = header.key_of(alloc, entry)?;
+    let mut place = 0;
+    for key in keys {
         places.insert(key.into_bytes(), place)?;
+        place += 1;
     }
     Ok(places)
 }

@@ -2,12 +2,11 @@
 ghost use Rattle.std.specs.Prelude.{◌≡◌, ◌++◌, ◌∷◌, [], ◌↔◌, IfOk, IfSome, IsTrue, List, OnErr, OnOk, is_none, map};
 ghost use Rattle.std.specs.List.{AllByRecursion};
 ghost use Rattle.cs_wire.specs.declared.entry.Entry.{Entry as EntryData};
-ghost use Rattle.cs_wire.specs.Changeset.{GroupData, IsGroup, IsNewKey};
+ghost use Rattle.cs_wire.specs.Changeset.{GroupData, IsNewKey};
 ghost use Rattle.cs_wire.specs.Tables.{AreLeft};
 ghost use Rattle.cs_wire.specs.Views.{IsPlaceOf};
 
 use crate::entry_ref::EntryRef;
-use crate::group::Group;
 use crate::hashed::HashedPlaces;
 use crate::tables::Tables;
 use cs_value::NoMemory;
@@ -67,20 +66,6 @@ impl<'a> KeyedEntries<'a> {
         let mut left = tables;
         'entries: while let Some(entry) = left.next_entry() {
             keyed.push(alloc, entry)?;
-        }
-        Ok(keyed)
-    }
-
-    /// Lists the entries of a group, which lie there. [`NoMemory`] where memory is refused.
-    pub fn of_group(alloc: Global, group: &'a Group) -> Result<KeyedEntries<'a>, NoMemory>
-        ensures flags { IfOk result (λ keyed. keyed.flags ≡ group.now.header.flags) }
-        ensures entries { IfOk result (λ keyed. keyed.entries ≡ group.now.entries) }
-        ensures well_formed { IsGroup group.now }
-    {
-        let entries = group.entries();
-        let mut keyed = KeyedEntries::with_capacity(alloc, group.flags(), entries.len())?;
-        for entry in entries {
-            keyed.push(alloc, EntryRef::from_entry(group.flags(), entry))?;
         }
         Ok(keyed)
     }

@@ -1,16 +1,20 @@
--- `group::places_of`: the invariant of the loop at `place`.
-use Rattle.std.proofs.Common.{ap, ◌∙◌}
+-- `group::places_of`: the invariant of the loop at `key`, what it ensures.
+use Rattle.std.proofs.Common.{◌≡◌, [], ℕ, List, ap, ◌∙◌, arith}
+use Rattle.std.proofs.lemmas.List.{nil_from_length}
 use Rattle.std.specs.FinMap.{insert}
-use Rattle.cs_wire.specs.declared.entry.Entry.{Entry}
-use Rattle.cs_wire.specs.Entry.{key_of}
-use Rattle.cs_wire.proofs.IndexLemmas.{IsIndex-none, IsIndex-more}
+use Rattle.std.specs.Vec.Iter.{into_iter_items}
+use Rattle.cs_wire.proofs.IndexLemmas.{IsIndexed-none, IsIndexed-next, IsIndexed-all}
 use Rattle.cs_wire.proofs.group.places_of.Goals as goal
 
-pub loop-place-init : goal.loop-place-init
-loop-place-init c = rw c.new-places.ensures IsIndex-none
+pub loop-key-init : goal.loop-key-init
+loop-key-init c = IsIndexed-none c.args.keys.items (into_iter_items c.into_iter-key-iterator.result) c.new-places.result c.into_iter-key-iterator.ensures.into_iter_gives.0 c.new-places.ensures
 
-pub loop-place-preserved : goal.loop-place-preserved
-loop-place-preserved c =
-    let key = c.into_bytes.ensures ∙ c.in_ok-key.ensures in
-    let grown = c.in_ok-insert.ensures.ok ∙ ap (λ k. insert c.loop-place.places k c.loop-place.place) key in
-    IsIndex-more (λ (e : Entry). key_of c.args.header.now.flags e.change) c.loop-place.places c.insert.new.self c.args.entries.now c.index-entries-place.result c.loop-place.place c.loop-place-test.true c.index-entries-place.is c.loop-place.invariant grown
+pub loop-key-preserved : goal.loop-key-preserved
+loop-key-preserved c =
+    let grown = c.in_ok-insert.ensures.ok ∙ ap (λ (k : List ℕ). insert c.loop-key.places k c.loop-key.place) c.into_bytes.ensures in
+    IsIndexed-next c.args.keys.items (into_iter_items c.loop-key.key-iterator) (into_iter_items c.next.new.self) c.loop-key.places c.insert.new.self c.loop-key.place c.in-Some.key c.loop-key.invariant c.in-Some.ensures.steps.0 grown
+
+pub returns : goal.returns
+returns c =
+    let none : into_iter_items c.loop-key.key-iterator ≡ [] = nil_from_length _ (omega (arith, c.in-None.ensures.steps.0)) in
+    IsIndexed-all c.args.keys.items (into_iter_items c.loop-key.key-iterator) c.loop-key.places c.loop-key.place c.loop-key.invariant none

@@ -1,7 +1,7 @@
--- The keys of the entries so far have their places.
-use Rattle.std.proofs.Common.{take}
-use Rattle.cs_wire.specs.Views.{group_keys, IsIndex}
+-- The keys so far have their places, and the others are left.
+use Rattle.std.specs.Vec.Iter.{into_iter_items}
+use Rattle.cs_wire.proofs.IndexLemmas.{IsIndexed}
 use Rattle.cs_wire.proofs.group.places_of.Given as goal
 
-abbrev pub invariant-loop-place : goal.invariant-loop-place
-invariant-loop-place l = IsIndex l.places (group_keys l.header.flags (take l.place l.entries))
+abbrev pub invariant-loop-key : goal.invariant-loop-key
+invariant-loop-key l = IsIndexed l.fn.keys.items (into_iter_items l.key-iterator) l.places l.place

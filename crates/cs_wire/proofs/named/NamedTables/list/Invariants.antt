@@ -1,5 +1,5 @@
 -- Of the tables that are left some are listed.
-use Rattle.std.proofs.Common.{◌≡◌, ◌-◌, [], List, length, map}
+use Rattle.std.proofs.Common.{◌≡◌, ◌-◌, List, length, map}
 use Rattle.std.specs.List.{AllByRecursion}
 use Rattle.cs_wire.specs.declared.entry.Entry.{Entry}
 use Rattle.cs_wire.specs.Changeset.{GroupData, IsHeader}

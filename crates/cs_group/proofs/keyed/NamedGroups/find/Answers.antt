@@ -1,0 +1,11 @@
+-- `keyed::NamedGroups::find`: the clauses `found` and `absent`.
+use Rattle.std.proofs.Common.{◌≡◌, rules}
+use Rattle.cs_wire.specs.Changeset.{GroupData}
+use Rattle.cs_group.proofs.SetLemmas.{place_found, place_absent}
+use Rattle.cs_group.proofs.keyed.NamedGroups.find.Goals as goal
+
+pub returns-clause-found : goal.returns-clause-found
+returns-clause-found c = ?
+
+pub returns-clause-absent : goal.returns-clause-absent
+returns-clause-absent c = ?
