@@ -12,6 +12,7 @@ pub mod FoundLemmas
 pub mod TableLemmas
 pub mod JoinApplyLemmas
 pub mod JoinNetLemmas
+pub mod SetLemmas
 pub mod JoinLengths
 pub mod InverseLengths
 pub mod InverseGroups

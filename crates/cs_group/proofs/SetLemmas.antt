@@ -1,9 +1,9 @@
 -- Texts in a set, each at the place of the thing that has it.
-use Rattle.std.proofs.Common.{◌≡◌, ◌≢◌, ◌+◌, ◌<◌, ℕ, Bool, true, false, ◌||◌, List, [], ◌∷◌, ◌++◌, length, get_or, map, take, All, Option, None, Some, refl, sym, ap, ◌∙◌, true≢false, arith}
+use Rattle.std.proofs.Common.{◌≡◌, ◌≢◌, ◌+◌, ◌<◌, ℕ, Bool, true, false, ◌||◌, List, [], ◌∷◌, ◌++◌, length, get_or, map, take, drop, All, Option, None, Some, refl, sym, ap, ◌∙◌, true≢false, arith}
 use Rattle.std.specs.Prelude.{◌↔◌, nat_eq, is_none, is_some, IfSome, IsTrue, position}
 use Rattle.std.specs.List.{list_any}
 use Rattle.std.specs.Cmp.Lexicographic.{pointwise, same_text, other_text}
-use Rattle.std.proofs.lemmas.List.{get_or-map, get_or-take, get_or_default, length-map, length-take-le, map-append}
+use Rattle.std.proofs.lemmas.List.{get_or-map, get_or-take, get_or_default, length-map, length-take-le, map-append, length-drop, drop_more}
 use Rattle.std.proofs.lemmas.List.Elements.{All-nil, All-cons, All-head, All-tail}
 use Rattle.std.proofs.lemmas.List.Quantifiers.{position-Some}
 use Rattle.std.proofs.lemmas.Option.{none-some}
@@ -88,3 +88,18 @@ module _ {K X : Type 0} (text : K → List ℕ) (text_of : X → List ℕ) (xs :
       let grew : new ≡ keys ++ key ∷ [] = rw absent at grown in
       let more : map text_of (take (i + 1) xs) ≡ map text_of (take i xs) ++ text_of x ∷ [] = ap (map text_of) (take_more_at xs i x within is) ∙ map-append text_of (take i xs) (x ∷ []) in
       ap (map text) grew ∙ map-append text keys (key ∷ []) ∙ cc (named, key_is) ∙ sym more
+
+-- ---- what is left of a list behind a place
+
+module _ {X : Type 0} (xs : List X) (place : ℕ) (x : X) (others : List X) (is : drop place xs ≡ x ∷ others) where
+  pub left_within : place < length xs
+  left_within = omega (arith, ap length is, length-drop place xs)
+
+  left_both : get_or xs place x ∷ drop (place + 1) xs ≡ x ∷ others
+  left_both = sym (drop_more xs place x left_within) ∙ is
+
+  pub left_first : x ≡ get_or xs place x
+  left_first = ap (λ l. get_or l 0 x) (sym left_both)
+
+  pub left_others : others ≡ drop (place + 1) xs
+  left_others = ap (λ l. drop 1 l) (sym left_both)

@@ -1,18 +1,19 @@
 //! The entries of two groups of one table as those of one.
 ghost use Rattle.std.specs.Prelude.{◌≡◌, ◌≢◌, ◌++◌, All, List, ℕ, IfOk, IfSome, IsTrue, OnOk};
-ghost use Rattle.std.specs.Prelude.{false, filter, filter_map, is_none, length, option_to_list, replicate};
+ghost use Rattle.std.specs.Prelude.{None, Some, false, filter, filter_map, if◌then◌else◌, is_none, length, option_to_list, replicate};
 ghost use Rattle.cs_wire.specs.declared.entry.Entry.{Entry as EntryData};
 ghost use Rattle.cs_wire.specs.Entry.{IsEntry, key_of};
 ghost use Rattle.cs_wire.specs.Changeset.{IsGroup};
-ghost use Rattle.cs_wire.specs.Views.{IsPlaceOf};
+ghost use Rattle.cs_wire.specs.Views.{IsPlaceOf, group_keys};
 ghost use Rattle.cs_group.specs.Joining.{entry_key, key_places, is_new, left_of, merged, outcome, joined_entry, joined_entries};
 ghost use Rattle.cs_group.specs.Marks.{AreMet};
 
 use crate::joined::JoinedEntries;
 use crate::keyed::KeyedGroup;
 use crate::merging::{Merged, merge_refs};
-use cs_value::NoMemory;
+use cs_value::{Key, NoMemory};
 use cs_wire::{Entry, EntryRef, Group};
+use indexmap::IndexSet;
 use std::alloc::Global;
 
 /// The entries of what two groups of one table make together. The key of each entry is made once.
@@ -30,7 +31,13 @@ pub(crate) fn join_entries<'a>(
     let seconds = KeyedGroup::list(alloc, second)?;
     let mut joined = JoinedEntries::new(alloc, first.flags());
     let met = keep_entries(alloc, first, &seconds, &mut joined)?;
-    add_new_entries(alloc, seconds, met.as_slice(), &mut joined)?;
+    add_new_entries(
+        alloc,
+        second,
+        seconds.into_keys(),
+        met.as_slice(),
+        &mut joined,
+    )?;
     Ok(joined)
 }
 
@@ -58,29 +65,49 @@ fn keep_entries(
     Ok(met)
 }
 
-/// Appends the entries of the second group that are not marked, with their keys.
+/// Appends the entries of the second group that are not marked, with their keys, which are these.
 fn add_new_entries(
     alloc: Global,
-    second: KeyedGroup<'_>,
+    second: &Group,
+    keys: IndexSet<Key>,
     met: &[bool],
     joined: &mut JoinedEntries<'_>,
 ) -> Result<(), NoMemory>
-    requires width { length met.now ≡ length second.entries }
-    requires agree { key_places second.header.flags ≡ key_places joined.old.flags }
-    ensures grown { (firsts : List EntryData) → AreMet (entry_key joined.old.flags) met.now firsts second.entries
-        → OnOk result (joined.new.entries ≡ joined.old.entries ++ filter (is_new (entry_key joined.old.flags) firsts) second.entries) }
+    requires keys { keys.keys ≡ group_keys second.now.header.flags second.now.entries }
+    requires width { length met.now ≡ length second.now.entries }
+    requires agree { key_places second.now.header.flags ≡ key_places joined.old.flags }
+    ensures grown { (firsts : List EntryData) → AreMet (entry_key joined.old.flags) met.now firsts second.now.entries
+        → OnOk result (joined.new.entries ≡ joined.old.entries ++ filter (is_new (entry_key joined.old.flags) firsts) second.now.entries) }
     ensures same_flags { joined.new.flags ≡ joined.old.flags }
-    ensures well_formed { IsGroup second }
+    ensures well_formed { IsGroup second.now }
 {
-    let entries = second.group().entries();
+    let entries = second.entries();
     let mut place = 0;
-    for key in second.into_keys() {
-        if !met[place] {
-            joined.push(key, entries[place].copy(alloc)?)?;
-        }
+    for key in keys {
+        add_unmet(alloc, joined, key, &entries[place], met[place])?;
         place += 1;
     }
     Ok(())
+}
+
+/// Appends an entry, which has this key, if it is not marked.
+fn add_unmet(
+    alloc: Global,
+    joined: &mut JoinedEntries<'_>,
+    key: Key,
+    entry: &Entry,
+    met: bool,
+) -> Result<(), NoMemory>
+    requires { key ≡ key_of joined.old.flags entry.now.change }
+    ensures added { OnOk result (joined.new.entries ≡ joined.old.entries
+        ++ option_to_list (if met then None else Some entry.now)) }
+    ensures same_flags { joined.new.flags ≡ joined.old.flags }
+{
+    if met {
+        return Ok(());
+    }
+    let entry = entry.copy(alloc)?;
+    joined.push(key, entry)
 }
 
 /// Appends what becomes of an entry of the first group with the one of its key in the second, and answers the place of that
@@ -106,16 +133,28 @@ fn join_entry(
     let key = first.key_of(alloc, entry)?;
     match second.find(&key) {
         None => {
-            joined.push(key, entry.copy(alloc)?)?;
+            let entry = entry.copy(alloc)?;
+            joined.push(key, entry)?;
             Ok(None)
         }
         Some(place) => {
             let other = &second.group().entries()[place];
-            if let Some(left) = merge_entry(alloc, first, entry, second.group(), other)? {
-                joined.push(key, left)?;
-            }
+            let left = merge_entry(alloc, first, entry, second.group(), other)?;
+            add_left(joined, key, left)?;
             Ok(Some(place))
         }
+    }
+}
+
+/// Appends what is left of an entry, which has this key.
+fn add_left(joined: &mut JoinedEntries<'_>, key: Key, left: Option<Entry>) -> Result<(), NoMemory>
+    requires { IfSome left (λ e. key ≡ key_of joined.old.flags e.change) }
+    ensures added { OnOk result (joined.new.entries ≡ joined.old.entries ++ option_to_list left) }
+    ensures same_flags { joined.new.flags ≡ joined.old.flags }
+{
+    match left {
+        None => Ok(()),
+        Some(entry) => joined.push(key, entry),
     }
 }
 
@@ -130,6 +169,7 @@ fn merge_entry(
     requires agree { key_places second.now.header.flags ≡ key_places first.now.header.flags }
     requires one_key { key_of first.now.header.flags entry.now.change ≡ key_of first.now.header.flags other.now.change }
     requires fits { IsEntry first.now.header.flags entry.now }
+    requires other_fits { IsEntry second.now.header.flags other.now }
     ensures left { IfOk result (λ left. left ≡ left_of entry.now (merged first.now.header.flags entry.now other.now)) }
     ensures keyed { IfOk result (λ left. IfSome left (λ e. key_of first.now.header.flags e.change
         ≡ key_of first.now.header.flags entry.now.change)) }

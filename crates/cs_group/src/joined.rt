@@ -64,7 +64,7 @@ impl<'a> JoinedEntries<'a> {
     pub(crate) fn into_group(self, alloc: Global, header: Header) -> Result<Group, NoMemory>
         requires flags { self.flags ≡ header.flags }
         requires group { IsGroup (record { header = header; entries = self.entries }) }
-        ensures { IfOk result (λ g. g ≡ record { header = header; entries = self.entries }) }
+        ensures { IfOk result (λ g. g ≡ record { header = header; entries = self.entry.entries }) }
     {
         let JoinedEntries { entries, keys, .. } = self;
         Group::from_keyed_entries(alloc, header, entries, keys)

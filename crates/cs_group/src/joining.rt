@@ -49,11 +49,21 @@ pub fn concat(
     if let Some(place) = first_clash(first, second) {
         return Err(ConcatFault::Fault(SchemaFault { place }));
     }
+    Ok(join_all(alloc, first, second)?)
+}
+
+/// The join of two changesets that can be joined.
+fn join_all(alloc: Global, first: &Changeset, second: &Changeset) -> Result<Changeset, NoMemory>
+    requires { AreJoinable first.now second.now }
+    ensures joined { IfOk result (IsJoined first.now second.now) }
+    ensures well_formed { IfOk result (λ _. IsChangeset first.now × IsChangeset second.now) }
+{
     let named = NamedGroups::list(alloc, second)?;
     let mut groups = Vec::new(alloc);
     let met = keep_groups(alloc, first, &named, &mut groups)?;
     add_new_groups(alloc, second, met.as_slice(), &mut groups)?;
-    Ok(Changeset::from_groups(alloc, groups)?)
+    let join = Changeset::from_groups(alloc, groups)?;
+    Ok(join)
 }
 
 /// Appends what becomes of the groups of the first changeset, and answers which tables of the second it has.

@@ -32,11 +32,8 @@ impl<'a> Model for NamedGroups<'a> {
 
 impl<'a> NamedGroups<'a> {
     /// Lists the groups of a changeset, which lie there.
-    pub(crate) fn list(
-        alloc: Global,
-        changeset: &'a Changeset,
-    ) -> Result<NamedGroups<'a>, NoMemory>
-        ensures { IfOk result (λ named. named ≡ changeset.now) }
+    pub(crate) fn list(alloc: Global, changeset: &'a Changeset) -> Result<NamedGroups<'a>, NoMemory>
+        ensures listed { IfOk result (λ named. named ≡ changeset.now) }
         ensures well_formed { IfOk result IsChangeset }
     {
         let names = names_of(alloc, changeset)?;
@@ -62,7 +59,8 @@ impl<'a> NamedGroups<'a> {
 
 /// The names of the tables of a changeset, in its order.
 fn names_of(alloc: Global, changeset: &Changeset) -> Result<IndexSet<&str>, NoMemory>
-    ensures { IfOk result (λ names. map (λ name. name.now) names.keys ≡ group_names changeset.now) }
+    ensures listed { IfOk result (λ names. map (λ name. name.now) names.keys ≡ group_names changeset.now) }
+    ensures well_formed { IfOk result (λ _. IsChangeset changeset.now) }
 {
     let groups = changeset.groups();
     let mut names = IndexSet::with_capacity(alloc, groups.len())?;
@@ -95,7 +93,7 @@ impl<'a> Model for KeyedGroup<'a> {
 impl<'a> KeyedGroup<'a> {
     /// Lists the entries of a group, which lie there.
     pub(crate) fn list(alloc: Global, group: &'a Group) -> Result<KeyedGroup<'a>, NoMemory>
-        ensures { IfOk result (λ keyed. keyed ≡ group.now) }
+        ensures listed { IfOk result (λ keyed. keyed ≡ group.now) }
         ensures well_formed { IfOk result IsGroup }
     {
         let keys = keys_of(alloc, group)?;
@@ -104,8 +102,7 @@ impl<'a> KeyedGroup<'a> {
 
     /// The group.
     pub(crate) fn group(&self) -> &'a Group
-        ensures same { result.now ≡ self.now }
-        ensures well_formed { IsGroup self.now }
+        ensures { result.now ≡ self.now }
     {
         self.group
     }
@@ -120,7 +117,7 @@ impl<'a> KeyedGroup<'a> {
 
     /// Gives the keys back, in the order of the entries, and takes no memory.
     pub(crate) fn into_keys(self) -> IndexSet<Key>
-        ensures { result.keys ≡ group_keys self.header.flags self.entries }
+        ensures { result.keys ≡ group_keys self.entry.header.flags self.entry.entries }
     {
         let KeyedGroup { keys, .. } = self;
         keys
@@ -129,7 +126,8 @@ impl<'a> KeyedGroup<'a> {
 
 /// The keys of the entries of a group, in their order.
 fn keys_of(alloc: Global, group: &Group) -> Result<IndexSet<Key>, NoMemory>
-    ensures { IfOk result (λ keys. keys.keys ≡ group_keys group.now.header.flags group.now.entries) }
+    ensures listed { IfOk result (λ keys. keys.keys ≡ group_keys group.now.header.flags group.now.entries) }
+    ensures well_formed { IfOk result (λ _. IsGroup group.now) }
 {
     let entries = group.entries();
     let mut keys = IndexSet::with_capacity(alloc, entries.len())?;

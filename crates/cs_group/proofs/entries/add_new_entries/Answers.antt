@@ -1,33 +1,56 @@
--- `entries::add_new_entries`: the invariant of the loop at `place`, what it ensures.
-use Rattle.std.proofs.Common.{◌++◌, [], ◌∷◌, ◌<◌, List, length, get_or, ap, ◌∙◌, arith}
-use Rattle.std.proofs.lemmas.List.{take_all}
+-- `entries::add_new_entries`: what `add_unmet` asks for, the invariant of the loop at `key`, what it ensures.
+use Rattle.std.proofs.Common.{◌<◌, ◌≤◌, false, List, length, get_or, refl, sym, ap, ◌∙◌, arith}
+use Rattle.std.specs.Prelude.{None, Some, if◌then◌else◌}
+use Rattle.std.proofs.lemmas.List.{get_or-map, length-drop, length-map, take_all}
+use Rattle.cs_value.proofs.ListLemmas.{filter_more_behind}
 use Rattle.cs_wire.specs.declared.entry.Entry.{Entry}
 use Rattle.cs_wire.specs.Entry.{key_of}
-use Rattle.cs_group.proofs.MarkLemmas.{unmarked_added, marked_passed}
-use Rattle.cs_group.proofs.entries.add_new_entries.Goals.{then-not-met-place+in_ok-copy+in_ok-push, else-not-met-place}
+use Rattle.cs_wire.specs.Views.{group_keys}
+use Rattle.cs_group.specs.Joining.{is_new, key_places}
+use Rattle.cs_group.proofs.KeyPlaceLemmas.{key_of_same}
+use Rattle.cs_group.proofs.MarkLemmas.{unmet_is}
+use Rattle.cs_group.proofs.SetLemmas.{left_within, left_first, left_others}
 use Rattle.cs_group.proofs.entries.add_new_entries.Goals as goal
 
-pub loop-place-preserved : goal.loop-place-preserved
-loop-place-preserved c = λ flags firsts so.
-    let key = λ (e : Entry). key_of flags e.change in
+pub add_unmet-requires : goal.add_unmet-requires
+add_unmet-requires c =
+    let own = c.args.second.now.header.flags in
     let entries = c.args.second.now.entries in
-    let place = c.loop-place.place in
-    let entry = c.entry-item.result in
-    let same = c.entries-entry-items.ensures.same in
-    let lt : place < length entries = rw same at c.loop-place-test.true in
-    let is = c.entry-item.is ∙ ap (λ (es : List Entry). get_or es place entry) same in
-    let start = c.args.entries.now.items in
-    let now = c.loop-place.entries.items in
-    let so_far = c.loop-place.invariant flags firsts so in
-    elim c.if-not-met-place.branch [
-      | then-not-met-place+in_ok-copy+in_ok-push w ↦
-          rw w.entries-is (unmarked_added key c.args.met.now firsts entries so place entry lt is start now so_far _ w.if-not-met-place.true
-          (w.in_ok-push.ensures.items ∙ ap (λ (e : Entry). now ++ e ∷ []) w.in_ok-copy.ensures))
-      | else-not-met-place w ↦ rw w.entries-is (marked_passed key c.args.met.now firsts entries so place entry lt is start now so_far w.if-not-met-place.false)
-    ]
+    let keys = group_keys own entries in
+    let place = c.loop-key.place in
+    let entry = c.index-entries-place.result in
+    let so = c.loop-key.invariant in
+    let left = sym so.0 ∙ c.in-Some.ensures.steps in
+    let lt : place < length entries = omega (arith, left_within keys place c.in-Some.key c.next.new.self left, length-map entries (λ (e : Entry). key_of own e.change)) in
+    let is = c.index-entries-place.is ∙ ap (λ (es : List Entry). get_or es place entry) c.entries-entries.ensures.same in
+    left_first keys place c.in-Some.key c.next.new.self left ∙ get_or-map (λ (e : Entry). key_of own e.change) entries place entry c.in-Some.key lt ∙ ap (λ (e : Entry). key_of own e.change) (sym is)
+    ∙ key_of_same own c.loop-key.joined.flags entry.change (c.requires.agree ∙ ap key_places (sym so.1))
+
+pub loop-key-preserved : goal.loop-key-preserved
+loop-key-preserved c =
+    let own = c.args.second.now.header.flags in
+    let entries = c.args.second.now.entries in
+    let keys = group_keys own entries in
+    let place = c.loop-key.place in
+    let entry = c.index-entries-place.result in
+    let so = c.loop-key.invariant in
+    let left = sym so.0 ∙ c.in-Some.ensures.steps in
+    let lt : place < length entries = omega (arith, left_within keys place c.in-Some.key c.next.new.self left, length-map entries (λ (e : Entry). key_of own e.change)) in
+    let is = c.index-entries-place.is ∙ ap (λ (es : List Entry). get_or es place entry) c.entries-entries.ensures.same in
+    let marked = get_or c.args.met.now place false in (
+      left_others keys place c.in-Some.key c.next.new.self left,
+      c.in_ok-add_unmet.ensures.same_flags ∙ so.1,
+      λ firsts met.
+          let key = λ (e : Entry). key_of c.args.joined.now.flags e.change in
+          filter_more_behind entries place entry lt is (is_new key firsts) c.args.joined.now.entries c.loop-key.joined.entries c.add_unmet.new.joined.entries (if marked then None else Some entry) (so.2 firsts met)
+          (unmet_is key c.args.met.now firsts entries met place entry lt is marked refl) c.in_ok-add_unmet.ensures.added,
+    )
 
 pub returns-clause-grown : goal.returns-clause-grown
-returns-clause-grown c = λ flags firsts so.
+returns-clause-grown c = λ firsts met.
+    let own = c.args.second.now.header.flags in
     let entries = c.args.second.now.entries in
-    let le = rw c.entries-entry-items.ensures.same at c.loop-place-test.false in
-    rw (take_all c.loop-place.place entries (omega (arith, le))) at (c.loop-place.invariant flags firsts so)
+    let place = c.loop-key.place in
+    let so = c.loop-key.invariant in
+    let le : length entries ≤ place = omega (arith, ap length (sym so.0 ∙ c.in-None.ensures.steps.0), length-drop place (group_keys own entries), length-map entries (λ (e : Entry). key_of own e.change)) in
+    rw (take_all place entries le) at (so.2 firsts met)

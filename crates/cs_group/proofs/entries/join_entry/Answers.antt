@@ -1,57 +1,64 @@
 -- `entries::join_entry`: what `merge_entry` asks for, what it ensures.
-use Rattle.std.proofs.Common.{◌≡◌, ◌≢◌, ◌++◌, [], ◌∷◌, All, Option, ap, sym, ◌∙◌, rules}
+use Rattle.std.proofs.Common.{◌≡◌, ◌≢◌, ◌++◌, [], ◌∷◌, All, List, Option, get_or, ap, sym, ◌∙◌, rules}
 use Rattle.std.specs.Prelude.{option_to_list}
 use Rattle.cs_wire.specs.declared.entry.Entry.{Entry}
 use Rattle.cs_wire.specs.Entry.{key_of}
-use Rattle.cs_wire.specs.Items.{FlaggedEntry}
+use Rattle.cs_wire.specs.Changeset.{GroupData}
 use Rattle.cs_wire.specs.Views.{IsPlaceOf}
-use Rattle.cs_group.specs.Joining.{left_of, merged}
-use Rattle.cs_group.proofs.MarkLemmas.{outcome_alone, outcome_both, one_key, entry_at, keys_of, place_of}
+use Rattle.cs_group.proofs.MarkLemmas.{outcome_alone, outcome_both, one_key, keys_of, place_of}
 use Rattle.cs_group.proofs.entries.join_entry.Goals as goal
 
-pub returns-in-None-clause-joined : goal.returns-in-None-clause-joined
-returns-in-None-clause-joined c =
-    let flags = c.args.flags.now in
+pub returns-in_ok-push-in-None-clause-joined : goal.returns-in_ok-push-in-None-clause-joined
+returns-in_ok-push-in-None-clause-joined c =
+    let flags = c.args.first.now.header.flags in
+    let own = c.args.second.now.header.flags in
     let entry = c.args.entry.now in
-    let seconds = c.args.seconds.now in
-    let none : All (λ e. key_of seconds.flags e.change ≢ key_of flags entry.change) seconds.entries = search rules in
-    c.in_ok-push-in-None.ensures.items ∙ ap (λ (e : Entry). c.args.entries.now.items ++ e ∷ []) c.in_ok-copy-in-None.ensures
-    ∙ ap (λ (o : Option Entry). c.args.entries.now.items ++ option_to_list o) (sym (outcome_alone seconds.flags flags seconds.entries entry c.requires.agree none))
+    let seconds = c.args.second.now.entries in
+    let none : All (λ e. key_of own e.change ≢ key_of flags entry.change) seconds = search rules in
+    c.in_ok-push-in-None.ensures.pushed ∙ ap (λ (e : Entry). c.args.joined.now.entries ++ e ∷ []) c.in_ok-entry-in-None.ensures
+    ∙ ap (λ (o : Option Entry). c.args.joined.now.entries ++ option_to_list o) (sym (outcome_alone own flags seconds entry c.requires.agree none))
 
-pub returns-in-None-clause-absent : goal.returns-in-None-clause-absent
-returns-in-None-clause-absent c = λ none.
-    let flags = c.args.flags.now in
+pub returns-in_ok-push-in-None-clause-absent : goal.returns-in_ok-push-in-None-clause-absent
+returns-in_ok-push-in-None-clause-absent c = λ none.
+    let flags = c.args.first.now.header.flags in
+    let own = c.args.second.now.header.flags in
     let entry = c.args.entry.now in
-    let seconds = c.args.seconds.now in
-    let none : All (λ e. key_of seconds.flags e.change ≢ key_of flags entry.change) seconds.entries = search rules in
-    keys_of seconds.flags flags seconds.entries entry c.requires.agree none
+    let seconds = c.args.second.now.entries in
+    let none : All (λ e. key_of own e.change ≢ key_of flags entry.change) seconds = search rules in
+    keys_of own flags seconds entry c.requires.agree none
 
 pub merge_entry-requires-clause-one_key : goal.merge_entry-requires-clause-one_key
 merge_entry-requires-clause-one_key c =
-    let flags = c.args.flags.now in
+    let flags = c.args.first.now.header.flags in
+    let own = c.args.second.now.header.flags in
     let entry = c.args.entry.now in
-    let seconds = c.args.seconds.now in
-    let second = c.index-entries-place.result in
-    let at : IsPlaceOf (λ e. key_of seconds.flags e.change ≡ key_of flags entry.change) seconds.entries c.in-Some.place = search rules in
-    rw c.from_entry-seen.ensures (one_key seconds.flags flags seconds.entries entry c.requires.agree c.in-Some.place second.entry at
-    (entry_at c.entries.result.now seconds.entries c.entries.ensures.entries c.in-Some.place second at.within c.index-entries-place.is))
+    let seconds = c.args.second.now.entries in
+    let place = c.in-Some.place in
+    let other = c.index-entries-place.result in
+    let at : IsPlaceOf (λ e. key_of own e.change ≡ key_of flags entry.change) seconds place = search rules in
+    let same = c.entries.ensures.same ∙ ap (λ (g : GroupData). g.entries) c.group.ensures in
+    one_key own flags seconds entry c.requires.agree place other at (c.index-entries-place.is ∙ ap (λ (es : List Entry). get_or es place other) same)
 
-pub returns-clause-joined : goal.returns-clause-joined
-returns-clause-joined c =
-    let flags = c.args.flags.now in
+pub returns-in_ok-add_left-in-Some-clause-joined : goal.returns-in_ok-add_left-in-Some-clause-joined
+returns-in_ok-add_left-in-Some-clause-joined c =
+    let flags = c.args.first.now.header.flags in
+    let own = c.args.second.now.header.flags in
     let entry = c.args.entry.now in
-    let seconds = c.args.seconds.now in
-    let second = c.index-entries-place.result in
-    let at : IsPlaceOf (λ e. key_of seconds.flags e.change ≡ key_of flags entry.change) seconds.entries c.in-Some.place = search rules in
-    let is = entry_at c.entries.result.now seconds.entries c.entries.ensures.entries c.in-Some.place second at.within c.index-entries-place.is in
-    let left_is = c.in_ok-left-in-Some.ensures ∙ ap (λ (seen : FlaggedEntry). left_of seen.entry (merged seen.flags seen.entry second.entry)) c.from_entry-seen.ensures in
-    c.in_ok-push_some-in-Some.ensures
-    ∙ ap (λ (o : Option Entry). c.args.entries.now.items ++ option_to_list o) (left_is ∙ sym (outcome_both seconds.flags flags seconds.entries entry c.requires.agree c.in-Some.place second.entry at is c.requires.apart))
+    let seconds = c.args.second.now.entries in
+    let place = c.in-Some.place in
+    let other = c.index-entries-place.result in
+    let at : IsPlaceOf (λ e. key_of own e.change ≡ key_of flags entry.change) seconds place = search rules in
+    let same = c.entries.ensures.same ∙ ap (λ (g : GroupData). g.entries) c.group.ensures in
+    let is = c.index-entries-place.is ∙ ap (λ (es : List Entry). get_or es place other) same in
+    let once = rw c.group.ensures at c.entries.ensures.well_formed.once in
+    c.in_ok-add_left-in-Some.ensures.added
+    ∙ ap (λ (o : Option Entry). c.args.joined.now.entries ++ option_to_list o) (c.in_ok-left-in-Some.ensures.left ∙ sym (outcome_both own flags seconds entry c.requires.agree place other at is once))
 
-pub returns-clause-found : goal.returns-clause-found
-returns-clause-found c =
-    let flags = c.args.flags.now in
+pub returns-in_ok-add_left-in-Some-clause-found : goal.returns-in_ok-add_left-in-Some-clause-found
+returns-in_ok-add_left-in-Some-clause-found c =
+    let flags = c.args.first.now.header.flags in
+    let own = c.args.second.now.header.flags in
     let entry = c.args.entry.now in
-    let seconds = c.args.seconds.now in
-    let at : IsPlaceOf (λ e. key_of seconds.flags e.change ≡ key_of flags entry.change) seconds.entries c.in-Some.place = search rules in
-    place_of seconds.flags flags seconds.entries entry c.requires.agree c.in-Some.place at
+    let seconds = c.args.second.now.entries in
+    let at : IsPlaceOf (λ e. key_of own e.change ≡ key_of flags entry.change) seconds c.in-Some.place = search rules in
+    place_of own flags seconds entry c.requires.agree c.in-Some.place at

@@ -8,6 +8,7 @@ use Rattle.cs_group.proofs.entries.keep_entries.Given as goal
 
 abbrev pub invariant-loop-entry : goal.invariant-loop-entry
 invariant-loop-entry l =
-    (l.entries.items ≡ l.initial.entries.items ++ filter_map (outcome (λ e. key_of l.first.header.flags e.change) (joined_entry l.first.header.flags) l.seconds.entries) (take l.entry-index l.entry-items))
-    × AreMet (λ e. key_of l.first.header.flags e.change) l.met.items (take l.entry-index l.entry-items) l.seconds.entries
-    × (length l.met.items ≡ length l.seconds.entries)
+    (l.joined.entries ≡ l.initial.joined.entries ++ filter_map (outcome (λ e. key_of l.first.header.flags e.change) (joined_entry l.first.header.flags) l.second.entries) (take l.entry-index l.entry-items))
+    × AreMet (λ e. key_of l.first.header.flags e.change) l.met.items (take l.entry-index l.entry-items) l.second.entries
+    × (length l.met.items ≡ length l.second.entries)
+    × (l.joined.flags ≡ l.initial.joined.flags)
