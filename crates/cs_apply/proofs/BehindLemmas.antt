@@ -2,6 +2,7 @@
 use Rattle.std.proofs.Common.{◌≡◌, ◌≢◌, ℕ, suc, Bool, true, false, cond, if◌then◌else◌, List, [], ◌∷◌, ◌++◌, length, length-append, take, map, Option, Some, None, option_map, append_assoc, refl, sym, ap, ap₂, subst, ◌∙◌, arith}
 use Rattle.std.specs.Prelude.{string_bytes}
 use Rattle.std.specs.List.{AllByRecursion}
+use Rattle.std.specs.Rc.{rc_str_bytes}
 use Rattle.std.proofs.lemmas.List.{append-nil, length-map, map-append}
 use Rattle.std.proofs.lemmas.List.Elements.{All-nil, All-cons}
 use Rattle.std.proofs.lemmas.Option.{none-some}
@@ -242,7 +243,7 @@ module _ (s : State) (closed : List GroupData) (h : HeaderData) (es : List Entry
       at false = tt
 
   module _ (chooses : Handler) (run : Run) (a : State) (is : IsBehind chooses s here run a) where
-    is_open : (run.table.now ≡ h.name) × (run.judgement ≡ its_judgement)
+    is_open : (rc_str_bytes run.table ≡ h.name) × (run.judgement ≡ its_judgement)
     is_open = rw (last_is closed (group_of h es)) at is.opened
 
     -- it is passed over
@@ -269,7 +270,7 @@ module _ (s : State) (closed : List GroupData) (h : HeaderData) (es : List Entry
     -- it is carried out, or does not stand in the way, or ends the run
     pub behind_taken : (next : Run) (b : State) (seen : FlaggedEntry) → TakesEntries run → IsNewEntry closed h es e → seen.flags ≡ h.flags → seen.entry ≡ e
         → next.table ≡ run.table → next.judgement ≡ run.judgement → next.tables ≡ run.tables → next.wider ≡ run.wider → next.report.skipped ≡ run.report.skipped
-        → ComesTo chooses (placed_in_table run.table.now seen) a run.report b next.report next.ended → IsBehind chooses s grown next b
+        → ComesTo chooses (placed_in_table (rc_str_bytes run.table) seen) a run.report b next.report next.ended → IsBehind chooses s grown next b
     behind_taken next b seen takes new flags entry table judged_as tables wider skips comes = record {
       start = is.start;
       empty = is.empty;
@@ -280,7 +281,7 @@ module _ (s : State) (closed : List GroupData) (h : HeaderData) (es : List Entry
       came_to = λ none. (by next.ended comes_here).1;
     }
       where
-        same : placed_in_table run.table.now seen ≡ placed_by h e
+        same : placed_in_table (rc_str_bytes run.table) seen ≡ placed_by h e
         same =
             ap₂ (λ (table flags : List ℕ). record { table = table; flags = flags; entry = seen.entry }) is_open.0 flags
             ∙ ap (λ (entry : Entry). record { table = h.name; flags = h.flags; entry = entry }) entry
@@ -310,10 +311,10 @@ module _ (s : State) (closed : List GroupData) (h : HeaderData) (es : List Entry
 
 -- the table that is open is there
 pub has_open_table : (chooses : Handler) (s : State) (gs : List GroupData) (run : Run) (a : State) (g : GroupData) (seen : FlaggedEntry) → IsBehind chooses s gs run a → last_group gs ≡ Some g → seen.flags ≡ g.header.flags
-    → run.judgement ≡ Compatible → HasTable a (header_in run.table.now seen)
+    → run.judgement ≡ Compatible → HasTable a (header_in (rc_str_bytes run.table) seen)
 has_open_table chooses s gs run a g seen is last flags compatible =
-    let opened : (run.table.now ≡ g.header.name) × (run.judgement ≡ judged s g) = rw last at is.opened in
-    let same : header_in run.table.now seen ≡ g.header = ap₂ (λ (name flags : List ℕ). record { name = name; flags = flags }) opened.0 flags in
+    let opened : (rc_str_bytes run.table ≡ g.header.name) × (run.judgement ≡ judged s g) = rw last at is.opened in
+    let same : header_in (rc_str_bytes run.table) seen ≡ g.header = ap₂ (λ (name flags : List ℕ). record { name = name; flags = flags }) opened.0 flags in
     rw same (table_stays s a g.header is.schemas (has_table s g (sym opened.1 ∙ compatible)))
 
 -- an entry leaves the schemas as they were
@@ -322,8 +323,8 @@ comes_schemas chooses p a r b t None two name = two.applied.schemas name
 comes_schemas chooses p a r b t (Some ending) two name = ap (λ (n : State). schema_at n name) two.1
 
 -- the table of a group is there where it was judged compatible
-pub has_judged_table : (a : State) (run : Run) (h : HeaderData) (seen : FlaggedEntry) → run.table.now ≡ h.name → run.judgement ≡ judged a (group_of h []) → seen.flags ≡ h.flags → run.judgement ≡ Compatible
-    → HasTable a (header_in run.table.now seen)
+pub has_judged_table : (a : State) (run : Run) (h : HeaderData) (seen : FlaggedEntry) → rc_str_bytes run.table ≡ h.name → run.judgement ≡ judged a (group_of h []) → seen.flags ≡ h.flags → run.judgement ≡ Compatible
+    → HasTable a (header_in (rc_str_bytes run.table) seen)
 has_judged_table a run h seen name judged_as flags compatible =
-    let same : header_in run.table.now seen ≡ h = ap₂ (λ (n f : List ℕ). record { name = n; flags = f }) name flags in
+    let same : header_in (rc_str_bytes run.table) seen ≡ h = ap₂ (λ (n f : List ℕ). record { name = n; flags = f }) name flags in
     rw same (has_table a (group_of h []) (sym judged_as ∙ compatible))

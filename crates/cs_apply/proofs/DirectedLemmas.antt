@@ -2,6 +2,7 @@
 use Rattle.std.proofs.Common.{◌≡◌, ◌≢◌, ℕ, ◌<◌, List, [], ◌∷◌, ◌++◌, length, length-append, map, take, drop, ◌+◌, get_or, Option, Some, None, refl, sym, ap, subst, ◌∙◌, arith}
 use Rattle.std.specs.Prelude.{IfOk, IfErr, Result}
 use Rattle.std.specs.List.{AllByRecursion}
+use Rattle.std.specs.Rc.{rc_str_bytes}
 use Rattle.std.proofs.lemmas.List.{map-append, take-append-drop}
 use Rattle.std.proofs.lemmas.List.Elements.{recursion_from_All}
 use Rattle.std.proofs.Math.Seq.{get_or-append_seam, take-append_seam}
@@ -151,7 +152,7 @@ module _ (chooses : Handler) (d : Direction) (file : List ℕ) (place : ℕ) (ru
     here_as_run = ap (directed d) split.2 ∙ directed_last d split.0 split.1.header split.1.entries
 
     -- the table is there, of an entry as it is run
-    pub front_has_table : (shown : FlaggedEntry) → shown.flags ≡ seen.flags → honest → run.judgement ≡ Compatible → HasTable a (header_in run.table.now shown)
+    pub front_has_table : (shown : FlaggedEntry) → shown.flags ≡ seen.flags → honest → run.judgement ≡ Compatible → HasTable a (header_in (rc_str_bytes run.table) shown)
     front_has_table shown flags h compatible =
         let is = rw here_as_run at (so.behind h).1 in
         has_open_table chooses s as_run run a (group_of split.1.header (directed_entries d split.1.header.flags split.1.entries)) shown is (last_is (directed d split.0) (group_of split.1.header (directed_entries d split.1.header.flags split.1.entries)))

@@ -1,6 +1,7 @@
 -- How a run stands behind the items so far. No public contract names this: what it is for is said by Running.
 use Rattle.std.specs.Prelude.{◌≡◌, ◌≢◌, ◌+◌, ℕ, suc, List, [], ◌∷◌, ◌++◌, length, map, if◌then◌else◌, Option, None, Some, IfSome, option_map, Result, Ok, Err, string_bytes}
 use Rattle.std.specs.List.{AllByRecursion}
+use Rattle.std.specs.Rc.{rc_str_bytes}
 use Rattle.cs_value.specs.State.{State, schema_at}
 use Rattle.cs_wire.specs.declared.entry.Entry.{Entry}
 use Rattle.cs_wire.specs.Entry.{key_of}
@@ -75,7 +76,7 @@ last_group (group ∷ next ∷ groups) = last_group (next ∷ groups)
 -- the table of the last of the groups is open, and judged
 abbrev pub HasOpen : State → List GroupData → Run → Type 0
 HasOpen before groups run =
-    IfSome (last_group groups) (λ g. (run.table.now ≡ g.header.name) × (run.judgement ≡ judged before g))
+    IfSome (last_group groups) (λ g. (rc_str_bytes run.table ≡ g.header.name) × (run.judgement ≡ judged before g))
 
 -- so a run stands behind these groups: entries are judged only where no table is wider
 pub record IsBehind (chooses : Handler) (before : State) (groups : List GroupData) (run : Run) (after : State) : Type 0 where
@@ -97,7 +98,7 @@ wider_then None place judgement.Compatible = None
 -- a run goes on with a table
 pub record TakesTable (state : State) (run : Run) (header : HeaderData) (next : Run) (after : State) : Type 0 where
   pub same : after ≡ state
-  pub table : next.table.now ≡ header.name
+  pub table : rc_str_bytes next.table ≡ header.name
   pub judged : next.judgement
       ≡ judging.judgement header.flags (option_map (λ s. s.flags) (schema_at state header.name))
   pub tables : next.tables ≡ run.tables + 1

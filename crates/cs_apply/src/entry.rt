@@ -1,6 +1,7 @@
 //! One entry of a changeset, carried out.
 ghost use Rattle.std.specs.Prelude.{◌≡◌, ◌≢◌, [], ◌∷◌, ◌++◌, map, Some, IfOk, IfErr, IfSome, OnOk, option_map};
 ghost use Rattle.std.specs.Fn.{FnReturnsAt};
+ghost use Rattle.std.specs.Rc.{rc_str_bytes};
 ghost use Rattle.cs_wire.specs.Entry.{key_of};
 ghost use Rattle.cs_store.specs.Editing.{written_of};
 ghost use Rattle.cs_store.specs.Rows.{Fits};
@@ -18,6 +19,7 @@ use cs_store::{Rows, Written};
 use cs_value::{Key, NoMemory, Row};
 use cs_wire::EntryRef;
 use std::alloc::Global;
+use std::rc::RcStr;
 
 /// What is done about an entry.
 #[derive(Debug, Drop)]
@@ -35,25 +37,27 @@ pub(crate) enum Settled {
 pub(crate) fn apply_entry<B: Rows, H: Fn(&Conflict) -> Choice>(
     alloc: Global,
     rows: &mut B,
-    table: &str,
+    table: &RcStr,
     entry: &EntryRef<'_>,
     handler: &H,
     report: &mut Report,
 ) -> Result<Option<Ending>, ApplyFault>
     requires callable { H.IsAlwaysCallable handler.now }
-    requires table { B.is_honest rows.old → HasTable (B.state rows.old) (header_in table.now entry.now) }
+    requires table { B.is_honest rows.old
+        → HasTable (B.state rows.old) (header_in (rc_str_bytes table.now) entry.now) }
     ensures comes_to { B.is_honest rows.new → IfOk result (ComesTo (FnReturnsAt H.Fn handler.now)
-        (placed_in_table table.now entry.now) (B.state rows.old) report.old (B.state rows.new) report.new) }
+        (placed_in_table (rc_str_bytes table.now) entry.now) (B.state rows.old) report.old (B.state rows.new) report.new) }
     ensures skipped { report.new.skipped ≡ report.old.skipped }
     ensures refused { B.is_honest rows.new → IfErr result IsResource }
     ensures named { IfErr result IsStoreRefusal }
     ensures was_honest { B.is_honest rows.new → B.is_honest rows.old }
     ensures kept { B.keeps rows.old rows.new }
 {
+    let name = table.as_str();
     let key = entry.key(alloc)?;
-    let current = rows.get(alloc, table, &key)?;
+    let current = rows.get(alloc, name, &key)?;
     let conflicts = &mut report.conflicts;
-    match settle(alloc, table, entry, current.as_ref(), handler, conflicts)? {
+    match settle(alloc, name, entry, current.as_ref(), handler, conflicts)? {
         Settled::Carried => {
             let written = &mut report.written;
             carry_out(alloc, rows, table, entry, key, current, written)?;
@@ -115,7 +119,7 @@ fn ends_run(kind: Kind, choice: Choice) -> bool
 fn carry_out<B: Rows>(
     alloc: Global,
     rows: &mut B,
-    table: &str,
+    table: &RcStr,
     entry: &EntryRef<'_>,
     key: Key,
     current: Option<Row>,
@@ -123,19 +127,20 @@ fn carry_out<B: Rows>(
 ) -> Result<(), ApplyFault>
     requires key { key ≡ key_of entry.now.flags entry.now.entry.change }
     requires found { kind_of entry.now.entry.change current ≢ Some NotFoundKind }
-    requires table { B.is_honest rows.old → HasTable (B.state rows.old) (header_in table.now entry.now) }
-    requires row { B.is_honest rows.old → IfSome current (Fits (B.state rows.old) table.now key) }
+    requires table { B.is_honest rows.old
+        → HasTable (B.state rows.old) (header_in (rc_str_bytes table.now) entry.now) }
+    requires row { B.is_honest rows.old → IfSome current (Fits (B.state rows.old) (rc_str_bytes table.now) key) }
     ensures written { B.is_honest rows.new → OnOk result (B.state rows.new
-        ≡ with_result (B.state rows.old) table.now key
+        ≡ with_result (B.state rows.old) (rc_str_bytes table.now) key
         (row_of_change entry.now.flags entry.now.entry.change current)) }
     ensures told { OnOk result (map written_of written.new.items ≡ map written_of written.old.items
-        ++ record { table = table.now; key = key; former = current } ∷ []) }
+        ++ record { table = rc_str_bytes table.now; key = key; former = current } ∷ []) }
     ensures refused { IfErr result IsResource }
     ensures was_honest { B.is_honest rows.new → B.is_honest rows.old }
     ensures kept { B.keeps rows.old rows.new }
 {
-    write(alloc, rows, table, entry, &key, current.as_ref())?;
-    let table = String::from_str(alloc, table)?;
+    write(alloc, rows, table.as_str(), entry, &key, current.as_ref())?;
+    let table = table.clone()?;
     written.push(Written {
         table,
         key,

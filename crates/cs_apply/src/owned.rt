@@ -40,7 +40,7 @@ pub fn run_changeset_in<B: Rows, H: Fn(&Conflict) -> Choice>(
     ensures was_honest { B.is_honest rows.new → B.is_honest rows.old }
     ensures kept { B.keeps rows.old rows.new }
 {
-    let mut run = Run::new(alloc);
+    let mut run = Run::new(alloc)?;
     for group in changeset.groups() {
         take_group(alloc, rows, group, direction, handler, &mut run)?;
     }
@@ -48,13 +48,13 @@ pub fn run_changeset_in<B: Rows, H: Fn(&Conflict) -> Choice>(
 }
 
 /// Goes on with a group: its table, and its entries.
-fn take_group<'a, B: Rows, H: Fn(&Conflict) -> Choice>(
+fn take_group<B: Rows, H: Fn(&Conflict) -> Choice>(
     alloc: Global,
     rows: &mut B,
-    group: &'a Group,
+    group: &Group,
     direction: Direction,
     handler: &H,
-    run: &mut Run<'a>,
+    run: &mut Run,
 ) -> Result<(), ApplyFault>
     requires callable { H.IsAlwaysCallable handler.now }
     requires count { run.old.tables < usize.MAX }

@@ -1,6 +1,7 @@
 //! A run through the items of a changeset, from one to the next.
-ghost use Rattle.std.specs.Prelude.{◌≡◌, ◌↔◌, ◌<◌, ◌+◌, ◌∷◌, ◌++◌, [], ℕ, List, IfErr, IsTrue, OnOk};
+ghost use Rattle.std.specs.Prelude.{◌≡◌, ◌↔◌, ◌<◌, ◌+◌, ◌∷◌, ◌++◌, [], ℕ, List, IfOk, IfErr, IsTrue, OnOk};
 ghost use Rattle.std.specs.Fn.{FnReturnsAt};
+ghost use Rattle.std.specs.Rc.{rc_str_bytes};
 ghost use Rattle.cs_value.specs.State.{State, schema_at};
 ghost use Rattle.cs_wire.specs.declared.entry.Entry.{Entry as EntryData};
 ghost use Rattle.cs_wire.specs.Changeset.{GroupData, HeaderData};
@@ -18,14 +19,16 @@ use crate::judging::judge_table;
 use crate::report::Report;
 use cs_group::{Choice, Judgement};
 use cs_store::Rows;
+use cs_value::NoMemory;
 use cs_wire::{EntryRef, HeaderRef};
 use std::alloc::Global;
+use std::rc::RcStr;
 
 /// What is known behind the items so far.
 #[derive(Debug, Drop)]
-pub(crate) struct Run<'a> {
-    // The name of the table that is open, and how it was judged.
-    table: &'a str,
+pub(crate) struct Run {
+    // The name of the table that is open, which the keys that are written share, and how the table was judged.
+    table: RcStr,
     judgement: Judgement,
     // How many tables there were.
     tables: usize,
@@ -36,19 +39,19 @@ pub(crate) struct Run<'a> {
     report: Report,
 }
 
-impl<'a> Run<'a> {
+impl Run {
     /// A run before the first item.
-    pub(crate) fn new(alloc: Global) -> Run<'a>
-        ensures { IsAtStart result }
+    pub(crate) fn new(alloc: Global) -> Result<Run, NoMemory>
+        ensures { IfOk result IsAtStart }
     {
-        Run {
-            table: "",
+        Ok(Run {
+            table: RcStr::from_str(alloc, "")?,
             judgement: Judgement::Skipped,
             tables: 0,
             wider: None,
             ended: None,
             report: Report::new(alloc),
-        }
+        })
     }
 
     /// Goes on with a table: judges it, and tells it where it is passed over. The first that is wider is
@@ -57,7 +60,7 @@ impl<'a> Run<'a> {
         &mut self,
         alloc: Global,
         rows: &mut B,
-        header: HeaderRef<'a>,
+        header: HeaderRef<'_>,
     ) -> Result<(), ApplyFault>
         requires { self.old.tables < usize.MAX }
         ensures takes { B.is_honest rows.new → OnOk result
@@ -69,7 +72,7 @@ impl<'a> Run<'a> {
         ensures kept { B.keeps rows.old rows.new }
     {
         self.judgement = judge_table(alloc, rows, &header)?;
-        self.table = header.name;
+        self.table = RcStr::from_str(alloc, header.name)?;
         let place = self.tables;
         self.tables = place + 1;
         match self.judgement {
@@ -96,12 +99,12 @@ impl<'a> Run<'a> {
         &mut self,
         alloc: Global,
         rows: &mut B,
-        entry: EntryRef<'a>,
+        entry: EntryRef<'_>,
         handler: &H,
     ) -> Result<(), ApplyFault>
         requires callable { H.IsAlwaysCallable handler.now }
         requires table { B.is_honest rows.old → self.old.judgement ≡ CompatibleTable
-            → HasTable (B.state rows.old) (header_in self.old.table.now entry) }
+            → HasTable (B.state rows.old) (header_in (rc_str_bytes self.old.table) entry) }
         ensures behind { B.is_honest rows.new → OnOk result ((before : State) (closed : List GroupData)
             (header : HeaderData) (entries : List EntryData) → entry.entry.flags ≡ header.flags
             → IsNewEntry closed header entries entry.entry.entry
@@ -120,13 +123,13 @@ impl<'a> Run<'a> {
         if !self.takes_entries() {
             return Ok(());
         }
-        self.ended = apply_entry(alloc, rows, self.table, &entry, handler, &mut self.report)?;
+        self.ended = apply_entry(alloc, rows, &self.table, &entry, handler, &mut self.report)?;
         Ok(())
     }
 
     /// What the run comes to behind the last item.
     pub(crate) fn finish(self) -> Result<Report, ApplyFault>
-        ensures { result ≡ answer_of self.entry }
+        ensures { result ≡ answer_of self }
     {
         let Run {
             wider,

@@ -54,7 +54,7 @@ pub fn run_in<B: Rows, H: Fn(&Conflict) -> Choice>(
     ensures kept { B.keeps rows.old rows.new }
 {
     let mut cursor = Cursor::new(alloc, file);
-    let mut run = Run::new(alloc);
+    let mut run = Run::new(alloc)?;
     'items: while let Some(item) = cursor.next()? {
         match item {
             Item::Table(header) => run.take_table(alloc, rows, header)?,

@@ -1,6 +1,6 @@
 -- What the INSERT of a record does that is refused where the record is there.
-use Rattle.std.proofs.Common.{◌≡◌, inl, inr, ℕ, ℤ, List, [], ◌∷◌, map, drop, codes, true, Option, Some, None, Ok, IsTrue, refl, sym, ap, subst, ◌∙◌}
-use Rattle.sqlite_value.specs.declared.value.Value.TheVariants.{Null, Text, Blob}
+use Rattle.std.proofs.Common.{◌≡◌, inl, inr, ℕ, List, [], ◌∷◌, map, drop, codes, true, Option, Some, None, Ok, IsTrue, refl, sym, ap, subst, ◌∙◌}
+use Rattle.sqlite_value.specs.declared.value.Value.TheVariants.{Text, Blob}
 use Rattle.sqlite_value.specs.Order.{Row}
 use Rattle.sqlite_trees.specs.Tree.{Trees}
 use Rattle.sqlite_schema.specs.declared.schema.Keys.{Keys}

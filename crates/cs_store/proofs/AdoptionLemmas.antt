@@ -1,5 +1,5 @@
 -- What the steps of an adoption find and make.
-use Rattle.std.proofs.Common.{◌≡◌, ◌≢◌, ◌⊎◌, ℕ, List, [], ◌∷◌, Option, Some, None, Result, Ok, Err, IfErr, OnOk, IsTrue, true, ◌&&◌, cond, length, inl, inr, refl, sym, ap, subst, ◌∙◌, arith}
+use Rattle.std.proofs.Common.{◌≡◌, ◌≢◌, ◌⊎◌, ℕ, List, [], ◌∷◌, Some, None, Result, Ok, Err, IfErr, IsTrue, true, ◌&&◌, cond, length, inl, inr, refl, sym, ap, subst, ◌∙◌, arith}
 use Rattle.std.specs.FinMap as map
 use Rattle.sqlite_value.specs.Order.{Row, column}
 use Rattle.sqlite_schema.specs.declared.schema.Schema.{Schema}
@@ -14,7 +14,7 @@ use Rattle.cs_store.specs.declared.fault.StoreError.{StoreError}
 use Rattle.cs_store.specs.declared.fault.StoreError.TheVariants.{DamagedStore, NoMemory}
 use Rattle.cs_store.specs.Faults.{IsResource}
 use Rattle.cs_store.specs.Records.{RecordData, HoldsRecords, ListsAll, Sets, GoesOn, KeepsCrash, content, same_bytes, is_under, records_of, records_in, record_schema, empty_schema}
-use Rattle.cs_store.specs.Stored.{version, Stores, state_of}
+use Rattle.cs_store.specs.Stored.{version, Stores}
 use Rattle.cs_store.specs.Valid.{AreValid}
 use Rattle.sqlite_trees.specs.View.{doubt}
 use Rattle.cs_store.specs.Store.{HoldsState, HoldsTables, Adopts, OpensFiles, SetsUp, MemoryIsHonest, tables_in}

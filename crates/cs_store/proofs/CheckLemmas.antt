@@ -1,20 +1,16 @@
 -- What is checked of records that are listed in their order: that they are those of tables.
-use Rattle.std.proofs.Common.{◌≡◌, ◌≢◌, ◌⊎◌, ◌<◌, ℕ, zero, suc, List, [], ◌∷◌, ◌++◌, length, take, get_or, Option, Some, None, Result, Ok, Err, IfOk, IfErr, OnOk, Bool, true, false, cond, ◌&&◌, find, inl, inr, refl, sym, ap, subst, ◌∙◌, true≢false, arith}
-use Rattle.std.specs.Option.{option_map, IsSome, is_some}
+use Rattle.std.proofs.Common.{◌≡◌, ◌≢◌, ◌⊎◌, ℕ, List, [], ◌∷◌, ◌++◌, Option, Some, None, Result, Ok, Err, IfErr, OnOk, Bool, true, false, cond, ◌&&◌, find, inl, inr, refl, sym, ap, subst, ◌∙◌}
+use Rattle.std.specs.Option.{option_map, IsSome}
 use Rattle.std.specs.List.{AllByRecursion}
 use Rattle.std.specs.FinMap as map
 use Rattle.std.specs.Cmp.{tied_itself}
 use Rattle.std.specs.Cmp.Lexicographic.{slice_cmp, nat_list_cmp_total}
 use Rattle.std.specs.Ordering.{nat_cmp, is_eq, ordering_then}
-use Rattle.std.specs.declared.cmp.Ordering.{Ordering}
-use Rattle.std.specs.declared.cmp.Ordering.TheVariants.{Less, Equal, Greater}
+use Rattle.std.specs.declared.cmp.Ordering.TheVariants.{Less, Equal}
 use Rattle.std.proofs.lemmas.Bool.{cases_Bool, and_parts}
-use Rattle.std.proofs.lemmas.List.{take_more, take_all}
 use Rattle.sqlite_rules.specs.Lists.{Has}
 use Rattle.sqlite_rules.proofs.ListLemmas.{all_has, all_from, has_left, has_either, has_found, has_last}
 use Rattle.sqlite_trees.specs.Tree.{IsAscending}
-use Rattle.cs_value.specs.declared.value.OwnedValue.{OwnedValue}
-use Rattle.cs_value.specs.Spelling.{row_bytes}
 use Rattle.cs_value.specs.Table.{IsName}
 use Rattle.cs_value.specs.State.{SchemaData, IsSchema, IsRowAt}
 use Rattle.cs_value.proofs.ByteMaps.{tied_bytes}
@@ -23,7 +19,7 @@ use Rattle.cs_store.specs.declared.fault.StoreError.TheVariants.{DamagedStore, N
 use Rattle.cs_store.specs.Records.{Records, RecordData, same_bytes, record_cmp, ListsAll}
 use Rattle.cs_store.specs.Declaration.{declaration_bytes, IsDeclaration}
 use Rattle.cs_store.specs.Stored.{version}
-use Rattle.cs_store.specs.Valid.{IsStoredRow, AreValid, IsTableRecord, DeclaresTable, IsGoodTable, Schemas, AreDeclared, IsRowOf, IsRowRecord, IsGoodRow}
+use Rattle.cs_store.specs.Valid.{IsStoredRow, AreValid, IsTableRecord, DeclaresTable, IsGoodTable, Schemas, AreDeclared, IsRowRecord, IsGoodRow}
 use Rattle.cs_store.proofs.RowLemmas.{same_is, same_itself, ascending_from_pairs}
 use Rattle.cs_store.proofs.DeclarationLemmas.{declarations_apart}
 

@@ -1,7 +1,5 @@
 -- What a declaration in a batch makes of the tables that a store held.
 use Rattle.std.proofs.Common.{◌≡◌, ◌⊎◌, ℕ, List, Result, Ok, Err, OnOk, inl, inr, sym, subst}
-use Rattle.std.specs.FinMap as map
-use Rattle.cs_value.specs.Table.{IsName}
 use Rattle.cs_value.specs.State as tables
 use Rattle.sqlite.specs.Effect.{Database}
 use Rattle.sqlite.specs.State.{State, HasCleanDisk}

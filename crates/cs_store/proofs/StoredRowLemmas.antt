@@ -1,5 +1,5 @@
 -- Rows as images without an undefined field.
-use Rattle.std.proofs.Common.{◌≡◌, ◌≢◌, ℕ, List, [], ◌∷◌, ◌++◌, length, drop, map, Err, refl, sym, ap, ◌∙◌, arith}
+use Rattle.std.proofs.Common.{◌≡◌, ◌≢◌, ℕ, List, [], ◌∷◌, ◌++◌, length, drop, map, Err, sym, ap, ◌∙◌, arith}
 use Rattle.std.proofs.lemmas.List.{append-nil, length-map, length-drop, nil_from_length}
 use Rattle.cs_value.specs.declared.refusal.OrNoMemory.{OrNoMemory}
 use Rattle.cs_value.specs.declared.refusal.OrNoMemory.TheVariants.{Fault, NoMemory}
@@ -9,7 +9,7 @@ use Rattle.cs_value.specs.declared.value.OwnedField.{OwnedField}
 use Rattle.cs_value.specs.declared.value.OwnedField.TheVariants.{Undefined, Defined}
 use Rattle.cs_value.specs.Value.{IsRecord, IsRow}
 use Rattle.cs_value.specs.Table.{IsKeyedRow}
-use Rattle.cs_value.specs.Spelling.{value_bytes, field_bytes, record_bytes, row_bytes, BeginsWith}
+use Rattle.cs_value.specs.Spelling.{record_bytes, row_bytes, BeginsWith}
 use Rattle.cs_value.proofs.KeyedRows.{length-IsKeyedRow}
 use Rattle.cs_value.proofs.RowImages.{record_bytes-map, IsRecord-map}
 

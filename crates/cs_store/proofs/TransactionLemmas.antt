@@ -1,5 +1,5 @@
 -- What BEGIN, COMMIT and ROLLBACK do, whatever the schema.
-use Rattle.std.proofs.Common.{◌≡◌, ◌⊎◌, inl, inr, ℕ, List, [], true, false, codes, Ok, Err, Result, IsTrue, refl, ◌∙◌, arith}
+use Rattle.std.proofs.Common.{◌≡◌, ◌⊎◌, inl, inr, ℕ, List, [], true, false, codes, Ok, Err, Result, IsTrue, refl, arith}
 use Rattle.std.proofs.lemmas.Bool.{both_ways}
 use Rattle.sqlite_schema.specs.declared.schema.Schema.{Schema}
 use Rattle.sqlite_schema.specs.declared.command.Command.{Command}

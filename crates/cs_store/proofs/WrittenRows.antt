@@ -3,12 +3,11 @@ use Rattle.std.proofs.Common.{◌≡◌, ℕ, Bool, true, false, cond, List, Opt
 use Rattle.std.specs.Prelude.{unwrap_or, IsSome}
 use Rattle.std.specs.Ordering.{nat_cmp, is_eq}
 use Rattle.std.specs.Cmp.Lexicographic.{slice_cmp, nat_list_cmp_total}
-use Rattle.std.specs.FinMap.{get, insert, remove, empty, get-insert, get-remove}
+use Rattle.std.specs.FinMap.{get, insert, empty, get-insert}
 use Rattle.cs_value.specs.State.{TableData, RowMap, State, schema_at, row_at, rows_at, with_rows}
 use Rattle.cs_value.proofs.ByteMaps.{tied_bytes, self_tied}
-use Rattle.sqlite.specs.Effect.{Database}
 use Rattle.sqlite.specs.State.{State as Connection, HasCleanDisk}
-use Rattle.cs_store.specs.Store.{IsFreeKey, IsKnown, KnownData, Knows, forgotten, tables_in}
+use Rattle.cs_store.specs.Store.{IsFreeKey, IsKnown, KnownData, Knows, tables_in, without_free_key}
 
 module _ (state : State) (table : List ℕ) (found : TableData) (rows : RowMap) (is : get state table ≡ Some found) where
   abbrev next : TableData
@@ -36,7 +35,7 @@ module _ (state : State) (table : List ℕ) (found : TableData) (rows : RowMap) 
 
 -- a table that is known is so after its rows were written, but for the key that no row had
 pub knows_written : (old new : Connection) (known : Option KnownData) (table : List ℕ) (rows : RowMap) → (HasCleanDisk new → HasCleanDisk old) → (HasCleanDisk old → IsSome (get (tables_in old.now) table))
-    → (HasCleanDisk new → tables_in new.now ≡ with_rows (tables_in old.now) table rows) → Knows old known → Knows new (forgotten known)
+    → (HasCleanDisk new → tables_in new.now ≡ with_rows (tables_in old.now) table rows) → Knows old known → Knows new (without_free_key known)
 knows_written old new None table rows was declared wrote knows clean = tt
 knows_written old new (Some k) table rows was declared wrote knows clean = at (get (tables_in old.now) table) refl (declared (was clean))
   where

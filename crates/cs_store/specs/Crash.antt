@@ -1,5 +1,4 @@
 -- What a crash may leave of a call that commits.
-use Rattle.std.specs.Prelude.{◌≡◌}
 use Rattle.sqlite_schema.specs.declared.schema.Schema.{Schema}
 use Rattle.sqlite_trees.specs.Tree.{Trees}
 use Rattle.cs_value.specs.State.{State}

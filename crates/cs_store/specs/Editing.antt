@@ -4,6 +4,7 @@ use Rattle.std.specs.Prelude.{◌∷◌, length, map, Option, Some, None, is_som
 use Rattle.std.specs.declared.string.String.{String}
 use Rattle.std.specs.declared.alloc.Global.{Global}
 use Rattle.std.specs.FinMap as map
+use Rattle.std.specs.Rc.{rc_str_bytes}
 use Rattle.cs_value.specs.declared.value.OwnedValue.{OwnedValue}
 use Rattle.cs_value.specs.declared.value.OwnedValue.TheVariants.{Null}
 use Rattle.cs_value.specs.Table.{IsName}
@@ -38,7 +39,7 @@ Declares state name schema (Err _) = ⊥
 -- ---- editing
 
 abbrev pub written_of : Written → WrittenData
-written_of w = record { table = string_bytes w.table; key = w.key; former = w.former }
+written_of w = record { table = rc_str_bytes w.table; key = w.key; former = w.former }
 
 pub record Edited : Type 0 where
   pub state : State

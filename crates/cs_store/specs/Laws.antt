@@ -3,7 +3,7 @@ use Rattle.std.proofs.Common.{◌≡◌, inl, refl, sym, subst, IsTrue, ◌∙�
 use Rattle.sqlite_trees.specs.Tree.{Trees}
 use Rattle.sqlite.specs.State.{State, HasCleanDisk, Survives}
 use Rattle.sqlite.proofs.StateLemmas.{survives_then}
-use Rattle.cs_store.specs.Records.{KeepsContent, KeepsCrash}
+use Rattle.cs_store.specs.Records.{KeepsContent}
 use Rattle.cs_store.specs.Store.{KeepsStore}
 
 -- an honest disk was honest before

@@ -55,23 +55,23 @@ IsSound s = HasCleanDisk s → IsStore s
 abbrev pub KnownData : Type 0
 KnownData = List ℕ × tables.SchemaData × Option (List ℕ)
 
--- it is so
+-- in this state the table has that schema, and no row under the key, where there is one
 pub record IsKnown (held : tables.State) (known : KnownData) : Type 0 where
   pub schema : tables.schema_at held known.0 ≡ Some known.1
   pub free : IfSome known.2 (λ key. tables.row_at held known.0 key ≡ None)
 
--- it is so, if the disk has returned what was written
+-- what is known is so of the tables that are shown, if the disk has returned what was written
 abbrev pub Knows : State → Option KnownData → Type 0
 Knows s known = HasCleanDisk s → IfSome known (IsKnown (tables_in s.now))
 
--- the key is the one that no row of this table has
+-- the table that is known has this name, and this key is known as one that no row of it has
 abbrev pub IsFreeKey : Option KnownData → List ℕ → List ℕ → Type 0
 IsFreeKey None name key = ⊥
 IsFreeKey (Some known) name key = (known.0 ≡ name) × (known.2 ≡ Some key)
 
--- what is known but for the key
-abbrev pub forgotten : Option KnownData → Option KnownData
-forgotten known = option_map (λ t. (t.0, t.1, None)) known
+-- what is known, but no key that no row has
+abbrev pub without_free_key : Option KnownData → Option KnownData
+without_free_key known = option_map (λ t. (t.0, t.1, None)) known
 
 -- what a call that commits nothing keeps: what a crash leaves, what was committed last, and that this is a store;
 -- outside a transaction, where what is shown was committed, all that is shown

@@ -1,5 +1,6 @@
 //! The edits of rows, and what they write.
 use cs_value::{Key, Row};
+use std::rc::RcStr;
 
 /// An edit of one row of a table.
 #[derive(Debug, Drop)]
@@ -15,7 +16,8 @@ pub enum Edit {
 /// A key that was written, and the row that stood under it before.
 #[derive(Debug, Drop)]
 pub struct Written {
-    pub table: String,
+    /// The table's name, which is shared by what one call tells of the table.
+    pub table: RcStr,
     pub key: Key,
     pub former: Option<Row>,
 }

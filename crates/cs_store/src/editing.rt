@@ -1,6 +1,7 @@
 //! Edits of rows, through whatever holds them.
 ghost use Rattle.std.specs.Prelude.{◌≡◌, ◌⊎◌, [], ◌∷◌, Some, None, Ok};
 ghost use Rattle.std.specs.Prelude.{Err, map, string_bytes, IfOk, IfErr, IsSome, OnOk};
+ghost use Rattle.std.specs.Rc.{rc_str_bytes};
 ghost use Rattle.cs_value.specs.Value.{IsRow};
 ghost use Rattle.cs_value.specs.Table.{IsKeyedRow};
 ghost use Rattle.cs_value.specs.State.{IsRowAt, schema_at, row_at, with_row, without_row};
@@ -16,6 +17,7 @@ use crate::rows::Rows;
 use crate::schema::Schema;
 use cs_value::{Key, Row};
 use std::alloc::Global;
+use std::rc::RcStr;
 
 /// Carries out an edit, and tells the keys that it wrote, with the rows that stood there before.
 ///
@@ -117,12 +119,13 @@ fn key_for(alloc: Global, schema: &Schema, row: &Row) -> Result<Key, StoreError>
 }
 
 /// What is told of a key that is written.
-fn note(alloc: Global, table: &str, key: &Key, former: Option<Row>) -> Result<Written, StoreError>
-    ensures noted { IfOk result (λ w. written_of w ≡ record { table = table.now; key = key.now; former = former }) }
+fn note(alloc: Global, table: RcStr, key: &Key, former: Option<Row>) -> Result<Written, StoreError>
+    ensures noted { IfOk result (λ w. written_of w
+        ≡ record { table = rc_str_bytes table; key = key.now; former = former }) }
     ensures refused { IfErr result IsResource }
 {
     Ok(Written {
-        table: String::from_str(alloc, table)?,
+        table,
         key: key.copy(alloc)?,
         former,
     })
@@ -139,8 +142,29 @@ fn note_one(
         ≡ record { table = table.now; key = key.now; former = former } ∷ []) }
     ensures refused { IfErr result IsResource }
 {
+    let table = RcStr::from_str(alloc, table)?;
     let mut written = Vec::new(alloc);
     written.push(note(alloc, table, key, former)?)?;
+    Ok(written)
+}
+
+/// What is told where a row gets another key.
+fn note_move(
+    alloc: Global,
+    table: &str,
+    key: &Key,
+    former: Row,
+    next: &Key,
+) -> Result<Vec<Written>, StoreError>
+    ensures noted { IfOk result (λ w. map written_of w.items
+        ≡ record { table = table.now; key = key.now; former = Some former }
+        ∷ record { table = table.now; key = next.now; former = None } ∷ []) }
+    ensures refused { IfErr result IsResource }
+{
+    let table = RcStr::from_str(alloc, table)?;
+    let mut written = Vec::new(alloc);
+    written.push(note(alloc, table.clone()?, key, Some(former))?)?;
+    written.push(note(alloc, table, next, None)?)?;
     Ok(written)
 }
 
@@ -213,8 +237,7 @@ fn move_row<B: Rows>(
     ensures kept { B.keeps rows.old rows.new }
 {
     check_vacant(alloc, rows, table, next)?;
-    let mut written = note_one(alloc, table, key, Some(former))?;
-    written.push(note(alloc, table, next, None)?)?;
+    let written = note_move(alloc, table, key, former, next)?;
     rows.remove(alloc, table, key)?;
     rows.put(alloc, table, next, row)?;
     Ok(written)

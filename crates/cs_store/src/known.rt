@@ -8,7 +8,7 @@ ghost use Rattle.cs_value.specs.State.{schema_at, row_at, rows_at, with_row, wit
 ghost use Rattle.cs_store.specs.declared.fault.StoreError.TheVariants.{TableExists as TakenName};
 ghost use Rattle.cs_store.specs.Faults.{IsResource, IsReadRefusal};
 ghost use Rattle.cs_store.specs.Rows.{IsDeclared, Fits};
-ghost use Rattle.cs_store.specs.Store.{AddsTable, IsSound, KeepsStore, Knows, IsFreeKey, RefusesShut, forgotten, tables_in};
+ghost use Rattle.cs_store.specs.Store.{AddsTable, IsSound, KeepsStore, Knows, IsFreeKey, RefusesShut, tables_in, without_free_key};
 ghost use Rattle.sqlite.specs.State.{HasCleanDisk};
 ghost use Rattle.sqlite.specs.Held.{state};
 
@@ -93,11 +93,11 @@ pub(crate) fn find_row<S: Alter>(
     look_up(conn, known, alloc, name)?;
     match known {
         Some(table) => match tables::find_row(conn, alloc, name, &table.schema, key) {
-            Ok(Some(row)) => Ok(Some(row)),
-            Ok(None) => {
+            Ok(None) if !conn.is_autocommit() => {
                 table.free = Some(key.copy(alloc)?);
                 Ok(None)
             }
+            Ok(found) => Ok(found),
             Err(error) => {
                 *known = None;
                 Err(error)
@@ -314,8 +314,8 @@ fn is_free(known: &Option<KnownTable>, name: &str, key: &Key) -> bool
     ensures { IsTrue result → IsFreeKey known.now name.now key.now }
 {
     match known {
-        Some(table) => table.name.as_str() == name && has_free(table, key),
-        None => false,
+        Some(table) if has_name(known, name) => has_free(table, key),
+        _ => false,
     }
 }
 
@@ -331,7 +331,7 @@ fn has_free(table: &KnownTable, key: &Key) -> bool
 
 /// Forgets which key no row has.
 fn forget_key(known: &mut Option<KnownTable>)
-    ensures { known.new ≡ forgotten known.old }
+    ensures { known.new ≡ without_free_key known.old }
 {
     if let Some(table) = known {
         table.free = None;

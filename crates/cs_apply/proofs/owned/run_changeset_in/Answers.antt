@@ -12,8 +12,8 @@ pub loop-group-init : goal.loop-group-init
 loop-group-init g c = (
   c.requires,
   g.B.Rows.keeps_itself _,
-  c.new-run.ensures.tables,
-  λ honest. (honest, rw (directed_none c.args.direction) (behind_start (FnReturnsAt g.H.Fn c.args.handler.now) (g.B.Rows.state c.args.rows.now) c.new-run.result c.new-run.ensures)),
+  c.in_ok-run.ensures.tables,
+  λ honest. (honest, rw (directed_none c.args.direction) (behind_start (FnReturnsAt g.H.Fn c.args.handler.now) (g.B.Rows.state c.args.rows.now) c.in_ok-run.run' c.in_ok-run.ensures)),
 )
 
 pub loop-group-preserved : goal.loop-group-preserved

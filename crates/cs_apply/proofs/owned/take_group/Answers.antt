@@ -1,6 +1,7 @@
 -- `owned::take_group`: the invariant of the loop at `entry`, what `take_entry` asks for, the clauses `behind` and `kept`.
 use Rattle.std.proofs.Common.{◌≡◌, ◌<◌, [], List, ℕ, length, take, get_or, refl, sym, ap, ap₂, ◌∙◌}
 use Rattle.std.specs.Fn.{FnReturnsAt}
+use Rattle.std.specs.Rc.{rc_str_bytes}
 use Rattle.std.proofs.lemmas.List.{take_all}
 use Rattle.cs_wire.specs.declared.entry.Entry.{Entry}
 use Rattle.cs_wire.specs.Changeset.{HeaderData}
@@ -60,7 +61,7 @@ loop-entry-preserved g c =
       λ honest.
           let was = so.3 (c.take_entry.ensures.was_honest honest) in (
             was.0,
-            ap (λ t. t.now) c.take_entry.ensures.table.0 ∙ was.1,
+            ap (λ t. rc_str_bytes t) c.take_entry.ensures.table.0 ∙ was.1,
             c.take_entry.ensures.table.1 ∙ was.2 ∙ sym (judged_same (g.B.Rows.state c.loop-entry.rows) (g.B.Rows.state c.take_entry.new.rows) (c.in_ok-take_entry.ensures.schemas honest) (group_of h []) (group_of h []) refl),
             (λ before closed names start.
                 let new = entry_new c.args.direction closed group j e entries.well_formed within is names in

@@ -2,6 +2,7 @@
 use Rattle.std.proofs.Common.{◌≡◌, ◌≢◌, ◌+◌, ◌++◌, ◌∷◌, [], List, take}
 use Rattle.std.specs.List.{AllByRecursion}
 use Rattle.std.specs.Fn.{FnReturnsAt}
+use Rattle.std.specs.Rc.{rc_str_bytes}
 use Rattle.cs_value.specs.State.{State}
 use Rattle.cs_wire.specs.Changeset.{GroupData}
 use Rattle.cs_group.specs.Judging.{judged}
@@ -13,6 +14,6 @@ abbrev pub invariant-loop-entry : goal.invariant-loop-entry
 invariant-loop-entry g l =
     let rows = g.B.Rows in
     goal.H-IsAlwaysCallable g l.handler × rows.keeps l.fn.rows l.rows × (l.run.tables ≡ l.fn.run.tables + 1)
-    × (rows.is_honest l.rows → rows.is_honest l.fn.rows × (l.run.table.now ≡ l.group.header.name) × (l.run.judgement ≡ judged (rows.state l.rows) (group_of l.group.header []))
+    × (rows.is_honest l.rows → rows.is_honest l.fn.rows × (rc_str_bytes l.run.table ≡ l.group.header.name) × (l.run.judgement ≡ judged (rows.state l.rows) (group_of l.group.header []))
     × ((before : State) (closed : List GroupData) → AllByRecursion (λ k. k.header.name ≢ l.group.header.name) closed → IsBehind (FnReturnsAt g.H.Fn l.handler) before closed l.fn.run (rows.state l.fn.rows)
     → IsBehind (FnReturnsAt g.H.Fn l.handler) before (closed ++ group_of l.group.header (directed_entries l.direction l.group.header.flags (take l.entry-index l.group.entries)) ∷ []) l.run (rows.state l.rows)))

@@ -12,13 +12,13 @@ items-init g c =
       c.requires,
       g.B.Rows.keeps_itself _,
       rw start refl,
-      rw (start, c.new-run.ensures.tables) (omega arith),
+      rw (start, c.in_ok-run.ensures.tables) (omega arith),
       rw start (omega arith),
-      rw start (front_start (FnReturnsAt g.H.Fn c.args.handler.now) c.args.direction c.args.file.now c.new-run.result (g.B.Rows.is_honest c.args.rows.now) (g.B.Rows.state c.args.rows.now) c.new-cursor.ensures.begins c.new-run.ensures),
+      rw start (front_start (FnReturnsAt g.H.Fn c.args.handler.now) c.args.direction c.args.file.now c.in_ok-run.run' (g.B.Rows.is_honest c.args.rows.now) (g.B.Rows.state c.args.rows.now) c.new-cursor.ensures.begins c.in_ok-run.ensures),
     )
 
-pub items-preserved-in-Continue-branch-3 : goal.items-preserved-in-Continue-branch-3
-items-preserved-in-Continue-branch-3 g c =
+pub items-preserved-in-Continue-branch-4 : goal.items-preserved-in-Continue-branch-4
+items-preserved-in-Continue-branch-4 g c =
     let so = c.items.invariant in
     let handed = rw (c.in-Some.is, c.in-Table.is) at c.in_ok-item.ensures.item so.5.groups so.5.begins in
     let forward = rw c.in-Some.is at c.in_ok-item.ensures.forward in (

@@ -1,5 +1,5 @@
 -- `adoption::adopt`: the clause `refused`.
-use Rattle.std.proofs.Common.{◌≡◌, Err, subst}
+use Rattle.std.proofs.Common.{Err}
 use Rattle.sqlite.specs.Held.{state}
 use Rattle.cs_store.specs.Laws.{was_clean}
 use Rattle.cs_store.proofs.AdoptionLemmas.{same_damage}

@@ -1,9 +1,9 @@
 -- `adoption::check_numbered`: what `write_version` asks for, the clauses `set_up` and `refused`.
-use Rattle.std.proofs.Common.{◌≡◌, ◌≢◌, ◌==◌, [], List, inl, ap, sym, subst, ◌∙◌, rules}
+use Rattle.std.proofs.Common.{◌≡◌, ◌≢◌, ◌==◌, [], ap, sym, subst, ◌∙◌, rules}
 use Rattle.sqlite.specs.Held.{state}
 use Rattle.sqlite.specs.Effect.{Database}
 use Rattle.cs_store.specs.Laws.{was_clean}
-use Rattle.cs_store.specs.Records.{RecordData, HoldsRecords, ListsAll, records_in}
+use Rattle.cs_store.specs.Records.{HoldsRecords, records_in}
 use Rattle.cs_store.specs.Valid.{AreValid}
 use Rattle.cs_store.proofs.WriteLemmas.{on_ok_both}
 use Rattle.cs_store.proofs.ReadLemmas.{no_elements}

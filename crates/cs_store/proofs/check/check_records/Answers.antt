@@ -1,6 +1,5 @@
 -- `check::check_records`: the clauses `refused` and `valid`.
-use Rattle.std.proofs.Common.{inl, inr, Ok, Err}
-use Rattle.cs_store.specs.Valid.{AreValid, IsGoodRow}
+use Rattle.std.proofs.Common.{inl, inr}
 use Rattle.cs_store.proofs.CheckLemmas.{refused_rows, valid_tables, checked_all}
 use Rattle.cs_store.proofs.check.check_records.Goals as goal
 

@@ -1,8 +1,4 @@
 -- `check::read_schemas`: the invariant of the loop at `record`.
-use Rattle.std.proofs.Common.{List, ap, sym, subst, ◌∙◌, ◌++◌, ◌∷◌, [], take, arith}
-use Rattle.std.proofs.lemmas.List.{take_more}
-use Rattle.cs_store.specs.Records.{RecordData}
-use Rattle.cs_store.specs.Valid.{AreDeclared}
 use Rattle.cs_store.proofs.CheckLemmas.{declared_none}
 use Rattle.cs_store.proofs.check.read_schemas.Goals as goal
 

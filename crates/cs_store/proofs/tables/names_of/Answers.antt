@@ -1,5 +1,5 @@
 -- `tables::names_of`: the clause `refused`.
-use Rattle.std.proofs.Common.{◌≡◌, ◌<◌, map, length, inl, inr, get_or, sym, ap, subst, ◌∙◌, [], arith}
+use Rattle.std.proofs.Common.{◌≡◌, ◌<◌, map, length, inl, inr, get_or, sym, ap, ◌∙◌, [], arith}
 use Rattle.std.proofs.lemmas.List.{get_or_read, length-map, get_or-map}
 use Rattle.sqlite_rules.proofs.ListLemmas.{all_has, has_at}
 use Rattle.cs_value.specs.Table.{IsName}

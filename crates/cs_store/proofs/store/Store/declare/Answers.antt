@@ -1,5 +1,5 @@
 -- `store::Store::declare`: the clauses `refused`, `kept`, `declared` and `survives`.
-use Rattle.std.proofs.Common.{◌≡◌, Ok, OnErr, sym, subst, ◌∙◌, rules}
+use Rattle.std.proofs.Common.{◌≡◌, Ok, subst, ◌∙◌, rules}
 use Rattle.std.proofs.lemmas.Result.{err_from_is_err_and}
 use Rattle.cs_value.specs.Table.{IsName}
 use Rattle.cs_value.specs.State.{SchemaData, IsSchema}
@@ -8,7 +8,7 @@ use Rattle.cs_store.specs.Store.{AddsTable, tables_in}
 use Rattle.cs_store.proofs.CrashLemmas.{made_survives}
 use Rattle.cs_store.proofs.DeclareLemmas.{added_declares, committed_declares, taken_declares}
 use Rattle.cs_store.proofs.WriteLemmas.{on_err_then}
-use Rattle.sqlite.specs.Held.{state, Held}
+use Rattle.sqlite.specs.Held.{state}
 use Rattle.sqlite.specs.State.{HasCleanDisk}
 use Rattle.cs_store.specs.Laws.{was_clean}
 use Rattle.cs_store.specs.Records.{KeepsContent}

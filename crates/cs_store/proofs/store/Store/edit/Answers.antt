@@ -1,7 +1,7 @@
 -- `store::Store::edit`: the clauses `kept` and `survives`.
-use Rattle.std.proofs.Common.{◌≡◌, OnErr, sym, subst, rules}
+use Rattle.std.proofs.Common.{◌≡◌, rules}
 use Rattle.std.specs.Prelude.{map}
-use Rattle.sqlite.specs.Held.{state, Held}
+use Rattle.sqlite.specs.Held.{state}
 use Rattle.cs_store.specs.Editing.{EditsInto, written_of}
 use Rattle.sqlite.specs.State.{HasCleanDisk}
 use Rattle.cs_store.specs.Laws.{was_clean}
