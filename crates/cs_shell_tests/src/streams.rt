@@ -116,12 +116,6 @@ SELECT * FROM t;
 .hex c
 ";
 
-/// What its first eight lines print.
-const FIRST_ANSWERS: &[u8] = b"conflict 3 conflict replace 't'
-applied 1
-error 41 Abort conflict 't'
-";
-
 /// What it prints.
 const ANSWERS: &[u8] = b"conflict 3 conflict replace 't'
 applied 1
@@ -134,21 +128,48 @@ applied 2
 
 ";
 
+/// How many bytes of that are printed behind each line.
+const ENDS: [usize; 14] = [0, 0, 0, 0, 0, 0, 42, 70, 88, 100, 110, 116, 116, 117];
+
 #[test]
-fn answers_lines_until_a_stream_fails(rt: HostRuntime) {
-    for (reads, printed, fails, status) in [
-        (5, ANSWERS, false, Status::LinesRefused),
-        // The fourth read, behind 240 bytes, would have the line feed of the ninth line.
-        (3, FIRST_ANSWERS, false, Status::InputFault),
-        (5, FIRST_ANSWERS, false, Status::OutputFault),
-        (5, FIRST_ANSWERS, true, Status::OutputFault),
-    ] {
+fn answers_lines_until_a_read_fails(rt: HostRuntime) {
+    let mut ends = ENDS.iter();
+    let mut end = 0;
+    for (reads, byte) in LINES.iter().enumerate() {
         let script = Script {
             bytes: LINES,
-            step: 80,
+            step: 1,
             reads,
         };
-        expect_run(&rt, script, narrow_writer(printed, fails), status);
+        let printed = ANSWERS.get(..end).expect(&rt, "bytes that are printed");
+        expect_run(
+            &rt,
+            script,
+            narrow_writer(printed, false),
+            Status::InputFault,
+        );
+        if *byte == b'\n' {
+            end = *ends.next().expect(&rt, "an end for each line");
+        }
+    }
+}
+
+#[test]
+fn answers_lines_until_a_write_fails(rt: HostRuntime) {
+    for end in 0..=ANSWERS.len() {
+        let printed = ANSWERS.get(..end).expect(&rt, "bytes that are printed");
+        let status = match end < ANSWERS.len() {
+            true => Status::OutputFault,
+            false => Status::LinesRefused,
+        };
+        for fails in [true, false] {
+            let script = Script {
+                bytes: LINES,
+                step: 4096,
+                reads: 2,
+            };
+            expect_run(&rt, script, narrow_writer(printed, fails), status);
+        }
     }
 }
 
