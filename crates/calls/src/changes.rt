@@ -1,0 +1,103 @@
+//! Calls on changesets.
+
+use cs_group::{ConcatFault, Merged, concat, invert, merge};
+use cs_value::{NoMemory, OwnedValue, Row};
+use cs_wire::{Change, Changeset, Cursor, Entry, Item, ReadError, read, write};
+use std::alloc::Global;
+
+/// The INSERTs of ('k', 'x') and ('l', 'y') into the table t, whose first column is its key, and that of 'b' into u.
+const INSERTS: &[u8] =
+    b"T\x02\x01\x00t\x00\x12\x00\x03\x01k\x03\x01x\x12\x00\x03\x01l\x03\x01yT\x01\x01u\x00\x12\x00\x03\x01b";
+
+/// The UPDATE of that 'x' to 'z', and the INSERT of ('m', NULL).
+const UPDATE: &[u8] =
+    b"T\x02\x01\x00t\x00\x17\x00\x03\x01k\x03\x01x\x00\x03\x01z\x12\x00\x03\x01m\x05";
+
+/// Reads a file, and tells how many bytes it is written with.
+pub(crate) fn write_read(alloc: Global) -> Result<usize, ReadError> {
+    let changeset = read(alloc, INSERTS)?;
+    Ok(write(alloc, &changeset)?.len())
+}
+
+/// Goes through the first items of a file, copies each, and tells how many bytes names and keys have.
+pub(crate) fn go_through(alloc: Global) -> Result<usize, ReadError> {
+    let mut cursor = Cursor::new(alloc, INSERTS);
+    let mut bytes = 0usize;
+    for _ in 0..4 {
+        match cursor.next()? {
+            Some(Item::Table(header)) => {
+                let header = header.to_header(alloc)?;
+                bytes = bytes.saturating_add(header.name().len());
+            }
+            Some(Item::Entry(entry)) => {
+                let _copy = entry.to_entry(alloc)?;
+                bytes = bytes.saturating_add(entry.key(alloc)?.bytes().len());
+            }
+            None => {}
+        }
+    }
+    Ok(bytes)
+}
+
+/// Copies the groups of a changeset, and tells how many bytes the copy is written with.
+pub(crate) fn copy_groups(alloc: Global) -> Result<usize, ReadError> {
+    let mut copies = Changeset::new(alloc);
+    for group in read(alloc, INSERTS)?.groups() {
+        if copies.find(group.header().name()).is_none() {
+            copies.push(group.copy(alloc)?)?;
+        }
+    }
+    Ok(write(alloc, &copies)?.len())
+}
+
+/// Adds the entries of a file to the groups of another which they fit, and tells how many entries these have.
+pub(crate) fn add_entry(alloc: Global) -> Result<usize, ReadError> {
+    let entry = Entry {
+        indirect: false,
+        change: Change::Insert(Row::new(vec![in alloc; OwnedValue::Int(1)]?)),
+    };
+    let mut count = 0usize;
+    for mut group in read(alloc, INSERTS)?.into_groups() {
+        if group.header().admits(&entry) {
+            let key = group.key_of(alloc, &entry)?;
+            if group.find(&key).is_none() {
+                group.push_with_key(key, entry.copy(alloc)?)?;
+            }
+        }
+        count = count.saturating_add(group.entries().len());
+    }
+    Ok(count)
+}
+
+/// Inverts a changeset, and tells how many bytes the inverse is written with.
+pub(crate) fn invert_read(alloc: Global) -> Result<usize, ReadError> {
+    let inverse = invert(alloc, read(alloc, UPDATE)?)?;
+    Ok(write(alloc, &inverse)?.len())
+}
+
+/// Joins two changesets, and tells how many bytes the join is written with.
+pub(crate) fn join_read(alloc: Global) -> Result<usize, ReadError> {
+    let (first, second) = (read(alloc, INSERTS)?, read(alloc, UPDATE)?);
+    match concat(alloc, &first, &second) {
+        Ok(both) => Ok(write(alloc, &both)?.len()),
+        Err(ConcatFault::Fault(_)) => Ok(0),
+        Err(ConcatFault::NoMemory) => Err(ReadError::NoMemory),
+    }
+}
+
+/// Merges the INSERT of a row and its DELETE, and tells whether nothing is left.
+pub(crate) fn merge_two(alloc: Global) -> Result<usize, NoMemory> {
+    let row = Row::new(vec![in alloc; OwnedValue::Int(1)]?);
+    let first = Entry {
+        indirect: false,
+        change: Change::Insert(row.copy(alloc)?),
+    };
+    let second = Entry {
+        indirect: false,
+        change: Change::Delete(row),
+    };
+    match merge(alloc, &[1], &first, &second)? {
+        Merged::Vanish => Ok(1),
+        _ => Ok(0),
+    }
+}

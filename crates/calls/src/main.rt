@@ -1,0 +1,56 @@
+//! Calls of the libraries that no line of a script makes, for tests that refuse memory: each word names one, and they
+//! are made in turn. A line says what each answers, as a number, or that memory was refused.
+#![tactic(auto)]
+
+mod changes;
+mod rows;
+mod values;
+
+use crate::rows::TestRows;
+use cs_value::{Fault, NoMemory};
+use std::alloc::Global;
+use std::process::ExitCode;
+use std::{env, io};
+
+/// What is told of an answer: its number, or 1000 and the number of what it was refused with.
+pub(crate) fn told<E: Fault + Drop>(answer: Result<usize, E>) -> Result<usize, NoMemory> {
+    match answer {
+        Ok(number) => Ok(number),
+        Err(fault) if fault.code() == NoMemory.code() => Err(NoMemory),
+        Err(fault) => Ok(1000 + usize::from(fault.code())),
+    }
+}
+
+/// Makes the calls of a word.
+fn answer(alloc: Global, rows: &mut TestRows, word: &str) -> Result<usize, NoMemory> {
+    match word {
+        "row" => values::copy_row(alloc),
+        "image" => told(values::copy_image(alloc)),
+        "read" => told(changes::write_read(alloc)),
+        "cursor" => told(changes::go_through(alloc)),
+        "copy" => told(changes::copy_groups(alloc)),
+        "push" => told(changes::add_entry(alloc)),
+        "invert" => told(changes::invert_read(alloc)),
+        "concat" => told(changes::join_read(alloc)),
+        "merge" => changes::merge_two(alloc),
+        "declare" => told(rows.declare(alloc)),
+        "insert" => told(rows.insert(alloc)),
+        "update" => told(rows.update(alloc)),
+        "delete" => told(rows.delete(alloc)),
+        "apply" => told(rows.apply(alloc)),
+        "list" => told(rows.count(alloc)),
+        _ => Ok(0),
+    }
+}
+
+fn main(rt: HostRuntime) -> io::Result<ExitCode> {
+    let words: Vec<String> = env::args(&rt)?.collect(rt.alloc())?;
+    let mut rows = TestRows::new(rt.alloc());
+    for word in words.iter().skip(1) {
+        match answer(rt.alloc(), &mut rows, word.as_str()) {
+            Ok(number) => println!(rt; "{number}")?,
+            Err(refusal) => println!(rt; "{}", refusal.name())?,
+        }
+    }
+    Ok(ExitCode::SUCCESS)
+}

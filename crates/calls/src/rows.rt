@@ -1,0 +1,81 @@
+//! Calls on tables in memory.
+
+use cs_apply::{ApplyFault, Choice, Direction, run_in};
+use cs_store::{Edit, MemRows, Rows, StoreError, edit_in};
+use cs_value::{Key, NoMemory, OwnedValue, Row};
+use std::alloc::Global;
+
+/// The DELETE of the row (2, 1) of the table t, whose first column is its key, and the INSERT of (3, 'x').
+const CHANGES: &[u8] = b"T\x02\x01\x00t\x00\
+\x09\x00\x01\x00\x00\x00\x00\x00\x00\x00\x02\x01\x00\x00\x00\x00\x00\x00\x00\x01\
+\x12\x00\x01\x00\x00\x00\x00\x00\x00\x00\x03\x03\x01x";
+
+/// Tables in memory.
+#[derive(Drop)]
+pub(crate) struct TestRows {
+    rows: MemRows,
+}
+
+/// A row of two integers.
+fn row_of(alloc: Global, first: i64, second: i64) -> Result<Row, NoMemory> {
+    Ok(Row::new(vec![in alloc; OwnedValue::Int(first), OwnedValue::Int(second)]?))
+}
+
+impl TestRows {
+    /// No table.
+    pub(crate) fn new(alloc: Global) -> TestRows {
+        TestRows {
+            rows: MemRows::new(alloc),
+        }
+    }
+
+    /// Declares the table t.
+    pub(crate) fn declare(&mut self, alloc: Global) -> Result<usize, StoreError> {
+        let (first, second) = (String::from_str(alloc, "a")?, String::from_str(alloc, "b")?);
+        let columns = vec![in alloc; first, second]?;
+        self.rows.declare(alloc, "t", &columns, &[true, false])?;
+        Ok(0)
+    }
+
+    /// Carries out an edit, and tells how many keys were written.
+    fn edit(&mut self, alloc: Global, edit: &Edit) -> Result<usize, StoreError> {
+        Ok(edit_in(alloc, &mut self.rows, edit)?.len())
+    }
+
+    /// Inserts the row (1, 1).
+    pub(crate) fn insert(&mut self, alloc: Global) -> Result<usize, StoreError> {
+        let table = String::from_str(alloc, "t")?;
+        let row = row_of(alloc, 1, 1)?;
+        self.edit(alloc, &Edit::Insert { table, row })
+    }
+
+    /// Makes the row with the key 1 the row (2, 1).
+    pub(crate) fn update(&mut self, alloc: Global) -> Result<usize, StoreError> {
+        let table = String::from_str(alloc, "t")?;
+        let key = Key::of_row(alloc, &[1, 0], &row_of(alloc, 1, 1)?)?;
+        let row = row_of(alloc, 2, 1)?;
+        self.edit(alloc, &Edit::Update { table, key, row })
+    }
+
+    /// Removes the row with the key 3.
+    pub(crate) fn delete(&mut self, alloc: Global) -> Result<usize, StoreError> {
+        let table = String::from_str(alloc, "t")?;
+        let key = Key::of_row(alloc, &[1, 0], &row_of(alloc, 3, 0)?)?;
+        self.edit(alloc, &Edit::Delete { table, key })
+    }
+
+    /// Applies a file, with each row replaced that is in the way, and tells how many keys were written.
+    pub(crate) fn apply(&mut self, alloc: Global) -> Result<usize, ApplyFault> {
+        let handler = |_: &_| Choice::Omit;
+        let report = run_in(alloc, &mut self.rows, CHANGES, Direction::Forward, &handler)?;
+        Ok(report.written.len())
+    }
+
+    /// How many rows t has.
+    pub(crate) fn count(&mut self, alloc: Global) -> Result<usize, StoreError> {
+        match self.rows.schema(alloc, "t")? {
+            Some(_) => Ok(self.rows.list(alloc, "t")?.len()),
+            None => Ok(0),
+        }
+    }
+}

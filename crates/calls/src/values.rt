@@ -1,0 +1,24 @@
+//! Calls on rows and images.
+
+use cs_value::{ImageFault, Key, NoMemory, OwnedValue, Row, image_read, image_write, row_write};
+use std::alloc::Global;
+
+/// Copies a row, and its key, and tells how many bytes both are spelled with.
+pub(crate) fn copy_row(alloc: Global) -> Result<usize, NoMemory> {
+    let row = Row::new(vec![in alloc; OwnedValue::Int(1), OwnedValue::Null]?);
+    let copy = row.copy(alloc)?;
+    let key = Key::of_row(alloc, &[1, 0], &copy)?.copy(alloc)?;
+    let mut out = Vec::new(alloc);
+    row_write(&mut out, &copy)?;
+    Ok(out.len().saturating_add(key.bytes().len()))
+}
+
+/// Reads an image, copies it, and tells how many bytes it and its key are spelled with.
+pub(crate) fn copy_image(alloc: Global) -> Result<usize, ImageFault> {
+    let (image, _) = image_read(alloc, b"\x03\x01k\x04\x02xy", 2)?;
+    let copy = image.copy(alloc)?;
+    let key = Key::of_image(alloc, &[1, 0], &image)?;
+    let mut out = Vec::new(alloc);
+    image_write(&mut out, &copy)?;
+    Ok(out.len().saturating_add(key.bytes().len()))
+}
