@@ -25,11 +25,7 @@ is_there n entries key =
     ap (λ (o : Option (Option (List OwnedValue))). is_some o)
     (found_first key entries ∙ ap (λ (l : List FirstImage). first_at l key) (sym (take-append-drop n (map first_of entries))))
 
--- a key that is there stays
-pub noted_there : (all : List FirstImage) (key : List ℕ) (row : Option (List OwnedValue)) → is_some (first_at all key) ≡ true → all ≡ with_first all key row
-noted_there all key row found = rw found refl
-
--- one that is not comes behind
+-- a key that is not there comes behind
 insert_new : (key : List ℕ) (row : Option (List OwnedValue)) (entries : Entries) → is_some (lookup (pointwise nat_eq key) entries) ≡ false
     → insert_entry (pointwise nat_eq) entries key row ≡ entries ++ (key, row) ∷ []
 insert_new key row [] e = refl

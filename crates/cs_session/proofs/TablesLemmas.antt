@@ -1,9 +1,10 @@
 -- The tables of a session by their places, and what is noted in them, one write after another.
 use Rattle.std.proofs.Common.{◌≡◌, ◌≢◌, ◌⊎◌, ◌<◌, ℕ, zero, suc, Bool, true, false, cond, List, [], ◌∷◌, ◌++◌, length, get_or, set, drop, ◌+◌, map, refl, sym, ap, ◌∙◌, subst, arith}
-use Rattle.std.specs.Prelude.{IfSome, is_some, string_bytes, Option, Result, Ok, Err, OnOk, IfErr, All}
+use Rattle.std.specs.Prelude.{IfSome, is_some, Option, Result, Ok, Err, OnOk, IfErr, All}
 use Rattle.std.specs.List.{AllByRecursion}
+use Rattle.std.specs.Rc.{rc_str_bytes}
 use Rattle.std.specs.Cmp.Lexicographic.{bytes_decides, same_text}
-use Rattle.std.proofs.lemmas.List.{append-nil, append_assoc, drop_more, length-map, map-set}
+use Rattle.std.proofs.lemmas.List.{append-nil, append_assoc, drop_more, get_or_default, length-map, map-set}
 use Rattle.std.proofs.Math.Seq.{map-set_same}
 use Rattle.std.proofs.lemmas.List.Elements.{filter-append, All-from_recursion}
 use Rattle.cs_value.specs.declared.value.OwnedValue.{OwnedValue}
@@ -15,7 +16,7 @@ use Rattle.cs_session.specs.declared.fault.SessionFault.{SessionFault}
 use Rattle.cs_session.specs.declared.fault.SessionFault.TheVariants.{NoMemory as OutOfMemory}
 use Rattle.cs_session.specs.FirstImages.{FirstImage, AttachedTable, Notes, first_at, noted, writes_of, noted_in, recorded}
 use Rattle.cs_session.specs.Noting.{HasFormers, AreFormers, AreApart, Fits, IsDamage, with_write}
-use Rattle.cs_session.specs.Views.{attached_of, kept_of, name_in, IsPlace}
+use Rattle.cs_session.specs.Views.{attached_of, kept_of, name_in, IsNewAt, IsPlace}
 use Rattle.cs_session.proofs.NotesLemmas.{names_stay}
 use Rattle.cs_session.proofs.NotingLemmas.{still_fails}
 
@@ -210,7 +211,7 @@ module _ (tables : List Attached) (name : List ℕ) (place : ℕ) (found : IsPla
   within_notes : place < length notes_of
   within_notes = rw (length-map tables attached_of) found.0
 
-  pub item_named : string_bytes item.name ≡ name
+  pub item_named : rc_str_bytes item.name ≡ name
   item_named = ap name_in is ∙ found.1 item
 
   -- what is written over keeps the names, and what was kept
@@ -219,6 +220,11 @@ module _ (tables : List Attached) (name : List ℕ) (place : ℕ) (found : IsPla
 
   pub kept_stands : (new : Attached) → kept_of new ≡ kept_of item → map kept_of (set tables place new) ≡ map kept_of tables
   kept_stands new kept = map-set_same kept_of tables place new item (kept ∙ ap kept_of is)
+
+  -- a key that was not written in it is new there
+  pub new_at : (key : List ℕ) → is_some (first_at (attached_of item).firsts key) ≡ false → IsNewAt tables key place
+  new_at key absent t at_place =
+      subst (λ (u : Attached). is_some (first_at (attached_of u).firsts key) ≡ false) (is ∙ get_or_default tables place item t found.0 ∙ sym at_place) absent
 
   module _ (apart : AreApart notes_of) (key : List ℕ) (former : Option (List OwnedValue)) where
     abbrev write : WrittenData
@@ -229,6 +235,13 @@ module _ (tables : List Attached) (name : List ℕ) (place : ℕ) (found : IsPla
     place_noted (Ok x) new noted = map-set attached_of tables place new ∙ ap (set notes_of place) noted
         ∙ noted_at write notes_of place (attached_of item) (recursion_from_AllPairs Apart notes_of apart) within_notes stands item_named
     place_noted (Err e) new noted = tt
+
+    -- nothing more is noted where the key is there
+    pub place_there : is_some (first_at (attached_of item).firsts key) ≡ true → notes_of ≡ recorded notes_of (write ∷ [])
+    place_there there =
+        let same : with_write (attached_of item) key former ≡ attached_of item = rw there refl in
+        sym (map-set_same attached_of tables place item item (ap attached_of is)) ∙ map-set attached_of tables place item ∙ ap (set notes_of place) (sym same)
+        ∙ noted_at write notes_of place (attached_of item) (recursion_from_AllPairs Apart notes_of apart) within_notes stands item_named
 
     pub place_formers : {X E : Type 0} (r : Result X E) → OnOk r (Fits (attached_of item) key former) → OnOk r (AreFormers notes_of (write ∷ []))
     place_formers (Ok x) fits = formers_at write notes_of place (attached_of item) (recursion_from_AllPairs Apart notes_of apart) within_notes stands item_named fits

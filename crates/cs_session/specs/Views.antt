@@ -1,17 +1,18 @@
 -- What types of the code stand for.
-use Rattle.std.specs.Prelude.{◌≡◌, ◌≢◌, ℕ, List, [], ◌++◌, ◌<◌, length, get_or, string_bytes}
+use Rattle.std.specs.Prelude.{◌≡◌, ◌≢◌, ℕ, false, List, [], ◌++◌, ◌<◌, length, get_or, is_some}
 use Rattle.std.specs.List.{AllByRecursion}
+use Rattle.std.specs.Rc.{rc_str_bytes}
 use Rattle.cs_session.specs.declared.attached.Attached.{Attached}
-use Rattle.cs_session.specs.FirstImages.{AttachedTable}
+use Rattle.cs_session.specs.FirstImages.{AttachedTable, first_at}
 
 -- its name
 abbrev pub name_in : Attached → List ℕ
-name_in table = string_bytes table.name
+name_in table = rc_str_bytes table.name
 
 -- a table with all that is noted of it
 abbrev pub attached_of : Attached → AttachedTable
 attached_of table = record {
-  name = string_bytes table.name;
+  name = rc_str_bytes table.name;
   schema = table.schema;
   firsts = table.firsts.kept ++ table.firsts.pending;
 }
@@ -19,7 +20,7 @@ attached_of table = record {
 -- with what was noted at the last commit
 abbrev pub kept_of : Attached → AttachedTable
 kept_of table = record {
-  name = string_bytes table.name;
+  name = rc_str_bytes table.name;
   schema = table.schema;
   firsts = table.firsts.kept;
 }
@@ -31,6 +32,11 @@ IsSettled table = table.firsts.pending ≡ []
 -- a table with this name stands there
 abbrev pub IsPlace : List Attached → List ℕ → ℕ → Type 0
 IsPlace tables name place = (place < length tables) × ((d : Attached) → name_in (get_or tables place d) ≡ name)
+
+-- the key was not written in the table that stands there
+abbrev pub IsNewAt : List Attached → List ℕ → ℕ → Type 0
+IsNewAt tables key place =
+    (t : Attached) → t ≡ get_or tables place t → is_some (first_at (attached_of t).firsts key) ≡ false
 
 -- each table at another place than these is settled, and there is a table at each of these
 abbrev pub AreSettledBut : List ℕ → List Attached → Type 0

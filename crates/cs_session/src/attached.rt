@@ -1,7 +1,8 @@
 //! A table that is attached, and what is noted of it.
-ghost use Rattle.std.specs.Prelude.{◌≡◌, ◌<◌, ◌⊎◌, ◌==◌, ◌++◌, length, map, option_map, OnOk, IfErr};
+ghost use Rattle.std.specs.Prelude.{◌≡◌, ◌<◌, ◌⊎◌, ◌==◌, ◌++◌, length, map, option_map, is_some, false, OnOk, IfOk, IfErr};
 ghost use Rattle.std.specs.List.{AllByRecursion, list_all};
 ghost use Rattle.cs_session.specs.declared.fault.SessionFault.TheVariants.{NoMemory as OutOfMemory};
+ghost use Rattle.cs_session.specs.FirstImages.{first_at};
 ghost use Rattle.cs_session.specs.Noting.{Fits, IsDamage, with_write};
 ghost use Rattle.cs_session.specs.Views.{attached_of, kept_of, AreSettledBut, IsOpen, IsSettled};
 
@@ -11,11 +12,13 @@ use crate::first_images::FirstImages;
 use cs_store::Schema;
 use cs_value::{Key, NoMemory, Row};
 use std::alloc::Global;
+use std::rc::RcStr;
 
 /// A table that is attached.
 #[derive(Debug, Drop)]
 pub(crate) struct Attached {
-    pub(crate) name: String,
+    // It is shared with the names of all tables.
+    pub(crate) name: RcStr,
     pub(crate) schema: Schema,
     pub(crate) firsts: FirstImages,
 }
@@ -27,46 +30,36 @@ pub(crate) fn are_unwritten(tables: &[Attached]) -> bool
     tables.iter().all(|table| table.firsts.is_empty())
 }
 
-/// Notes a key that was written in a table, and the row that stood there.
+/// Whether a key that was written in a table is noted there already.
 ///
 /// Refuses with [`NoMemory`](SessionFault::NoMemory), and with
-/// [`DamagedStore`](cs_store::StoreError::DamagedStore) for a row that cannot have stood there. What was
-/// noted at the last commit stands then.
-pub(crate) fn note_write(
+/// [`DamagedStore`](cs_store::StoreError::DamagedStore) for a former row that cannot have stood there.
+pub(crate) fn is_noted(
     alloc: Global,
+    table: &Attached,
+    key: &Key,
+    former: Option<&Row>,
+) -> Result<bool, SessionFault>
+    ensures noted { IfOk result (λ yes. yes ≡ is_some (first_at (attached_of table.now).firsts key.now)) }
+    ensures fits { OnOk result (Fits (attached_of table.now) key.now (option_map (λ r. r.now) former.entry)) }
+    ensures refused { IfErr result (λ e. (e ≡ OutOfMemory)
+        ⊎ (IsDamage e × ¬ Fits (attached_of table.now) key.now (option_map (λ r. r.now) former.entry))) }
+{
+    check_row(alloc, table.schema.flags(), key, former)?;
+    Ok(table.firsts.has_key(key))
+}
+
+/// Notes a key that was not written in a table before, and the row that stood there. [`NoMemory`] changes nothing.
+pub(crate) fn note_write(
     table: &mut Attached,
     key: Key,
     former: Option<Row>,
-) -> Result<(), SessionFault>
+) -> Result<(), NoMemory>
+    requires { is_some (first_at (attached_of table.old).firsts key) ≡ false }
     ensures noted { OnOk result (attached_of table.new ≡ with_write (attached_of table.old) key former) }
-    ensures fits { OnOk result (Fits (attached_of table.old) key former) }
     ensures kept { kept_of table.new ≡ kept_of table.old }
-    ensures refused { IfErr result (λ e. (e ≡ OutOfMemory)
-        ⊎ (IsDamage e × ¬ Fits (attached_of table.old) key former)) }
 {
-    check_row(alloc, table.schema.flags(), &key, former.as_ref())?;
-    table.firsts.note(key, former)?;
-    Ok(())
-}
-
-/// Notes a copy of a key that was written in a table, and of the row that stood there, and refuses, as
-/// [`note_write`] does.
-pub(crate) fn note_write_copy(
-    alloc: Global,
-    table: &mut Attached,
-    key: &Key,
-    former: Option<&Row>,
-) -> Result<(), SessionFault>
-    ensures noted { OnOk result (attached_of table.new
-        ≡ with_write (attached_of table.old) key.now (option_map (λ r. r.now) former.entry)) }
-    ensures fits { OnOk result (Fits (attached_of table.old) key.now (option_map (λ r. r.now) former.entry)) }
-    ensures kept { kept_of table.new ≡ kept_of table.old }
-    ensures refused { IfErr result (λ e. (e ≡ OutOfMemory)
-        ⊎ (IsDamage e × ¬ Fits (attached_of table.old) key.now (option_map (λ r. r.now) former.entry))) }
-{
-    check_row(alloc, table.schema.flags(), key, former)?;
-    table.firsts.note_copy(alloc, key, former)?;
-    Ok(())
+    table.firsts.note(key, former)
 }
 
 /// What was noted since the last commit is committed, where it was noted in the tables at these places.

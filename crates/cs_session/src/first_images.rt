@@ -1,5 +1,5 @@
 //! The first images of a table: what stood under each key that was written, when it was written first.
-ghost use Rattle.std.specs.Prelude.{◌≡◌, ◌==◌, [], ◌++◌, length, option_map, is_some, IfOk, OnErr, OnOk};
+ghost use Rattle.std.specs.Prelude.{◌≡◌, ◌==◌, [], ◌++◌, length, is_some, false, OnErr, OnOk};
 ghost use Rattle.cs_session.specs.FirstImages.{first_at};
 ghost use Rattle.cs_session.specs.Images.{with_first};
 
@@ -62,44 +62,22 @@ impl FirstImages {
     }
 
     /// Whether the key was written.
-    fn has_key(&self, key: &Key) -> bool
+    pub(crate) fn has_key(&self, key: &Key) -> bool
         ensures { result ≡ is_some (first_at (self.now.kept ++ self.now.pending) key.now) }
     {
         self.firsts.contains_key(key)
     }
 
-    /// Notes a key that was written, unless it is there. [`NoMemory`] changes nothing.
+    /// Notes a key that was not written before. [`NoMemory`] changes nothing.
     pub(crate) fn note(&mut self, key: Key, row: Option<Row>) -> Result<(), NoMemory>
+        requires { is_some (first_at (self.old.kept ++ self.old.pending) key) ≡ false }
         ensures noted { OnOk result (self.new.kept ++ self.new.pending
             ≡ with_first (self.old.kept ++ self.old.pending) key row) }
         ensures kept { self.new.kept ≡ self.old.kept }
         ensures same { OnErr result (self.new ≡ self.old) }
     {
-        if self.has_key(&key) {
-            return Ok(());
-        }
         self.firsts.insert(key, row)?;
         Ok(())
-    }
-
-    /// Notes a copy of a key that was written, and of its row, unless the key is there. [`NoMemory`]
-    /// changes nothing.
-    pub(crate) fn note_copy(
-        &mut self,
-        alloc: Global,
-        key: &Key,
-        row: Option<&Row>,
-    ) -> Result<(), NoMemory>
-        ensures noted { OnOk result (self.new.kept ++ self.new.pending
-            ≡ with_first (self.old.kept ++ self.old.pending) key.now (option_map (λ r. r.now) row.entry)) }
-        ensures kept { self.new.kept ≡ self.old.kept }
-        ensures same { OnErr result (self.new ≡ self.old) }
-    {
-        if self.has_key(key) {
-            return Ok(());
-        }
-        let row = copy_of(alloc, row)?;
-        self.note(key.copy(alloc)?, row)
     }
 
     /// The keys that were noted since the last commit are committed.
@@ -114,15 +92,5 @@ impl FirstImages {
         ensures { self.new ≡ record { kept = self.old.kept; pending = [] } }
     {
         self.firsts.truncate(self.kept);
-    }
-}
-
-/// A copy of a row, if there is one.
-fn copy_of(alloc: Global, row: Option<&Row>) -> Result<Option<Row>, NoMemory>
-    ensures { IfOk result (λ copy. copy ≡ option_map (λ r. r.now) row.entry) }
-{
-    match row {
-        None => Ok(None),
-        Some(row) => Ok(Some(row.copy(alloc)?)),
     }
 }

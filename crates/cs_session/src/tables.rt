@@ -1,34 +1,37 @@
 //! The tables that are attached to a session, each found by its name.
-ghost use Rattle.std.specs.Prelude.{◌≡◌, ◌⊎◌, [], ◌∷◌, ◌++◌, map, IfSome, IfNone, OnOk, OnErr, IfErr};
+ghost use Rattle.std.specs.Prelude.{◌≡◌, ◌⊎◌, [], ◌∷◌, ◌++◌, map, option_map, IfSome, IfNone, IfOk, OnOk, OnErr, IfErr};
 ghost use Rattle.std.specs.List.{AllByRecursion};
+ghost use Rattle.std.specs.Rc.{rc_str_bytes};
 ghost use Rattle.cs_store.specs.Editing.{written_of};
 ghost use Rattle.cs_session.specs.declared.fault.SessionFault.TheVariants.{NoMemory as OutOfMemory};
 ghost use Rattle.cs_session.specs.Attaching.{IsNewTable};
 ghost use Rattle.cs_session.specs.FirstImages.{AttachedTable, recorded};
 ghost use Rattle.cs_session.specs.Noting.{AreFormers, AreApart, IsDamage};
-ghost use Rattle.cs_session.specs.Views.{attached_of, kept_of, IsPlace, IsSettled};
+ghost use Rattle.cs_session.specs.Views.{attached_of, kept_of, IsNewAt, IsPlace, IsSettled};
 
-use crate::attached::{Attached, cut_back_at, keep_at, note_write, note_write_copy, open_at};
+use crate::attached::{Attached, cut_back_at, is_noted, keep_at, note_write, open_at};
 use crate::fault::SessionFault;
 use crate::first_images::FirstImages;
 use cs_store::{Schema, Written};
-use cs_value::NoMemory;
+use cs_value::{NoMemory, Row};
 use indexmap::IndexSet;
 use std::alloc::Global;
 use std::marker::Model;
+use std::rc::RcStr;
 
 /// The tables that are attached, in the order in which they were attached.
 #[derive(Debug, Drop)]
 pub(crate) struct Tables {
     tables: Vec<Attached>,
     // The name of each, at its place.
-    names: IndexSet<String>,
+    names: IndexSet<RcStr>,
     // The places of those in which something may be noted since the last commit.
     noted: Vec<usize>,
 }
 
 impl Model for Tables {
-    ghost use Rattle.std.specs.Prelude.{◌≡◌, List, map, string_bytes};
+    ghost use Rattle.std.specs.Prelude.{◌≡◌, List, map};
+    ghost use Rattle.std.specs.Rc.{rc_str_bytes};
     ghost use Rattle.cs_session.specs.declared.attached.Attached.{Attached};
     ghost use Rattle.cs_session.specs.Views.{name_in, AreSettledBut};
 
@@ -36,7 +39,7 @@ impl Model for Tables {
 
     ghost view = { λ t. t.tables.items };
 
-    ghost invariant = { λ t. (map string_bytes t.names.keys ≡ map name_in t.tables.items)
+    ghost invariant = { λ t. (map rc_str_bytes t.names.keys ≡ map name_in t.tables.items)
         × AreSettledBut t.noted.items t.tables.items };
 }
 
@@ -75,8 +78,8 @@ impl Tables {
         ensures settled { AllByRecursion IsSettled self.old → AllByRecursion IsSettled self.new }
         ensures same { OnErr result (self.new ≡ self.old) }
     {
-        let key = String::from_str(alloc, name)?;
-        let name = String::from_str(alloc, name)?;
+        let name = RcStr::from_str(alloc, name)?;
+        let key = name.clone()?;
         let firsts = FirstImages::new(alloc);
         self.tables.reserve(1)?;
         self.names.insert(key)?;
@@ -107,7 +110,10 @@ impl Tables {
             ⊎ (IsDamage e × ¬ AreFormers (map attached_of self.old) (map written_of written.items))) }
     {
         for one in written {
-            self.note(alloc, one)?;
+            let Some(place) = self.place_for(alloc, &one)? else {
+                continue;
+            };
+            self.note_at(place, one)?;
         }
         Ok(())
     }
@@ -128,49 +134,47 @@ impl Tables {
             ⊎ (IsDamage e × ¬ AreFormers (map attached_of self.old) (map written_of written.now))) }
     {
         for one in written {
-            self.note_copy(alloc, one)?;
+            let Some(place) = self.place_for(alloc, one)? else {
+                continue;
+            };
+            self.note_at(place, copy_of(alloc, one)?)?;
         }
         Ok(())
     }
 
-    /// Notes a key that was written, where its table is attached.
-    fn note(&mut self, alloc: Global, one: Written) -> Result<(), SessionFault>
-        requires { AreApart (map attached_of self.old) }
-        ensures noted { OnOk result (map attached_of self.new
-            ≡ recorded (map attached_of self.old) (written_of one ∷ [])) }
-        ensures formers { OnOk result (AreFormers (map attached_of self.old) (written_of one ∷ [])) }
-        ensures kept { map kept_of self.new ≡ map kept_of self.old }
+    /// Where a key that was written is to be noted: at the place of its table, and nowhere where the table is not
+    /// attached, or the key is noted already. Refuses as [`note_all`](Tables::note_all) does.
+    fn place_for(&self, alloc: Global, one: &Written) -> Result<Option<usize>, SessionFault>
+        requires { AreApart (map attached_of self.now) }
+        ensures place { IfOk result (λ to. IfSome to (IsPlace self.now (rc_str_bytes one.now.table))) }
+        ensures new { IfOk result (λ to. IfSome to (IsNewAt self.now one.now.key)) }
+        ensures nowhere { IfOk result (λ to. IfNone to (map attached_of self.now
+            ≡ recorded (map attached_of self.now) (written_of one.now ∷ []))) }
+        ensures formers { OnOk result (AreFormers (map attached_of self.now) (written_of one.now ∷ [])) }
         ensures refused { IfErr result (λ e. (e ≡ OutOfMemory)
-            ⊎ (IsDamage e × ¬ AreFormers (map attached_of self.old) (written_of one ∷ []))) }
-    {
-        let Written { table, key, former } = one;
-        let Some(place) = self.place_of(table.as_str()) else {
-            return Ok(());
-        };
-        open_at(&self.tables, &mut self.noted, place)?;
-        note_write(alloc, &mut self.tables[place], key, former)
-    }
-
-    /// Notes a copy of a key that was written, where its table is attached.
-    fn note_copy(&mut self, alloc: Global, one: &Written) -> Result<(), SessionFault>
-        requires { AreApart (map attached_of self.old) }
-        ensures noted { OnOk result (map attached_of self.new
-            ≡ recorded (map attached_of self.old) (written_of one.now ∷ [])) }
-        ensures formers { OnOk result (AreFormers (map attached_of self.old) (written_of one.now ∷ [])) }
-        ensures kept { map kept_of self.new ≡ map kept_of self.old }
-        ensures refused { IfErr result (λ e. (e ≡ OutOfMemory)
-            ⊎ (IsDamage e × ¬ AreFormers (map attached_of self.old) (written_of one.now ∷ []))) }
+            ⊎ (IsDamage e × ¬ AreFormers (map attached_of self.now) (written_of one.now ∷ []))) }
     {
         let Some(place) = self.place_of(one.table.as_str()) else {
-            return Ok(());
+            return Ok(None);
         };
+        let was_noted = is_noted(alloc, &self.tables[place], &one.key, one.former.as_ref())?;
+        if was_noted {
+            return Ok(None);
+        }
+        Ok(Some(place))
+    }
+
+    /// Notes a key that was not written before in its table, at this place. [`NoMemory`] notes nothing.
+    fn note_at(&mut self, place: usize, one: Written) -> Result<(), NoMemory>
+        requires apart { AreApart (map attached_of self.old) }
+        requires place { IsPlace self.old (rc_str_bytes one.table) place }
+        requires new { IsNewAt self.old one.key place }
+        ensures noted { OnOk result (map attached_of self.new
+            ≡ recorded (map attached_of self.old) (written_of one ∷ [])) }
+        ensures kept { map kept_of self.new ≡ map kept_of self.old }
+    {
         open_at(&self.tables, &mut self.noted, place)?;
-        note_write_copy(
-            alloc,
-            &mut self.tables[place],
-            &one.key,
-            one.former.as_ref(),
-        )
+        note_write(&mut self.tables[place], one.key, one.former)
     }
 
     /// What was noted since the last commit is committed.
@@ -189,5 +193,26 @@ impl Tables {
     {
         cut_back_at(&mut self.tables, &self.noted);
         self.noted.clear();
+    }
+}
+
+/// A copy of a write, which shares the table's name.
+fn copy_of(alloc: Global, one: &Written) -> Result<Written, NoMemory>
+    ensures { IfOk result (λ copy. written_of copy ≡ written_of one.now) }
+{
+    Ok(Written {
+        table: one.table.clone()?,
+        key: one.key.copy(alloc)?,
+        former: copy_of_row(alloc, one.former.as_ref())?,
+    })
+}
+
+/// A copy of a row, if there is one.
+fn copy_of_row(alloc: Global, row: Option<&Row>) -> Result<Option<Row>, NoMemory>
+    ensures { IfOk result (λ copy. copy ≡ option_map (λ r. r.now) row.entry) }
+{
+    match row {
+        None => Ok(None),
+        Some(row) => Ok(Some(row.copy(alloc)?)),
     }
 }
