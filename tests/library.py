@@ -26,6 +26,9 @@ APPLY_FLAGS = "applies whose flags are not SQLite's, which passes over the table
 APPLY_NOTHING = "applies with updates that modify nothing, which SQLite does not look at: asked without these"
 APPLY_WIDER = "applies to a table of more columns, which SQLite applies to: not asked"
 APPLY_CASE = "applies among tables whose names differ in case alone, which are one to SQLite: not asked"
+SESSION_ORDER = "net changesets whose tables and entries SQLite orders otherwise"
+SESSION_FLAGS = "net changesets of a table whose key SQLite numbers, and this marks by 1: compared with flags of 1"
+SESSION_CASE = "sessions on tables with names that differ in case alone, which are one to SQLite: not asked"
 REFUSED = "files that are refused here, of which SQLite's library reads some, and behind the end of others: not asked"
 
 
@@ -188,6 +191,43 @@ class Apply:
         if any(line != b"0" for line in made) or answer != b"%d %s" % (code, met) or lists != rows:
             raise Difference(self.script, (code, met, rows), told)
         return ()
+
+
+class Recording:
+    """Whether the net changeset of lines of edits, behind others, is the one that SQLite's session records of them."""
+
+    def __init__(self, tables, before, edits, groups):
+        self.tables = tables
+        self.before = before
+        self.edits = edits
+        self.groups = groups
+        self.known = []
+
+    def lines(self):
+        """What is asked."""
+        if any(map(differ_in_case, [self.tables, *(table.columns for table in self.tables.values())])):
+            self.known.append(SESSION_CASE)
+            return []
+        before, edits = ([b"do x" + line.hex().encode() for line in lines] for lines in (self.before, self.edits))
+        return [b"new", *before, b"session", *edits, b"changeset"]
+
+    def judge(self, told):
+        """Compares the answers."""
+        wanted = b"0 " + hexed(self.groups)
+        if any(line != b"0" for line in told[:-1]) or not told[-1].startswith(b"0 "):
+            raise Difference([*self.before, *self.edits], wanted, told)
+        if told[-1] == wanted:
+            return ()
+        groups = reader.Reader(bytes.fromhex(told[-1][2:].decode())).groups()
+        marked = [(bytes(map(bool, flags)), name, entries) for flags, name, entries in groups]
+        if sorted(in_order(marked), key=name_of) != sorted(in_order(self.groups), key=name_of):
+            raise Difference([*self.before, *self.edits], wanted, told)
+        return (SESSION_FLAGS,) * (marked != groups) + (SESSION_ORDER,) * (marked != self.groups)
+
+
+def name_of(group):
+    """The name of a group's table."""
+    return group[1]
 
 
 def hexed(groups):

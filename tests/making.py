@@ -121,8 +121,14 @@ class Maker:
         """The groups of a changeset of some of these tables, rarely with other flags than a table has."""
         groups = []
         for name, flags in self.chance.sample(tables, self.chance.randrange(len(tables) + 1)):
-            groups.append(self.group(self.flags() if self.is_one_in(25) else flags, name))
+            if self.is_one_in(12):
+                flags = self.pick((self.flags(), self.turned(flags), self.turned(flags)))
+            groups.append(self.group(flags, name))
         return groups
+
+    def turned(self, flags):
+        """Flags that mark the same columns by other numbers."""
+        return bytes(flag and self.pick((1, 2, 255)) for flag in flags)
 
     def changeset_of(self, tables):
         """The groups of a changeset that is made for the rows of tables, which are those of `model.py`."""
@@ -140,8 +146,8 @@ class Maker:
 
     def other_flags(self, flags):
         """Flags that are those of a table with one column less, one more, or another key; or that are numbered otherwise."""
-        turned = [flag * self.pick((1, 2, 255)) for flag in flags]
-        other = self.pick((flags[:-1], flags + b"\x00", bytes(reversed(flags)), bytes(turned), bytes(turned), bytes(turned)))
+        turned = self.turned(flags)
+        other = self.pick((flags[:-1], flags + b"\x00", bytes(reversed(flags)), turned, turned, turned))
         return other if any(other) else flags
 
     def widths(self, group):

@@ -234,6 +234,29 @@ def net_entries(table, firsts):
     return entries
 
 
+# ---- values as Python has them
+
+def python_value(value):
+    """A value as Python has it."""
+    kind = value[:1]
+    if kind == b"\x01":
+        return int.from_bytes(value[1:], "big", signed=True)
+    if kind == NULL:
+        return None
+    return content_of(value).decode() if kind == b"\x03" else content_of(value)
+
+
+def shown_tables(tables):
+    """Tables as `refusals.py` compares them: of each the columns, which are of the key, and the rows by their keys."""
+    return {
+        name.decode(): (
+            tuple(column.decode() for column in table.columns), tuple(map(bool, table.flags)),
+            [tuple(map(python_value, table.rows[key])) for key in sorted(table.rows)],
+        )
+        for name, table in tables.items()
+    }
+
+
 # ---- texts
 
 def quoted(text, quote=b"'"):
