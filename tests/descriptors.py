@@ -1,13 +1,13 @@
 #!/usr/bin/env python3
 """Tests of the program as it is built, to which a call on a file is refused: one of a run, then the next, and so on.
 
-Where a read, a write or a sync is interrupted, or moves one byte alone, the run ends as without that, but for a write to the
-standard streams: to these an interrupted one is a failed one. Where it is an error, and where a file is not opened, closed,
-renamed or locked, a line is refused with StoreFault and the store has the tables from before it or behind it, or the script
-ends with a fault of its streams behind the lines that were answered; and a command is carried out, or tells a fault and
-leaves its files, OUT above all. And where the process ends at the call, the store and OUT are as before a line or behind
-it. The store is read by Python's own sqlite3, and has to pass its check; `shell.py` says which tables lines make.
-`refuse.c` is what refuses.
+Where a call moves one byte alone the run ends as without that, and so it does where a sync is interrupted, or a file of
+the command line; a read or a write of the store, or of the standard streams, has failed where it is interrupted. Where
+one fails, and where a file is not opened, closed, renamed or locked, a line is refused with StoreFault and the store
+has the tables from before it or behind it, or the script ends with a fault of its streams behind the lines that were
+answered; and a command is carried out, or tells a fault and leaves its files, OUT above all. And where the process ends
+at the call, the store and OUT are as before a line or behind it. The store is read by Python's own sqlite3, and has to
+pass its check; `shell.py` says which tables lines make. `refuse.c` is what refuses.
 A run of the gate tries some of the calls of each kind; `all` in front tries each of them, for minutes.
 
 usage: tests/descriptors.py [all] [PROGRAM]
@@ -55,15 +55,15 @@ STORE_SCRIPTS = {
     "conflicts in a session": SCRIPTS["conflicts in a session"],
     "rows of several pages": [
         CREATE, *(f"INSERT INTO t VALUES({key}, X'{LARGE}');" for key in range(4)), "UPDATE t SET b='short' WHERE a=1;",
-        "DELETE FROM t WHERE a=2;", ".session open", ".session attach t", "DELETE FROM t WHERE a=0;", "UPDATE t SET a=9 WHERE a=3;",
-        ".session undo", "SELECT * FROM t;",
+        "DELETE FROM t WHERE a=2;", ".session open", ".session attach t", "DELETE FROM t WHERE a=0;",
+        "UPDATE t SET a=9 WHERE a=3;", ".session undo", "SELECT * FROM t;",
     ],
 }
 
 
-def is_harmless(call, answer, is_printing):
-    """Whether a run has to end as without this answer. A write to a standard stream that is interrupted is a failed one."""
-    return answer == ONE_BYTE or answer == INTERRUPTED and not (call == "write" and is_printing)
+def is_harmless(call, answer, streams):
+    """Whether a run has to end as without this answer, where these calls are of standard streams."""
+    return answer == ONE_BYTE or answer == INTERRUPTED and call not in ("pread", "pwrite", *streams)
 
 
 def mark(number):
@@ -77,7 +77,8 @@ class MarkedScript(Script):
     def __init__(self, lines):
         self.asked = lines
         super().__init__([
-            part for number, line in enumerate(lines) for part in (line, ".load mark " + mark(number).strip(), ".hex mark")
+            part for number, line in enumerate(lines)
+            for part in (line, ".load mark " + mark(number).strip(), ".hex mark")
         ])
 
     def tables(self, shell):
@@ -89,9 +90,9 @@ class MarkedScript(Script):
         (status, printed, reported), left = ended
         if ended == normal:
             return "" if self.replay(printed, reported, answer) == ([left], "") else "the model answers otherwise"
-        if is_harmless(call, answer, True):
+        if is_harmless(call, answer, ("read", "write")):
             return "a call that was interrupted, or moved one byte, changes the run"
-        if (status, reported) not in ((1, ""), (1, STORE_FAULT), (1, INPUT_FAULT), (1, OUTPUT_FAULT)) and answer != ENDED:
+        if answer != ENDED and (status != 1 or reported not in ("", STORE_FAULT, INPUT_FAULT, OUTPUT_FAULT)):
             return "no such fault"
         if answer != ENDED and not printed and reported == STORE_FAULT:
             return "" if left == {} else "a store that was not opened has tables"
@@ -145,7 +146,7 @@ class FileCommand(Command):
         (usual, wanted, refusal), after = normal
         if ended == normal:
             return ""
-        if is_harmless(call, answer, bool(wanted or refusal)):
+        if is_harmless(call, answer, ("write",) if wanted or refusal else ()):
             return "a call that was interrupted, or moved one byte, changes the run"
         # What is said on standard error is said nowhere where that is not written.
         if call == "write" and refusal and (status, reported) == (usual, "") and left == after:

@@ -20,7 +20,7 @@ OK, ABORT, SCHEMA, MISUSE = 0, 4, 17, 21
 
 # The differences that the documents tell.
 ORDER = "joins whose entries of a table SQLite orders otherwise"
-JOIN_FLAGS = "joins of a table whose key the two files number otherwise, which SQLite refuses: asked with the flags of the first"
+JOIN_FLAGS = "joins of a table whose key two files number otherwise, which SQLite refuses: asked with one's flags"
 JOIN_CASE = "joins of tables whose names differ in case alone, which are one to SQLite: not asked"
 APPLY_FLAGS = "applies whose flags are not SQLite's, which passes over the table then: asked with SQLite's"
 APPLY_NOTHING = "applies with updates that modify nothing, which SQLite does not look at: asked without these"
@@ -126,7 +126,7 @@ class Join:
         wanted = b"0 " + hexed(groups)
         if told == [wanted]:
             return ()
-        if not told[0].startswith(b"0 ") or in_order(reader.Reader(bytes.fromhex(told[0][2:].decode())).groups()) != in_order(groups):
+        if in_order(made_groups(told[0])) != in_order(groups):
             raise Difference(lines, wanted, told)
         return (ORDER,)
 
@@ -214,15 +214,17 @@ class Recording:
     def judge(self, told):
         """Compares the answers."""
         wanted = b"0 " + hexed(self.groups)
-        if any(line != b"0" for line in told[:-1]) or not told[-1].startswith(b"0 "):
-            raise Difference([*self.before, *self.edits], wanted, told)
-        if told[-1] == wanted:
-            return ()
-        groups = reader.Reader(bytes.fromhex(told[-1][2:].decode())).groups()
+        groups = made_groups(told[-1])
         marked = [(bytes(map(bool, flags)), name, entries) for flags, name, entries in groups]
-        if sorted(in_order(marked), key=name_of) != sorted(in_order(self.groups), key=name_of):
+        is_good = sorted(in_order(marked), key=name_of) == sorted(in_order(self.groups), key=name_of)
+        if any(line != b"0" for line in told[:-1]) or not told[-1].startswith(b"0 ") or not is_good:
             raise Difference([*self.before, *self.edits], wanted, told)
         return (SESSION_FLAGS,) * (marked != groups) + (SESSION_ORDER,) * (marked != self.groups)
+
+
+def made_groups(answer):
+    """The groups of the file that an answer has; none where the library refused."""
+    return reader.Reader(bytes.fromhex(answer[2:].decode())).groups() if answer.startswith(b"0 ") else []
 
 
 def name_of(group):

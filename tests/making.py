@@ -3,19 +3,27 @@
 Groups are those of `reader.py`. What is made has few keys and few values, so that much of it meets.
 """
 from model import NULL, UNDEFINED, key_of, literals, quoted
-from reader import DELETE, INSERT, UPDATE, is_text, spelled, write
+from reader import DELETE, INSERT, UPDATE, is_text, spelled
 
 INTEGERS = (0, 1, 2, 3, -1, 10, 255, 256, 1 << 31, (1 << 63) - 1, -1 << 63)
-TEXTS = ("", "x", "y", "'", "it''s", "é", "表", "😀", "1", "NULL", "-", "a\tb", "\u200b", "a\0b", "; -- ", "x" * 127, "q'" * 64)
+TEXTS = (
+    "", "x", "y", "'", "it''s", "é", "表", "😀", "1", "NULL", "-", "a\tb", "\u200b", "a\0b", "; -- ", "x" * 127,
+    "q'" * 64,
+)
 BLOBS = (b"", b"\0", b"1", b"x", b"\0\xff", b"T", b"\x80" * 127, bytes(range(256)))
-NAMES = tuple(name.encode() for name in ("t", "u", "w", "it's", 'a"b', "select", "a b", "é", "T", "NULL", "--", "x", "t" * 130))
-COLUMNS = tuple(name.encode() for name in ("a", "b", "c", "d", "e", "A", "a b", 'c"d', "key", "é", "--", "X"))
+NAMES = tuple(map(str.encode, ("t", "u", "w", "it's", 'a"b', "select", "a b", "é", "T", "NULL", "--", "x", "t" * 130)))
+COLUMNS = tuple(map(str.encode, ("a", "b", "c", "d", "e", "A", "a b", 'c"d', "key", "é", "--", "X")))
 
 # Bytes that mean something in a file.
 TELLING = b"\x00\x01\x02\x03\x04\x05\x06\x09\x12\x17\x50\x54\x7f\x80\x81\x88\xff"
 
 # Counts that claim too much, or are too long.
-CLAIMS = tuple(map(bytes.fromhex, ("87ffffff7f", "8880808000", "81ff7f", "828000", "8001", "8180808080", "ff7f", "00", "80")))
+CLAIMS = tuple(map(
+    bytes.fromhex, ("87ffffff7f", "8880808000", "81ff7f", "828000", "8001", "8180808080", "ff7f", "00", "80"),
+))
+
+# What is put into a line that is spoiled.
+SPOILERS = (b"", b"", b"'", b'"', b" ", b"\t", b"\r", b"x", b"0", b"-", b";", b"(", b",", b"=", b"X'", b"\xff", b"\xc3")
 
 CHOICES = (b"omit", b"replace", b"abort")
 
@@ -145,7 +153,7 @@ class Maker:
         return [self.widths(group) for group in groups]
 
     def other_flags(self, flags):
-        """Flags that are those of a table with one column less, one more, or another key; or that are numbered otherwise."""
+        """Flags of a table with one column less, one more, or another key; or such as are numbered otherwise."""
         turned = self.turned(flags)
         other = self.pick((flags[:-1], flags + b"\x00", bytes(reversed(flags)), turned, turned, turned))
         return other if any(other) else flags
@@ -235,7 +243,10 @@ class Maker:
 
     def assignments(self, columns, values):
         """Columns with their values."""
-        return [self.name(column) + self.pick((b"=", b" = ")) + self.literal(value) for column, value in zip(columns, values)]
+        return [
+            self.name(column) + self.pick((b"=", b" = ")) + self.literal(value)
+            for column, value in zip(columns, values)
+        ]
 
     def create(self):
         """A CREATE TABLE."""
@@ -270,7 +281,8 @@ class Maker:
 
     def condition(self, table, row):
         """The conditions that name the key of a row, or rarely something else."""
-        named = [(column, value) for column, flag, value in zip(table.columns, table.flags, row) if flag or self.is_one_in(60)]
+        parts = zip(table.columns, table.flags, row)
+        named = [(column, value) for column, flag, value in parts if flag or self.is_one_in(60)]
         if self.is_one_in(25):
             named[self.chance.randrange(len(named))] = self.pick(((b"none", NULL), (named[0][0], NULL), named[-1]))
         self.chance.shuffle(named)
@@ -325,18 +337,16 @@ class Maker:
         """A line on the session."""
         if not is_open and not self.is_one_in(9):
             return b".session open"
+        attach, tell = b".session attach " + self.name(self.table(tables)[0]), b".session changeset " + self.slot()
         return self.pick((
-            b".session attach " + self.name(self.table(tables)[0]), b".session attach " + self.name(self.table(tables)[0]),
-            b".session changeset " + self.slot(), b".session changeset " + self.slot(), b".session isempty", b".session undo",
-            b".session close", b".session open",
+            attach, attach, tell, tell, b".session isempty", b".session undo", b".session close", b".session open",
         ))
 
     def spoiled(self, line):
         """A line of which a few bytes are others, or in other places."""
         for _ in range(self.upto(2)):
             at = self.place(line)
-            part = self.pick((b"", b"", b"'", b'"', b" ", b"\t", b"\r", b"x", b"0", b"-", b";", b"(", b",", b"=", b"X'", b"\xff", b"\xc3"))
-            line = line[:at] + part + line[at + self.chance.randrange(3):]
+            line = line[:at] + self.pick(SPOILERS) + line[at + self.chance.randrange(3):]
         return line.replace(b"\n", b" ")
 
     def blanks(self, line):

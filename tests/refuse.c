@@ -1,12 +1,12 @@
 /* Refuses one call of the C library, for tests: it is loaded in front of the library, by LD_PRELOAD, and lets every
  * call through but one.
  *
- * REFUSE_CALL names the call: malloc (with calloc, realloc and those for aligned memory); read, pread, write and pwrite;
- * fsync, fdatasync and ftruncate; open and close; rename and unlink, of the names of files; statx, which tells of a file;
- * or fcntl, which locks it. REFUSE_AT is which of these calls is refused, from 1. REFUSE_WITH is what it answers: the
- * number of an error; 0 for a read or a write that moves one byte; or -1, where the process ends there. Memory is
- * refused by a null pointer, and a file that is refused to be closed is closed. One byte is written to the descriptor
- * REFUSE_MARK then.
+ * REFUSE_CALL names the call: malloc (with calloc, realloc and those for aligned memory); read, pread, write and
+ * pwrite; fsync, fdatasync and ftruncate; open and close; rename and unlink, of the names of files; statx, which tells
+ * of a file; or fcntl, which locks it. REFUSE_AT is which of these calls is refused, from 1. REFUSE_WITH is what it
+ * answers: the number of an error; 0 for a read or a write that moves one byte; or -1, where the process ends there.
+ * Memory is refused by a null pointer, and a file that is refused to be closed is closed. One byte is written to the
+ * descriptor REFUSE_MARK then.
  */
 #define _GNU_SOURCE
 #include <dlfcn.h>

@@ -178,7 +178,10 @@ def select_form(tokens):
     return (table,)
 
 
-FORMS = {b"CREATE": create_form, b"INSERT": insert_form, b"UPDATE": update_form, b"DELETE": delete_form, b"SELECT": select_form}
+FORMS = {
+    b"CREATE": create_form, b"INSERT": insert_form, b"UPDATE": update_form, b"DELETE": delete_form,
+    b"SELECT": select_form,
+}
 
 
 class Words:
@@ -277,8 +280,8 @@ class Shell:
         """CREATE TABLE."""
         if not set(keys) <= set(columns) or len(set(keys)) < len(keys):
             raise Refusal(b"error 67 UnknownColumn")
-        is_good = name and b"\0" not in name and b"" not in columns and len(set(columns)) == len(columns) <= MOST_COLUMNS
-        if not is_good:
+        are_good = b"" not in columns and len(set(columns)) == len(columns) <= MOST_COLUMNS
+        if not name or b"\0" in name or not are_good:
             raise Refusal(b"error 32 BadSchema")
         if name in self.tables:
             raise Refusal(b"error 30 TableExists")
