@@ -3,7 +3,7 @@
 Groups are those of `reader.py`. What is made has few keys and few values, so that much of it meets.
 """
 from model import NULL, UNDEFINED, key_of, literals, quoted
-from reader import DELETE, INSERT, UPDATE, is_text, spelled
+from reader import DELETE, INSERT, UPDATE, is_text, spelled, write
 
 INTEGERS = (0, 1, 2, 3, -1, 10, 255, 256, 1 << 31, (1 << 63) - 1, -1 << 63)
 TEXTS = (
@@ -23,7 +23,12 @@ CLAIMS = tuple(map(
 ))
 
 # What is put into a line that is spoiled.
-SPOILERS = (b"", b"", b"'", b'"', b" ", b"\t", b"\r", b"x", b"0", b"-", b";", b"(", b",", b"=", b"X'", b"\xff", b"\xc3")
+SPOILERS = (
+    b"", b"", b".", b"_", b"'", b'"', b" ", b"\t", b"\r", b"x", b"0", b"-", b";", b"(", b",", b"=", b"X'", b"\xff", b"\xc3",
+)
+
+# Fields that may not stand everywhere, or nowhere.
+FIELDS = (b"\x00", b"\x00", NULL, NULL, b"\x02" + bytes(8), b"\x06", b"\x03\x01\xff", b"\x03\x02\xc3", b"\x03\x01x")
 
 CHOICES = (b"omit", b"replace", b"abort")
 
@@ -188,6 +193,41 @@ class Maker:
 
     # ---- damage
 
+    def broken(self, groups):
+        """The file of groups in which one thing is not as it has to be, most times."""
+        groups = [
+            [flags, name, [[operation, indirect, list(map(list, records))] for operation, indirect, records in entries]]
+            for flags, name, entries in groups
+        ]
+        if groups:
+            self.pick(BREAKS)(self, groups, self.pick(groups))
+        return write(groups)
+
+    def break_field(self, _, group):
+        """A field is another one."""
+        record = self.pick(self.pick(group[2])[2])
+        record[self.chance.randrange(len(record))] = self.pick(FIELDS)
+
+    def break_entry(self, _, group):
+        """The operation or the indirect byte is another one."""
+        entry = self.pick(group[2])
+        entry[self.chance.randrange(2)] = bytes([self.pick(TELLING)])
+
+    def break_header(self, _, group):
+        """The flags, or the name, are others."""
+        flags = self.pick((bytes(len(group[0])), bytes(reversed(group[0])), group[0][1:], self.flags()))
+        group[:2] = self.pick(((flags, group[1]), (group[0], self.pick((b"", b"\xff", b"\xed\xa0\x80")))))
+
+    def break_once(self, groups, group):
+        """A table, or the key of an entry, stands twice; or a table has no entry."""
+        form = self.chance.randrange(3)
+        if form == 0:
+            groups.insert(self.chance.randrange(len(groups) + 1), group)
+        elif form == 1:
+            group[2].insert(self.chance.randrange(len(group[2]) + 1), self.pick(group[2]))
+        else:
+            group[2].clear()
+
     def damaged(self, file, other):
         """A file in which a few things are not as they were; parts of another one may stand in it."""
         for _ in range(self.pick((1, 1, 1, 2, 3))):
@@ -229,6 +269,12 @@ class Maker:
         """A count claims what is not there, or is spelled too long."""
         at = self.place(file)
         return file[:at] + self.pick(CLAIMS) + file[at + self.chance.randrange(2):]
+
+    def lengthen(self, file, _):
+        """A byte that may be a count is spelled in two."""
+        places = [at for at, byte in enumerate(file) if file[at - 1:at] in (b"T", b"\x03", b"\x04") and byte < 0x80]
+        at = self.pick(places) if places else self.place(file)
+        return file[:at] + b"\x80" + file[at:]
 
     # ---- lines
 
@@ -356,7 +402,11 @@ class Maker:
         return self.pick((b" ", b"\t", b"  ", b"\r")).join((b"", line, b""))
 
 
-DAMAGES = (Maker.flip, Maker.flip, Maker.set_byte, Maker.set_byte, Maker.cut, Maker.splice, Maker.join, Maker.claim)
+DAMAGES = (
+    Maker.flip, Maker.flip, Maker.set_byte, Maker.set_byte, Maker.cut, Maker.splice, Maker.join, Maker.claim,
+    Maker.lengthen,
+)
+BREAKS = (Maker.break_field, Maker.break_field, Maker.break_entry, Maker.break_header, Maker.break_once)
 
 RESERVED = frozenset(
     b"create table primary key insert into values update set where and delete from select null".split()
