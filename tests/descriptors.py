@@ -1,21 +1,25 @@
 #!/usr/bin/env python3
 """Tests of the program as it is built, to which a call on a file is refused: one of a run, then the next, and so on.
 
-Where a call moves one byte alone the run ends as without that, and so it does where a sync is interrupted, or a file of
-the command line; a read or a write of the store, or of the standard streams, has failed where it is interrupted. Where
-one fails, and where a file is not opened, closed, renamed or locked, a line is refused with StoreFault and the store
-has the tables from before it or behind it, or the script ends with a fault of its streams behind the lines that were
-answered; and a command is carried out, or tells a fault and leaves its files, OUT above all. And where the process ends
-at the call, the store and OUT are as before a line or behind it. The store is read by Python's own sqlite3, and has to
-pass its check; `shell.py` says which tables lines make. `refuse.c` is what refuses.
+Where a call moves one byte alone the run ends as without that, and so it does where a sync is interrupted, or a file
+of the command line; but a read or a write of the store, or of the standard streams, has failed where it is
+interrupted, and a read of the store where it moves one byte. Where one fails, and where a file is not opened, closed,
+renamed or locked, a line is refused with StoreFault and the store has the tables from before it or behind it, or the
+script ends with a fault of its streams behind the lines that were answered; and a command is carried out, or tells a
+fault and leaves its files, OUT above all. And where the process ends at the call, the store and OUT are as before a
+line or behind it. The store is read by Python's own sqlite3, and has to pass its check, and the program opens it
+again; `shell.py` says which tables lines make. `refuse.c` is what refuses.
 A run of the gate tries some of the calls of each kind; `all` in front tries each of them, for minutes.
 
 usage: tests/descriptors.py [all] [PROGRAM]
 """
 import copy
 import errno
+import os
 import pathlib
 import random
+import shutil
+import sqlite3
 import sys
 import tempfile
 import unittest
@@ -63,7 +67,8 @@ STORE_SCRIPTS = {
 
 def is_harmless(call, answer, streams):
     """Whether a run has to end as without this answer, where these calls are of standard streams."""
-    return answer == ONE_BYTE or answer == INTERRUPTED and call not in ("pread", "pwrite", *streams)
+    failing = {ONE_BYTE: ("pread",), INTERRUPTED: ("pread", "pwrite", *streams)}
+    return answer in failing and call not in failing[answer]
 
 
 def mark(number):
@@ -80,6 +85,19 @@ class MarkedScript(Script):
             part for number, line in enumerate(lines)
             for part in (line, ".load mark " + mark(number).strip(), ".hex mark")
         ])
+
+    def left(self, folder):
+        """The tables of the store, which the program opens, and leaves. Half a new store is none yet to SQLite."""
+        with tempfile.TemporaryDirectory() as copied:
+            for name in os.listdir(folder):
+                shutil.copy(os.path.join(folder, name), copied)
+            try:
+                tables = super().left(copied)
+            except sqlite3.DatabaseError:
+                tables = {}
+        ended = refusals.run(folder, self.words, b"")
+        again = super().left(folder)
+        return tables if ended == (0, "", "") and again == tables else (ended, tables, again)
 
     def tables(self, shell):
         """The tables that a shell has, as they are compared."""
