@@ -206,6 +206,10 @@ class DescriptorTest(unittest.TestCase):
         cls.addClassCleanup(folder.cleanup)
         cls.shim = build_shim(folder.name)
 
+    @classmethod
+    def tearDownClass(cls):
+        print(f"{cls.points} calls refused")
+
     def expect_ends(self, trial):
         """Refuses one call after another, and asserts that each run ends in a way in which it may."""
         normal = trial.once()
