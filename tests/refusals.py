@@ -124,12 +124,13 @@ class Trial:
             self.prepare(folder)
             return run(folder, self.words, self.stdin, refusing), self.left(folder)
 
-    def refused(self, shim, at):
-        """How it ends where this allocation is refused, and whether one was."""
+    def refused(self, shim, at, call="malloc", answer=0):
+        """How it ends where this allocation, or this call, is refused with an answer, and whether one was."""
         reading, writing = os.pipe()
         try:
             refusing = {
-                "LD_PRELOAD": shim, "REFUSE_CALL": "malloc", "REFUSE_AT": str(at), "REFUSE_MARK": str(writing),
+                "LD_PRELOAD": shim, "REFUSE_CALL": call, "REFUSE_AT": str(at), "REFUSE_WITH": str(answer),
+                "REFUSE_MARK": str(writing),
             }
             ended = self.once(refusing)
         finally:
@@ -137,15 +138,15 @@ class Trial:
         with os.fdopen(reading, "rb") as mark:
             return ended, mark.read() != b""
 
-    def count(self, shim):
-        """How many allocations it makes."""
+    def count(self, shim, call="malloc"):
+        """How many allocations it makes, or how many of a call."""
         most = 1
-        while self.refused(shim, most)[1]:
+        while self.refused(shim, most, call)[1]:
             most *= 2
         least = most // 2
         while least + 1 < most:
             middle = (least + most) // 2
-            if self.refused(shim, middle)[1]:
+            if self.refused(shim, middle, call)[1]:
                 least = middle
             else:
                 most = middle

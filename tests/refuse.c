@@ -1,16 +1,22 @@
 /* Refuses one call of the C library, for tests: it is loaded in front of the library, by LD_PRELOAD, and lets every
  * call through but one.
  *
- * REFUSE_CALL names the call: malloc (with calloc, realloc and those for aligned memory), read, write, pwrite, fsync
- * or ftruncate. REFUSE_AT is which of these calls is refused, from 1. REFUSE_WITH is what it answers: the number of an
- * error; 0 for a read or a write that moves one byte; or -1, where the process ends there. Memory is refused by a null
- * pointer. One byte is written to the descriptor REFUSE_MARK then.
+ * REFUSE_CALL names the call: malloc (with calloc, realloc and those for aligned memory); read, pread, write and
+ * pwrite; fsync, fdatasync and ftruncate; open and close; rename and unlink, of the names of files; statx, which tells
+ * of a file; or fcntl, which locks it. REFUSE_AT is which of these calls is refused, from 1. REFUSE_WITH is what it
+ * answers: the number of an error; 0 for a read or a write that moves one byte; or -1, where the process ends there.
+ * Memory is refused by a null pointer, and a file that is refused to be closed is closed. One byte is written to the
+ * descriptor REFUSE_MARK then.
  */
 #define _GNU_SOURCE
 #include <dlfcn.h>
 #include <errno.h>
+#include <fcntl.h>
+#include <stdarg.h>
+#include <stdio.h>
 #include <stdlib.h>
 #include <string.h>
+#include <sys/stat.h>
 #include <sys/types.h>
 #include <unistd.h>
 
@@ -92,6 +98,13 @@ ssize_t read(int file, void *bytes, size_t count)
     return answer == 0 ? NEXT(read)(file, bytes, count < 1 ? count : 1) : -1;
 }
 
+ssize_t pread(int file, void *bytes, size_t count, off_t place)
+{
+    if (!is_refused("pread"))
+        return NEXT(pread)(file, bytes, count, place);
+    return answer == 0 ? NEXT(pread)(file, bytes, count < 1 ? count : 1, place) : -1;
+}
+
 ssize_t write(int file, const void *bytes, size_t count)
 {
     if (!is_refused("write"))
@@ -114,4 +127,48 @@ int fsync(int file)
 int ftruncate(int file, off_t length)
 {
     return is_refused("ftruncate") ? -1 : NEXT(ftruncate)(file, length);
+}
+
+int fdatasync(int file)
+{
+    return is_refused("fdatasync") ? -1 : NEXT(fdatasync)(file);
+}
+
+int open(const char *path, int flags, ...)
+{
+    va_list rest;
+    va_start(rest, flags);
+    mode_t mode = (flags & O_CREAT) != 0 ? va_arg(rest, mode_t) : 0;
+    va_end(rest);
+    return is_refused("open") ? -1 : NEXT(open)(path, flags, mode);
+}
+
+int close(int file)
+{
+    int closed = NEXT(close)(file);
+    return is_refused("close") ? -1 : closed;
+}
+
+int rename(const char *from, const char *to)
+{
+    return is_refused("rename") ? -1 : NEXT(rename)(from, to);
+}
+
+int unlink(const char *path)
+{
+    return is_refused("unlink") ? -1 : NEXT(unlink)(path);
+}
+
+int statx(int folder, const char *restrict path, int flags, unsigned int mask, struct statx *restrict told)
+{
+    return is_refused("statx") ? -1 : NEXT(statx)(folder, path, flags, mask, told);
+}
+
+int fcntl(int file, int command, ...)
+{
+    va_list rest;
+    va_start(rest, command);
+    void *argument = va_arg(rest, void *);
+    va_end(rest);
+    return is_refused("fcntl") ? -1 : NEXT(fcntl)(file, command, argument);
 }

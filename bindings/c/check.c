@@ -7,6 +7,10 @@
 **
 ** Each call is made with no room, with one byte too few, with what it needs and with more, and by several threads at
 ** once; a call that does not answer each time as vollikash.h says ends the program with status 1.
+**
+** Where it is built with REFUSING, and linked so that calls of malloc, calloc, realloc and free come here, each of a call's
+** allocations is refused, too, one at a time: the call then answers NO_MEMORY, with nothing written, or what it answered
+** before, and gives back what it took.
 */
 #include <pthread.h>
 #include <stdio.h>
@@ -191,6 +195,106 @@ static void ask_in_threads(struct asked *asked)
     pthread_attr_destroy(&attributes);
 }
 
+#ifdef REFUSING
+
+void *__real_malloc(size_t size);
+void *__real_calloc(size_t count, size_t size);
+void *__real_realloc(void *memory, size_t size);
+void __real_free(void *memory);
+void *__wrap_malloc(size_t size);
+void *__wrap_calloc(size_t count, size_t size);
+void *__wrap_realloc(void *memory, size_t size);
+void __wrap_free(void *memory);
+
+/* Which allocation is refused, counted from here on, how many were asked for, and how many blocks are not yet freed. */
+static long refused = 0;
+static long allocations = 0;
+static long blocks = 0;
+
+/* Counts an allocation, and answers whether it is the one that is refused. */
+static int is_refused(void)
+{
+    return ++allocations == refused;
+}
+
+/* Counts a block. */
+static void *counted(void *memory)
+{
+    blocks += memory != NULL;
+    return memory;
+}
+
+void *__wrap_malloc(size_t size)
+{
+    return is_refused() ? NULL : counted(__real_malloc(size));
+}
+
+void *__wrap_calloc(size_t count, size_t size)
+{
+    return is_refused() ? NULL : counted(__real_calloc(count, size));
+}
+
+void *__wrap_realloc(void *memory, size_t size)
+{
+    if (is_refused()) {
+        return NULL;
+    }
+    void *moved = __real_realloc(memory, size);
+    return memory == NULL ? counted(moved) : moved;
+}
+
+void __wrap_free(void *memory)
+{
+    blocks -= memory != NULL;
+    __real_free(memory);
+}
+
+/* The call with as much room as it needs, of whose allocations one is refused, or none for 0: what it answers. */
+static struct answer answer_refused(const struct request *request, struct bytes out, long at, size_t *written)
+{
+    struct answer answer;
+    long before = blocks;
+    memset(out.at, UNTOUCHED, out.count);
+    memset(&answer.fault, UNTOUCHED, sizeof answer.fault);
+    allocations = 0;
+    refused = at;
+    int code = call(request, out, written, &answer.fault);
+    refused = 0;
+    require(blocks == before, "a call has not freed what it took");
+    require(answer.fault.code == code, "the report has another number than the answer");
+    answer.made = out;
+    return answer;
+}
+
+/* Refuses each allocation of the call, one at a time. */
+static void refuse_each(const struct asked *asked)
+{
+    size_t written, needed = asked->answer.made.count;
+    struct bytes out = make(needed + MORE);
+    answer_refused(asked->request, out, 0, &written);
+    for (long at = 1, count = allocations; at <= count; at++) {
+        struct answer answer = answer_refused(asked->request, out, at, &written);
+        if (answer.fault.code == VOLLIKASH_NO_MEMORY) {
+            require(written == 0 && is_untouched(out, 0), "a call that memory is refused to has written something");
+            require(answer.fault.file == 0 && answer.fault.place == 0, "want of memory names a file");
+        } else {
+            require(memcmp(&answer.fault, &asked->answer.fault, sizeof answer.fault) == 0, "memory changes the report");
+            require(answer.fault.code != VOLLIKASH_OK || memcmp(out.at, asked->answer.made.at, needed) == 0,
+                    "memory changes the bytes");
+        }
+    }
+    free(out.at);
+}
+
+#else
+
+static void refuse_each(const struct asked *asked)
+{
+    (void)asked;
+}
+
+#endif
+
 int main(void)
 {
     char *line = NULL;
@@ -199,6 +303,7 @@ int main(void)
         struct request request = parse_line(line);
         struct asked asked = {&request, answer_to(&request)};
         ask_in_threads(&asked);
+        refuse_each(&asked);
         print(asked.answer);
         free(asked.answer.made.at);
         free(request.first.at);

@@ -1,0 +1,316 @@
+"""The model beside SQLite's own library: inverses, joins and applies of changesets, by `sqlite.c`.
+
+Where the two differ as the documents say they do, the difference is counted; any other is one that the fuzzer tells.
+"""
+import collections
+import os
+import pathlib
+import subprocess
+
+import reader
+from model import NUMBERS, Applying, Refusal, Table, content_of, have_same_columns, joined, quoted
+
+HERE = pathlib.Path(__file__).resolve().parent
+
+# How many seconds a run may take.
+PATIENCE = 120
+
+# SQLite's result codes.
+OK, ABORT, SCHEMA, MISUSE = 0, 4, 17, 21
+
+# The differences that the documents tell.
+ORDER = "joins whose entries of a table SQLite orders otherwise"
+JOIN_FLAGS = "joins of a table whose key two files number otherwise, which SQLite refuses: asked with one's flags"
+JOIN_CASE = "joins of tables whose names differ in case alone, which are one to SQLite: not asked"
+APPLY_FLAGS = "applies whose flags are not SQLite's, which passes over the table then: asked with SQLite's"
+APPLY_NOTHING = "applies with updates that modify nothing, which SQLite does not look at: asked without these"
+APPLY_WIDER = "applies to a table of more columns, which SQLite applies to: not asked"
+APPLY_CASE = "applies among tables whose names differ in case alone, which are one to SQLite: not asked"
+SESSION_ORDER = "net changesets whose tables and entries SQLite orders otherwise"
+SESSION_FLAGS = "net changesets of a table whose key SQLite numbers, and this marks by 1: compared with flags of 1"
+SESSION_CASE = "sessions on tables with names that differ in case alone, which are one to SQLite: not asked"
+REFUSED = "files that are refused here, of which SQLite's library reads some, and behind the end of others: not asked"
+
+
+class Difference(Exception):
+    """What the library answers otherwise: lines that say what was asked, and what both answer."""
+
+    def __init__(self, lines, wanted, told):
+        super().__init__(f"SQLite's library answers {told!r} and not {wanted!r}")
+        self.lines = lines
+
+
+class Library:
+    """SQLite's library, where there is one to compile against, and the counts of what it was asked."""
+
+    def __init__(self, folder):
+        self.program = os.path.join(folder, "sqlite")
+        command = ["cc", "-O2", "-o", self.program, str(HERE / "sqlite.c"), "-lsqlite3"]
+        try:
+            built = subprocess.run(command, capture_output=True, text=True, timeout=PATIENCE)
+            self.why = built.stderr.strip().split("\n")[-1] if built.returncode else ""
+        except OSError as error:
+            self.why = str(error)
+        self.is_there = not self.why
+        self.asked = 0
+        self.known = collections.Counter()
+
+    def ask(self, questions):
+        """Asks questions, and raises the first difference that no document tells."""
+        if not self.is_there or not questions:
+            return
+        asked = [question.lines() for question in questions]
+        text = b"".join(line + b"\n" for lines in asked for line in lines)
+        done = subprocess.run([self.program], input=text, capture_output=True, timeout=PATIENCE)
+        told = done.stdout.split(b"\n")
+        for question, lines in zip(questions, asked):
+            answers, told = told[:len(lines)], told[len(lines):]
+            self.known.update(question.known)
+            self.asked += len(lines) > 0
+            if lines:
+                self.known.update(question.judge(answers))
+
+
+class Inverse:
+    """Whether the inverse of a file is SQLite's, byte by byte."""
+
+    known = ()
+
+    def __init__(self, groups):
+        self.groups = groups
+
+    def lines(self):
+        """What is asked."""
+        return [b"invert x" + hexed(self.groups)]
+
+    def judge(self, told):
+        """Compares the answers."""
+        wanted = b"0 " + hexed(reader.inverted(self.groups))
+        if told != [wanted]:
+            raise Difference([b".load a " + hexed(self.groups), b".invert a b", b".hex b"], wanted, told)
+        return ()
+
+
+class Join:
+    """Whether the join of two files is SQLite's."""
+
+    def __init__(self, first, second):
+        self.first = first
+        self.second = second
+        self.known = []
+
+    def lines(self):
+        """What is asked."""
+        names = [name for _, name, _ in self.first + self.second]
+        if differ_in_case(names):
+            self.known.append(JOIN_CASE)
+            return []
+        flags = {name: flags for flags, name, _ in self.first}
+        asked = [
+            (flags[name] if name in flags and have_same_columns(flags[name], own) else own, name, entries)
+            for own, name, entries in self.second
+        ]
+        if asked != self.second:
+            self.known.append(JOIN_FLAGS)
+        return [b"concat x%s x%s" % (hexed(self.first), hexed(asked))]
+
+    def judge(self, told):
+        """Compares the answers."""
+        lines = [b".load a " + hexed(self.first), b".load b " + hexed(self.second), b".concat a b c", b".hex c"]
+        try:
+            groups = joined(self.first, self.second)
+        except Refusal:
+            if told != [b"%d " % SCHEMA]:
+                raise Difference(lines, b"%d " % SCHEMA, told)
+            return ()
+        wanted = b"0 " + hexed(groups)
+        if told == [wanted]:
+            return ()
+        if in_order(made_groups(told[0])) != in_order(groups):
+            raise Difference(lines, wanted, told)
+        return (ORDER,)
+
+
+class Apply:
+    """Whether an apply to tables of these rows does what SQLite's does to ordinary tables."""
+
+    def __init__(self, tables, groups, choices):
+        self.tables = {name: copied(table) for name, table in tables.items()}
+        self.groups = groups
+        self.choices = choices
+        self.known = []
+        self.asked = []
+        self.script = list(script_of(self.tables, groups, choices))
+
+    def lines(self):
+        """What is asked."""
+        if differ_in_case([*self.tables, *(name for _, name, _ in self.groups)]):
+            self.known.append(APPLY_CASE)
+            return []
+        if self.has_wider():
+            self.known.append(APPLY_WIDER)
+            return []
+        letters = b"".join(self.choices[kind][:1] for kind in NUMBERS)
+        lines = [b"new"]
+        for name, table in self.tables.items():
+            lines += [b"do x" + text.hex().encode() for text in table_texts(name, table)]
+        self.asked = self.sqlite_groups()
+        lines.append(b"apply %s x%s" % (letters, hexed(self.asked)))
+        return lines + [b"list x" + (b"SELECT * FROM " + quoted(name, b'"')).hex().encode() for name in self.tables]
+
+    def has_wider(self):
+        """Whether the groups are refused since a table is wider."""
+        return any(
+            name in self.tables and len(flags) < len(self.tables[name].flags)
+            and have_same_columns(flags, self.tables[name].flags[:len(flags)])
+            for flags, name, _ in self.groups
+        )
+
+    def sqlite_groups(self):
+        """The groups, as SQLite is asked: with its flags, and without what it does not look at."""
+        groups = [(sqlite_flags(flags), name, entries) for flags, name, entries in self.groups]
+        if groups != self.groups:
+            self.known.append(APPLY_FLAGS)
+        kept = [(flags, name, [entry for entry in entries if modifies(entry)]) for flags, name, entries in groups]
+        if kept != groups:
+            self.known.append(APPLY_NOTHING)
+        return [group for group in kept if group[2]]
+
+    def judge(self, told):
+        """Compares the answers."""
+        applying, code, met = Applying(self.tables, self.choices), OK, b""
+        try:
+            applying.run(self.asked)
+        except Refusal as refusal:
+            number, kind = refusal.line.split(b" ")[1:4:2]
+            code, met = ABORT if number == b"41" else MISUSE, b"%d" % NUMBERS[kind]
+        met = b"".join(line[9:10] for line in applying.report if line.startswith(b"conflict ")) + met
+        rows = [sorted(b"".join(map(shown, row)) for row in table.rows.values()) for table in self.tables.values()]
+        made, answer, listed = told[:-len(rows) - 1], told[-len(rows) - 1], told[len(told) - len(rows):]
+        lists = [sorted(line.split(b";")[1:]) for line in listed]
+        if any(line != b"0" for line in made) or answer != b"%d %s" % (code, met) or lists != rows:
+            raise Difference(self.script, (code, met, rows), told)
+        return ()
+
+
+class Recording:
+    """Whether the net changeset of lines of edits, behind others, is the one that SQLite's session records of them."""
+
+    def __init__(self, tables, before, edits, groups):
+        self.tables = tables
+        self.before = before
+        self.edits = edits
+        self.groups = groups
+        self.known = []
+
+    def lines(self):
+        """What is asked."""
+        if any(map(differ_in_case, [self.tables, *(table.columns for table in self.tables.values())])):
+            self.known.append(SESSION_CASE)
+            return []
+        before, edits = ([b"do x" + line.hex().encode() for line in lines] for lines in (self.before, self.edits))
+        return [b"new", *before, b"session", *edits, b"changeset"]
+
+    def judge(self, told):
+        """Compares the answers."""
+        wanted = b"0 " + hexed(self.groups)
+        groups = made_groups(told[-1])
+        marked = [(bytes(map(bool, flags)), name, entries) for flags, name, entries in groups]
+        is_good = sorted(in_order(marked), key=name_of) == sorted(in_order(self.groups), key=name_of)
+        if any(line != b"0" for line in told[:-1]) or not told[-1].startswith(b"0 ") or not is_good:
+            raise Difference([*self.before, *self.edits], wanted, told)
+        return (SESSION_FLAGS,) * (marked != groups) + (SESSION_ORDER,) * (marked != self.groups)
+
+
+def made_groups(answer):
+    """The groups of the file that an answer has; none where the library refused."""
+    return reader.Reader(bytes.fromhex(answer[2:].decode())).groups() if answer.startswith(b"0 ") else []
+
+
+def name_of(group):
+    """The name of a group's table."""
+    return group[1]
+
+
+def hexed(groups):
+    """The file of groups, in digits."""
+    return reader.write(groups).hex().encode()
+
+
+def differ_in_case(names):
+    """Whether two names differ in the case of ASCII letters alone."""
+    names = set(names)
+    return len({name.lower() for name in names}) < len(names)
+
+
+def in_order(groups):
+    """Groups with the entries of each by their keys."""
+    return [
+        (flags, name, sorted(entries, key=lambda entry: [field for flag, field in zip(flags, entry[2][0]) if flag]))
+        for flags, name, entries in groups
+    ]
+
+
+def copied(table):
+    """A table with the rows that it has now."""
+    copy = Table(table.columns, table.flags)
+    copy.rows = dict(table.rows)
+    return copy
+
+
+def sqlite_flags(flags):
+    """The flags that SQLite writes of a table whose key has its columns in order."""
+    numbered, number = [], 0
+    for flag in flags:
+        number += flag != 0
+        numbered.append(number if flag else 0)
+    return bytes(numbered)
+
+
+def modifies(entry):
+    """Whether an entry is no UPDATE without a new value."""
+    return entry[0] != reader.UPDATE or any(field != reader.UNDEFINED for field in entry[2][1])
+
+
+def sql_value(value):
+    """A value in SQL; what a text holds may be a zero character."""
+    kind, (shown_kind, text) = value[:1], (shown(value)[1:2], shown(value)[2:])
+    if shown_kind == b"i":
+        return text
+    if shown_kind == b"n":
+        return b"NULL"
+    return b"CAST(X'%s' AS TEXT)" % text if kind == b"\x03" else b"X'%s'" % text
+
+
+def table_texts(name, table):
+    """The SQL that makes a table with its rows."""
+    columns = [b"c%d" % place for place in range(1, len(table.flags) + 1)]
+    keys = [column for column, flag in zip(columns, table.flags) if flag]
+    yield b"CREATE TABLE %s(%s, PRIMARY KEY(%s))" % (quoted(name, b'"'), b", ".join(columns), b", ".join(keys))
+    for row in table.rows.values():
+        yield b"INSERT INTO %s VALUES(%s)" % (quoted(name, b'"'), b", ".join(map(sql_value, row)))
+
+
+def shown(value):
+    """A value as `sqlite.c` prints it."""
+    kind = value[:1]
+    if kind == b"\x01":
+        return b",i%d" % int.from_bytes(value[1:], "big", signed=True)
+    if kind in (b"\x03", b"\x04"):
+        return (b",t" if kind == b"\x03" else b",b") + content_of(value).hex().encode()
+    return b",n"
+
+
+def script_of(tables, groups, choices):
+    """Lines that do the same: the rows are put there by a changeset, since a line holds not every text."""
+    for name, table in tables.items():
+        names = [b"c%d" % place for place in range(1, len(table.flags) + 1)]
+        keys = b", ".join(column for column, flag in zip(names, table.flags) if flag)
+        yield b"CREATE TABLE %s(%s, PRIMARY KEY(%s));" % (quoted(name, b'"'), b", ".join(names), keys)
+        if table.rows:
+            rows = [(reader.INSERT, b"\x00", [list(row)]) for row in table.rows.values()]
+            yield b".load a " + hexed([(bytes(table.flags), name, rows)])
+            yield b".apply a"
+    yield b".load a " + hexed(groups)
+    yield b".apply a" + b"".join(b" %s=%s" % choice for choice in choices.items())
+    yield from (b"SELECT * FROM %s;" % quoted(name, b'"') for name in tables)
