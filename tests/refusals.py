@@ -23,6 +23,9 @@ from stores import UNDEFINED, Table, delete, header, insert, read_store, update,
 HERE = pathlib.Path(__file__).resolve().parent
 PROGRAM = HERE.parent / "crates/changeset/out/changeset"
 
+# The program of calls that no line makes, which prints a line for each of its words.
+CALLS = HERE.parent / "crates/calls/out/calls"
+
 NO_MEMORY = "error 60 NoMemory\n"
 
 # How many seconds a run may take.
@@ -96,17 +99,20 @@ def build_shim(folder):
     return shim
 
 
-def run(folder, words, stdin, refusing=None):
-    """Runs the program in a folder: its exit status, and what it prints to both streams."""
+def run(folder, words, stdin, refusing=None, program=None):
+    """Runs a program in a folder: its exit status, and what it prints to both streams."""
     done = subprocess.run(
-        [PROGRAM, *words], cwd=folder, input=stdin, capture_output=True, timeout=PATIENCE,
+        [program or PROGRAM, *words], cwd=folder, input=stdin, capture_output=True, timeout=PATIENCE,
         env={**os.environ, **refusing} if refusing else None, pass_fds=[int(refusing["REFUSE_MARK"])] if refusing else [],
     )
     return done.returncode, done.stdout.decode(), done.stderr.decode()
 
 
 class Trial:
-    """Something that the program does in a folder, and the ways in which it may end."""
+    """Something that a program does in a folder, and the ways in which it may end."""
+
+    # The program, where it is not the one that is tested.
+    program = None
 
     def __init__(self, words, stdin=b""):
         self.words = words
@@ -122,7 +128,7 @@ class Trial:
         """How it ends, in a new folder: its exit status, what it prints, and what it leaves."""
         with tempfile.TemporaryDirectory() as folder:
             self.prepare(folder)
-            return run(folder, self.words, self.stdin, refusing), self.left(folder)
+            return run(folder, self.words, self.stdin, refusing, self.program), self.left(folder)
 
     def refused(self, shim, at, call="malloc", answer=0):
         """How it ends where this allocation, or this call, is refused with an answer, and whether one was."""
@@ -199,6 +205,21 @@ class Command(Trial):
             return [self.once(), ((1, "", NO_MEMORY), self.left(folder))]
 
 
+class Calls(Trial):
+    """Calls that no line makes."""
+
+    program = CALLS
+
+    def ends(self):
+        """All ways in which they may end: as with memory, or with one refused, which leaves what was there, or with none made."""
+        ends = [self.once()]
+        for place in range(len(self.words)):
+            before = Calls(self.words[:place]).once()[0][1]
+            (status, printed, reported), left = Calls(self.words[:place] + self.words[place + 1:]).once()
+            ends.append(((status, before + "NoMemory\n" + printed[len(before):], reported), left))
+        return [*ends, Calls([]).once()]
+
+
 def is_store(path):
     """Whether a file has the records of a store."""
     if not os.path.exists(path):
@@ -252,6 +273,11 @@ class MemoryTest(unittest.TestCase):
         for words in COMMANDS:
             with self.subTest(" ".join(words)):
                 self.expect_ends(Command(words))
+
+    @unittest.skipUnless(CALLS.exists(), "the program of the calls is not built")
+    def test_calls(self):
+        """Each call that no line makes answers as with memory, or NoMemory, and leaves what was there."""
+        self.expect_ends(Calls((HERE.parent / "crates/calls/args").read_text().split()))
 
 
 if __name__ == "__main__":

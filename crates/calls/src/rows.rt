@@ -57,10 +57,10 @@ impl TestRows {
         self.edit(alloc, &Edit::Update { table, key, row })
     }
 
-    /// Removes the row with the key 3.
+    /// Removes the row with the key 2.
     pub(crate) fn delete(&mut self, alloc: Global) -> Result<usize, StoreError> {
         let table = String::from_str(alloc, "t")?;
-        let key = Key::of_row(alloc, &[1, 0], &row_of(alloc, 3, 0)?)?;
+        let key = Key::of_row(alloc, &[1, 0], &row_of(alloc, 2, 0)?)?;
         self.edit(alloc, &Edit::Delete { table, key })
     }
 
