@@ -10,8 +10,8 @@ ghost use Rattle.cs_store.specs.Faults.{IsResource};
 ghost use Rattle.cs_store.specs.Records.{HoldsRecords, Sets, ListsAll, ListsTable};
 ghost use Rattle.cs_store.specs.Records.{records_in, Rests, GoesOn, KeepsCrash};
 ghost use Rattle.cs_store.specs.Records.{IsQuery, shown_record, shown_keyed};
-ghost use Rattle.cs_store.specs.Statements.{put_text as text_that_puts};
 ghost use Rattle.cs_store.specs.Records.{AreNumbered, AreRisingNumbers, record_schema, empty_schema};
+ghost use Rattle.cs_store.specs.Statements.{put_text as text_that_puts};
 
 use crate::fault::StoreError;
 use sqlite::types::ValueRef;
