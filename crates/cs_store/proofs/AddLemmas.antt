@@ -1,12 +1,9 @@
 -- What the INSERT of a record does that is refused where the record is there.
-use Rattle.std.proofs.Common.{◌≡◌, inl, inr, ℕ, List, [], ◌∷◌, map, drop, codes, true, Option, Some, None, Ok, IsTrue, refl, sym, ap, subst, ◌∙◌}
+use Rattle.std.proofs.Common.{◌≡◌, inl, inr, ℕ, List, [], ◌∷◌, map, drop, Bool, true, false, Option, Some, None, Ok, refl, sym, ap, subst, ◌∙◌}
 use Rattle.sqlite_value.specs.declared.value.Value.TheVariants.{Text, Blob}
 use Rattle.sqlite_value.specs.Order.{Row}
 use Rattle.sqlite_trees.specs.Tree.{Trees}
 use Rattle.sqlite_schema.specs.declared.schema.Keys.{Keys}
-use Rattle.sqlite_schema.specs.declared.command.Command.{Command}
-use Rattle.sqlite_schema.specs.declared.command.Command.TheVariants.{Insert}
-use Rattle.sqlite_tied.specs.Compute.{everything}
 use Rattle.sqlite_rules.specs.declared.error.Rowids.TheVariants.{Chosen}
 use Rattle.sqlite_rules.specs.Cast.{cast_row}
 use Rattle.sqlite_rules.specs.Edit.{edit_of, next_rowid, numbered, put_all, are_fresh}
@@ -14,46 +11,16 @@ use Rattle.sqlite_rules.proofs.TableLemmas.{put_all_adds}
 use Rattle.sqlite.specs.Effect.{Database}
 use Rattle.sqlite.specs.Rows.{Written, Inserts}
 use Rattle.sqlite.specs.Does.{Tally, Does}
-use Rattle.sqlite.specs.Given.{IsPlain}
 use Rattle.sqlite.specs.Listing.{understood}
-use Rattle.sqlite.specs.State.{State, mode_of, HasCleanDisk, Survives, Writes, Executes, CommitsBy}
-use Rattle.sqlite.proofs.Callers.{command_of, statement_of, runs_as, one_step}
-use Rattle.cs_store.specs.Records.{record_table, record_schema, HoldsRecords, Sets, is_under, GoesOn, KeepsCrash}
+use Rattle.sqlite.specs.State.{State, mode_of, Executes}
+use Rattle.sqlite.proofs.Callers.{statement_of, one_step}
+use Rattle.cs_store.specs.Records.{record_table, record_schema, HoldsRecords, Sets, is_under}
 use Rattle.cs_store.proofs.RowLemmas.{under_from}
 use Rattle.cs_store.proofs.EditLemmas.{Replaces, edit_sets}
-use Rattle.cs_store.proofs.SetLemmas.{source, record_at, numbered_record, task}
-use Rattle.cs_store.proofs.StatementLemmas.{went, same_value, inside_keeps_crash, write_goes_on}
-
-abbrev add_text : List ℕ
-add_text = codes "INSERT INTO rec VALUES(?1, ?2, ?3)"
-
--- what the text means
-abbrev add_command : Command
-add_command = Insert 0 source
-
--- the text means that command
-add_is : command_of (understood record_schema add_text) ≡ add_command
-unfolding understood everything
-add_is = refl
-
--- with no RETURNING
-add_plain : IsPlain (understood record_schema add_text)
-unfolding understood everything
-add_plain = (refl, refl)
-
--- the statement writes as its command says
-add_writes : (old new : State) (params : Row) (count : ℕ) → old.now.schema ≡ record_schema → Executes add_text params old new (Ok count)
-    → Writes old new None add_command (statement_of add_text (understood record_schema add_text)) params count
-add_writes old new params count has h = runs_as add_text params old new record_schema has add_command add_is add_plain count h
-
--- the transaction goes on
-pub add_goes_on : (old new : State) (params : Row) (count : ℕ) → old.now.schema ≡ record_schema → IsTrue old.in_transaction → Executes add_text params old new (Ok count) → GoesOn old new
-add_goes_on old new params count has inside h = write_goes_on old new _ _ _ _ count inside (add_writes old new params count has h)
-
--- inside a transaction it commits nothing
-pub add_keeps_crash : (params : Row) (old new : State) → (HasCleanDisk old → old.now.schema ≡ record_schema) → (HasCleanDisk old → IsTrue old.in_transaction) → Survives old new (CommitsBy add_text params old)
-    → KeepsCrash old new
-add_keeps_crash params = inside_keeps_crash add_text params record_schema add_command add_is add_plain (λ same. absurd (cc)) (λ name same. absurd (cc))
+use Rattle.cs_store.specs.Statements.{put_text}
+use Rattle.cs_store.proofs.PutLemmas.{source, put_command, put_writes}
+use Rattle.cs_store.proofs.SetLemmas.{record_at, numbered_record, task, sets}
+use Rattle.cs_store.proofs.StatementLemmas.{went, same_value}
 
 -- the row that is put in
 puts_in : (limit : Option ℕ) (keys : Keys) (tab key value : List ℕ) (db : Trees) (one : Written) → Inserts (task limit keys tab key value) source db (Ok one)
@@ -82,13 +49,19 @@ puts_in limit keys tab key value db one h =
     }
 
 -- it sets the record under the name and the key
-pub adds : (old new : State) (tab key value : List ℕ) (count : ℕ) → HoldsRecords old.now → Executes add_text (Text tab ∷ Blob key ∷ Blob value ∷ []) old new (Ok count)
+pub adds : (old new : State) (tab key value : List ℕ) (count : ℕ) → HoldsRecords old.now → Executes (put_text true) (Text tab ∷ Blob key ∷ Blob value ∷ []) old new (Ok count)
     → Sets old.now new.now tab key (Some value)
 adds old new tab key value count holds h =
     let params = Text tab ∷ Blob key ∷ Blob value ∷ [] in
-    let w = add_writes old new params count holds.schema h in
-    let text = statement_of add_text (understood record_schema add_text) in
-    let done = went (subst (λ s. Does old.step_limit (mode_of old) params (record old.now { schema = s }) text None add_command (Ok (w.tally, new.now))) holds.schema w.changed) in
+    let w = put_writes true old new params count holds.schema h in
+    let text = statement_of (put_text true) (understood record_schema (put_text true)) in
+    let done = went (subst (λ s. Does old.step_limit (mode_of old) params (record old.now { schema = s }) text None (put_command true) (Ok (w.tally, new.now))) holds.schema w.changed) in
     let now = ap (λ (p : Tally × Database). p.1) (same_value (went (went done.2).2).2) in
     let put = puts_in old.step_limit (mode_of old).keys tab key value old.now.trees done.0 done.1 in
     edit_sets old.now new.now tab key (Some value) holds (ap (λ (d : Database). d.schema) now) w.sound (subst (Replaces (old.now.trees 0) tab key (Some value)) (sym (ap (λ (d : Database). d.trees 0) now)) put)
+
+-- and so does each of the texts that put a record
+pub puts : (is_new : Bool) (old new : State) (tab key value : List ℕ) (count : ℕ) → HoldsRecords old.now → Executes (put_text is_new) (Text tab ∷ Blob key ∷ Blob value ∷ []) old new (Ok count)
+    → Sets old.now new.now tab key (Some value)
+puts true = adds
+puts false = sets

@@ -1,3 +1,4 @@
+pub mod AddLemmas
 pub mod AdoptionLemmas
 pub mod AnswerLemmas
 pub mod CheckLemmas
@@ -14,6 +15,7 @@ pub mod ListedRows
 pub mod MemoryLemmas
 pub mod NumberedRows
 pub mod OrderLemmas
+pub mod PutLemmas
 pub mod QueryLemmas
 pub mod QueryTexts
 pub mod ReadLemmas
@@ -21,7 +23,6 @@ pub mod RemoveLemmas
 pub mod RowLemmas
 pub mod SchemaLemmas
 pub mod SetLemmas
-pub mod AddLemmas
 pub mod StateOf
 pub mod StatementLemmas
 pub mod StoreExamples

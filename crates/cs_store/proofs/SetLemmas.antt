@@ -1,8 +1,7 @@
 -- What the INSERT of a record does, which updates the record that is there.
-use Rattle.std.proofs.Common.{◌≡◌, inl, inr, ℕ, ℤ, List, [], ◌∷◌, map, filter, drop, cond, codes, true, false, Bool, ◌&&◌, Option, Some, None, Ok, IsTrue, refl, sym, ap, subst, ◌∙◌}
+use Rattle.std.proofs.Common.{◌≡◌, inl, inr, ℕ, ℤ, List, [], ◌∷◌, map, filter, drop, cond, true, false, Bool, ◌&&◌, Option, Some, None, Ok, refl, sym, ap, subst, ◌∙◌}
 use Rattle.sqlite_value.specs.declared.value.Value.{Value}
 use Rattle.sqlite_value.specs.declared.value.Value.TheVariants.{Null, Int, Text, Blob}
-use Rattle.sqlite_value.specs.declared.keys.Collation.TheVariants.{Binary}
 use Rattle.sqlite_value.specs.Order.{Row, column, value_cmp}
 use Rattle.std.specs.Ordering.{is_eq}
 use Rattle.std.proofs.lemmas.List.Sorted.{IsPermutation-sym}
@@ -10,23 +9,13 @@ use Rattle.sqlite_rules.proofs.ProbeLemmas.{has_mapped, mapped_has}
 use Rattle.sqlite_rules.proofs.ListLemmas.{has_filtered, has_kept}
 use Rattle.sqlite_rules.proofs.PlaceLemmas.{given}
 use Rattle.sqlite_trees.specs.Tree.{Trees, rowid}
-use Rattle.sqlite_sql.specs.declared.ops.BinaryOp.TheVariants.{Compare}
-use Rattle.sqlite_sql.specs.declared.ops.CompareOp.TheVariants.{Eq}
 use Rattle.sqlite_sql.specs.Ops.{unary}
-use Rattle.sqlite_sql.specs.Term.{lit, col, op2}
-use Rattle.sqlite_sql.specs.Query.{Query}
 use Rattle.sqlite_sql.specs.Program.{overlay}
 use Rattle.sqlite_rules.specs.Calls.{ids_of}
 use Rattle.cs_store.proofs.AnswerLemmas.{answer_chosen, ShowsChosen, passes_where, shown_of}
-use Rattle.sqlite_schema.specs.declared.program.Program.{Program}
 use Rattle.sqlite_schema.specs.declared.schema.Keys.{Keys}
 use Rattle.sqlite_schema.specs.declared.schema.Kind.TheVariants.{Integer}
-use Rattle.sqlite_schema.specs.declared.command.Command.{Command}
-use Rattle.sqlite_schema.specs.declared.command.Command.TheVariants.{InsertOr}
 use Rattle.sqlite_schema.specs.declared.command.Conflict.TheVariants.{Abort}
-use Rattle.sqlite_schema.specs.declared.command.Source.{Source}
-use Rattle.sqlite_schema.specs.declared.command.Source.TheVariants.{Values}
-use Rattle.sqlite_schema.specs.declared.command.Upsert.{Upsert}
 use Rattle.sqlite_rules.specs.declared.error.Rowids.TheVariants.{Chosen, Given}
 use Rattle.sqlite_rules.specs.Lists.{Has}
 use Rattle.sqlite_rules.specs.Cast.{cast, cast_row}
@@ -35,66 +24,18 @@ use Rattle.sqlite_rules.proofs.TableLemmas.{put_all_adds}
 use Rattle.std.proofs.Math.Bool.{and-true, or-false}
 use Rattle.sqlite_value.specs.Keys.{first_key}
 use Rattle.sqlite_rules.specs.Keys.{conflicts}
-use Rattle.sqlite_tied.specs.Compute.{everything}
 use Rattle.sqlite.specs.Effect.{Database}
 use Rattle.sqlite.specs.Rows.{Written, Task, shown, count_of, nothing, Puts, Clears, Updates, Upserts, Tries, TriesEach}
 use Rattle.sqlite.specs.Does.{Tally, Does}
-use Rattle.sqlite.specs.Given.{IsPlain}
 use Rattle.sqlite.specs.Listing.{understood}
-use Rattle.sqlite.specs.State.{State, mode_of, HasCleanDisk, Survives, Writes, Executes, CommitsBy}
-use Rattle.sqlite.proofs.Callers.{command_of, statement_of, runs_as, one_step}
-use Rattle.cs_store.specs.Records.{record_table, record_schema, HoldsRecords, Sets, same_bytes, content, is_under, GoesOn, KeepsCrash}
-use Rattle.cs_store.proofs.QueryTexts.{plain_query}
+use Rattle.sqlite.specs.State.{State, mode_of, Executes}
+use Rattle.sqlite.proofs.Callers.{statement_of, one_step}
+use Rattle.cs_store.specs.Records.{record_table, record_schema, HoldsRecords, Sets, same_bytes, content, is_under}
 use Rattle.cs_store.proofs.RowLemmas.{IsRecordRow, record_row, one_number, has_permuted, under_is, under_from, equal_texts, equal_blobs}
 use Rattle.cs_store.proofs.EditLemmas.{same_number, equal_numbers, same_as_itself, Replaces, edit_sets}
-use Rattle.cs_store.proofs.StatementLemmas.{went, same_value, inside_keeps_crash, write_goes_on}
-
-abbrev set_text : List ℕ
-set_text = codes "INSERT INTO rec VALUES(?1, ?2, ?3) ON CONFLICT(tab, keyb) DO UPDATE SET rowb = ?3"
-
--- the rowid is chosen
-abbrev pub source : Source
-source = Values (lit Null ∷ col 0 0 ∷ col 0 1 ∷ col 0 2 ∷ []) 4
-
--- of the row with the rowid that is the fourth parameter, that rowid, and the row with the new value
-abbrev update_query : Query
-update_query = plain_query (op2 (Compare Eq Binary) (col 1 0) (col 0 3) ∷ []) (col 1 0 ∷ col 1 0 ∷ col 1 1 ∷ col 1 2 ∷ col 0 2 ∷ []) []
-
--- that query alone
-abbrev update_program : Program
-update_program = record { lets = []; body = update_query }
-
--- on a row with the same name and key, the update
-abbrev clause : Upsert
-clause = record { target = Some (1 ∷ 2 ∷ []); update = Some update_program }
-
--- what the text means
-abbrev set_command : Command
-set_command = InsertOr 0 Abort source (clause ∷ [])
-
--- the text means that command
-set_is : command_of (understood record_schema set_text) ≡ set_command
-unfolding understood everything
-set_is = refl
-
--- with no RETURNING
-set_plain : IsPlain (understood record_schema set_text)
-unfolding understood everything
-set_plain = (refl, refl)
-
--- the statement writes as its command says
-set_writes : (old new : State) (params : Row) (count : ℕ) → old.now.schema ≡ record_schema → Executes set_text params old new (Ok count)
-    → Writes old new None set_command (statement_of set_text (understood record_schema set_text)) params count
-set_writes old new params count has h = runs_as set_text params old new record_schema has set_command set_is set_plain count h
-
--- the transaction goes on
-pub set_goes_on : (old new : State) (params : Row) (count : ℕ) → old.now.schema ≡ record_schema → IsTrue old.in_transaction → Executes set_text params old new (Ok count) → GoesOn old new
-set_goes_on old new params count has inside h = write_goes_on old new _ _ _ _ count inside (set_writes old new params count has h)
-
--- inside a transaction it commits nothing
-pub set_keeps_crash : (params : Row) (old new : State) → (HasCleanDisk old → old.now.schema ≡ record_schema) → (HasCleanDisk old → IsTrue old.in_transaction) → Survives old new (CommitsBy set_text params old)
-    → KeepsCrash old new
-set_keeps_crash params = inside_keeps_crash set_text params record_schema set_command set_is set_plain (λ same. absurd (cc)) (λ name same. absurd (cc))
+use Rattle.cs_store.specs.Statements.{put_text}
+use Rattle.cs_store.proofs.PutLemmas.{update_query, update_program, clause, put_command, put_writes}
+use Rattle.cs_store.proofs.StatementLemmas.{went, same_value}
 
 -- ---- the row
 
@@ -277,13 +218,13 @@ module _ (limit : Option ℕ) (keys : Keys) (tab key value : List ℕ) where
       subst (Replaces (db.trees 0) tab key (Some value)) (sym (ap (λ (p : Written × ℤ). p.0.trees 0) (same_value one.2))) put
 
 -- it sets the record under the name and the key
-pub sets : (old new : State) (tab key value : List ℕ) (count : ℕ) → HoldsRecords old.now → Executes set_text (Text tab ∷ Blob key ∷ Blob value ∷ []) old new (Ok count)
+pub sets : (old new : State) (tab key value : List ℕ) (count : ℕ) → HoldsRecords old.now → Executes (put_text false) (Text tab ∷ Blob key ∷ Blob value ∷ []) old new (Ok count)
     → Sets old.now new.now tab key (Some value)
 sets old new tab key value count holds h =
     let params = Text tab ∷ Blob key ∷ Blob value ∷ [] in
-    let w = set_writes old new params count holds.schema h in
-    let text = statement_of set_text (understood record_schema set_text) in
-    let done = went (subst (λ s. Does old.step_limit (mode_of old) params (record old.now { schema = s }) text None set_command (Ok (w.tally, new.now))) holds.schema w.changed) in
+    let w = put_writes false old new params count holds.schema h in
+    let text = statement_of (put_text false) (understood record_schema (put_text false)) in
+    let done = went (subst (λ s. Does old.step_limit (mode_of old) params (record old.now { schema = s }) text None (put_command false) (Ok (w.tally, new.now))) holds.schema w.changed) in
     let now = ap (λ (p : Tally × Database). p.1) (same_value (went (went done.2).2).2) in
     let sourced = went done.1 in
     let counter = went sourced.2 in

@@ -1,6 +1,7 @@
 pub mod Faults
 pub mod Records
 pub mod Rows
+pub mod Statements
 pub mod Declaration
 pub mod Stored
 pub mod Valid

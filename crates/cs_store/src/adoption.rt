@@ -15,7 +15,7 @@ ghost use Rattle.cs_store.specs.Store.{Adopts, HoldsTables, SetsUp, IsInside};
 use crate::check::check_records;
 use crate::fault::StoreError;
 use crate::layout::{declares_nothing, declares_records, misdeclares_records};
-use crate::records::{Record, all_records, find_record, has_row_numbers, make_table, set_record};
+use crate::records::{Record, all_records, find_record, has_row_numbers, make_table, put_record};
 use crate::transactions;
 use sqlite::{Alter, Connection};
 use std::alloc::Global;
@@ -98,7 +98,7 @@ fn write_version<S: Alter>(conn: &mut Connection<S>) -> Result<(), StoreError>
         → OnErr result (KeepsCommit (state S.Store conn.old) (state S.Store conn.new)) }
     ensures survives { KeepsCrash (state S.Store conn.old) (state S.Store conn.new) }
 {
-    set_record(conn, "", b"", VERSION)
+    put_record(conn, "", b"", VERSION, false)
 }
 
 /// Checks the store of a database that declares the table of records, or makes one where that is

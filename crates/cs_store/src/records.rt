@@ -11,6 +11,7 @@ ghost use Rattle.cs_store.specs.Records.{HoldsRecords, Sets, ListsAll, ListsTabl
 ghost use Rattle.cs_store.specs.Records.{records_in, Rests, GoesOn, KeepsCrash};
 ghost use Rattle.cs_store.specs.Records.{IsQuery, shown_record, shown_keyed};
 ghost use Rattle.cs_store.specs.Records.{AreNumbered, AreRisingNumbers, record_schema, empty_schema};
+ghost use Rattle.cs_store.specs.Statements.{put_text as text_that_puts};
 
 use crate::fault::StoreError;
 use sqlite::types::ValueRef;
@@ -96,66 +97,19 @@ pub(crate) fn find_record<S: Alter>(
     }
 }
 
-/// Puts the value under a table's name and a key, inside a transaction.
-pub(crate) fn set_record<S: Alter>(
-    conn: &mut Connection<S>,
-    tab: &str,
-    key: &[u8],
-    value: &[u8],
-) -> Result<(), StoreError>
-    ensures set { HasCleanDisk (state S.Store conn.new) → HoldsRecords (state S.Store conn.old).now
-        → OnOk result (Sets (state S.Store conn.old).now (state S.Store conn.new).now
-        tab.now key.now (Some value.now)) }
-    ensures goes_on { HasCleanDisk (state S.Store conn.new) → HoldsRecords (state S.Store conn.old).now
-        → IsTrue (state S.Store conn.old).in_transaction
-        → OnOk result (GoesOn (state S.Store conn.old) (state S.Store conn.new)) }
-    ensures refused { IfErr result IsResource }
-    ensures rests { HasCleanDisk (state S.Store conn.new)
-        → OnErr result (Rests (state S.Store conn.old) (state S.Store conn.new)) }
-    ensures was_clean { HasCleanDisk (state S.Store conn.new) → HasCleanDisk (state S.Store conn.old) }
-    ensures survives { (HasCleanDisk (state S.Store conn.old) → HoldsRecords (state S.Store conn.old).now)
-        → (HasCleanDisk (state S.Store conn.old) → IsTrue (state S.Store conn.old).in_transaction)
-        → KeepsCrash (state S.Store conn.old) (state S.Store conn.new) }
+/// The text that puts a record: a new one, which is refused where one is there, or one in place of that which is there.
+fn put_text(is_new: bool) -> &'static str
+    ensures { result.now ≡ text_that_puts is_new }
 {
-    conn.execute(
-        "INSERT INTO rec VALUES(?1, ?2, ?3) ON CONFLICT(tab, keyb) DO UPDATE SET rowb = ?3",
-        params![tab, key, value],
-    )?;
-    Ok(())
+    if is_new {
+        "INSERT INTO rec VALUES(?1, ?2, ?3)"
+    } else {
+        "INSERT INTO rec VALUES(?1, ?2, ?3) ON CONFLICT(tab, keyb) DO UPDATE SET rowb = ?3"
+    }
 }
 
-/// Puts the value under a table's name and a key that no record has, inside a transaction. It is refused where one has
-/// them: what [`set_record`] looks for first, to replace it, is not looked for.
-fn add_record<S: Alter>(
-    conn: &mut Connection<S>,
-    tab: &str,
-    key: &[u8],
-    value: &[u8],
-) -> Result<(), StoreError>
-    requires { HasCleanDisk (state S.Store conn.old) → HoldsRecords (state S.Store conn.old).now
-        → records_in (state S.Store conn.old).now tab.now key.now ≡ None }
-    ensures set { HasCleanDisk (state S.Store conn.new) → HoldsRecords (state S.Store conn.old).now
-        → OnOk result (Sets (state S.Store conn.old).now (state S.Store conn.new).now
-        tab.now key.now (Some value.now)) }
-    ensures goes_on { HasCleanDisk (state S.Store conn.new) → HoldsRecords (state S.Store conn.old).now
-        → IsTrue (state S.Store conn.old).in_transaction
-        → OnOk result (GoesOn (state S.Store conn.old) (state S.Store conn.new)) }
-    ensures refused { IfErr result IsResource }
-    ensures rests { HasCleanDisk (state S.Store conn.new)
-        → OnErr result (Rests (state S.Store conn.old) (state S.Store conn.new)) }
-    ensures was_clean { HasCleanDisk (state S.Store conn.new) → HasCleanDisk (state S.Store conn.old) }
-    ensures survives { (HasCleanDisk (state S.Store conn.old) → HoldsRecords (state S.Store conn.old).now)
-        → (HasCleanDisk (state S.Store conn.old) → IsTrue (state S.Store conn.old).in_transaction)
-        → KeepsCrash (state S.Store conn.old) (state S.Store conn.new) }
-{
-    conn.execute(
-        "INSERT INTO rec VALUES(?1, ?2, ?3)",
-        params![tab, key, value],
-    )?;
-    Ok(())
-}
-
-/// Puts the value under a table's name and a key, inside a transaction: a new record, where it is known that none is there.
+/// Puts the value under a table's name and a key, inside a transaction: a new record, where it is known that none has
+/// them, so that none is looked for to be replaced.
 pub(crate) fn put_record<S: Alter>(
     conn: &mut Connection<S>,
     tab: &str,
@@ -179,11 +133,8 @@ pub(crate) fn put_record<S: Alter>(
         → (HasCleanDisk (state S.Store conn.old) → IsTrue (state S.Store conn.old).in_transaction)
         → KeepsCrash (state S.Store conn.old) (state S.Store conn.new) }
 {
-    if is_new {
-        add_record(conn, tab, key, value)
-    } else {
-        set_record(conn, tab, key, value)
-    }
+    conn.execute(put_text(is_new), params![tab, key, value])?;
+    Ok(())
 }
 
 /// Removes the record under a table's name and a key, if there is one, inside a transaction.

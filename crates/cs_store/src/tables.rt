@@ -22,7 +22,7 @@ ghost use Rattle.cs_store.specs.Store.{AddsTable, AreNamed, AreStored, HoldsStat
 use crate::check::read_name;
 use crate::declaration::{read_declaration, write_declaration};
 use crate::fault::StoreError;
-use crate::records::{Keyed, find_record, list_records, put_record, remove_record, set_record};
+use crate::records::{Keyed, find_record, list_records, put_record, remove_record};
 use crate::schema::Schema;
 use crate::stored_row::read_row;
 use cs_value::{Key, Row, row_write};
@@ -253,5 +253,5 @@ pub(crate) fn put_table<S: Alter>(
         → KeepsStore (state S.Store conn.old) (state S.Store conn.new) }
 {
     let bytes = write_declaration(alloc, schema)?;
-    set_record(conn, "", name.as_bytes(), &bytes)
+    put_record(conn, "", name.as_bytes(), &bytes, false)
 }
