@@ -28,6 +28,9 @@ CALLS = HERE.parent / "crates/calls/out/calls"
 
 NO_MEMORY = "error 60 NoMemory\n"
 
+# Those that take no memory.
+WITHOUT_MEMORY = {"claim"}
+
 # How many seconds a run may take.
 PATIENCE = 120
 
@@ -213,7 +216,9 @@ class Calls(Trial):
     def ends(self):
         """All ways in which they may end: as with memory, or with one refused, which leaves what was there, or with none made."""
         ends = [self.once()]
-        for place in range(len(self.words)):
+        for place, word in enumerate(self.words):
+            if word in WITHOUT_MEMORY:
+                continue
             before = Calls(self.words[:place]).once()[0][1]
             (status, printed, reported), left = Calls(self.words[:place] + self.words[place + 1:]).once()
             ends.append(((status, before + "NoMemory\n" + printed[len(before):], reported), left))

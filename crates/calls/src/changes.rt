@@ -39,6 +39,15 @@ pub(crate) fn go_through(alloc: Global) -> Result<usize, ReadError> {
     Ok(bytes)
 }
 
+/// Asks for the first item of a file that claims 32767 columns, and has none.
+pub(crate) fn read_claim(alloc: Global) -> Result<usize, ReadError> {
+    let mut cursor = Cursor::new(alloc, b"\x54\x81\xff\x7f");
+    match cursor.next()? {
+        Some(_) => Ok(1),
+        None => Ok(0),
+    }
+}
+
 /// Copies the groups of a changeset, and tells how many bytes the copy is written with.
 pub(crate) fn copy_groups(alloc: Global) -> Result<usize, ReadError> {
     let mut copies = Changeset::new(alloc);

@@ -28,6 +28,7 @@ fn answer(alloc: Global, rows: &mut TestRows, word: &str) -> Result<usize, NoMem
         "image" => told(values::copy_image(alloc)),
         "read" => told(changes::write_read(alloc)),
         "cursor" => told(changes::go_through(alloc)),
+        "claim" => told(changes::read_claim(alloc)),
         "copy" => told(changes::copy_groups(alloc)),
         "push" => told(changes::add_entry(alloc)),
         "invert" => told(changes::invert_read(alloc)),
