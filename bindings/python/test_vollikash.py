@@ -1,5 +1,5 @@
 #!/usr/bin/env python3
-"""Tests of the library as it is linked: the calls of vollikash.py, and those of vollikash.h by `bindings/c/check.c`.
+"""Tests of the library as it is linked: the calls on files of the module `vollikash`, and those of vollikash.h by `bindings/c/check.c`.
 
 What is wanted is what the changeset program does with the same files: the recorded ones of `examples/` and
 `tests/recorded`, their prefixes, and those of the stored run of `crates/cases`, most of which are damaged.
@@ -19,7 +19,7 @@ import tempfile
 import unittest
 
 import vollikash
-from vollikash import ChangesetError, Code
+from vollikash import ChangesetError, Code, _files
 
 HERE = pathlib.Path(__file__).resolve().parent
 TOP = HERE.parent.parent
@@ -313,21 +313,22 @@ class Linked(unittest.TestCase):
         major, minor, patch = map(int, vollikash.__version__.split("."))
         version = 1_000_000 * major + 1_000 * minor + patch
         self.assertEqual(versions, f"{version} {version}\n")
-        self.assertEqual(vollikash._LIBRARY.vollikash_version(), version)
+        self.assertEqual(_files._library().vollikash_version(), version)
 
     def test_what_the_loader_is_asked_for(self):
         """The library of the repository, but none of a folder that only looks like the repository's."""
         built = BUILT / "libvollikash.so"
-        self.assertEqual(vollikash._find(), str(built))
+        self.assertEqual(_files._find(), str(built))
         with tempfile.TemporaryDirectory() as folder:
-            copied, beside = pathlib.Path(folder) / "python/vollikash.py", pathlib.Path(folder) / "c/out" / built.name
-            for source, copy in ((HERE / "vollikash.py", copied), (built, beside), (built, copied.parent / built.name)):
+            copied, beside = pathlib.Path(folder) / "python/vollikash", pathlib.Path(folder) / "c/out" / built.name
+            shutil.copytree(HERE / "vollikash", copied)
+            for copy in (beside, copied.parent / built.name):
                 copy.parent.mkdir(parents=True, exist_ok=True)
-                shutil.copy(source, copy)
+                shutil.copy(built, copy)
             environment = {**os.environ, "PYTHONPATH": str(copied.parent), "VOLLIKASH_LIBRARY": str(built)}
-            words = [sys.executable, "-c", "import vollikash; print(vollikash.__file__, vollikash._find())"]
+            words = [sys.executable, "-c", "from vollikash import _files; print(_files.__file__, _files._find())"]
             ran = subprocess.run(words, cwd=folder, env=environment, capture_output=True, text=True, check=True)
-        self.assertEqual(ran.stdout, f"{copied} {built.name}\n")
+        self.assertEqual(ran.stdout, f"{copied / '_files.py'} {built.name}\n")
 
 
 class Readme(unittest.TestCase):

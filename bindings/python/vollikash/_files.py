@@ -1,21 +1,15 @@
-"""Vollikash: works on changesets, the files of SQLite's session extension.
+"""The calls on files, by libvollikash.so.
 
-    >>> import vollikash
-    >>> vollikash.dump(b"\\x54\\x01\\x01t\\x00\\x12\\x00\\x03\\x01x")
-    "table 't' columns 1 flags 1\\ninsert 0 new 'x'\\n"
-
-It calls libvollikash.so, which is looked for where the repository builds it, if this file is there, and else where the
-system keeps its libraries; the environment variable VOLLIKASH_LIBRARY names another one. No call keeps anything, and
-any number of threads may call at once: a call lets other threads of Python run.
+The library stands beside this file where it was installed, or where the repository builds it, and is else looked for where
+the system keeps its libraries; the environment variable VOLLIKASH_LIBRARY names another one. It is loaded by the first
+call. No call keeps anything, and any number of threads may call at once: a call lets other threads of Python run.
 """
 import ctypes
 import enum
+import functools
 import os
 import pathlib
-from typing import Callable, NoReturn, Union
-
-__all__ = ["ChangesetError", "Code", "check", "concat", "dump", "invert", "sql"]
-__version__ = "1.0.0"
+from typing import Callable, NoReturn, Tuple, Type, Union
 
 Bytes = Union[bytes, bytearray, memoryview]
 
@@ -67,7 +61,7 @@ class ChangesetError(ValueError):
         self.which = which
         self.place = place
 
-    def __reduce__(self):
+    def __reduce__(self) -> Tuple[Type["ChangesetError"], Tuple[Code, int, int]]:
         return ChangesetError, (self.code, self.which, self.place)
 
 
@@ -92,15 +86,18 @@ _new_bytes = ctypes.PYFUNCTYPE(ctypes.py_object, ctypes.c_char_p, ctypes.c_ssize
 def _find() -> str:
     """What the loader is asked for."""
     here = pathlib.Path(__file__).resolve().parent
-    built = here.parent / "c/out/libvollikash.so"
+    beside, built = here / "libvollikash.so", here.parents[1] / "c/out/libvollikash.so"
+    if beside.exists():
+        return str(beside)
     # In the repository alone: of a copy of this file elsewhere, that path may be anybody's to write to.
-    if here.match("bindings/python") and built.exists():
+    if here.match("bindings/python/vollikash") and built.exists():
         return str(built)
     # A name with no slash in it: the loader looks for that where the system keeps libraries, not in the working folder.
     return "libvollikash.so"
 
 
-def _load() -> ctypes.CDLL:
+@functools.lru_cache(maxsize=None)
+def _library() -> ctypes.CDLL:
     """The library, with the types of its calls."""
     library = ctypes.CDLL(os.environ.get("VOLLIKASH_LIBRARY") or _find())
     library.vollikash_version.argtypes = ()
@@ -111,9 +108,6 @@ def _load() -> ctypes.CDLL:
     for name in ("version", "check", "concat", "invert", "dump", "sql"):
         getattr(library, f"vollikash_{name}").restype = ctypes.c_int
     return library
-
-
-_LIBRARY = _load()
 
 
 def _bytes(file: Bytes) -> bytes:
@@ -144,29 +138,29 @@ def _made(call: Callable[..., int], room: int, *files: bytes) -> bytes:
 def check(file: Bytes) -> None:
     """Raises `ChangesetError` where the bytes are no changeset's file."""
     file, fault = _bytes(file), _Fault()
-    if _LIBRARY.vollikash_check(file, len(file), ctypes.byref(fault)) != Code.OK:
+    if _library().vollikash_check(file, len(file), ctypes.byref(fault)) != Code.OK:
         _raise(fault)
 
 
 def invert(file: Bytes) -> bytes:
     """The file of the changeset that undoes this one. Raises `ChangesetError`."""
     file = _bytes(file)
-    return _made(_LIBRARY.vollikash_invert, len(file), file)
+    return _made(_library().vollikash_invert, len(file), file)
 
 
 def concat(first: Bytes, second: Bytes) -> bytes:
     """The file of the changeset that does what the first does, then what the second does. Raises `ChangesetError`."""
     first, second = _bytes(first), _bytes(second)
-    return _made(_LIBRARY.vollikash_concat, len(first) + len(second), first, second)
+    return _made(_library().vollikash_concat, len(first) + len(second), first, second)
 
 
 def dump(file: Bytes) -> str:
     """What the file holds, a line for each table and for each entry. Raises `ChangesetError`."""
     file = _bytes(file)
-    return _made(_LIBRARY.vollikash_dump, 8 * len(file) + 256, file).decode()
+    return _made(_library().vollikash_dump, 8 * len(file) + 256, file).decode()
 
 
 def sql(file: Bytes) -> str:
     """What the file does as SQL for a reader, a statement for each entry. Raises `ChangesetError`."""
     file = _bytes(file)
-    return _made(_LIBRARY.vollikash_sql, 8 * len(file) + 256, file).decode()
+    return _made(_library().vollikash_sql, 8 * len(file) + 256, file).decode()

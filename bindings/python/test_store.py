@@ -1,0 +1,338 @@
+#!/usr/bin/env python3
+"""Tests of stores and sessions from Python, by the program that is built.
+
+usage: bindings/python/test_store.py [PROGRAM]
+"""
+import concurrent.futures
+import gc
+import importlib.util
+import os
+import pathlib
+import pickle
+import sqlite3
+import subprocess
+import sys
+import tempfile
+import textwrap
+import time
+import unittest
+import venv
+
+import vollikash
+from vollikash import ChangesetError, ConflictError, ProgramError, StoreError
+
+HERE = pathlib.Path(__file__).resolve().parent
+PROGRAM = HERE.parents[1] / "crates/changeset/out/changeset"
+
+# The INSERT of (1, 'x') into the table t, whose first column is its key.
+FILE = bytes.fromhex("5402010074001200010000000000000001030178")
+
+
+def store_with_table(path=":memory:", **given):
+    """A store with a table t of two columns, of which the first is its key."""
+    store = vollikash.open(path, **given)
+    store.create("t", ["a", "b"], key=["a"])
+    return store
+
+
+def is_running(process):
+    """Whether a process is there, and has not ended."""
+    try:
+        return pathlib.Path(f"/proc/{process}/stat").read_text().rsplit(")", 1)[1].split()[0] != "Z"
+    except FileNotFoundError:
+        return False
+
+
+class Folder(unittest.TestCase):
+    """A folder for each test."""
+
+    def setUp(self):
+        folder = tempfile.TemporaryDirectory()
+        self.addCleanup(folder.cleanup)
+        self.folder = pathlib.Path(folder.name)
+
+    def program(self, text):
+        """Makes a program of these lines of a shell script the one that is run, in place of `changeset`."""
+        path = self.folder / "program"
+        path.write_text("#!/bin/sh\n" + textwrap.dedent(text))
+        path.chmod(0o755)
+        before = os.environ["VOLLIKASH_PROGRAM"]
+        os.environ["VOLLIKASH_PROGRAM"] = str(path)
+        self.addCleanup(os.environ.__setitem__, "VOLLIKASH_PROGRAM", before)
+
+
+class Stores(Folder):
+    """What a store answers."""
+
+    def test_rows(self):
+        with store_with_table() as store:
+            store.insert("t", 2, "two")
+            store.insert("t", -(1 << 63), None)
+            store.insert("t", (1 << 63) - 1, b"\x00\xff")
+            store.update("t", {"a": 3, "b": ""}, where={"a": 2})
+            store.delete("t", where={"a": (1 << 63) - 1})
+            self.assertEqual(list(store.rows("t")), [(3, ""), (-(1 << 63), None)])
+
+    def test_names(self):
+        """A name is anything that a line holds, and no name ends a statement."""
+        for name in ("select", 'a"; DELETE', "t'", "-- x", " ", "\u00fc\U0001f600"):
+            with self.subTest(name), vollikash.open(":memory:") as store:
+                store.create(name, [name, "b"], key=[name])
+                with store.session(name) as session:
+                    store.insert(name, 1, 2)
+                    store.update(name, {"b": 3}, where={name: 1})
+                    self.assertEqual(list(store.rows(name)), [(1, 3)])
+                    self.assertFalse(session.is_empty())
+
+    def test_each_plane(self):
+        """Texts of each plane of Unicode, and every character of the first but those that no text of a line has."""
+        texts = ["".join(map(chr, range(start, start + 64))) for start in range(0x10000, 0x110000, 0x8000)]
+        texts += ["".join(chr(code) for code in range(start, start + 256) if chr(code) != "\n" and not 0xD800 <= code < 0xE000)
+                  for start in range(0, 0x10000, 256)]
+        with store_with_table() as store:
+            for key, text in enumerate(texts):
+                store.insert("t", key, text)
+            self.assertEqual([row[1] for row in store.rows("t")], texts)
+
+    def test_a_text_with_line_feeds(self):
+        """A changeset can put one there."""
+        file = FILE[:-2] + b"\x07a\nb|'c\n"
+        with store_with_table() as store:
+            store.apply(file)
+            self.assertEqual(list(store.rows("t")), [(1, "a\nb|'c\n")])
+
+    def test_values_that_no_line_holds(self):
+        """Each is told before anything is sent."""
+        with store_with_table() as store:
+            for value in (1.5, "a\nb", "\ud800", 1 << 63, -(1 << 63) - 1, True, [1], object()):
+                with self.subTest(repr(value)[:20]), self.assertRaises(ValueError):
+                    store.insert("t", 1, value)
+            for name in ("a\nb", "\ud800", 7):
+                with self.subTest(repr(name)), self.assertRaises(ValueError):
+                    store.create(name, ["a"], key=["a"])
+            with self.assertRaises(ValueError):
+                store.update("t", {}, where={"a": 1})
+            with self.assertRaises(ValueError):
+                store.apply(FILE, conflict="replaced")
+            self.assertEqual(list(store.rows("t")), [])
+
+    def test_refusals(self):
+        """A refusal has a number and a name, and the store goes on."""
+        with store_with_table() as store:
+            store.insert("t", 1, "z")
+            for call, number, name in (
+                (lambda: store.insert("t", 1, 2), 33, "KeyTaken"),
+                (lambda: store.insert("u", 1, 2), 31, "NoTable"),
+                (lambda: store.rows("u"), 31, "NoTable"),
+                (lambda: store.insert("t", 1), 35, "RowWidth"),
+                (lambda: store.insert("t", None, 1), 36, "NullInKey"),
+                (lambda: store.delete("t", where={"a": 9}), 34, "NoRow"),
+                (lambda: store.delete("t", where={"b": 9}), 67, "UnknownColumn"),
+                (lambda: store.create("t", ["a"], key=["a"]), 30, "TableExists"),
+                (lambda: store.create("u", ["a", "a"], key=["a"]), 32, "BadSchema"),
+                (lambda: store.create("u", [], key=[]), 61, "Syntax"),
+            ):
+                with self.subTest(name), self.assertRaises(StoreError) as caught:
+                    call()
+                self.assertEqual((caught.exception.number, caught.exception.name), (number, name))
+            self.assertEqual(list(store.rows("t")), [(1, "z")])
+
+    def test_applies(self):
+        with store_with_table() as store:
+            store.insert("t", 1, "z")
+            with self.assertRaises(ConflictError) as caught:
+                store.apply(FILE)
+            error = pickle.loads(pickle.dumps(caught.exception))
+            self.assertEqual((error.number, error.name, error.kind, error.table), (41, "Abort", "conflict", "t"))
+            report = store.apply(bytearray(FILE), conflict="replace")
+            self.assertEqual(report, ([("conflict", "replace", "t")], [], 1))
+            self.assertEqual(store.revert(FILE).applied, 1)
+            self.assertEqual(store.apply(FILE.replace(b"t", b"u")).skipped, ["u"])
+            with self.assertRaises(ChangesetError) as damaged:
+                store.apply(FILE[:-1])
+            self.assertEqual((damaged.exception.name, damaged.exception.place), ("Truncated", len(FILE) - 1))
+            self.assertEqual(list(store.rows("t")), [])
+
+    def test_sessions(self):
+        with store_with_table() as store:
+            with store.session("t") as session:
+                self.assertTrue(session.is_empty())
+                store.insert("t", 1, "x")
+                self.assertEqual(session.changeset(), FILE)
+                with self.assertRaises(StoreError) as caught:
+                    store.session("t")
+                self.assertEqual(caught.exception.name, "SessionOpen")
+                self.assertEqual(session.undo().applied, 1)
+                self.assertEqual(list(store.rows("t")), [])
+            with self.assertRaises(StoreError):
+                session.undo()
+            with self.assertRaises(StoreError):
+                store.session("t", "nowhere")
+            store.session().close()
+
+
+class Files(Folder):
+    """Stores in files."""
+
+    def test_a_file(self):
+        path = self.folder / "notes.db"
+        with store_with_table(path) as store:
+            store.insert("t", 1, "x")
+            with self.assertRaises(StoreError) as caught:
+                vollikash.open(path)
+            self.assertEqual((caught.exception.number, caught.exception.name), (38, "StoreFault"))
+        with vollikash.open(str(path)) as store:
+            self.assertEqual(list(store.rows("t")), [(1, "x")])
+        with sqlite3.connect(path) as base:
+            self.assertEqual(base.execute("PRAGMA integrity_check").fetchone(), ("ok",))
+        base.close()
+
+    def test_what_is_no_store(self):
+        path = self.folder / "text"
+        path.write_text("This is no database.\n" * 99)
+        with self.assertRaises(StoreError):
+            vollikash.open(path)
+
+    def test_a_name_like_an_option(self):
+        before = os.getcwd()
+        os.chdir(self.folder)
+        self.addCleanup(os.chdir, before)
+        store_with_table("--help").close()
+        self.assertIn("--help", os.listdir(self.folder))
+
+
+class Programs(Folder):
+    """Programs that are not there, end or hang, and what is left of them."""
+
+    def expect_ended(self, process):
+        """Asserts that a program has ended."""
+        for _ in range(100):
+            if not is_running(process):
+                return
+            time.sleep(0.05)
+        self.fail("the program still runs")
+
+    def test_no_program(self):
+        os.environ["VOLLIKASH_PROGRAM"], before = str(self.folder / "nothing"), os.environ["VOLLIKASH_PROGRAM"]
+        self.addCleanup(os.environ.__setitem__, "VOLLIKASH_PROGRAM", before)
+        with self.assertRaises(ProgramError):
+            vollikash.open(":memory:")
+
+    def test_one_that_ends(self):
+        self.program("exit 3")
+        with self.assertRaises(ProgramError):
+            vollikash.open(":memory:")
+
+    def test_one_that_hangs(self):
+        self.program("exec sleep 1000")
+        started = time.monotonic()
+        with self.assertRaises(ProgramError):
+            vollikash.open(":memory:", timeout=0.3)
+        self.assertLess(time.monotonic() - started, 20)
+
+    def test_one_that_is_killed(self):
+        store = store_with_table()
+        os.kill(store._process._process.pid, 9)
+        for _ in range(2):
+            with self.assertRaises(ProgramError):
+                store.insert("t", 1, 2)
+        store.close()
+
+    def test_what_is_left(self):
+        """Nothing runs behind a store that is closed, that nobody has, or at the end of the process."""
+        store = store_with_table()
+        process = store._process._process.pid
+        store.close()
+        store.close()
+        self.expect_ended(process)
+        store = store_with_table()
+        process = store._process._process.pid
+        del store
+        gc.collect()
+        self.expect_ended(process)
+        text = "import vollikash; s = vollikash.open(':memory:'); print(s._process._process.pid); raise SystemExit(1)"
+        environment = {**os.environ, "PYTHONPATH": str(HERE)}
+        ran = subprocess.run([sys.executable, "-c", text], env=environment, capture_output=True, text=True, check=False)
+        self.expect_ended(int(ran.stdout))
+
+    def test_an_exception(self):
+        with self.assertRaises(KeyError):
+            with store_with_table() as store, store.session("t"):
+                process = store._process._process.pid
+                raise KeyError
+        self.expect_ended(process)
+
+
+class Loads(Folder):
+    """Many calls."""
+
+    def test_threads(self):
+        with store_with_table() as store, concurrent.futures.ThreadPoolExecutor(8) as pool:
+            list(pool.map(lambda key: store.insert("t", key, f"row {key}"), range(1000)))
+            self.assertEqual(list(store.rows("t")), [(key, f"row {key}") for key in range(1000)])
+
+    def test_many_rows(self):
+        with store_with_table(self.folder / "many.db") as store, store.session("t") as session:
+            for key in range(100_000):
+                store.insert("t", key, "x")
+            rows = list(store.rows("t"))
+            self.assertEqual((len(rows), rows[-1]), (100_000, (99_999, "x")))
+            self.assertEqual(vollikash.dump(session.changeset()).count("\n"), 100_001)
+
+    def test_a_long_value(self):
+        with store_with_table() as store:
+            store.insert("t", 1, b"\x07" * 3_000_000)
+            self.assertEqual(list(store.rows("t")), [(1, b"\x07" * 3_000_000)])
+
+    def test_more_than_a_program_takes(self):
+        """A store in a file goes on; one in memory, or with a session, is told before anything is sent."""
+        long = b"\x07" * 3_000_000
+        with store_with_table(self.folder / "long.db") as store:
+            for key in range(9):
+                store.insert("t", key, long)
+            self.assertEqual([row[0] for row in store.rows("t")], list(range(9)))
+            with store.session("t"), self.assertRaises(StoreError) as caught:
+                for key in range(9, 18):
+                    store.insert("t", key, long)
+            self.assertEqual((caught.exception.number, caught.exception.name), (63, "ScriptTooLong"))
+        with store_with_table() as store:
+            with self.assertRaises(StoreError):
+                for key in range(9):
+                    store.insert("t", key, long)
+            self.assertEqual(len(list(store.rows("t"))), 2)
+
+
+class Installed(Folder):
+    """The package where pip has put it, which carries the library and the program."""
+
+    @unittest.skipUnless(importlib.util.find_spec("ensurepip"), "this Python makes no environments with pip")
+    def test_ten_lines(self):
+        """An empty environment has them, and runs a store from another folder."""
+        where = self.folder / "environment"
+        venv.create(where, with_pip=True)
+        pip = [where / "bin/python", "-m", "pip", "--disable-pip-version-check", "install", "--no-index", "--quiet", str(HERE)]
+        subprocess.run(pip, check=True, capture_output=True)
+        (self.folder / "main.py").write_text(textwrap.dedent("""
+            import vollikash
+
+            with vollikash.open("notes.db") as store:
+                store.create("t", ["a", "b"], key=["a"])
+                with store.session("t") as session:
+                    store.insert("t", 1, "x")
+                    changes = session.changeset()
+                    session.undo()
+                store.apply(changes, conflict="replace")
+                print(list(store.rows("t")), vollikash.dump(changes), end="")
+        """))
+        environment = {name: value for name, value in os.environ.items() if not name.startswith(("VOLLIKASH", "PYTHON"))}
+        ran = subprocess.run(
+            [where / "bin/python", "main.py"], cwd=self.folder, env=environment, capture_output=True, text=True, check=True
+        )
+        self.assertEqual(ran.stdout, "[(1, 'x')] table 't' columns 2 flags 1,0\ninsert 0 new 1,'x'\n")
+
+
+if __name__ == "__main__":
+    if sys.argv[1:2] and not sys.argv[1].startswith("-"):
+        PROGRAM = pathlib.Path(sys.argv.pop(1)).resolve()
+    os.environ["VOLLIKASH_PROGRAM"] = str(PROGRAM)
+    unittest.main()

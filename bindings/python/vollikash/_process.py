@@ -1,0 +1,155 @@
+"""A `changeset` program that is run beside this one, and asked line by line."""
+import os
+import pathlib
+import selectors
+import shutil
+import subprocess
+import time
+import weakref
+from typing import Optional
+
+# What stands behind each answer: a slot with bytes that nobody guesses is printed.
+_MARK_BYTES = 16
+
+# What is sent behind each line: that slot is printed.
+_BEHIND = "\n.hex m\n"
+
+# How many bytes of lines a program takes.
+_LONGEST = 16777216
+
+
+class ProgramError(OSError):
+    """The program is not there, has ended, or has not answered in time. The store is closed then. `said` is what it said
+    on standard error."""
+
+    def __init__(self, why: str, said: str = "") -> None:
+        super().__init__(why)
+        self.said = said
+
+
+def find_program() -> str:
+    """The program: VOLLIKASH_PROGRAM names it, or it stands beside this file or where the repository builds it, or on PATH."""
+    named = os.environ.get("VOLLIKASH_PROGRAM")
+    if named:
+        return named
+    here = pathlib.Path(__file__).resolve().parent
+    beside = here / "changeset"
+    built = here.parents[2] / "crates/changeset/out/changeset"
+    # In the repository alone: of a copy of this file elsewhere, that path may be anybody's to write to.
+    for program in (beside, *([built] if here.match("bindings/python/vollikash") else [])):
+        if program.exists():
+            return str(program)
+    found = shutil.which("changeset")
+    if found is None:
+        raise ProgramError("there is no changeset program: VOLLIKASH_PROGRAM can name one")
+    return found
+
+
+def _end(process: "subprocess.Popen[bytes]") -> None:
+    """Ends a program, whatever it does."""
+    for stream in (process.stdin, process.stdout, process.stderr):
+        if stream is not None:
+            stream.close()
+    if process.poll() is None:
+        process.kill()
+    process.wait()
+
+
+class Process:
+    """A program that runs a shell on a file."""
+
+    def __init__(self, path: str, timeout: float) -> None:
+        self.timeout = timeout
+        program = find_program()
+        try:
+            self._process = subprocess.Popen(
+                [program, f"./{path}" if path.startswith("-") else path, "shell"], stdin=subprocess.PIPE, stdout=subprocess.PIPE, stderr=subprocess.PIPE, bufsize=0,
+                start_new_session=True,
+            )
+        except OSError as error:
+            raise ProgramError(f"{program} does not run: {error.strerror}") from error
+        self._ends = weakref.finalize(self, _end, self._process)
+        for stream in (self._process.stdin, self._process.stdout):
+            assert stream is not None
+            os.set_blocking(stream.fileno(), False)
+        self.left = _LONGEST
+        self._mark = os.urandom(_MARK_BYTES).hex()
+        self.ask(f".load m {self._mark}")
+
+    def fits(self, *lines: str) -> bool:
+        """Whether the program takes these lines: it takes 16777216 bytes of them in all."""
+        return sum(len((line + _BEHIND).encode()) for line in lines) <= self.left
+
+    def ask(self, line: str) -> str:
+        """What the program answers to a line, which fits."""
+        return self._send_and_wait((line + _BEHIND).encode())
+
+    def close(self) -> None:
+        """Ends the program, which has answered each line."""
+        process = self._process
+        if self._ends.alive and process.stdin is not None:
+            process.stdin.close()
+            try:
+                process.wait(self.timeout)
+            except subprocess.TimeoutExpired:
+                pass
+        self._ends()
+
+    def _send_and_wait(self, sent: bytes) -> str:
+        """Sends lines, of which the last prints the mark, and answers what is printed before it."""
+        self.left -= len(sent)
+        wanted = (self._mark + "\n").encode()
+        try:
+            printed = self._exchange(sent, wanted)
+        except BaseException:
+            self._ends()
+            raise
+        return printed[: -len(wanted)].decode()
+
+    def _exchange(self, sent: bytes, wanted: bytes) -> bytearray:
+        """Writes and reads until the bytes that are wanted were read last."""
+        stdin, stdout = self._process.stdin, self._process.stdout
+        if not self._ends.alive or stdin is None or stdout is None:
+            raise ProgramError("the store is closed")
+        deadline, printed, unsent = time.monotonic() + self.timeout, bytearray(), memoryview(sent)
+        with selectors.DefaultSelector() as selector:
+            selector.register(stdout, selectors.EVENT_READ)
+            selector.register(stdin, selectors.EVENT_WRITE)
+            while unsent or not printed.endswith(wanted):
+                ready = selector.select(max(0.0, deadline - time.monotonic()))
+                if not ready:
+                    raise ProgramError(f"the program has not answered in {self.timeout} seconds")
+                for key, _ in ready:
+                    if key.fileobj is stdout:
+                        self._read(printed)
+                    else:
+                        unsent = unsent[self._write(unsent):]
+                        if not unsent:
+                            selector.unregister(stdin)
+        return printed
+
+    def _read(self, printed: bytearray) -> None:
+        """Reads what there is."""
+        assert self._process.stdout is not None
+        got: Optional[bytes] = self._process.stdout.read(1 << 16)
+        if got == b"":
+            raise self._ended()
+        printed += got or b""
+
+    def _write(self, unsent: memoryview) -> int:
+        """Writes what fits."""
+        assert self._process.stdin is not None
+        try:
+            return self._process.stdin.write(unsent[: 1 << 16]) or 0
+        except BrokenPipeError:
+            raise self._ended() from None
+
+    def _ended(self) -> ProgramError:
+        """That the program has ended, and what it said."""
+        assert self._process.stderr is not None
+        try:
+            self._process.wait(self.timeout)
+        except subprocess.TimeoutExpired:
+            return ProgramError("the program reads and writes no more")
+        said = self._process.stderr.read() or b""
+        return ProgramError(f"the program has ended: {said.decode(errors='replace').strip()}", said.decode(errors="replace"))
