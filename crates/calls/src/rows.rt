@@ -21,6 +21,12 @@ fn row_of(alloc: Global, first: i64, second: i64) -> Result<Row, NoMemory> {
     Ok(Row::new(vec![in alloc; OwnedValue::Int(first), OwnedValue::Int(second)]?))
 }
 
+/// The key of one integer.
+fn key_of(alloc: Global, number: i64) -> Result<Key, NoMemory> {
+    let values = vec![in alloc; OwnedValue::Int(number)]?;
+    Key::from_values(alloc, &values)
+}
+
 /// Two names of columns.
 fn column_names(alloc: Global) -> Result<Vec<String>, NoMemory> {
     let (first, second) = (String::from_str(alloc, "a")?, String::from_str(alloc, "b")?);
@@ -64,7 +70,7 @@ impl TestRows {
     /// Makes the row with the key 1 the row (2, 1).
     pub(crate) fn update(&mut self, alloc: Global) -> Result<usize, StoreError> {
         let table = String::from_str(alloc, "t")?;
-        let key = Key::of_row(alloc, &[1, 0], &row_of(alloc, 1, 1)?)?;
+        let key = key_of(alloc, 1)?;
         let row = row_of(alloc, 2, 1)?;
         self.edit(alloc, &Edit::Update { table, key, row })
     }
@@ -72,7 +78,7 @@ impl TestRows {
     /// Removes the row with the key 2.
     pub(crate) fn delete(&mut self, alloc: Global) -> Result<usize, StoreError> {
         let table = String::from_str(alloc, "t")?;
-        let key = Key::of_row(alloc, &[1, 0], &row_of(alloc, 2, 0)?)?;
+        let key = key_of(alloc, 2)?;
         self.edit(alloc, &Edit::Delete { table, key })
     }
 
