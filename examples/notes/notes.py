@@ -16,7 +16,7 @@ from typing import Callable, List, NoReturn, Optional, Tuple, TypeVar
 sys.path.append(str(pathlib.Path(__file__).resolve().parents[2] / "bindings/python"))
 
 import vollikash  # noqa: E402
-from terminal import Key, Line, Terminal, around, cut, shown, width_of  # noqa: E402
+from terminal import Key, Line, Terminal, around, cut, shown, width_of, wrapped  # noqa: E402
 
 Answer = TypeVar("Answer")
 
@@ -25,9 +25,9 @@ TABLE = "notes"
 LIST_KEYS = "a add  e edit  d delete  u undo  r redo  up/down choose  q quit"
 FIELD_KEYS = "Enter keeps what is written, Esc does not"
 
-# The lines of the screen that are none of the list: the title and a blank one; and a blank one, the field, what is
-# refused, what was done and the keys.
-ABOVE, BELOW = 2, 5
+# The lines of the screen that are none of the list, beside those that say what is refused: the title and a blank one;
+# and a blank one, the field, what was done, and the keys.
+ABOVE, BELOW = 2, 4
 
 
 class Notes:
@@ -163,8 +163,9 @@ class Editor:
         self.error = ""
         self.runs = True
         self.commands = {
-            "a": self.add, "e": self.edit, "d": self.delete, "u": lambda: self.attempt(notes.undo),
-            "r": lambda: self.attempt(notes.redo), "q": self.quit, "k": lambda: self.choose(-1), "j": lambda: self.choose(1),
+            "a": self.add, "e": self.edit, "d": self.delete, "q": self.quit,
+            "u": lambda: self.attempt(notes.undo), "r": lambda: self.attempt(notes.redo),
+            "k": lambda: self.choose(-1), "j": lambda: self.choose(1),
         }
         self.names = {"up": "k", "down": "j", "enter": "e", "delete": "d"}
 
@@ -201,7 +202,8 @@ class Editor:
             self.field = None
 
     def attempt(self, action: Callable[[], str]) -> bool:
-        """Does an action, and chooses the note that it changed; or shows why it is refused. Answers whether it was done."""
+        """Does an action, and chooses the note that it changed; or shows why it is refused. Answers whether it was
+        done."""
         before = set(self.notes.rows)
         try:
             self.status = action()
@@ -243,7 +245,8 @@ class Editor:
     def draw(self) -> None:
         """Draws the screen."""
         columns, count = self.terminal.size()
-        room = max(1, count - ABOVE - BELOW)
+        refused = wrapped(f"refused: {shown(self.error)}" if self.error else "", columns)
+        room = max(1, count - ABOVE - BELOW - len(refused))
         lines = [self.title(columns), Line("")] + self.listed(room, columns) + [Line("")]
         cursor = None
         if self.field is not None:
@@ -253,9 +256,9 @@ class Editor:
             lines.append(Line(title + text))
         else:
             lines.append(Line(""))
-        refused = Line(f"refused: {shown(self.error)}" if self.error else "")
+        lines += [Line(text) for text in refused]
         keys = LIST_KEYS if self.field is None else FIELD_KEYS
-        self.terminal.show(lines + [refused, Line(self.status), Line(keys, True)], cursor)
+        self.terminal.show(lines + [Line(self.status), Line(keys, True)], cursor)
 
     def title(self, columns: int) -> Line:
         """The first line: the file, and how much there is of everything."""

@@ -1,5 +1,5 @@
-"""A terminal: the keys that are typed, and a screen that is drawn line by line, by control sequences that every terminal
-of today knows."""
+"""A terminal: the keys that are typed, and a screen that is drawn line by line, by control sequences that every
+terminal of today knows."""
 import codecs
 import os
 import re
@@ -10,8 +10,8 @@ import tty
 import unicodedata
 from typing import List, NamedTuple, Optional, Tuple
 
-# Another screen than the one that the commands before stand on, without a cursor, where a paste is told from typing; and
-# back from there.
+# Another screen than the one that the commands before stand on, without a cursor, where a paste is told from typing;
+# and back from there.
 _BEGIN = "\x1b[?1049h\x1b[?25l\x1b[?2004h"
 _END = "\x1b[?2004l\x1b[?25h\x1b[?1049l"
 
@@ -72,6 +72,15 @@ def cut(text: str, width: int) -> str:
         if used > width:
             return text[:place]
     return text
+
+
+def wrapped(text: str, width: int) -> List[str]:
+    """The lines of a text that is shown, of no more cells than these: one at least."""
+    lines = []
+    while text:
+        lines.append(cut(text, width) or text[0])
+        text = text[len(lines[-1]) :]
+    return lines or [""]
 
 
 def around(text: str, cursor: int, width: int) -> Tuple[str, int]:
@@ -149,7 +158,7 @@ class Terminal:
         return self._typed != "" or bool(select.select([sys.stdin], [], [], 0)[0])
 
     def show(self, lines: List[Line], cursor: Optional[Tuple[int, int]] = None) -> None:
-        """Draws the screen: its lines, of which each is shown as far as it fits, and the cursor at a line and a cell."""
+        """Draws the screen: its lines, each as far as it fits, and the cursor at a line and a cell."""
         columns, count = self.size()
         drawn = "\x1b[?25l"
         for place in range(count):

@@ -33,8 +33,12 @@ PATIENCE = 120
 UP, DOWN, RIGHT, LEFT, HOME, END, DELETE = "\x1b[A", "\x1b[B", "\x1b[C", "\x1b[D", "\x1b[H", "\x1b[F", "\x1b[3~"
 ENTER, ESCAPE, BACKSPACE = "\r", "\x1b", "\x7f"
 
-# What a terminal is told: to go to a place, to empty a line, to make characters stand out, or to be in a mode; or a character.
-TOLD = re.compile(r"\x1b\[(?P<line>\d+);(?P<column>\d+)H|\x1b\[2(?P<empty>K)|\x1b\[\d+m|\x1b\[\?(?P<mode>\d+)(?P<set>[hl])|(?P<one>[^\x1b])")
+# What a terminal is told: to go to a place, to empty a line, to make characters stand out, to be in a mode or not; or a
+# character.
+TOLD = re.compile(
+    r"\x1b\[(?P<line>\d+);(?P<column>\d+)H|\x1b\[2(?P<empty>K)|\x1b\[\d+m|\x1b\[\?(?P<mode>\d+)(?P<set>[hl])|"
+    r"(?P<one>[^\x1b])"
+)
 
 
 class Screen:
