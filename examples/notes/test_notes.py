@@ -42,13 +42,14 @@ TOLD = re.compile(
 
 
 class Screen:
-    """The screen of a terminal, as what was written to it has left it."""
+    """The screen of a terminal that an editor has for itself, as what was written to it has left it, and what was said
+    before and behind it."""
 
     def __init__(self, lines, columns):
         self.cells = [[" "] * columns for _ in range(lines)]
         self.line = self.column = 0
         self.modes = set()
-        self.rest = ""
+        self.rest = self.said = ""
 
     def write(self, text):
         """Takes what a program writes, of which a sequence may not be whole yet."""
@@ -76,6 +77,9 @@ class Screen:
 
     def put(self, one):
         """Puts a character at the cursor. One that is wide takes two cells, and an accent none."""
+        if 1049 not in self.modes:
+            self.said += one
+            return
         if unicodedata.combining(one):
             self.cells[self.line][self.column - 1] += one
             return
@@ -129,7 +133,7 @@ class Person:
             if all(text in shown for text in wanted) and not any(text in shown for text in but):
                 return shown
             if time.monotonic() > deadline or not self.read(0.2):
-                raise AssertionError(f"the screen shows not {wanted!r}, or {but!r}:\n{shown}")
+                raise AssertionError(f"the screen shows not {wanted!r}, or {but!r}:\n{shown}\n{self.screen.said}")
 
     def notes(self):
         """The notes that the screen lists."""
@@ -142,8 +146,11 @@ class Person:
 
     def program(self):
         """The process of the `changeset` program that the editor runs."""
-        children = pathlib.Path(f"/proc/{self.process}/task/{self.process}/children").read_text().split()
-        return int(children[0])
+        for path in pathlib.Path("/proc").glob("[0-9]*/stat"):
+            with contextlib.suppress(OSError):
+                if int(path.read_text().rsplit(")", 1)[1].split()[1]) == self.process:
+                    return int(path.parent.name)
+        raise AssertionError("the editor runs no program")
 
     def wait(self):
         """Waits until the editor ends, and answers its exit status."""
@@ -363,15 +370,11 @@ class Notes(unittest.TestCase):
         self.quit(person)
         self.expect_stored((1, "one"), (2, "from elsewhere"))
 
-    def expect_no_editor(self, *wanted):
-        """Asserts that the editor ends with a line that says why."""
+    def expect_no_editor(self, said):
+        """Asserts that the editor ends, and says this alone."""
         person = Person(self.path, columns=160)
         self.addCleanup(person.leave)
-        said = []
-        person.screen.write = said.append
-        self.assertEqual(person.wait(), 1)
-        for text in wanted:
-            self.assertIn(text, "".join(said))
+        self.assertEqual((person.wait(), person.screen.said), (1, said))
 
     def test_a_store_that_is_open(self):
         with vollikash.open(self.path):

@@ -42,7 +42,7 @@ class Refused(Exception):
 
 
 def build(folder: pathlib.Path) -> Tuple[pathlib.Path, str]:
-    """Builds the program by which SQLite's library is asked, and answers it, and why it is not built where it is not."""
+    """Builds the program by which SQLite's library is asked, and answers it, and why it is not built, or nothing."""
     program = folder / "sqlite"
     command = ["cc", "-O2", "-o", str(program), str(ROOT / "tests/sqlite.c"), "-lsqlite3"]
     try:
@@ -58,7 +58,7 @@ class Base:
     def __init__(self, program: pathlib.Path, path: pathlib.Path) -> None:
         self._program = program
         self._path = path
-        self._ask(self._open(), f"do x{SCHEMA.encode().hex()}")
+        self._expect_done(self._ask(self._open(), f"do x{SCHEMA.encode().hex()}"))
 
     def _open(self) -> str:
         """The question that opens the database."""
@@ -70,13 +70,18 @@ class Base:
         done = subprocess.run([self._program], input=text, stdout=subprocess.PIPE, text=True, check=True)
         return done.stdout.split("\n")[: len(questions)]
 
+    @staticmethod
+    def _expect_done(codes: List[str]) -> None:
+        """Asserts that SQLite has done what it was asked."""
+        if any(int(code) != SQLITE_OK for code in codes):
+            raise RuntimeError(f"SQLite answers {', '.join(codes)}")
+
     def record(self, *statements: str) -> bytes:
         """Runs statements of SQL, and answers the changeset that SQLite's session extension records of them."""
         done = [f"do x{statement.encode().hex()}" for statement in statements]
         *answers, recorded = self._ask(self._open(), "session", *done, "changeset")
         code, made = recorded.split(" ")
-        if any(answer != str(SQLITE_OK) for answer in [*answers, code]):
-            raise RuntimeError(f"SQLite answers {answers} and {code}")
+        self._expect_done([*answers, code])
         return bytes.fromhex(made)
 
     def apply(self, file: bytes, data: str = "abort", conflict: str = "abort") -> List[str]:
@@ -86,8 +91,7 @@ class Base:
         code, _, kinds = applied.partition(" ")
         if int(code) == SQLITE_ABORT:
             raise Refused(KINDS[kinds[-1]])
-        if int(code) != SQLITE_OK:
-            raise RuntimeError(f"SQLite answers {code}")
+        self._expect_done([code])
         return [KINDS[kind] for kind in kinds]
 
     def rows(self) -> Rows:
@@ -141,7 +145,7 @@ def change_in_hub(sides: Sides) -> None:
         changes = session.changeset()
     sides.shop.apply(changes)
     sides.office.apply(changes)
-    print(f"   Its net changeset, {len(changes)} bytes, is applied by SQLite to the shop's database and to the office's.")
+    print(f"   Its net changeset, {len(changes)} bytes, is applied by SQLite to the shop's and the office's database.")
     sides.show()
 
 

@@ -39,7 +39,7 @@ PRINTED = """\
    The three are the same.
 
 2. The hub changes a row and deletes another, in a session.
-   Its net changeset, 70 bytes, is applied by SQLite to the shop's database and to the office's.
+   Its net changeset, 70 bytes, is applied by SQLite to the shop's and the office's database.
    shop    1 bolt 45  2 nut 80
    office  1 bolt 45  2 nut 80
    hub     1 bolt 45  2 nut 80
