@@ -33,8 +33,8 @@ ABOVE, BELOW = 2, 4
 class Notes:
     """The notes of a store, with the actions that were done and undone since it was opened.
 
-    An action answers what it did; one that is refused raises an exception, and changes nothing, unless it is refused since
-    the program of the store has ended, or takes no more lines: then `rows` tells whether it was carried out.
+    An action answers what it did; one that is refused raises an exception, and changes nothing, unless it is refused
+    since the program of the store has ended, or takes no more lines: then `rows` tells whether it was carried out.
     """
 
     def __init__(self, path: str) -> None:

@@ -107,6 +107,7 @@ class Person:
             os.chdir(os.path.dirname(path))
             environment = {**os.environ, "PYTHONPATH": str(ROOT / "bindings/python")}
             os.execve(sys.executable, [sys.executable, str(HERE / "notes.py"), os.path.basename(path)], environment)
+        self.before = termios.tcgetattr(self.terminal)
         self.status = None
 
     def type(self, *keys):
@@ -134,6 +135,13 @@ class Person:
                 return shown
             if time.monotonic() > deadline or not self.read(0.2):
                 raise AssertionError(f"the screen shows not {wanted!r}, or {but!r}:\n{shown}\n{self.screen.said}")
+
+    def expect_cursor(self, column):
+        """Waits until the cursor is at a column of the screen."""
+        deadline = time.monotonic() + PATIENCE
+        while self.screen.column != column or 25 not in self.screen.modes:
+            if time.monotonic() > deadline or not self.read(0.2):
+                raise AssertionError(f"the cursor is at {self.screen.column}, and not at {column}")
 
     def notes(self):
         """The notes that the screen lists."""
@@ -190,11 +198,16 @@ class Notes(unittest.TestCase):
         person.sees("opened", "q quit")
         return person
 
+    def expect_end(self, person, status):
+        """Asserts that the editor ends, and leaves the terminal as it was before."""
+        self.assertEqual(person.wait(), status)
+        self.assertEqual((person.screen.modes, person.screen.said), ({25}, ""))
+        self.assertEqual(termios.tcgetattr(person.terminal), person.before)
+
     def quit(self, person):
-        """Quits, and asserts that the terminal is as it was before."""
+        """Quits."""
         person.type("q")
-        self.assertEqual(person.wait(), 0)
-        self.assertEqual(person.screen.modes, {25})
+        self.expect_end(person, 0)
 
     def expect_stored(self, *rows):
         """Asserts which notes the file holds, as another program finds them."""
@@ -306,7 +319,10 @@ class Notes(unittest.TestCase):
         person = self.person()
         person.type("a", "bcd", HOME, "a", END, "f", LEFT, "e", HOME, DELETE, RIGHT, RIGHT, BACKSPACE, ENTER)
         person.sees("1  bdef")
-        person.type("a", "日本 e\u0301 ü", LEFT, LEFT, LEFT, LEFT, BACKSPACE, BACKSPACE, "!", ENTER)
+        person.type("a", "日本 e\u0301 ü")
+        person.sees("new note: 日本 e\u0301 ü")
+        person.expect_cursor(len("new note: ") + 8)
+        person.type(LEFT, LEFT, LEFT, LEFT, BACKSPACE, BACKSPACE, "!", ENTER)
         person.sees("2  日!e\u0301 ü")
         person.type("e", "never", ESCAPE)
         person.sees("to undo: 2", but=["never"])
@@ -390,11 +406,10 @@ class Notes(unittest.TestCase):
         """The terminal is given back where the editor is asked to end."""
         person = self.person()
         os.kill(person.process, signal.SIGTERM)
-        self.assertEqual(person.wait(), 1)
-        self.assertEqual(person.screen.modes, {25})
+        self.expect_end(person, 1)
         person = self.person()
         person.type("a", "\x03")
-        self.assertEqual(person.wait(), 0)
+        self.expect_end(person, 0)
 
     def test_picture(self):
         """README's picture is the screen."""

@@ -84,10 +84,10 @@ class Base:
         self._expect_done([*answers, code])
         return bytes.fromhex(made)
 
-    def apply(self, file: bytes, data: str = "abort", conflict: str = "abort") -> List[str]:
-        """Has SQLite apply a changeset, and answers the kinds of the conflicts that it met. One that is not to be
-        omitted or replaced raises `Refused`."""
-        _, applied = self._ask(self._open(), f"apply {data[0]}a{conflict[0]} x{file.hex()}")
+    def apply(self, file: bytes, choice: str = "abort") -> List[str]:
+        """Has SQLite apply a changeset, and answers the kinds of the conflicts that it met. What is done about a row
+        that differs or is there is "omit", "replace" or "abort": that raises `Refused`, as does a row that is missing."""
+        _, applied = self._ask(self._open(), f"apply {choice[0]}a{choice[0]} x{file.hex()}")
         code, _, kinds = applied.partition(" ")
         if int(code) == SQLITE_ABORT:
             raise Refused(KINDS[kinds[-1]])
@@ -200,7 +200,7 @@ def send_back(sides: Sides, changes: bytes) -> None:
         print(f"   The shop refuses it, {error}: {MEANINGS[str(error)]}.")
     sides.show()
     print("7. The shop applies it once more, and is to take the hub's rows.")
-    for kind in sides.shop.apply(changes, data="replace", conflict="replace"):
+    for kind in sides.shop.apply(changes, "replace"):
         print(f"   Conflict {kind}, replace: {MEANINGS[kind]}.")
     sides.show()
 
