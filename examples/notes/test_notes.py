@@ -152,13 +152,19 @@ class Person:
         self.screen.cells = [[" "] * columns for _ in range(lines)]
         fcntl.ioctl(self.terminal, termios.TIOCSWINSZ, struct.pack("HHHH", lines, columns, 0, 0))
 
-    def program(self):
-        """The process of the `changeset` program that the editor runs."""
+    def programs(self):
+        """The processes of `changeset` programs that the editor runs, and that have not ended."""
         for path in pathlib.Path("/proc").glob("[0-9]*/stat"):
             with contextlib.suppress(OSError):
-                if int(path.read_text().rsplit(")", 1)[1].split()[1]) == self.process:
-                    return int(path.parent.name)
-        raise AssertionError("the editor runs no program")
+                state, parent = path.read_text().rsplit(")", 1)[1].split()[:2]
+                if int(parent) == self.process and state != "Z":
+                    yield int(path.parent.name)
+
+    def kill_program(self):
+        """Kills the `changeset` program that the editor runs, and waits until it has ended."""
+        os.kill(next(self.programs()), signal.SIGKILL)
+        while any(self.programs()):
+            time.sleep(0.01)
 
     def wait(self):
         """Waits until the editor ends, and answers its exit status."""
@@ -368,13 +374,12 @@ class Notes(unittest.TestCase):
         person = self.person()
         person.type("a", "one", ENTER, "a", "two", ENTER)
         person.sees("note 2 added")
-        os.kill(person.program(), signal.SIGKILL)
+        person.kill_program()
         person.type("d")
         person.sees("refused: the program has ended", "2  two")
         person.type("d")
         person.sees("note 2 deleted", but=["refused"])
-        os.kill(person.program(), signal.SIGKILL)
-        time.sleep(0.2)
+        person.kill_program()
         with vollikash.open(self.path) as store:
             store.insert("notes", 2, "from elsewhere")
         person.type("u")
