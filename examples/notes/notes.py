@@ -101,6 +101,7 @@ class Notes:
             return "nothing changed"
         self.done.append((what, changes))
         self.undone.clear()
+        self._ask(self.read)
         return what
 
     def _move(
@@ -113,20 +114,19 @@ class Notes:
         what, changes = source[-1]
         self._ask(lambda: call(changes))
         target.append(source.pop())
+        self._ask(self.read)
         return f"{word}: {what}"
 
     def _ask(self, call: Callable[[], Answer]) -> Answer:
-        """Makes calls of the store, and reads the notes again. Where the program has ended, or takes no more lines, the
-        store is opened again, so that the next action finds it."""
+        """Makes calls of the store. Where the program has ended, or takes no more lines, the store is opened again, so
+        that the next action finds it."""
         try:
-            answer = call()
+            return call()
         except (vollikash.ProgramError, vollikash.StoreError) as error:
             if isinstance(error, vollikash.ProgramError) or error.name == "ScriptTooLong":
                 self.store.close()
                 self._open()
             raise
-        self.read()
-        return answer
 
 
 class Field:
@@ -145,9 +145,8 @@ class Field:
 
     def press(self, name: str) -> None:
         """Does what a key does that is no text."""
-        if name == "backspace" and self.cursor > 0:
-            self.cursor -= 1
-        if name in ("backspace", "delete"):
+        if name == "delete" or name == "backspace" and self.cursor > 0:
+            self.cursor -= 1 if name == "backspace" else 0
             self.text = self.text[: self.cursor] + self.text[self.cursor + 1 :]
         moves = {"left": self.cursor - 1, "right": self.cursor + 1, "home": 0, "end": len(self.text)}
         self.cursor = min(max(moves.get(name, self.cursor), 0), len(self.text))

@@ -323,7 +323,8 @@ class Notes(unittest.TestCase):
     def test_writing(self):
         """The keys that move in a text, and characters of each width."""
         person = self.person()
-        person.type("a", "bcd", HOME, "a", END, "f", LEFT, "e", HOME, DELETE, RIGHT, RIGHT, BACKSPACE, ENTER)
+        person.type("a", "bcd", HOME, BACKSPACE, "a", END, DELETE, "f", LEFT, "e")
+        person.type(HOME, DELETE, RIGHT, RIGHT, BACKSPACE, ENTER)
         person.sees("1  bdef")
         person.type("a", "日本 e\u0301 ü")
         person.sees("new note: 日本 e\u0301 ü")
