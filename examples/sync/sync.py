@@ -85,8 +85,11 @@ class Base:
         return bytes.fromhex(made)
 
     def apply(self, file: bytes, choice: str = "abort") -> List[str]:
-        """Has SQLite apply a changeset, and answers the kinds of the conflicts that it met. What is done about a row
-        that differs or is there is "omit", "replace" or "abort": that raises `Refused`, as does a row that is missing."""
+        """Has SQLite apply a changeset, and answers the kinds of the conflicts that it met.
+
+        What is done about a row that differs or is there is "omit", "replace" or "abort": that raises `Refused`, as
+        does a row that is missing.
+        """
         _, applied = self._ask(self._open(), f"apply {choice[0]}a{choice[0]} x{file.hex()}")
         code, _, kinds = applied.partition(" ")
         if int(code) == SQLITE_ABORT:
