@@ -291,10 +291,14 @@ class Loads(Folder):
             for key in range(9):
                 store.insert("t", key, long)
             self.assertEqual([row[0] for row in store.rows("t")], list(range(9)))
-            with store.session("t"), self.assertRaises(StoreError) as caught:
-                for key in range(9, 18):
-                    store.insert("t", key, long)
+            with store.session("t") as session:
+                with self.assertRaises(StoreError) as caught:
+                    for key in range(9, 18):
+                        store.insert("t", key, long)
+                self.assertGreater(len(session.changeset()), len(long))
+                self.assertGreater(session.undo().applied, 0)
             self.assertEqual((caught.exception.number, caught.exception.name), (63, "ScriptTooLong"))
+            self.assertEqual(len(list(store.rows("t"))), 9)
         with store_with_table() as store:
             with self.assertRaises(StoreError):
                 for key in range(9):

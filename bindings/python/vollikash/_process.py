@@ -6,7 +6,7 @@ import shutil
 import subprocess
 import time
 import weakref
-from typing import Optional
+from typing import Optional, Sequence
 
 # What stands behind each answer: a slot with bytes that nobody guesses is printed.
 _MARK_BYTES = 16
@@ -76,9 +76,13 @@ class Process:
         self._mark = os.urandom(_MARK_BYTES).hex()
         self.ask(f".load m {self._mark}")
 
-    def fits(self, *lines: str) -> bool:
-        """Whether the program takes these lines: it takes 16777216 bytes of them in all."""
-        return sum(len((line + _BEHIND).encode()) for line in lines) <= self.left
+    def fits(self, lines: Sequence[str], kept: int) -> bool:
+        """Whether the program takes these lines, and so many bytes behind them: it takes 16777216 bytes in all."""
+        return sum(len((line + _BEHIND).encode()) for line in lines) + kept <= self.left
+
+    def has_half(self) -> bool:
+        """Whether the program takes half of its lines still, so that a session may begin."""
+        return self.left >= _LONGEST // 2
 
     def ask(self, line: str) -> str:
         """What the program answers to a line, which fits."""

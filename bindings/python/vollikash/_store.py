@@ -13,6 +13,10 @@ _REFUSED = re.compile(r"error (?P<number>[0-9]+) (?P<name>[A-Za-z]+)(?: (?P<rest
 
 _CHOICES = ("omit", "replace", "abort")
 
+# How many bytes of the lines that a program takes are for a session's own: what it noted can be asked for, and undone, when
+# no edit is taken any more.
+_KEPT = 4096
+
 # How many seconds a line may take.
 TIMEOUT = 60.0
 
@@ -94,13 +98,18 @@ class Store:
                 raise
             _raise(int(refused["number"]), refused["name"], refused["rest"] or "")
 
-    def _make_room(self, lines: Sequence[str]) -> None:
+    def _make_room(self, lines: Sequence[str], kept: int) -> None:
         """Runs the program anew where it does not take these lines any more, if nothing but the file is lost with it."""
-        if not self._process.fits(*lines) and not self._has_session and self._path != ":memory:":
+        if not self._process.fits(lines, kept):
+            self._run_anew()
+        if not self._process.fits(lines, kept):
+            raise StoreError(63, "ScriptTooLong")
+
+    def _run_anew(self) -> None:
+        """Runs the program anew, if nothing but the file is lost with it."""
+        if not self._has_session and self._path != ":memory:":
             self._process.close()
             self._process = self._start()
-        if not self._process.fits(*lines):
-            raise StoreError(63, "ScriptTooLong")
 
     def __enter__(self) -> "Store":
         return self
@@ -115,10 +124,10 @@ class Store:
         with self._lock:
             self._process.close()
 
-    def _ask(self, *lines: str) -> str:
-        """What the last of some lines is answered, or the first that is refused."""
+    def _ask(self, *lines: str, kept: int = _KEPT) -> str:
+        """What the last of some lines is answered, or the first that is refused. So many bytes of lines are left then."""
         with self._lock:
-            self._make_room(lines)
+            self._make_room(lines, kept)
             printed = ""
             for line in lines:
                 printed = self._process.ask(line)
@@ -175,8 +184,11 @@ class Session:
     def __init__(self, store: Store, tables: Sequence[str]) -> None:
         self._store = store
         names = [spelled_name(table) for table in tables]
-        store._ask(".session open")
-        store._has_session = True
+        with store._lock:
+            if not store._process.has_half():
+                store._run_anew()
+            store._ask(".session open")
+            store._has_session = True
         try:
             for name in names:
                 store._ask(f".session attach {name}")
@@ -205,19 +217,24 @@ class Session:
 
     def changeset(self) -> bytes:
         """The file of the net changes of the attached tables since then."""
-        return bytes.fromhex(self._store._ask(".session changeset c", ".hex c").strip())
+        return bytes.fromhex(self._store._ask(".session changeset c", ".hex c", kept=0).strip())
 
     def is_empty(self) -> bool:
         """Whether no row of the attached tables was written."""
-        return self._store._ask(".session isempty") == "1\n"
+        return self._store._ask(".session isempty", kept=0) == "1\n"
 
     def undo(self) -> Report:
         """Gives the attached tables back as they were attached."""
-        return read_report(self._store._ask(".session undo"))
+        return read_report(self._store._ask(".session undo", kept=0))
 
     def close(self) -> None:
         """Ends the session, and changes no row."""
-        self._store._ask(".session close")
+        try:
+            self._store._ask(".session close", kept=0)
+        except StoreError as error:
+            # The program takes no more lines: it is run anew by the next one, and the session ends with it.
+            if error.name != "ScriptTooLong":
+                raise
         self._store._has_session = False
 
 
