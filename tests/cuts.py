@@ -24,14 +24,15 @@ import sqlite3
 import sys
 import tempfile
 import unittest
+from functools import partial
 
 import refusals
 from descriptors import STORE_SCRIPTS, MarkedScript, mark
 from model import shown_tables
-from refusals import COMMANDS, CREATE, FILES, STORE, Command, build_shim, is_store
+from refusals import COMMANDS, CREATE, FILES, STORE, Command, T, build_shim, is_store
 from refusals import shown_tables as shown_store
 from shell import Shell
-from stores import literal, read_store
+from stores import insert, literal, read_store
 
 # What a record has of a run: FILE is a number, and a name stands without its folder.
 Write = collections.namedtuple("Write", "file place content")
@@ -42,9 +43,7 @@ Rename = collections.namedtuple("Rename", "name new_name")
 Unlink = collections.namedtuple("Unlink", "name")
 Print = collections.namedtuple("Print", "content")
 
-EVENTS = {
-    "write": Write, "length": Length, "sync": Sync, "create": Create, "rename": Rename, "unlink": Unlink, "print": Print,
-}
+EVENTS = {form.__name__.lower(): form for form in (Write, Length, Sync, Create, Rename, Unlink, Print)}
 
 SECTOR = 512
 
@@ -69,6 +68,10 @@ counts = collections.Counter(runs=0, points=0, files=0, opened=0)
 
 # The lines by which the program goes on behind a cut.
 GOING_ON = ["CREATE TABLE next(n, PRIMARY KEY(n));", "INSERT INTO next VALUES(1);", "SELECT * FROM next;"]
+
+# The files of commands, and one of many rows, with the commands that apply it.
+CHANGESETS = {**FILES, "many": T + b"".join(insert(key, b"\x00\xff" * key) for key in range(2, 200))}
+APPLIES = [["--conflict", "replace", "many", "apply", "store"], ["many", "--conflict=omit", "apply", "store"]]
 
 BLOB = "00ff" * 100_000
 
@@ -138,7 +141,8 @@ class Disk:
     def take(self, event):
         """What was done next."""
         if isinstance(event, Sync):
-            self.names, self.contents = self.changed([change for change in self.pending if self.is_of(change, event.file)])
+            synced = [change for change in self.pending if self.is_of(change, event.file)]
+            self.names, self.contents = self.changed(synced)
             self.pending = [change for change in self.pending if not self.is_of(change, event.file)]
         else:
             self.pending.append(event)
@@ -194,36 +198,52 @@ def kept(change, sectors):
         yield Write(change.file, change.place + start, change.content[start:border + SECTOR])
 
 
-def torn(change, chance):
-    """A change of which nothing is on the disk, or all of it, or of a write some sectors, by chance."""
-    sectors = range(count_sectors(change)) if isinstance(change, Write) else ()
-    part = [sector for sector in sectors if chance.random() < 0.5]
-    return chance.choice([[], [(change, None)], [(change, part)]])
+def some(whole, seed):
+    """Some of these changes, by chance."""
+    chance = random.Random(seed)
+    return [part for part in whole if chance.random() < 0.5]
 
 
-def halves(write, chance):
-    """A write's first sectors up to a border, and those behind it, for each border or for some of many."""
-    count = count_sectors(write)
-    borders = range(1, count)
-    for border in borders if count <= BORDERS else chance.sample(borders, BORDERS):
-        yield write, range(border)
-        yield write, range(border, count)
+def in_two(whole, sectors):
+    """These changes, where the last one is a write of which some sectors are there."""
+    return [*whole[:-1], (whole[-1][0], sectors)]
 
 
-def choices(pending, chance):
-    """What may be on the disk of these changes: of each that is there, itself, and which of its sectors, or all."""
+def torn(whole, seed):
+    """Of each of these changes nothing, all of it, or some sectors of a write, by chance."""
+    chance = random.Random(seed)
+    parts = []
+    for change, _ in whole:
+        sectors = range(count_sectors(change)) if isinstance(change, Write) else ()
+        part = [sector for sector in sectors if chance.random() < 0.5]
+        parts += chance.choice([[], [(change, None)], [(change, part)] if part else []])
+    return parts
+
+
+def borders(write, chance):
+    """The borders between the sectors of a write, or some of many."""
+    places = range(1, count_sectors(write))
+    return places if len(places) <= BORDERS else chance.sample(places, BORDERS)
+
+
+def choices(pending, point):
+    """What may be on the disk of these changes: for each way a call that makes a list, of changes that are there and
+    of which sectors of each, where that are not all."""
     whole = [(change, None) for change in pending]
-    yield whole
+    seeds = [f"{point} {number}" for number in range(OTHERS)]
+    yield partial(list, whole)
     if len(whole) <= SUBSETS:
         for size in range(len(whole)):
-            yield from map(list, itertools.combinations(whole, size))
+            yield from (partial(list, parts) for parts in itertools.combinations(whole, size))
     else:
-        yield from ([part for part in whole if chance.random() < 0.5] for _ in range(OTHERS))
+        yield from (partial(some, whole, seed) for seed in seeds)
     if whole and isinstance(pending[-1], Write):
-        yield from (whole[:-1] + [half] for half in halves(pending[-1], chance))
+        count = count_sectors(pending[-1])
+        for border in borders(pending[-1], random.Random(point)):
+            yield partial(in_two, whole, range(border))
+            yield partial(in_two, whole, range(border, count))
     if any(isinstance(change, Write) for change in pending):
-        for _ in range(OTHERS):
-            yield list(itertools.chain.from_iterable(torn(change, chance) for change in pending))
+        yield from (partial(torn, whole, seed) for seed in seeds)
 
 
 def cuts(recording):
@@ -234,7 +254,7 @@ def cuts(recording):
             printed += len(event.content)
         else:
             disk.take(event)
-        for choice in choices(disk.pending, random.Random(point)):
+        for choice in choices(disk.pending, point):
             yield point, disk, choice, printed
 
 
@@ -246,11 +266,11 @@ def tried(recording, most):
     for place, (point, disk, choice, printed) in enumerate(cuts(recording)):
         if place not in picked:
             continue
-        files = disk.files(choice)
+        files = disk.files(choice())
         points.add(point)
         if (digest(files), printed) not in seen:
             seen.add((digest(files), printed))
-            yield files, printed, f"behind event {point} of {len(recording.events)}: {described(choice)}"
+            yield files, printed, f"behind event {point} of {len(recording.events)}: {described(choice())!r:.500}"
     counts["runs"] += 1
     counts["points"] += len(points)
     counts["files"] += len(seen)
@@ -275,10 +295,11 @@ def described(choice):
 # ---- stores
 
 class Story:
-    """What the model has of lines, each with a mark behind its answer: the tables before them and behind each."""
+    """What the model has of lines, where each may have a mark behind its answer: what is printed, and the tables."""
 
-    def __init__(self, shell, lines, marks):
-        self.shells, self.answers, self.marks = [shell], [], marks
+    def __init__(self, shell, lines, is_marked=False):
+        self.shells, self.answers = [shell], []
+        self.marks = [mark(number) if is_marked else "" for number in range(len(lines))]
         for line in lines:
             shell = copy.deepcopy(shell)
             self.answers.append("".join(told.decode() + "\n" for told in shell.answer(line.encode())))
@@ -327,28 +348,30 @@ class Run:
 
     def going_on(self, shell):
         """What the model has of the lines behind a cut that left a shell."""
-        return Story(opened_again(shell), self.behind, list(map(mark, range(len(self.behind)))))
+        return Story(opened_again(shell), self.behind, True)
 
     def by_program(self, files):
         """How the program ends that opens files and goes on, and the tables that it leaves."""
         script = MarkedScript(self.behind)
         with tempfile.TemporaryDirectory() as folder:
             make_files(folder, files)
-            return refusals.run(folder, script.words, script.stdin), by_sqlite(files_of(folder))
+            return refusals.run(folder, script.words, script.stdin), found_by_sqlite(files_of(folder))
 
     def why_not(self, files, printed, opens):
         """Why a cut may not leave these files where so much is printed, or nothing; the program opens them, or not."""
         shells = self.story.may_stand(printed)
         known = self.known.setdefault(digest(files), {})
         if "tables" not in known:
-            known["tables"] = by_sqlite(files)
+            known["tables"] = found_by_sqlite(files)
         if known["tables"] not in map(tables_of, shells):
             return f"SQLite finds {known['tables']!r:.2000}"
         if opens and "ended" not in known:
             known["ended"] = self.by_program(files)
             counts["opened"] += 1
         ends = [self.going_on(shell).ended() for shell in shells]
-        return f"the program ends so: {known['ended']!r:.2000}" if "ended" in known and known["ended"] not in ends else ""
+        if "ended" in known and known["ended"] not in ends:
+            return f"the program ends so: {known['ended']!r:.2000}"
+        return ""
 
     def again(self, files, printed):
         """The run of the program that opens files and goes on, for each way in which it may."""
@@ -356,7 +379,7 @@ class Run:
         return [Run(files, script.words, script.stdin, self.going_on(shell)) for shell in self.story.may_stand(printed)]
 
 
-def by_sqlite(files):
+def found_by_sqlite(files):
     """The tables that SQLite finds, which has to find the file whole. There are none where it is no database yet."""
     with tempfile.TemporaryDirectory() as folder:
         make_files(folder, files)
@@ -370,15 +393,15 @@ def by_sqlite(files):
 def script_run(lines):
     """Lines on a store in a new file."""
     script = MarkedScript(lines)
-    return Run({}, script.words, script.stdin, Story(Shell(), lines, list(map(mark, range(len(lines))))))
+    return Run({}, script.words, script.stdin, Story(Shell(), lines, True))
 
 
 def apply_run(words):
     """A command that applies a file to a store that SQLite wrote."""
     file, choices = words[words.index("apply") - 1], re.findall(r"--(\w+)[= ](\w+)", " ".join(words))
     rows = [f"INSERT INTO t VALUES({', '.join(map(literal, row))});" for row in STORE["t"].rows]
-    made = Story(Shell(), [CREATE, *rows, f".load a {FILES[file].hex()}"], [""] * 4).shells[-1]
-    story = Story(made, [" ".join([".apply a", *map("=".join, choices)])], [""])
+    made = Story(Shell(), [CREATE, *rows, f".load a {CHANGESETS[file].hex()}"]).shells[-1]
+    story = Story(made, [" ".join([".apply a", *map("=".join, choices)])])
     if story.shells[-1].is_refused:
         story.answers = [""]
     return Run(found_by(words), words, b"", story)
@@ -388,7 +411,7 @@ def found_by(words):
     """The files that a command finds."""
     with tempfile.TemporaryDirectory() as folder:
         Command(words).prepare(folder)
-        return files_of(folder)
+        return {**files_of(folder), **CHANGESETS}
 
 
 class CutTest(unittest.TestCase):
@@ -449,7 +472,7 @@ class CutTest(unittest.TestCase):
 
     def test_applies(self):
         """Behind each cut the apply stands, or nothing of it does."""
-        for words in COMMANDS:
+        for words in [*COMMANDS, *APPLIES]:
             if "apply" in words:
                 with self.subTest(" ".join(words)):
                     self.expect_store(apply_run(words), TRIED, OPENED, AGAIN)
@@ -460,10 +483,10 @@ class CutTest(unittest.TestCase):
             if "out" in words:
                 files = found_by(words)
                 recording = self.record(files, words, b"")
+                new = {**files, "out": recording.left["out"]}
                 for left, _, told in tried(recording, TRIED):
                     with self.subTest(" ".join(words), told=told):
-                        self.assertEqual({name: left.get(name) for name in files if name != "out"}, {name: files[name] for name in files if name != "out"})
-                        self.assertIn(left.get("out"), (files["out"], recording.left["out"]))
+                        self.assertIn({name: left.get(name) for name in files}, (files, new))
 
 
 if __name__ == "__main__":
