@@ -27,8 +27,8 @@ BUILT = HERE.parent / "c/out"
 HEADER = HERE.parent / "c/vollikash.h"
 PROGRAM = TOP / "crates/changeset/out/changeset"
 RECORDED = sorted([*TOP.glob("examples/*.cs"), *TOP.glob("tests/recorded/*.cs")])
-# The C program as it is, and with the sanitizers.
-CHECKS = ("check", "check-sanitized")
+# The C program as it is, with the sanitizers, and where each allocation of each call is refused.
+CHECKS = ("check", "check-sanitized", "check-refusing")
 # Recorded files of one entry, so that each of their proper prefixes but the empty one is damaged.
 CUT = [TOP / "tests/recorded" / name for name in ("insert-one.cs", "update-one.cs", "delete-one.cs")]
 INSERT, UPDATE, DELETE = (path.read_bytes() for path in CUT)
@@ -188,8 +188,8 @@ class Files(unittest.TestCase):
     def joins(self, pairs):
         """What the C program answers for the join of each two files, and which of them it refuses."""
         requests = [f"concat {first.hex()} {second.hex()}" for first, second in pairs]
-        answers, sanitized = (harness(requests, name) for name in CHECKS)
-        self.assertEqual(answers, sanitized)
+        answers, *others = (harness(requests, name) for name in CHECKS)
+        self.assertEqual(others, [answers] * len(others))
         return [printed(answer) for answer in answers]
 
     def test_joins(self):

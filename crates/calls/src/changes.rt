@@ -2,7 +2,7 @@
 
 use cs_group::{ConcatFault, Merged, concat, invert, merge};
 use cs_value::{NoMemory, OwnedValue, Row};
-use cs_wire::{Change, Changeset, Cursor, Entry, Item, ReadError, read, write};
+use cs_wire::{Change, Changeset, Cursor, Entry, Group, Header, Item, ReadError, read, write};
 use std::alloc::Global;
 
 /// The INSERTs of ('k', 'x') and ('l', 'y') into the table t, whose first column is its key, and that of 'b' into u.
@@ -59,12 +59,9 @@ pub(crate) fn copy_groups(alloc: Global) -> Result<usize, ReadError> {
     Ok(write(alloc, &copies)?.len())
 }
 
-/// Adds the entries of a file to the groups of another which they fit, and tells how many entries these have.
+/// Adds an entry to the groups of a file that it fits, and tells how many entries all groups have.
 pub(crate) fn add_entry(alloc: Global) -> Result<usize, ReadError> {
-    let entry = Entry {
-        indirect: false,
-        change: Change::Insert(Row::new(vec![in alloc; OwnedValue::Int(1)]?)),
-    };
+    let entry = insertion(alloc, 1)?;
     let mut count = 0usize;
     for mut group in read(alloc, INSERTS)?.into_groups() {
         if group.header().admits(&entry) {
@@ -76,6 +73,35 @@ pub(crate) fn add_entry(alloc: Global) -> Result<usize, ReadError> {
         count = count.saturating_add(group.entries().len());
     }
     Ok(count)
+}
+
+/// The INSERT of a row of one number.
+fn insertion(alloc: Global, number: i64) -> Result<Entry, NoMemory> {
+    Ok(Entry {
+        indirect: false,
+        change: Change::Insert(Row::new(vec![in alloc; OwnedValue::Int(number)]?)),
+    })
+}
+
+/// Makes a group of two entries, and tells how many it has.
+pub(crate) fn make_group(alloc: Global) -> Result<usize, NoMemory> {
+    let flags = [1];
+    if !Header::fits("t", &flags) {
+        return Ok(0);
+    }
+    let header = Header::new(
+        String::from_str(alloc, "t")?,
+        Vec::from_slice(alloc, &flags)?,
+    );
+    let (first, second) = (insertion(alloc, 1)?, insertion(alloc, 2)?);
+    if !header.admits(&first) || !header.admits(&second) {
+        return Ok(0);
+    }
+    let mut group = Group::new(alloc, header, first)?;
+    if group.find(&group.key_of(alloc, &second)?).is_none() {
+        group.push(second)?;
+    }
+    Ok(group.entries().len())
 }
 
 /// Inverts a changeset, and tells how many bytes the inverse is written with.

@@ -1,5 +1,5 @@
-//! Calls of the libraries that no line of a script makes, for tests that refuse memory: each word names one, and they
-//! are made in turn. A line says what each answers, as a number, or that memory was refused.
+//! Calls of the libraries that hosts make, most of which no line of a script does, for tests that refuse memory: each word
+//! names some, and they are made in turn. A line says what each answers, as a number, or that memory was refused.
 #![tactic(auto)]
 
 mod changes;
@@ -31,6 +31,7 @@ fn answer(alloc: Global, rows: &mut TestRows, word: &str) -> Result<usize, NoMem
         "claim" => told(changes::read_claim(alloc)),
         "copy" => told(changes::copy_groups(alloc)),
         "push" => told(changes::add_entry(alloc)),
+        "group" => changes::make_group(alloc),
         "invert" => told(changes::invert_read(alloc)),
         "concat" => told(changes::join_read(alloc)),
         "merge" => changes::merge_two(alloc),
@@ -40,6 +41,7 @@ fn answer(alloc: Global, rows: &mut TestRows, word: &str) -> Result<usize, NoMem
         "delete" => told(rows.delete(alloc)),
         "apply" => told(rows.apply(alloc)),
         "list" => told(rows.count(alloc)),
+        "tables" => told(rows::count_tables(alloc)),
         _ => Ok(0),
     }
 }

@@ -1,7 +1,7 @@
 //! Calls on tables in memory.
 
 use cs_apply::{ApplyFault, Choice, Direction, run_in};
-use cs_store::{Edit, MemRows, Rows, StoreError, edit_in};
+use cs_store::{Edit, MemRows, Rows, Store, StoreError, edit_in};
 use cs_value::{Key, NoMemory, OwnedValue, Row};
 use std::alloc::Global;
 
@@ -21,6 +21,19 @@ fn row_of(alloc: Global, first: i64, second: i64) -> Result<Row, NoMemory> {
     Ok(Row::new(vec![in alloc; OwnedValue::Int(first), OwnedValue::Int(second)]?))
 }
 
+/// Two names of columns.
+fn column_names(alloc: Global) -> Result<Vec<String>, NoMemory> {
+    let (first, second) = (String::from_str(alloc, "a")?, String::from_str(alloc, "b")?);
+    Ok(vec![in alloc; first, second]?)
+}
+
+/// Declares a table in a new store in memory, and tells how many tables that has.
+pub(crate) fn count_tables(alloc: Global) -> Result<usize, StoreError> {
+    let mut store = Store::new_memory(alloc)?;
+    store.declare(alloc, "t", &column_names(alloc)?, &[true, false])?;
+    Ok(store.tables(alloc)?.len())
+}
+
 impl TestRows {
     /// No table.
     pub(crate) fn new(alloc: Global) -> TestRows {
@@ -31,9 +44,8 @@ impl TestRows {
 
     /// Declares the table t.
     pub(crate) fn declare(&mut self, alloc: Global) -> Result<usize, StoreError> {
-        let (first, second) = (String::from_str(alloc, "a")?, String::from_str(alloc, "b")?);
-        let columns = vec![in alloc; first, second]?;
-        self.rows.declare(alloc, "t", &columns, &[true, false])?;
+        self.rows
+            .declare(alloc, "t", &column_names(alloc)?, &[true, false])?;
         Ok(0)
     }
 
@@ -64,7 +76,7 @@ impl TestRows {
         self.edit(alloc, &Edit::Delete { table, key })
     }
 
-    /// Applies a file, with each row replaced that is in the way, and tells how many keys were written.
+    /// Applies a file, with what meets a conflict passed over, and tells how many keys were written.
     pub(crate) fn apply(&mut self, alloc: Global) -> Result<usize, ApplyFault> {
         let handler = |_: &_| Choice::Omit;
         let report = run_in(alloc, &mut self.rows, CHANGES, Direction::Forward, &handler)?;

@@ -17,7 +17,7 @@ use std::rc::RcStr;
 /// A table that is attached.
 #[derive(Debug, Drop)]
 pub(crate) struct Attached {
-    // It is shared with the names of all tables.
+    // It shares its memory with the set of all names.
     pub(crate) name: RcStr,
     pub(crate) schema: Schema,
     pub(crate) firsts: FirstImages,
@@ -49,7 +49,7 @@ pub(crate) fn is_noted(
     Ok(table.firsts.has_key(key))
 }
 
-/// Notes a key that was not written in a table before, and the row that stood there. [`NoMemory`] changes nothing.
+/// Notes a key that was not written in a table before, and the row that stood there.
 pub(crate) fn note_write(
     table: &mut Attached,
     key: Key,

@@ -164,7 +164,7 @@ impl Tables {
         Ok(Some(place))
     }
 
-    /// Notes a key that was not written before in its table, at this place. [`NoMemory`] notes nothing.
+    /// Notes a key that was not written before in its table, at this place.
     fn note_at(&mut self, place: usize, one: Written) -> Result<(), NoMemory>
         requires apart { AreApart (map attached_of self.old) }
         requires place { IsPlace self.old (rc_str_bytes one.table) place }
