@@ -3,8 +3,8 @@
 import re
 import sys
 
-# How many parts are told by unittest, or as it tells them: those of the bindings, and five of the program.
-PARTS = 6
+# How many parts are told by unittest, or as it tells them: those of the bindings, and seven of the program.
+PARTS = 8
 
 said = sys.stdin.read()
 gate = [tuple(map(int, counts)) for counts in re.findall(r"^(\d+) passed, (\d+) failed$", said, re.M)]

@@ -53,14 +53,12 @@ SUBSETS, OTHERS = 8, 24
 # At how many of its borders a write is torn in two.
 BORDERS = 32
 
-# How many files of each run are tried in the gate, and how many of these are opened by the program, too; and of how
-# many of these the opening is recorded, and cut again.
-TRIED, OPENED, AGAIN = 150, 40, 1
+# How many files of each run are tried in the gate, how many of these are opened by the program, too, and of how many
+# of these the opening is recorded and cut again; and the same of runs whose files have megabytes.
+SHARES, LONG_SHARES = (150, 40, 1), (16, 4, 0)
 
-# The same of runs whose files have megabytes.
-LONG = 16, 4, 0
-
-TRIES_ALL = False
+# The same where all are tried, but for those of megabytes.
+ALL_SHARES, ALL_LONG_SHARES = (1_000_000, 1_000_000, 4), (300, 300, 0)
 
 # How many runs were recorded, at how many points they were cut, how many different files that makes, and how many of
 # these the program opened.
@@ -71,7 +69,7 @@ GOING_ON = ["CREATE TABLE next(n, PRIMARY KEY(n));", "INSERT INTO next VALUES(1)
 
 # The files of commands, and one of many rows, with the commands that apply it.
 CHANGESETS = {**FILES, "many": T + b"".join(insert(key, b"\x00\xff" * key) for key in range(2, 200))}
-APPLIES = [["--conflict", "replace", "many", "apply", "store"], ["many", "--conflict=omit", "apply", "store"]]
+APPLIES = [["--conflict", "replace", "many", "apply", "store"], ["--conflict=omit", "many", "apply", "store"]]
 
 BLOB = "00ff" * 100_000
 
@@ -146,6 +144,8 @@ class Disk:
             self.pending = [change for change in self.pending if not self.is_of(change, event.file)]
         else:
             self.pending.append(event)
+        if isinstance(event, Create):
+            self.contents[event.file] = b""
 
     def is_of(self, change, file):
         """Whether a change is of this file, or a name in this folder."""
@@ -209,14 +209,24 @@ def in_two(whole, sectors):
     return [*whole[:-1], (whole[-1][0], sectors)]
 
 
-def torn(whole, seed):
-    """Of each of these changes nothing, all of it, or some sectors of a write, by chance."""
+def junk(write, end, chance):
+    """A write of which the length alone is there: behind what was synced a file has zeros, or any bytes."""
+    start = max(write.place, end)
+    size = max(write.place + len(write.content) - start, 0)
+    content = chance.choice([0, chance.getrandbits(8 * size + 1) >> 1]).to_bytes(size, "big")
+    return write._replace(place=start, content=content)
+
+
+def torn(whole, ends, seed):
+    """Of each of these changes nothing, all of it, or of a write some sectors or the length, by chance."""
     chance = random.Random(seed)
     parts = []
     for change, _ in whole:
-        sectors = range(count_sectors(change)) if isinstance(change, Write) else ()
-        part = [sector for sector in sectors if chance.random() < 0.5]
-        parts += chance.choice([[], [(change, None)], [(change, part)] if part else []])
+        forms = [[], [(change, None)]]
+        if isinstance(change, Write):
+            forms.append([(change, [sector for sector in range(count_sectors(change)) if chance.random() < 0.5])])
+            forms.append([(junk(change, ends.get(change.file, 0), chance), None)])
+        parts += chance.choice(forms)
     return parts
 
 
@@ -226,10 +236,10 @@ def borders(write, chance):
     return places if len(places) <= BORDERS else chance.sample(places, BORDERS)
 
 
-def choices(pending, point):
-    """What may be on the disk of these changes: for each way a call that makes a list, of changes that are there and
+def choices(disk, point):
+    """What may be there of what was not synced: for each way a call that makes a list, of changes that are there and
     of which sectors of each, where that are not all."""
-    whole = [(change, None) for change in pending]
+    pending, whole = disk.pending, [(change, None) for change in disk.pending]
     seeds = [f"{point} {number}" for number in range(OTHERS)]
     yield partial(list, whole)
     if len(whole) <= SUBSETS:
@@ -243,7 +253,8 @@ def choices(pending, point):
             yield partial(in_two, whole, range(border))
             yield partial(in_two, whole, range(border, count))
     if any(isinstance(change, Write) for change in pending):
-        yield from (partial(torn, whole, seed) for seed in seeds)
+        ends = {file: len(content) for file, content in disk.contents.items()}
+        yield from (partial(torn, whole, ends, seed) for seed in seeds)
 
 
 def cuts(recording):
@@ -254,14 +265,16 @@ def cuts(recording):
             printed += len(event.content)
         else:
             disk.take(event)
-        for choice in choices(disk.pending, point):
+        for choice in choices(disk, point):
             yield point, disk, choice, printed
 
 
 def tried(recording, most):
-    """Of the cuts of a run so many, or all: the files, how much is printed by then, and what tells of the cut."""
+    """Of the cuts of a run so many, each once: the files, how much is printed by then, what tells of the cut, and a
+    number by chance, below the count of those that are tried."""
     count = sum(1 for _ in cuts(recording))
-    picked = set(range(count)) if TRIES_ALL or count <= most else set(random.Random(count).sample(range(count), most))
+    chance = random.Random(count)
+    picked = set(chance.sample(range(count), min(most, count)))
     points, seen = set(), set()
     for place, (point, disk, choice, printed) in enumerate(cuts(recording)):
         if place not in picked:
@@ -270,7 +283,8 @@ def tried(recording, most):
         points.add(point)
         if (digest(files), printed) not in seen:
             seen.add((digest(files), printed))
-            yield files, printed, f"behind event {point} of {len(recording.events)}: {described(choice())!r:.500}"
+            told = f"behind event {point} of {len(recording.events)}: {described(choice())!r:.500}"
+            yield files, printed, told, chance.random() * len(picked)
     counts["runs"] += 1
     counts["points"] += len(points)
     counts["files"] += len(seen)
@@ -344,7 +358,6 @@ class Run:
         names = sorted({name for shell in story.shells for name in tables_of(shell)} - {"next"})
         quoted = [name.replace('"', '""') for name in names]
         self.behind = [f'SELECT * FROM "{name}";' for name in quoted] + GOING_ON
-        self.known = {}
 
     def going_on(self, shell):
         """What the model has of the lines behind a cut that left a shell."""
@@ -360,18 +373,15 @@ class Run:
     def why_not(self, files, printed, opens):
         """Why a cut may not leave these files where so much is printed, or nothing; the program opens them, or not."""
         shells = self.story.may_stand(printed)
-        known = self.known.setdefault(digest(files), {})
-        if "tables" not in known:
-            known["tables"] = found_by_sqlite(files)
-        if known["tables"] not in map(tables_of, shells):
-            return f"SQLite finds {known['tables']!r:.2000}"
-        if opens and "ended" not in known:
-            known["ended"] = self.by_program(files)
-            counts["opened"] += 1
-        ends = [self.going_on(shell).ended() for shell in shells]
-        if "ended" in known and known["ended"] not in ends:
-            return f"the program ends so: {known['ended']!r:.2000}"
-        return ""
+        tables = found_by_sqlite(files)
+        if tables not in map(tables_of, shells):
+            return f"SQLite finds {tables!r:.2000}"
+        if not opens:
+            return ""
+        counts["opened"] += 1
+        ended = self.by_program(files)
+        wanted = [self.going_on(shell).ended() for shell in shells]
+        return "" if ended in wanted else f"the program ends so: {ended!r:.2000}"
 
     def again(self, files, printed):
         """The run of the program that opens files and goes on, for each way in which it may."""
@@ -441,15 +451,15 @@ class CutTest(unittest.TestCase):
         """Asserts that what is left of a run that is cut is a store with the tables of a line."""
         recording = self.record(run.files, run.words, run.stdin)
         self.assertTrue(recording.ended[1] == run.story.printed(), "the model answers otherwise")
-        cases = list(tried(recording, most))
-        picked = random.Random(len(cases))
-        opens = set(picked.sample(range(len(cases)), min(opened, len(cases))))
-        for place, (files, printed, told) in enumerate(cases):
+        kept = []
+        for files, printed, told, share in tried(recording, most):
             with self.subTest(told):
-                self.assertEqual(run.why_not(files, printed, TRIES_ALL or place in opens), "")
-        for files, printed, told in picked.sample(cases, min(again, len(cases))):
+                self.assertEqual(run.why_not(files, printed, share < opened), "")
+            if share < again:
+                kept.append((run.again(files, printed), told))
+        for runs, told in kept:
             with self.subTest("again " + told):
-                self.expect_again(run.again(files, printed), most, opened)
+                self.expect_again(runs, most, opened)
 
     def expect_again(self, runs, most, opened):
         """Asserts the same of the program that opens what was left, and goes on."""
@@ -462,20 +472,20 @@ class CutTest(unittest.TestCase):
         """Behind each cut the tables are those from before the line that ran, or from behind it."""
         for what, lines in STORE_SCRIPTS.items():
             with self.subTest(what):
-                self.expect_store(script_run(lines), TRIED, OPENED, AGAIN)
+                self.expect_store(script_run(lines), *SHARES)
 
     def test_long_scripts(self):
         """The same of logs that are copied back, and written, before a line ends."""
         for what, lines in LONG_SCRIPTS.items():
             with self.subTest(what):
-                self.expect_store(script_run(lines), *LONG)
+                self.expect_store(script_run(lines), *LONG_SHARES)
 
     def test_applies(self):
         """Behind each cut the apply stands, or nothing of it does."""
         for words in [*COMMANDS, *APPLIES]:
             if "apply" in words:
                 with self.subTest(" ".join(words)):
-                    self.expect_store(apply_run(words), TRIED, OPENED, AGAIN)
+                    self.expect_store(apply_run(words), *SHARES)
 
     def test_files_that_are_written(self):
         """Behind each cut OUT is the old file or the new one, and the other files are as they were."""
@@ -484,14 +494,14 @@ class CutTest(unittest.TestCase):
                 files = found_by(words)
                 recording = self.record(files, words, b"")
                 new = {**files, "out": recording.left["out"]}
-                for left, _, told in tried(recording, TRIED):
+                for left, _, told, _ in tried(recording, SHARES[0]):
                     with self.subTest(" ".join(words), told=told):
                         self.assertIn({name: left.get(name) for name in files}, (files, new))
 
 
 if __name__ == "__main__":
     if sys.argv[1:2] == ["all"]:
-        TRIES_ALL = True
+        SHARES, LONG_SHARES = ALL_SHARES, ALL_LONG_SHARES
         del sys.argv[1]
     if sys.argv[1:2] and not sys.argv[1].startswith("-"):
         refusals.PROGRAM = pathlib.Path(sys.argv.pop(1)).resolve()
