@@ -128,13 +128,15 @@ class Recording:
 
 
 class Disk:
-    """The files of a folder: what is on the disk for sure, and what was done since, in its order."""
+    """The files of a folder: what is on the disk for sure, and what was done since, in its order; and how many bytes
+    were printed."""
 
     def __init__(self, recording):
         self.folder = recording.folder
         self.names = {name: file for name, (file, _) in recording.found.items()}
         self.contents = dict(recording.found.values())
         self.pending = []
+        self.printed = 0
 
     def take(self, event):
         """What was done next."""
@@ -142,6 +144,8 @@ class Disk:
             synced = [change for change in self.pending if self.is_of(change, event.file)]
             self.names, self.contents = self.changed(synced)
             self.pending = [change for change in self.pending if not self.is_of(change, event.file)]
+        elif isinstance(event, Print):
+            self.printed += len(event.content)
         else:
             self.pending.append(event)
         if isinstance(event, Create):
@@ -258,15 +262,12 @@ def choices(disk, point):
 
 
 def cuts(recording):
-    """What may be there at each point of a run: the point, the disk, what of its changes, and how much is printed."""
-    disk, printed = Disk(recording), 0
+    """Each point of a run, and what may be there: the disk, and the call that makes a list of changes."""
+    disk = Disk(recording)
     for point, event in enumerate([Print(b""), *recording.events]):
-        if isinstance(event, Print):
-            printed += len(event.content)
-        else:
-            disk.take(event)
+        disk.take(event)
         for choice in choices(disk, point):
-            yield point, disk, choice, printed
+            yield point, disk, choice
 
 
 def tried(recording, most):
@@ -276,15 +277,15 @@ def tried(recording, most):
     chance = random.Random(count)
     picked = set(chance.sample(range(count), min(most, count)))
     points, seen = set(), set()
-    for place, (point, disk, choice, printed) in enumerate(cuts(recording)):
+    for place, (point, disk, choice) in enumerate(cuts(recording)):
         if place not in picked:
             continue
         files = disk.files(choice())
         points.add(point)
-        if (digest(files), printed) not in seen:
-            seen.add((digest(files), printed))
+        if (digest(files), disk.printed) not in seen:
+            seen.add((digest(files), disk.printed))
             told = f"behind event {point} of {len(recording.events)}: {described(choice())!r:.500}"
-            yield files, printed, told, chance.random() * len(picked)
+            yield files, disk.printed, told, chance.random() * len(picked)
     counts["runs"] += 1
     counts["points"] += len(points)
     counts["files"] += len(seen)
@@ -442,50 +443,43 @@ class CutTest(unittest.TestCase):
         recording = Recording(self.shim, files, words, stdin)
         disk = Disk(recording)
         for event in recording.events:
-            if not isinstance(event, Print):
-                disk.take(event)
+            disk.take(event)
         self.assertTrue(disk.files([(change, None) for change in disk.pending]) == recording.left, "another record")
         return recording
 
-    def expect_store(self, run, most, opened, again):
-        """Asserts that what is left of a run that is cut is a store with the tables of a line."""
-        recording = self.record(run.files, run.words, run.stdin)
-        self.assertTrue(recording.ended[1] == run.story.printed(), "the model answers otherwise")
+    def expect_store(self, runs, most, opened, again):
+        """Asserts that what is left of a run that is cut is a store with the tables of a line. It is one of these."""
+        recording = self.record(runs[0].files, runs[0].words, runs[0].stdin)
+        found = [run for run in runs if run.story.printed() == recording.ended[1]]
+        self.assertTrue(found, "the model answers otherwise")
         kept = []
         for files, printed, told, share in tried(recording, most):
             with self.subTest(told):
-                self.assertEqual(run.why_not(files, printed, share < opened), "")
+                self.assertEqual(found[0].why_not(files, printed, share < opened), "")
             if share < again:
-                kept.append((run.again(files, printed), told))
-        for runs, told in kept:
+                kept.append((told, found[0].again(files, printed)))
+        for told, others in kept:
             with self.subTest("again " + told):
-                self.expect_again(runs, most, opened)
-
-    def expect_again(self, runs, most, opened):
-        """Asserts the same of the program that opens what was left, and goes on."""
-        ended = Recording(self.shim, runs[0].files, runs[0].words, runs[0].stdin).ended
-        found = [run for run in runs if run.story.printed() == ended[1]]
-        self.assertTrue(found, "the program finds other tables")
-        self.expect_store(found[0], most, opened, 0)
+                self.expect_store(others, most, opened, 0)
 
     def test_scripts(self):
         """Behind each cut the tables are those from before the line that ran, or from behind it."""
         for what, lines in STORE_SCRIPTS.items():
             with self.subTest(what):
-                self.expect_store(script_run(lines), *SHARES)
+                self.expect_store([script_run(lines)], *SHARES)
 
     def test_long_scripts(self):
         """The same of logs that are copied back, and written, before a line ends."""
         for what, lines in LONG_SCRIPTS.items():
             with self.subTest(what):
-                self.expect_store(script_run(lines), *LONG_SHARES)
+                self.expect_store([script_run(lines)], *LONG_SHARES)
 
     def test_applies(self):
         """Behind each cut the apply stands, or nothing of it does."""
         for words in [*COMMANDS, *APPLIES]:
             if "apply" in words:
                 with self.subTest(" ".join(words)):
-                    self.expect_store(apply_run(words), *SHARES)
+                    self.expect_store([apply_run(words)], *SHARES)
 
     def test_files_that_are_written(self):
         """Behind each cut OUT is the old file or the new one, and the other files are as they were."""
