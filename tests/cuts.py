@@ -67,22 +67,19 @@ counts = collections.Counter(runs=0, points=0, files=0, opened=0)
 # The lines by which the program goes on behind a cut.
 GOING_ON = ["CREATE TABLE next(n, PRIMARY KEY(n));", "INSERT INTO next VALUES(1);", "SELECT * FROM next;"]
 
-# The files of commands, and one of many rows, with the commands that apply it.
-CHANGESETS = {**FILES, "many": T + b"".join(insert(key, b"\x00\xff" * key) for key in range(2, 200))}
-APPLIES = [["--conflict", "replace", "many", "apply", "store"], ["--conflict=omit", "many", "apply", "store"]]
-
-BLOB = "00ff" * 100_000
-
-LONG_SCRIPTS = {
-    "a log that is copied back while lines run": [
-        CREATE, *(f"INSERT INTO t VALUES({key}, X'{BLOB}');" for key in range(22)), "DELETE FROM t WHERE a=1;",
-        "INSERT INTO t VALUES(1, 'short');",
-    ],
-    "a line that is written before it ends": [
-        CREATE, "INSERT INTO t VALUES(1, 'x');", f"INSERT INTO t VALUES(2, '{'long' * 2_200_000}');",
-        "INSERT INTO t VALUES(3, 'z');",
-    ],
+# The files that are applied: those of commands, one of many rows, and one that memory does not hold as it is applied.
+CHANGESETS = {
+    **FILES, "many": T + b"".join(insert(key, b"\x00\xff" * key) for key in range(2, 200)),
+    "large": T + b"".join(insert(key, b"\x00\xff" * 50_000) for key in range(10, 100)),
 }
+APPLIES = [["--conflict", "replace", "many", "apply", "store"], ["--conflict=omit", "many", "apply", "store"]]
+LARGE_APPLY = ["large", "apply", "store"]
+
+# A script whose log is copied back before a line that writes, since it is long.
+LONG_SCRIPT = [
+    CREATE, *(f"INSERT INTO t VALUES({key}, X'{'00ff' * 100_000}');" for key in range(22)), "DELETE FROM t WHERE a=1;",
+    "INSERT INTO t VALUES(1, 'short');",
+]
 
 
 def read_record(record):
@@ -411,18 +408,19 @@ def apply_run(words):
     """A command that applies a file to a store that SQLite wrote."""
     file, choices = words[words.index("apply") - 1], re.findall(r"--(\w+)[= ](\w+)", " ".join(words))
     rows = [f"INSERT INTO t VALUES({', '.join(map(literal, row))});" for row in STORE["t"].rows]
-    made = Story(Shell(), [CREATE, *rows, f".load a {CHANGESETS[file].hex()}"]).shells[-1]
+    made = Story(Shell(), [CREATE, *rows]).shells[-1]
+    made.contents[b"a"] = CHANGESETS[file]
     story = Story(made, [" ".join([".apply a", *map("=".join, choices)])])
     if story.shells[-1].is_refused:
         story.answers = [""]
-    return Run(found_by(words), words, b"", story)
+    return Run({**found_by(words), file: CHANGESETS[file]}, words, b"", story)
 
 
 def found_by(words):
     """The files that a command finds."""
     with tempfile.TemporaryDirectory() as folder:
         Command(words).prepare(folder)
-        return {**files_of(folder), **CHANGESETS}
+        return files_of(folder)
 
 
 class CutTest(unittest.TestCase):
@@ -468,11 +466,11 @@ class CutTest(unittest.TestCase):
             with self.subTest(what):
                 self.expect_store([script_run(lines)], *SHARES)
 
-    def test_long_scripts(self):
-        """The same of logs that are copied back, and written, before a line ends."""
-        for what, lines in LONG_SCRIPTS.items():
-            with self.subTest(what):
-                self.expect_store([script_run(lines)], *LONG_SHARES)
+    def test_long_runs(self):
+        """The same of a log that is copied back between lines, and of an apply that is written before it ends."""
+        for run in (script_run(LONG_SCRIPT), apply_run(LARGE_APPLY)):
+            with self.subTest(run.words):
+                self.expect_store([run], *LONG_SHARES)
 
     def test_applies(self):
         """Behind each cut the apply stands, or nothing of it does."""

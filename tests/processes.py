@@ -178,13 +178,13 @@ class Processes(StoreTest):
         chance = random.Random(KILLS)
         for number in range(KILLS):
             with self.case(number=number):
-                first = self.begin(run.stdin)
-                printed = first.stdout.read(chance.randrange(len(run.story.printed())))
-                first.kill()
-                again = self.run_behind(run)
-                rest, _ = first.communicate(timeout=PATIENCE)
-                shells = run.story.may_stand(len(printed + rest))
-                self.assertTrue(run.story.printed().encode().startswith(printed + rest))
+                with self.begin(run.stdin) as first:
+                    printed = first.stdout.read(chance.randrange(len(run.story.printed())))
+                    first.kill()
+                    again = self.run_behind(run)
+                    printed += first.stdout.read()
+                shells = run.story.may_stand(len(printed))
+                self.assertTrue(run.story.printed().encode().startswith(printed))
                 self.assertIn((again, self.left()), [run.going_on(shell).ended() for shell in shells])
                 counts["killed"] += first.returncode == -signal.SIGKILL
         self.assertGreater(counts["killed"], 0)
