@@ -38,6 +38,16 @@ DELAYS = (0, 0, 1, 3, 6, 10, 20)
 # What an apply prints that replaces a row.
 REPLACED = "conflict 3 conflict replace 't'\napplied 1\n"
 
+# A program that has SQLite write the store, until its standard input ends. It is one of its own, since a process that
+# closes a file drops all locks that it has on it.
+HOLDING = """
+import sqlite3, sys
+base = sqlite3.connect("store", isolation_level=None)
+base.execute("BEGIN IMMEDIATE")
+print("held", flush=True)
+sys.stdin.read()
+"""
+
 # Pairs of scripts that begin at once on a store.
 PAIRS = [
     ([CREATE, "INSERT INTO t VALUES(1, 'x');", "SELECT * FROM t;"], [CREATE, "INSERT INTO t VALUES(2, 'y');"]),
@@ -143,10 +153,11 @@ class Processes(StoreTest):
                 with self.assertRaisesRegex(sqlite3.OperationalError, "locked"):
                     base.execute("SELECT * FROM rec")
             first.communicate(timeout=PATIENCE)
-        with contextlib.closing(sqlite3.connect(self.folder / "store", isolation_level=None)) as base:
-            base.execute("BEGIN IMMEDIATE")
+        with subprocess.Popen(
+            [sys.executable, "-c", HOLDING], cwd=self.folder, stdin=subprocess.PIPE, stdout=subprocess.PIPE
+        ) as other:
+            self.assertEqual(other.stdout.readline(), b"held\n")
             self.expect_refusals()
-            base.execute("ROLLBACK")
         (self.folder / "link").unlink()
         self.assertEqual(self.read(), program.tables_of())
 
@@ -165,7 +176,7 @@ class Processes(StoreTest):
                 counts["refused"] += REFUSED in ended
 
     def run_behind(self, run):
-        """How a program ends that goes on behind a run that ends, until when it is refused."""
+        """How a program ends that goes on behind a run, once that has let go of the store."""
         script = MarkedScript(run.behind)
         ended = REFUSED
         while ended == REFUSED:
