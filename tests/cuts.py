@@ -13,6 +13,7 @@ A run of the gate tries some of these files; `all` in front tries all of them, f
 usage: tests/cuts.py [all] [PROGRAM]
 """
 import collections
+import contextlib
 import copy
 import hashlib
 import itertools
@@ -32,9 +33,9 @@ from model import shown_tables
 from refusals import COMMANDS, CREATE, FILES, STORE, Command, T, build_shim, is_store
 from refusals import shown_tables as shown_store
 from shell import Shell
-from stores import insert, literal, read_store
+from stores import expect_whole, insert, literal, read_store
 
-# What a record has of a run: FILE is a number, and a name stands without its folder.
+# What a record has of a run: a file is its number, and a name stands without its folder.
 Write = collections.namedtuple("Write", "file place content")
 Length = collections.namedtuple("Length", "file length")
 Sync = collections.namedtuple("Sync", "file")
@@ -393,7 +394,11 @@ def found_by_sqlite(files):
         make_files(folder, files)
         store = os.path.join(folder, "store")
         try:
-            return shown_store(read_store(store)) if is_store(store) else {}
+            if is_store(store):
+                return shown_store(read_store(store))
+            with contextlib.closing(sqlite3.connect(store)) as base:
+                expect_whole(base)
+            return {}
         except (sqlite3.DatabaseError, AssertionError) as fault:
             return {} if "file is not a database" in str(fault) else repr(fault)
 
