@@ -127,6 +127,28 @@ class ProgramTest(unittest.TestCase):
         )
         return done.returncode, done.stdout.decode(), done.stderr.decode()
 
+    @contextlib.contextmanager
+    def dialogue(self, *words):
+        """The program, with a script that is not written yet."""
+        pipes = {"stdin": subprocess.PIPE, "stdout": subprocess.PIPE, "stderr": subprocess.PIPE}
+        with subprocess.Popen([PROGRAM, *words], cwd=self.folder, bufsize=0, **pipes) as child:
+            try:
+                yield child
+            finally:
+                child.kill()
+
+    def expect_answer(self, child, text, answer):
+        """Writes a part of the script, and asserts that this is read before more is written."""
+        child.stdin.write(text.encode())
+        end, read, wanted = time.monotonic() + PATIENCE, b"", answer.encode()
+        while len(read) < len(wanted):
+            ready, _, _ = select.select([child.stdout], [], [], max(0, end - time.monotonic()))
+            piece = os.read(child.stdout.fileno(), len(wanted) - len(read)) if ready else b""
+            if not piece:
+                break
+            read += piece
+        self.assertEqual(read, wanted, text)
+
     def expect(self, words, status, printed="", reported=""):
         """Runs the program, and asserts its exit status and what it prints to both streams."""
         self.assertEqual(self.run_program(*words), (status, printed, reported), words)
@@ -473,28 +495,6 @@ class Scripts(ProgramTest):
             wanted = (1, printed + "error 62 EmptySlot\n", "")
             self.assertTrue(self.run_lines(lines) == wanted, [line[:30] for line in lines])
 
-    @contextlib.contextmanager
-    def dialogue(self):
-        """The program, with a script that is not written yet."""
-        pipes = {"stdin": subprocess.PIPE, "stdout": subprocess.PIPE, "stderr": subprocess.PIPE}
-        with subprocess.Popen([PROGRAM], cwd=self.folder, bufsize=0, **pipes) as child:
-            try:
-                yield child
-            finally:
-                child.kill()
-
-    def expect_answer(self, child, text, answer):
-        """Writes a part of the script, and asserts that this is read before more is written."""
-        child.stdin.write(text.encode())
-        end, read, wanted = time.monotonic() + PATIENCE, b"", answer.encode()
-        while len(read) < len(wanted):
-            ready, _, _ = select.select([child.stdout], [], [], max(0, end - time.monotonic()))
-            piece = os.read(child.stdout.fileno(), len(wanted) - len(read)) if ready else b""
-            if not piece:
-                break
-            read += piece
-        self.assertEqual(read, wanted, text)
-
     def test_each_line_is_answered_before_more_is_read(self):
         with self.dialogue() as child:
             for text, answer in (
@@ -809,21 +809,6 @@ class Shells(StoreTest):
         os.chmod(self.folder / "store", 0o444)
         self.assertEqual(self.run_shell(["SELECT * FROM t;"]), (1, "", STORE_FAULT))
         self.assertEqual(self.read(), tables_of((1, "x")))
-
-    def test_two_programs_on_one_store(self):
-        """While one has the store open another is refused; nothing of the first is lost."""
-        with subprocess.Popen(
-            [PROGRAM, "store", "shell"], cwd=self.folder, stdin=subprocess.PIPE, stdout=subprocess.PIPE, bufsize=0
-        ) as first:
-            first.stdin.write((CREATE + "\nINSERT INTO t VALUES(1, 'x');\nSELECT * FROM t;\n").encode())
-            self.assertEqual(first.stdout.readline(), b"1|'x'\n")
-            self.make("a.cs", T + insert(2, "y"))
-            self.expect(["a.cs", "apply", "store"], 1, "", STORE_FAULT)
-            self.assertEqual(self.run_shell(["SELECT * FROM t;"]), (1, "", STORE_FAULT))
-            first.stdin.write(b"INSERT INTO t VALUES(3, 'z');\n")
-            first.stdin.close()
-            self.assertEqual(first.wait(timeout=PATIENCE), 0)
-        self.assertEqual(self.read_alone(), tables_of((1, "x"), (3, "z")))
 
     def test_killed_while_it_applies(self):
         """The store that is opened again is the one before or the one after."""

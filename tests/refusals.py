@@ -31,6 +31,9 @@ NO_MEMORY = "error 60 NoMemory\n"
 # Those that take no memory.
 WITHOUT_MEMORY = {"claim"}
 
+# What names the descriptor to which a file that is loaded in front of the library writes.
+DESCRIPTORS = ("REFUSE_MARK", "RECORD_TO")
+
 # How many seconds a run may take.
 PATIENCE = 120
 
@@ -95,18 +98,19 @@ COMMANDS = [
 STORE = {"t": Table(("a", "b"), (True, False), [(1, "z"), (3, None)])}
 
 
-def build_shim(folder):
-    """Builds what refuses."""
-    shim = os.path.join(folder, "refuse.so")
-    subprocess.run(["cc", "-shared", "-fPIC", "-O2", "-o", shim, HERE / "refuse.c", "-ldl"], check=True)
+def build_shim(folder, name="refuse"):
+    """Builds what refuses, or another file of C that is loaded in front of the library."""
+    shim = os.path.join(folder, f"{name}.so")
+    subprocess.run(["cc", "-shared", "-fPIC", "-O2", "-o", shim, HERE / f"{name}.c", "-ldl"], check=True)
     return shim
 
 
-def run(folder, words, stdin, refusing=None, program=None):
+def run(folder, words, stdin, loading=None, program=None):
     """Runs a program in a folder: its exit status, and what it prints to both streams."""
+    loading = loading or {}
     done = subprocess.run(
         [program or PROGRAM, *words], cwd=folder, input=stdin, capture_output=True, timeout=PATIENCE,
-        env={**os.environ, **refusing} if refusing else None, pass_fds=[int(refusing["REFUSE_MARK"])] if refusing else [],
+        env={**os.environ, **loading}, pass_fds=[int(loading[name]) for name in DESCRIPTORS if name in loading],
     )
     return done.returncode, done.stdout.decode(), done.stderr.decode()
 

@@ -107,11 +107,16 @@ def write_store(path, tables, page_size=4096, log=False):
     run_sql(path, f"PRAGMA page_size = {page_size}", RECORDS, records=records_of(tables), log=log)
 
 
+def expect_whole(base):
+    """Asserts that a database passes SQLite's own check."""
+    answer = base.execute("PRAGMA integrity_check").fetchall()
+    assert answer == [("ok",)], answer
+
+
 def read_records(path):
     """The records of a file as SQLite reads it, by name and key. The file has to pass SQLite's own check."""
     with contextlib.closing(sqlite3.connect(path)) as base:
-        answer = base.execute("PRAGMA integrity_check").fetchall()
-        assert answer == [("ok",)], answer
+        expect_whole(base)
         return base.execute("SELECT tab, keyb, rowb FROM rec ORDER BY tab, keyb").fetchall()
 
 
