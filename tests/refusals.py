@@ -226,7 +226,7 @@ class Calls(Trial):
             before = Calls(self.words[:place]).once()[0][1]
             (status, printed, reported), left = Calls(self.words[:place] + self.words[place + 1:]).once()
             ends.append(((status, before + "NoMemory\n" + printed[len(before):], reported), left))
-        return [*ends, Calls([]).once()]
+        return [*ends, ((1, "", "Error: Kind(OutOfMemory)\n"), None)]
 
 
 def is_store(path):
