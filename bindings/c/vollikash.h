@@ -19,7 +19,7 @@
 **     aligned to 16 bytes.
 **
 ** The caller owns every buffer. A call takes memory by malloc and realloc, some
-** seven times the bytes of its files at most, but vollikash_check some twenty,
+** eleven times the bytes of its files at most, but vollikash_check some twenty,
 ** and frees all of it before it returns. A text is made in memory first, and
 ** grows with the length of a table's name times the count of its entries. A call
 ** keeps no state, so any number of threads may call at once.

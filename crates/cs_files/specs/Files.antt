@@ -1,4 +1,5 @@
--- What it is for files to be the inverse of one, one with its key columns numbered, and the join of two, and for a text to be what is printed of one.
+-- What it is for files to be the inverse of one, one with its key columns numbered, and the join of two, and for a text
+-- to be what is printed of one.
 use Rattle.std.specs.Prelude.{◌≡◌, ℕ, List}
 use Rattle.cs_wire.specs.Changeset.{GroupData, IsChangeset, IsAccepted, file_bytes}
 use Rattle.cs_wire.specs.ReadFaults.{ReadFails}
