@@ -1,6 +1,7 @@
 //! The changeset of a file, applied to rows.
 ghost use Rattle.std.specs.Prelude.{◌≡◌, IfOk, IfErr};
 ghost use Rattle.std.specs.Fn.{FnReturnsAt};
+ghost use Rattle.cs_value.specs.State.{State};
 ghost use Rattle.cs_wire.specs.Entry.{IsEntry};
 ghost use Rattle.cs_apply.specs.Running.{Applies, Refuses, IsNamed};
 ghost use Rattle.cs_apply.specs.Run.{directed_entry};
@@ -52,6 +53,7 @@ pub fn run_in<B: Rows, H: Fn(&Conflict) -> Choice>(
     ensures named { IfErr result IsNamed }
     ensures was_honest { B.is_honest rows.new → B.is_honest rows.old }
     ensures kept { B.keeps rows.old rows.new }
+    ensures leaves { (held : State) → B.leaves_only rows.old held → B.leaves_only rows.new held }
 {
     let mut cursor = Cursor::new(alloc, file);
     let mut run = Run::new(alloc)?;

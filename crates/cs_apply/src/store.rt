@@ -1,14 +1,15 @@
 //! Changesets applied to stores.
 ghost use Rattle.std.specs.Prelude.{◌≡◌, [], IfOk, IfErr, OnOk, OnErr, MatchResult};
 ghost use Rattle.std.specs.Fn.{FnReturnsAt};
-ghost use Rattle.sqlite.specs.State.{HasCleanDisk, Survives};
+ghost use Rattle.sqlite.specs.State.{HasCleanDisk};
 ghost use Rattle.sqlite.specs.Held.{state};
 ghost use Rattle.cs_value.specs.State.{State};
+ghost use Rattle.cs_store.specs.Crash.{IsAtomic, LeavesOnly};
 ghost use Rattle.cs_store.specs.Records.{KeepsContent};
 ghost use Rattle.cs_store.specs.Store.{IsAtRest, RefusesShut, tables_in};
 ghost use Rattle.cs_group.specs.declared.conflict.Choice.TheVariants.{Abort as AbortChoice};
 ghost use Rattle.cs_apply.specs.declared.running.Direction.TheVariants.{Forward as ForwardRun, Inverse as InverseRun};
-ghost use Rattle.cs_apply.specs.Crash.{MayCommit};
+ghost use Rattle.cs_apply.specs.Crash.{AppliesInto};
 ghost use Rattle.cs_apply.specs.Running.{Applies, Refuses, AlwaysAborts, Leads, IsNamed, IsResource};
 
 use crate::conflict::Conflict;
@@ -22,7 +23,7 @@ use sqlite::Alter;
 use std::alloc::Global;
 
 /// Applies the changeset of a file to a store in one transaction, as [`run_in`] does. A refusal changes
-/// nothing. A crash leaves what it could leave before, or the tables as applied.
+/// nothing. A crash leaves the tables as before, or as applied; once this is done, these alone.
 pub fn apply<S: Alter, H: Fn(&Conflict) -> Choice>(
     alloc: Global,
     store: &mut Store<S>,
@@ -40,14 +41,17 @@ pub fn apply<S: Alter, H: Fn(&Conflict) -> Choice>(
     ensures at_rest { HasCleanDisk (state S.Store store.new) → OnOk result (IsAtRest (state S.Store store.new)) }
     ensures kept { HasCleanDisk (state S.Store store.new)
         → OnErr result (KeepsContent (state S.Store store.old) (state S.Store store.new)) }
-    ensures survives { Survives (state S.Store store.old) (state S.Store store.new)
-        (MayCommit (FnReturnsAt H.Fn handler.now) file.now ForwardRun (tables_in (state S.Store store.old).now)) }
+    ensures atomic { IsAtomic (AppliesInto (FnReturnsAt H.Fn handler.now) file.now ForwardRun (tables_in (state S.Store store.old).now))
+        (state S.Store store.old) (state S.Store store.new) }
+    ensures left { OnOk result (LeavesOnly (λ left. left ≡ tables_in (state S.Store store.new).now)
+        (state S.Store store.new)) }
 {
     run(alloc, store, file, Direction::Forward, handler)
 }
 
 /// Applies the inverse of the changeset of a file to a store in one transaction. Each conflict ends the
-/// call. A refusal changes nothing. A crash leaves what it could leave before, or the tables as applied.
+/// call. A refusal changes nothing. A crash leaves the tables as before, or as applied; once this is done,
+/// these alone.
 ///
 /// On the tables that an apply of the file left without a conflict it meets none, and gives the tables
 /// back that were there before, unless memory is refused, or the database refuses.
@@ -70,8 +74,10 @@ pub fn revert<S: Alter>(
     ensures at_rest { HasCleanDisk (state S.Store store.new) → OnOk result (IsAtRest (state S.Store store.new)) }
     ensures kept { HasCleanDisk (state S.Store store.new)
         → OnErr result (KeepsContent (state S.Store store.old) (state S.Store store.new)) }
-    ensures survives { Survives (state S.Store store.old) (state S.Store store.new)
-        (MayCommit AlwaysAborts file.now InverseRun (tables_in (state S.Store store.old).now)) }
+    ensures atomic { IsAtomic (AppliesInto AlwaysAborts file.now InverseRun (tables_in (state S.Store store.old).now))
+        (state S.Store store.old) (state S.Store store.new) }
+    ensures left { OnOk result (LeavesOnly (λ left. left ≡ tables_in (state S.Store store.new).now)
+        (state S.Store store.new)) }
 {
     changeset_files_law();
     run(alloc, store, file, Direction::Inverse, &abort)
@@ -103,9 +109,12 @@ fn run<S: Alter, H: Fn(&Conflict) -> Choice>(
     ensures at_rest { HasCleanDisk (state S.Store store.new) → OnOk result (IsAtRest (state S.Store store.new)) }
     ensures kept { HasCleanDisk (state S.Store store.new)
         → OnErr result (KeepsContent (state S.Store store.old) (state S.Store store.new)) }
-    ensures survives { Survives (state S.Store store.old) (state S.Store store.new)
-        (MayCommit (FnReturnsAt H.Fn handler.now) file.now direction (tables_in (state S.Store store.old).now)) }
+    ensures atomic { IsAtomic (AppliesInto (FnReturnsAt H.Fn handler.now) file.now direction (tables_in (state S.Store store.old).now))
+        (state S.Store store.old) (state S.Store store.new) }
+    ensures left { OnOk result (LeavesOnly (λ left. left ≡ tables_in (state S.Store store.new).now)
+        (state S.Store store.new)) }
 {
+    store.crash_law();
     let mut batch = store.begin()?;
     let report = run_in(alloc, &mut batch, file, direction, handler)?;
     batch.commit()?;

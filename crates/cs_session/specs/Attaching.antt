@@ -2,7 +2,7 @@
 use Rattle.std.specs.Prelude.{◌≡◌, ◌≢◌, ◌⊎◌, ℕ, List, [], ◌∷◌, ◌++◌, All, Any, None, Some}
 use Rattle.cs_value.specs.Table.{IsName}
 use Rattle.cs_value.specs.State.{SchemaData, State, schema_at}
-use Rattle.cs_store.specs.declared.fault.StoreError.TheVariants.{NoTable, StoreFault}
+use Rattle.cs_store.specs.declared.fault.StoreError.TheVariants.{NoTable, DamagedStore, StoreFault}
 use Rattle.cs_session.specs.declared.fault.SessionFault.{SessionFault}
 use Rattle.cs_session.specs.declared.fault.SessionFault.TheVariants.{Store, Apply, AlreadyAttached, WrongStore, NoMemory}
 use Rattle.cs_session.specs.FirstImages.{Notes}
@@ -27,3 +27,11 @@ RefusesAttach state name notes (Store error) =
 RefusesAttach state name notes NoMemory = Unit {0}
 RefusesAttach state name notes (Apply fault) = ⊥
 RefusesAttach state name notes WrongStore = ⊥
+
+-- what it may be refused with, whatever the disk returns
+abbrev pub IsAttachRefusal : SessionFault → Type 0
+IsAttachRefusal AlreadyAttached = Unit {0}
+IsAttachRefusal (Store error) = (error ≡ NoTable) ⊎ (error ≡ DamagedStore) ⊎ (error ≡ StoreFault)
+IsAttachRefusal NoMemory = Unit {0}
+IsAttachRefusal (Apply fault) = ⊥
+IsAttachRefusal WrongStore = ⊥

@@ -1,15 +1,14 @@
 -- What an edit and an apply through a session do, or why they are refused.
 use Rattle.std.specs.Prelude.{◌≡◌, ◌⊎◌, ℕ, List, map, Ok, Err, string_bytes}
-use Rattle.sqlite.specs.Tree.{Trees}
 use Rattle.cs_value.specs.State.{State, WrittenData}
 use Rattle.cs_store.specs.declared.edit.Edit.{Edit}
 use Rattle.cs_store.specs.declared.edit.Edit.TheVariants.{Insert, Update, Delete}
-use Rattle.cs_store.specs.declared.fault.StoreError.TheVariants.{StoreFault}
-use Rattle.cs_store.specs.Crash.{MayLeave}
-use Rattle.cs_store.specs.Editing.{EditsInto, written_of, edited}
+use Rattle.cs_store.specs.declared.fault.StoreError.TheVariants.{DamagedStore, StoreFault}
+use Rattle.cs_store.specs.Editing.{written_of, edited}
+use Rattle.cs_store.specs.Faults as store
 use Rattle.cs_apply.specs.declared.report.Report.{Report}
 use Rattle.cs_apply.specs.declared.running.Direction.TheVariants.{Forward}
-use Rattle.cs_apply.specs.Running.{Handler, Applies, Refuses}
+use Rattle.cs_apply.specs.Running.{Handler, Applies, Refuses, IsNamed as IsRunRefusal}
 use Rattle.cs_session.specs.declared.fault.SessionFault.{SessionFault}
 use Rattle.cs_session.specs.declared.fault.SessionFault.TheVariants.{Store, Apply, AlreadyAttached, WrongStore, NoMemory}
 use Rattle.cs_session.specs.FirstImages.{Notes, recorded}
@@ -37,9 +36,13 @@ RefusesEdit old edit notes NoMemory = Unit {0}
 RefusesEdit old edit notes AlreadyAttached = ⊥
 RefusesEdit old edit notes (Apply fault) = ⊥
 
--- a database that a crash may leave committed: a store with the tables that the edit leaves
-abbrev pub MayEdit : State → Edit → Trees → Type 0
-MayEdit old edit = MayLeave (EditsInto old edit)
+-- what an edit may be refused with, whatever the disk returns
+abbrev pub IsEditRefusal : SessionFault → Type 0
+IsEditRefusal WrongStore = Unit {0}
+IsEditRefusal (Store error) = store.IsEditRefusal error
+IsEditRefusal NoMemory = Unit {0}
+IsEditRefusal AlreadyAttached = ⊥
+IsEditRefusal (Apply fault) = ⊥
 
 -- the file is applied, with what the report tells, and the keys that were written are noted
 pub record RecordsApply (chooses : Handler) (file : List ℕ) (old : State) (notes : Notes) (report : Report) (new : State)
@@ -55,3 +58,11 @@ RefusesApply chooses file old notes (Apply fault) = HasTables old notes × Refus
 RefusesApply chooses file old notes (Store error) = error ≡ StoreFault
 RefusesApply chooses file old notes NoMemory = Unit {0}
 RefusesApply chooses file old notes AlreadyAttached = ⊥
+
+-- what an apply may be refused with, whatever the disk returns
+abbrev pub IsApplyRefusal : SessionFault → Type 0
+IsApplyRefusal WrongStore = Unit {0}
+IsApplyRefusal (Apply fault) = IsRunRefusal fault
+IsApplyRefusal (Store error) = (error ≡ DamagedStore) ⊎ (error ≡ StoreFault)
+IsApplyRefusal NoMemory = Unit {0}
+IsApplyRefusal AlreadyAttached = ⊥

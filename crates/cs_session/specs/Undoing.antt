@@ -1,15 +1,16 @@
 -- What an undo of a session does.
 use Rattle.std.specs.Prelude.{◌≡◌, List, [], map}
-use Rattle.sqlite.specs.Tree.{Trees}
 use Rattle.cs_value.specs.State.{State, rows_at}
 use Rattle.cs_wire.specs.Changeset.{GroupData, file_bytes}
-use Rattle.cs_store.specs.Crash.{MayLeave}
 use Rattle.cs_group.specs.Applying.{Choices, IsClean, IsApplied}
 use Rattle.cs_apply.specs.declared.report.Report.{Report}
 use Rattle.cs_apply.specs.declared.running.Direction.TheVariants.{Inverse}
-use Rattle.cs_apply.specs.Running.{Applies, AlwaysAborts}
+use Rattle.cs_apply.specs.Running.{Applies, AlwaysAborts, IsNoReadFault}
+use Rattle.cs_session.specs.declared.fault.SessionFault.{SessionFault}
+use Rattle.cs_session.specs.declared.fault.SessionFault.TheVariants.{Apply}
 use Rattle.cs_session.specs.FirstImages.{Notes, rewound, rewound_state, recorded_changes}
 use Rattle.cs_session.specs.Changes.{HasTables}
+use Rattle.cs_session.specs.Recording.{IsApplyRefusal}
 
 -- the changeset meets no conflict in the state with the rows from before, and makes this one of it
 pub record LeadsBackTo (notes : Notes) (state : State) (changeset : List GroupData) : Type 0 where
@@ -26,6 +27,11 @@ pub record Undoes (notes : Notes) (old : State) (report : Report) (new : State) 
   pub back : map (λ t. rows_at new t.name) notes ≡ rewound notes old
   pub rewound : new ≡ rewound_state notes old
 
--- a database that a crash may leave committed: a store with the rows from before
-abbrev pub MayUndo : Notes → State → Trees → Type 0
-MayUndo notes old = MayLeave (λ left. left ≡ rewound_state notes old)
+-- an undo makes this state: the attached tables have the rows from before
+abbrev pub UndoesInto : Notes → State → State → Type 0
+UndoesInto notes old left = left ≡ rewound_state notes old
+
+-- what it may be refused with, whatever the disk returns
+abbrev pub IsUndoRefusal : SessionFault → Type 0
+IsUndoRefusal (Apply fault) = IsNoReadFault fault
+IsUndoRefusal fault = IsApplyRefusal fault

@@ -2,16 +2,17 @@
 ghost use Rattle.std.specs.Prelude.{◌≡◌, map, IfOk, IfErr, OnOk, OnErr};
 ghost use Rattle.std.specs.Fn.{FnReturnsAt};
 ghost use Rattle.std.specs.List.{AllByRecursion};
-ghost use Rattle.sqlite.specs.State.{HasCleanDisk, Survives};
+ghost use Rattle.sqlite.specs.State.{HasCleanDisk};
 ghost use Rattle.sqlite.specs.Held.{state};
 ghost use Rattle.cs_value.specs.State.{IsState};
+ghost use Rattle.cs_store.specs.Crash.{IsAtomic, LeavesOnly};
 ghost use Rattle.cs_store.specs.Records.{KeepsContent};
 ghost use Rattle.cs_store.specs.Store.{IsAtRest, RefusesShut, tables_in};
 ghost use Rattle.cs_apply.specs.declared.running.Direction.TheVariants.{Forward as ForwardRun};
-ghost use Rattle.cs_apply.specs.Crash.{MayCommit};
+ghost use Rattle.cs_apply.specs.Crash.{AppliesInto};
 ghost use Rattle.cs_session.specs.Changes.{IsResource};
 ghost use Rattle.cs_session.specs.FirstImages.{IsNotes};
-ghost use Rattle.cs_session.specs.Recording.{RecordsApply, RefusesApply};
+ghost use Rattle.cs_session.specs.Recording.{RecordsApply, RefusesApply, IsApplyRefusal};
 ghost use Rattle.cs_session.specs.Views.{attached_of, kept_of, IsSettled};
 
 use crate::checking::check_tables;
@@ -42,11 +43,14 @@ pub(crate) fn apply_noted<S: Alter, H: Fn(&Conflict) -> Choice>(
     ensures refused { HasCleanDisk (state S.Store store.new) → IfErr result (RefusesApply (FnReturnsAt H.Fn handler.now)
         file.now (tables_in (state S.Store store.old).now) (map attached_of tables.old)) }
     ensures shut { HasCleanDisk (state S.Store store.new) → RefusesShut (state S.Store store.old) IsResource result }
+    ensures named { IfErr result IsApplyRefusal }
     ensures at_rest { HasCleanDisk (state S.Store store.new) → OnOk result (IsAtRest (state S.Store store.new)) }
     ensures kept { HasCleanDisk (state S.Store store.new)
         → OnErr result (KeepsContent (state S.Store store.old) (state S.Store store.new)) }
-    ensures survives { Survives (state S.Store store.old) (state S.Store store.new)
-        (MayCommit (FnReturnsAt H.Fn handler.now) file.now ForwardRun (tables_in (state S.Store store.old).now)) }
+    ensures atomic { IsAtomic (AppliesInto (FnReturnsAt H.Fn handler.now) file.now ForwardRun (tables_in (state S.Store store.old).now))
+        (state S.Store store.old) (state S.Store store.new) }
+    ensures left { OnOk result (LeavesOnly (λ left. left ≡ tables_in (state S.Store store.new).now)
+        (state S.Store store.new)) }
 {
     match apply_batch(alloc, tables, store, file, handler) {
         Ok(report) => {
@@ -79,13 +83,17 @@ fn apply_batch<S: Alter, H: Fn(&Conflict) -> Choice>(
     ensures refused { HasCleanDisk (state S.Store store.new) → IfErr result (RefusesApply (FnReturnsAt H.Fn handler.now)
         file.now (tables_in (state S.Store store.old).now) (map attached_of tables.old)) }
     ensures shut { HasCleanDisk (state S.Store store.new) → RefusesShut (state S.Store store.old) IsResource result }
+    ensures named { IfErr result IsApplyRefusal }
     ensures at_rest { HasCleanDisk (state S.Store store.new) → OnOk result (IsAtRest (state S.Store store.new)) }
     ensures kept { HasCleanDisk (state S.Store store.new)
         → OnErr result (KeepsContent (state S.Store store.old) (state S.Store store.new)) }
-    ensures survives { Survives (state S.Store store.old) (state S.Store store.new)
-        (MayCommit (FnReturnsAt H.Fn handler.now) file.now ForwardRun (tables_in (state S.Store store.old).now)) }
+    ensures atomic { IsAtomic (AppliesInto (FnReturnsAt H.Fn handler.now) file.now ForwardRun (tables_in (state S.Store store.old).now))
+        (state S.Store store.old) (state S.Store store.new) }
+    ensures left { OnOk result (LeavesOnly (λ left. left ≡ tables_in (state S.Store store.new).now)
+        (state S.Store store.new)) }
 {
     store.tables_law();
+    store.crash_law();
     let mut batch = store.begin()?;
     let report = apply_rows(alloc, tables, &mut batch, file, handler)?;
     batch.commit()?;
@@ -110,6 +118,7 @@ fn apply_rows<B: Rows, H: Fn(&Conflict) -> Choice>(
     ensures notes { map kept_of tables.new ≡ map kept_of tables.old }
     ensures refused { B.is_honest rows.new → IfErr result (RefusesApply (FnReturnsAt H.Fn handler.now)
         file.now (B.state rows.old) (map attached_of tables.old)) }
+    ensures named { IfErr result IsApplyRefusal }
     ensures was_honest { B.is_honest rows.new → B.is_honest rows.old }
     ensures kept { B.keeps rows.old rows.new }
 {

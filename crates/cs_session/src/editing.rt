@@ -1,14 +1,16 @@
 //! Edits whose keys are noted.
 ghost use Rattle.std.specs.Prelude.{◌≡◌, map, OnOk, OnErr, IfErr};
 ghost use Rattle.std.specs.List.{AllByRecursion};
-ghost use Rattle.sqlite.specs.State.{HasCleanDisk, Survives};
+ghost use Rattle.sqlite.specs.State.{HasCleanDisk};
 ghost use Rattle.sqlite.specs.Held.{state};
 ghost use Rattle.cs_value.specs.State.{IsState};
+ghost use Rattle.cs_store.specs.Crash.{IsAtomic, LeavesOnly};
+ghost use Rattle.cs_store.specs.Editing.{EditsInto};
 ghost use Rattle.cs_store.specs.Records.{KeepsContent};
 ghost use Rattle.cs_store.specs.Store.{IsAtRest, RefusesShut, tables_in};
 ghost use Rattle.cs_session.specs.Changes.{IsResource};
 ghost use Rattle.cs_session.specs.FirstImages.{IsNotes};
-ghost use Rattle.cs_session.specs.Recording.{Records, RefusesEdit, MayEdit, table_of};
+ghost use Rattle.cs_session.specs.Recording.{Records, RefusesEdit, IsEditRefusal, table_of};
 ghost use Rattle.cs_session.specs.Views.{attached_of, kept_of, IsSettled};
 
 use crate::checking::check_named;
@@ -36,11 +38,14 @@ pub(crate) fn edit_noted<S: Alter>(
     ensures refused { HasCleanDisk (state S.Store store.new)
         → IfErr result (RefusesEdit (tables_in (state S.Store store.old).now) edit.now (map attached_of tables.old)) }
     ensures shut { HasCleanDisk (state S.Store store.new) → RefusesShut (state S.Store store.old) IsResource result }
+    ensures named { IfErr result IsEditRefusal }
     ensures at_rest { HasCleanDisk (state S.Store store.new) → OnOk result (IsAtRest (state S.Store store.new)) }
     ensures kept { HasCleanDisk (state S.Store store.new)
         → OnErr result (KeepsContent (state S.Store store.old) (state S.Store store.new)) }
-    ensures survives { Survives (state S.Store store.old) (state S.Store store.new)
-        (MayEdit (tables_in (state S.Store store.old).now) edit.now) }
+    ensures atomic { IsAtomic (EditsInto (tables_in (state S.Store store.old).now) edit.now)
+        (state S.Store store.old) (state S.Store store.new) }
+    ensures left { OnOk result (LeavesOnly (λ left. left ≡ tables_in (state S.Store store.new).now)
+        (state S.Store store.new)) }
 {
     match edit_batch(alloc, tables, store, edit) {
         Ok(()) => {
@@ -71,13 +76,17 @@ fn edit_batch<S: Alter>(
     ensures refused { HasCleanDisk (state S.Store store.new)
         → IfErr result (RefusesEdit (tables_in (state S.Store store.old).now) edit.now (map attached_of tables.old)) }
     ensures shut { HasCleanDisk (state S.Store store.new) → RefusesShut (state S.Store store.old) IsResource result }
+    ensures named { IfErr result IsEditRefusal }
     ensures at_rest { HasCleanDisk (state S.Store store.new) → OnOk result (IsAtRest (state S.Store store.new)) }
     ensures kept { HasCleanDisk (state S.Store store.new)
         → OnErr result (KeepsContent (state S.Store store.old) (state S.Store store.new)) }
-    ensures survives { Survives (state S.Store store.old) (state S.Store store.new)
-        (MayEdit (tables_in (state S.Store store.old).now) edit.now) }
+    ensures atomic { IsAtomic (EditsInto (tables_in (state S.Store store.old).now) edit.now)
+        (state S.Store store.old) (state S.Store store.new) }
+    ensures left { OnOk result (LeavesOnly (λ left. left ≡ tables_in (state S.Store store.new).now)
+        (state S.Store store.new)) }
 {
     store.tables_law();
+    store.crash_law();
     let mut batch = store.begin()?;
     edit_rows(alloc, tables, &mut batch, edit)?;
     batch.commit()?;
@@ -99,6 +108,7 @@ fn edit_rows<B: Rows>(
     ensures notes { map kept_of tables.new ≡ map kept_of tables.old }
     ensures refused { B.is_honest rows.new
         → IfErr result (RefusesEdit (B.state rows.old) edit.now (map attached_of tables.old)) }
+    ensures named { IfErr result IsEditRefusal }
     ensures was_honest { B.is_honest rows.new → B.is_honest rows.old }
     ensures kept { B.keeps rows.old rows.new }
 {

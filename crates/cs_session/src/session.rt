@@ -1,20 +1,22 @@
 //! Sessions, and the tables that are attached to them.
 ghost use Rattle.std.specs.Prelude.{◌≡◌, ◌⊎◌, ◌↔◌, [], ◌∷◌, ◌++◌, All, Any, IsTrue, OnOk, OnErr, IfOk, IfErr};
 ghost use Rattle.std.specs.Fn.{FnReturnsAt};
-ghost use Rattle.sqlite.specs.State.{HasCleanDisk, Survives};
+ghost use Rattle.sqlite.specs.State.{HasCleanDisk};
 ghost use Rattle.sqlite.specs.Held.{state};
+ghost use Rattle.cs_store.specs.Crash.{IsAtomic, LeavesOnly};
+ghost use Rattle.cs_store.specs.Editing.{EditsInto};
 ghost use Rattle.cs_store.specs.Records.{KeepsContent, KeepsCrash};
 ghost use Rattle.cs_store.specs.Store.{IsAtRest, KeepsStore, RefusesShut, tables_in};
 ghost use Rattle.cs_value.specs.Table.{IsName};
 ghost use Rattle.cs_value.specs.State.{rows_at};
 ghost use Rattle.cs_session.specs.declared.fault.SessionFault.TheVariants.{AlreadyAttached as IsThere, NoMemory as OutOfMemory};
 ghost use Rattle.cs_session.specs.FirstImages.{AttachedTable, IsNotes, rewound, recorded_changes};
-ghost use Rattle.cs_session.specs.Attaching.{Attaches, RefusesAttach, IsNewTable};
-ghost use Rattle.cs_session.specs.Changes.{HasTables, IsResource, RefusesChanges};
-ghost use Rattle.cs_session.specs.Recording.{Records, RefusesEdit, MayEdit, RecordsApply, RefusesApply};
+ghost use Rattle.cs_session.specs.Attaching.{Attaches, RefusesAttach, IsAttachRefusal, IsNewTable};
+ghost use Rattle.cs_session.specs.Changes.{HasTables, IsNamed, IsResource, RefusesChanges};
+ghost use Rattle.cs_session.specs.Recording.{Records, RefusesEdit, IsEditRefusal, RecordsApply, RefusesApply, IsApplyRefusal};
 ghost use Rattle.cs_apply.specs.declared.running.Direction.TheVariants.{Forward as ForwardRun};
-ghost use Rattle.cs_apply.specs.Crash.{MayCommit};
-ghost use Rattle.cs_session.specs.Undoing.{LeadsBackTo, Undoes, MayUndo};
+ghost use Rattle.cs_apply.specs.Crash.{AppliesInto};
+ghost use Rattle.cs_session.specs.Undoing.{LeadsBackTo, Undoes, UndoesInto, IsUndoRefusal};
 
 use crate::applying::apply_noted;
 use crate::attached::are_unwritten;
@@ -97,6 +99,7 @@ impl Session {
             → IfErr result (RefusesAttach (tables_in (state S.Store store.old).now) name.now self.old) }
         ensures shut { HasCleanDisk (state S.Store store.new) → RefusesShut (state S.Store store.old)
             (λ e. ((e ≡ IsThere) × Any (λ t. t.name ≡ name.now) self.old) ⊎ IsResource e) result }
+        ensures named { IfErr result IsAttachRefusal }
         ensures same { OnErr result (self.new ≡ self.old) }
         ensures read { HasCleanDisk (state S.Store store.new)
             → OnOk result ((state S.Store store.new).now ≡ (state S.Store store.old).now) }
@@ -136,12 +139,15 @@ impl Session {
             → IfErr result (RefusesEdit (tables_in (state S.Store store.old).now) edit.now self.old) }
         ensures shut { HasCleanDisk (state S.Store store.new)
             → RefusesShut (state S.Store store.old) IsResource result }
+        ensures named { IfErr result IsEditRefusal }
         ensures same { OnErr result (self.new ≡ self.old) }
         ensures at_rest { HasCleanDisk (state S.Store store.new) → OnOk result (IsAtRest (state S.Store store.new)) }
         ensures kept { HasCleanDisk (state S.Store store.new)
             → OnErr result (KeepsContent (state S.Store store.old) (state S.Store store.new)) }
-        ensures survives { Survives (state S.Store store.old) (state S.Store store.new)
-            (MayEdit (tables_in (state S.Store store.old).now) edit.now) }
+        ensures atomic { IsAtomic (EditsInto (tables_in (state S.Store store.old).now) edit.now)
+            (state S.Store store.old) (state S.Store store.new) }
+        ensures left { OnOk result (LeavesOnly (λ left. left ≡ tables_in (state S.Store store.new).now)
+            (state S.Store store.new)) }
     {
         edit_noted(alloc, &mut self.tables, store, edit)
     }
@@ -171,12 +177,15 @@ impl Session {
             (FnReturnsAt H.Fn handler.now) file.now (tables_in (state S.Store store.old).now) self.old) }
         ensures shut { HasCleanDisk (state S.Store store.new)
             → RefusesShut (state S.Store store.old) IsResource result }
+        ensures named { IfErr result IsApplyRefusal }
         ensures same { OnErr result (self.new ≡ self.old) }
         ensures at_rest { HasCleanDisk (state S.Store store.new) → OnOk result (IsAtRest (state S.Store store.new)) }
         ensures kept { HasCleanDisk (state S.Store store.new)
             → OnErr result (KeepsContent (state S.Store store.old) (state S.Store store.new)) }
-        ensures survives { Survives (state S.Store store.old) (state S.Store store.new)
-            (MayCommit (FnReturnsAt H.Fn handler.now) file.now ForwardRun (tables_in (state S.Store store.old).now)) }
+        ensures atomic { IsAtomic (AppliesInto (FnReturnsAt H.Fn handler.now) file.now ForwardRun (tables_in (state S.Store store.old).now))
+            (state S.Store store.old) (state S.Store store.new) }
+        ensures left { OnOk result (LeavesOnly (λ left. left ≡ tables_in (state S.Store store.new).now)
+            (state S.Store store.new)) }
     {
         apply_noted(alloc, &mut self.tables, store, file, handler)
     }
@@ -202,6 +211,7 @@ impl Session {
             → IfErr result (RefusesChanges (tables_in (state S.Store store.old).now) self.now) }
         ensures shut { HasCleanDisk (state S.Store store.new)
             → RefusesShut (state S.Store store.old) IsResource result }
+        ensures named { IfErr result IsNamed }
         ensures kept { HasCleanDisk (state S.Store store.new)
             → KeepsContent (state S.Store store.old) (state S.Store store.new) }
         ensures survives { KeepsCrash (state S.Store store.old) (state S.Store store.new) }
@@ -229,13 +239,17 @@ impl Session {
             → IfErr result (RefusesChanges (tables_in (state S.Store store.old).now) self.now) }
         ensures shut { HasCleanDisk (state S.Store store.new)
             → RefusesShut (state S.Store store.old) IsResource result }
+        ensures named { IfErr result IsUndoRefusal }
         ensures at_rest { HasCleanDisk (state S.Store store.new) → OnOk result (IsAtRest (state S.Store store.new)) }
         ensures kept { HasCleanDisk (state S.Store store.new)
             → OnErr result (KeepsContent (state S.Store store.old) (state S.Store store.new)) }
-        ensures survives { Survives (state S.Store store.old) (state S.Store store.new)
-            (MayUndo self.now (tables_in (state S.Store store.old).now)) }
+        ensures atomic { IsAtomic (UndoesInto self.now (tables_in (state S.Store store.old).now))
+            (state S.Store store.old) (state S.Store store.new) }
+        ensures left { OnOk result (LeavesOnly (λ left. left ≡ tables_in (state S.Store store.new).now)
+            (state S.Store store.new)) }
     {
         store.tables_law();
+        store.crash_law();
         let mut batch = store.begin()?;
         let report = undo_rows(alloc, &mut batch, self.tables.as_slice())?;
         batch.commit()?;

@@ -16,7 +16,8 @@ use Rattle.cs_apply.specs.declared.fault.ApplyFault.{ApplyFault}
 use Rattle.cs_apply.specs.declared.report.Report.{Report}
 use Rattle.cs_apply.specs.declared.running.Direction.{Direction}
 use Rattle.cs_apply.specs.declared.running.Direction.TheVariants.{Forward, Inverse}
-use Rattle.cs_apply.specs.Crash.{MayCommit}
+use Rattle.cs_store.specs.Crash.{MayLeave}
+use Rattle.cs_apply.specs.Crash.{AppliesInto}
 use Rattle.cs_apply.specs.Running as applies
 use Rattle.cs_apply.specs.Running.{Handler, AlwaysAborts, Applies, Refuses}
 use Rattle.cs_apply.proofs.RevertLemmas.{applies_weaker, refuses_weaker}
@@ -64,7 +65,7 @@ module _ (P Q : Handler) (weaker : (k : Conflict) (c : Choice) → P k c → Q k
   refuses_recorded_weaker file old notes session.AlreadyAttached why = why
 
   -- a file is applied, and noted
-  pub works_recorded : (file : List ℕ) (old new : sqlite.State) (notes after : Notes) (report : Report) → Survives old new (MayCommit P file Forward (tables_in old.now))
+  pub works_recorded : (file : List ℕ) (old new : sqlite.State) (notes after : Notes) (report : Report) → Survives old new (MayLeave (AppliesInto P file Forward (tables_in old.now)))
       → (HasCleanDisk new → IsAtRest new) → (HasCleanDisk new → old.is_open ≡ false → ⊥) → (HasCleanDisk new → RecordsApply P file (tables_in old.now) notes report (tables_in new.now) after)
       → (HasCleanDisk new → rewound after (tables_in new.now) ≡ rewound notes (tables_in old.now))
       → Works old new (Some notes) (Some after) (λ s. ApplyGives s Q file Forward) (Reported (told_of report))
@@ -73,7 +74,7 @@ module _ (P Q : Handler) (weaker : (k : Conflict) (c : Choice) → P k c → Q k
       session_applies Q file (tables_in old.now) (tables_in new.now) notes after report (records_weaker file (tables_in old.now) (tables_in new.now) notes after report (done clean)) (same clean))
 
   -- it is refused
-  pub works_unrecorded : (file : List ℕ) (old new : sqlite.State) (notes after : Notes) (e : SessionFault) → Survives old new (MayCommit P file Forward (tables_in old.now))
+  pub works_unrecorded : (file : List ℕ) (old new : sqlite.State) (notes after : Notes) (e : SessionFault) → Survives old new (MayLeave (AppliesInto P file Forward (tables_in old.now)))
       → (HasCleanDisk new → KeepsContent old new) → (HasCleanDisk new → old.is_open ≡ false → sessions.IsResource e) → (HasCleanDisk new → RefusesApply P file (tables_in old.now) notes e) → after ≡ notes
       → Works old new (Some notes) (Some after) (λ s. ApplyGives s Q file Forward) (Refused (of_session e))
   works_unrecorded file old new notes after e survives kept shut why same =
@@ -83,14 +84,14 @@ module _ (P Q : Handler) (weaker : (k : Conflict) (c : Choice) → P k c → Q k
       session_refuses_apply Q file (tables_in old.now) notes e (refuses_recorded_weaker file (tables_in old.now) notes e (why clean)) here))
 
   -- where no session is open
-  pub works_applied : (file : List ℕ) (direction : Direction) (old new : sqlite.State) (report : Report) → Survives old new (MayCommit P file direction (tables_in old.now))
+  pub works_applied : (file : List ℕ) (direction : Direction) (old new : sqlite.State) (report : Report) → Survives old new (MayLeave (AppliesInto P file direction (tables_in old.now)))
       → (HasCleanDisk new → IsAtRest new) → (HasCleanDisk new → old.is_open ≡ false → ⊥) → (HasCleanDisk new → Applies P file direction (tables_in old.now) report (tables_in new.now))
       → Works old new None None (λ s. ApplyGives s Q file direction) (Reported (told_of report))
   works_applied file direction old new report survives rests shut done =
       turns_done (Gave None None (λ s. ApplyGives s Q file direction) (Reported (told_of report))) old new survives rests shut (λ clean rest.
       store_applies Q file direction (tables_in old.now) (tables_in new.now) report (applies_weaker P Q weaker file direction (tables_in old.now) report (tables_in new.now) (done clean)))
 
-  pub works_unapplied : (file : List ℕ) (direction : Direction) (old new : sqlite.State) (e : ApplyFault) → Survives old new (MayCommit P file direction (tables_in old.now))
+  pub works_unapplied : (file : List ℕ) (direction : Direction) (old new : sqlite.State) (e : ApplyFault) → Survives old new (MayLeave (AppliesInto P file direction (tables_in old.now)))
       → (HasCleanDisk new → KeepsContent old new) → (HasCleanDisk new → old.is_open ≡ false → applies.IsResource e) → (HasCleanDisk new → Refuses P file direction (tables_in old.now) e)
       → Works old new None None (λ s. ApplyGives s Q file direction) (Refused (of_apply e))
   works_unapplied file direction old new e survives kept shut why =

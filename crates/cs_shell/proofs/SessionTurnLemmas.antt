@@ -18,7 +18,8 @@ use Rattle.cs_session.specs.declared.fault.SessionFault.TheVariants as session
 use Rattle.cs_session.specs.FirstImages.{FirstImage, AttachedTable, Notes, IsNotes, recorded_changes}
 use Rattle.cs_session.specs.Attaching.{Attaches, RefusesAttach}
 use Rattle.cs_session.specs.Changes.{IsResource, RefusesChanges}
-use Rattle.cs_session.specs.Undoing.{Undoes, MayUndo}
+use Rattle.cs_store.specs.Crash.{MayLeave}
+use Rattle.cs_session.specs.Undoing.{Undoes, UndoesInto}
 use Rattle.cs_shell.specs.declared.refusal.Refusal.TheVariants as refusal
 use Rattle.cs_shell.specs.ErrorLines.{of_session}
 use Rattle.cs_shell.specs.Replies.{Reply, Silent, Text, Reported, Refused}
@@ -145,7 +146,7 @@ module _ (slot : List ℕ) where
 
 -- ---- undoing
 
-pub works_undone : (old new : sqlite.State) (notes : Notes) (report : Report) → ChangesetFiles → IsNotes notes → Survives old new (MayUndo notes (tables_in old.now))
+pub works_undone : (old new : sqlite.State) (notes : Notes) (report : Report) → ChangesetFiles → IsNotes notes → Survives old new (MayLeave (UndoesInto notes (tables_in old.now)))
     → (HasCleanDisk old → IsTrue old.is_open → IsState (tables_in old.now)) → (HasCleanDisk new → IsAtRest new) → (HasCleanDisk new → old.is_open ≡ false → ⊥)
     → (HasCleanDisk new → Undoes notes (tables_in old.now) report (tables_in new.now))
     → Works old new (Some notes) (Some notes) (λ s. WithSession s (UndoGives s)) (Reported (told_of report))
@@ -154,7 +155,7 @@ works_undone old new notes report files are survives law rests shut done =
     let gives = session_undoes files (tables_in old.now) (tables_in new.now) notes report (law (clean_before old new survives.clean clean) rest.is_open) are (done clean) here in
     (gives.0, λ slots. inl (with_notes UndoGives (tables_in old.now) slots notes (Reported (told_of report)) _ (gives.1 slots))))
 
-pub works_not_undone : (old new : sqlite.State) (notes : Notes) (e : SessionFault) → Survives old new (MayUndo notes (tables_in old.now))
+pub works_not_undone : (old new : sqlite.State) (notes : Notes) (e : SessionFault) → Survives old new (MayLeave (UndoesInto notes (tables_in old.now)))
     → (HasCleanDisk new → KeepsContent old new) → (HasCleanDisk new → old.is_open ≡ false → IsResource e) → (HasCleanDisk new → RefusesChanges (tables_in old.now) notes e)
     → Works old new (Some notes) (Some notes) (λ s. WithSession s (UndoGives s)) (Refused (of_session e))
 works_not_undone old new notes e survives kept shut why =

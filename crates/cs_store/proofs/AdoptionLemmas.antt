@@ -31,7 +31,7 @@ use Rattle.cs_store.proofs.WriteLemmas.{holds_next}
 -- ---- no record
 
 -- no rows hold no record
-none_there : (rows : List Row) → rows ≡ [] → (tab key : List ℕ) → records_of rows tab key ≡ None
+pub none_there : (rows : List Row) → rows ≡ [] → (tab key : List ℕ) → records_of rows tab key ≡ None
 unfolding records_of
 none_there rows none tab key = ap (λ (r : List Row). records_of r tab key) none
 
@@ -96,7 +96,7 @@ valid_holds old new holds valid inside same =
 -- ---- damage
 
 -- tables that a database with records holds are stored there
-stored_there : (db : Database) (held : tables.State) → db.schema ≡ record_schema → db.trees 0 ≢ [] → HoldsTables db held → HoldsRecords db × Stores (records_in db) held
+pub stored_there : (db : Database) (held : tables.State) → db.schema ≡ record_schema → db.trees 0 ≢ [] → HoldsTables db held → HoldsRecords db × Stores (records_in db) held
 stored_there db held declared some (inl (inl nothing, e)) = absurd (let e : 1 ≡ 0 = ap (λ (s : Schema). length s.tables) (sym declared ∙ nothing) in omega arith)
 stored_there db held declared some (inl (inr vacant, e)) = absurd (some vacant.1)
 stored_there db held declared some (inr stored) = stored

@@ -1,14 +1,17 @@
 -- What a crash leaves of a batch, and of a call that does nothing.
-use Rattle.std.proofs.Common.{◌≡◌, false, IsTrue, refl, sym, ap, subst}
+use Rattle.std.proofs.Common.{◌≡◌, ◌⊎◌, inl, inr, false, true≢false, IsTrue, Result, Ok, Err, OnOk, refl, sym, ap, subst, ◌∙◌}
 use Rattle.sqlite_trees.specs.Tree.{Trees}
+use Rattle.sqlite_trees.specs.declared.store.Store.{Ghosts}
 use Rattle.sqlite.specs.Effect.{Database}
-use Rattle.sqlite.specs.State.{State, HasCleanDisk, Survives}
+use Rattle.sqlite.specs.Held.{Held, state}
+use Rattle.sqlite.specs.State.{State, HasCleanDisk, Shows, Survives}
 use Rattle.sqlite.proofs.StateLemmas.{survives_then, survives_weaker}
 use Rattle.cs_value.specs.State as tables
+use Rattle.cs_store.specs.declared.fault.StoreError.{StoreError}
 use Rattle.cs_store.specs.Records.{IsUndone, KeepsCrash}
 use Rattle.cs_store.specs.Stored.{state_of}
-use Rattle.cs_store.specs.Store.{HoldsState, IsSound, KeepsStore, Begins, tables_in}
-use Rattle.cs_store.specs.Crash.{MayLeave}
+use Rattle.cs_store.specs.Store.{HoldsState, IsSound, KeepsStore, Begins, Ends, tables_in}
+use Rattle.cs_store.specs.Crash.{MayLeave, LeavesOnly, IsAtomic}
 use Rattle.cs_store.specs.Laws.{was_clean, keeps_itself}
 use Rattle.cs_store.proofs.WriteLemmas.{shows_state}
 
@@ -73,3 +76,102 @@ module _ (old begun mid new : State) (begins : KeepsCrash old begun) (keeps : Ke
       → Survives mid new (MayLeave (λ t. t ≡ tables_in mid.now)) → Survives old new (MayLeave (Makes (tables_in old.now)))
   made_survives Makes begun_as made commits =
       committed_survives (Makes (tables_in old.now)) commits (λ clean. subst (λ t. Makes t (tables_in mid.now)) (begun_tables old begun mid begun_as keeps clean) (made clean))
+
+-- ---- what is left of a store that is open
+
+-- trees that are those of a database with a state are a store with its tables
+holds_left : (db : Database) (trees : Trees) → HoldsState db → trees ≡ db.trees → MayLeave (λ left. left ≡ tables_in db) trees
+holds_left db trees holds same = subst (MayLeave (λ left. left ≡ tables_in db)) (sym same) (record { schema = db.schema; store = holds; tables = refl })
+
+-- a call that commits only where the store was open commits nothing where it was shut
+pub shut_keeps : (old new : State) (May : Trees → Type 0) → Survives old new May → (HasCleanDisk new → (trees : Trees) → May trees → IsTrue old.is_open) → old.is_open ≡ false → KeepsCrash old new
+shut_keeps old new May survives was_open shut = survives_weaker old new May (λ _. ⊥) (λ clean trees made. true≢false (sym (was_open clean trees made) ∙ shut)) survives
+
+-- a batch that has ended leaves what it showed, which the store shows now
+pub left_new : (mid new : State) → (HasCleanDisk new → Ends mid new) → LeavesOnly (λ left. left ≡ tables_in mid.now) new → LeavesOnly (λ left. left ≡ tables_in new.now) new
+left_new mid new ends leaves clean trees may =
+    leaves_weaker (λ left. left ≡ tables_in mid.now) (λ left. left ≡ tables_in new.now) (λ t same. same ∙ ap (λ (db : Database). tables_in db) (sym (ends clean).shown.now_is)) trees (leaves clean trees may)
+
+-- and so does a call that ends with its commit
+pub commit_left : {X : Type 0} (result : Result X StoreError) (mid new : State) → (HasCleanDisk new → OnOk result (Ends mid new)) → OnOk result (LeavesOnly (λ left. left ≡ tables_in mid.now) new)
+    → OnOk result (LeavesOnly (λ left. left ≡ tables_in new.now) new)
+commit_left (Ok x) mid new ends leaves = left_new mid new ends leaves
+commit_left (Err e) mid new ends leaves = tt
+
+-- ---- what is left at the end of a call that commits
+
+module _ (old new : State) (last : IsTrue old.is_open → LeavesOnly (λ left. left ≡ tables_in old.committed) old) (Commits : tables.State → Type 0) where
+  -- the last commit, or what the call commits
+  pub commit_atomic : Survives old new (MayLeave Commits) → (old.is_open ≡ false → KeepsCrash old new) → IsAtomic Commits old new
+  commit_atomic survives shut = record {
+    survives = survives;
+    opened = λ is_open clean trees may. elim (survives.crash clean trees may) [
+      | inl was ↦ leaves_weaker _ (λ left. (left ≡ tables_in old.committed) ⊎ Commits left) (λ t same. inl same) trees (last is_open (was_clean old new survives clean) trees was)
+      | inr made ↦ leaves_weaker _ (λ left. (left ≡ tables_in old.committed) ⊎ Commits left) (λ t it. inr it) trees made
+    ];
+    shut = shut;
+  }
+
+  -- that alone, where it commits nothing
+  pub idle_atomic : KeepsCrash old new → IsAtomic Commits old new
+  idle_atomic keeps = commit_atomic (crash_weaker old new (MayLeave Commits) keeps) (λ shut. keeps)
+
+-- so does one that does nothing
+pub unmoved_atomic : (s : State) → (IsTrue s.is_open → LeavesOnly (λ left. left ≡ tables_in s.committed) s) → (Commits : tables.State → Type 0) → IsAtomic Commits s s
+unmoved_atomic s last Commits = idle_atomic s s last Commits (keeps_itself {s = s}).crash
+
+-- of what is committed something else holds
+pub atomic_weaker : (P Q : tables.State → Type 0) (old new : State) → ((t : tables.State) → P t → Q t) → IsAtomic P old new → IsAtomic Q old new
+atomic_weaker P Q old new f is = record {
+  survives = survives_weaker old new (MayLeave P) (MayLeave Q) (λ clean. leaves_weaker P Q f) is.survives;
+  opened = λ is_open clean trees may.
+      leaves_weaker (λ left. (left ≡ tables_in old.committed) ⊎ P left) (λ left. (left ≡ tables_in old.committed) ⊎ Q left)
+      (λ t it. elim it [ inl same ↦ inl same | inr made ↦ inr (f t made) ]) trees (is.opened is_open clean trees may);
+  shut = is.shut;
+}
+
+module _ (old begun mid new : State) (last : IsTrue old.is_open → LeavesOnly (λ left. left ≡ tables_in old.committed) old)
+    (begins : KeepsCrash old begun) (keeps : KeepsStore begun mid) where
+  -- a batch that is dropped commits nothing
+  pub dropped_atomic : (Commits : tables.State → Type 0) → KeepsCrash mid new → IsAtomic Commits old new
+  dropped_atomic Commits drops = idle_atomic old new last Commits (crash_then old mid new (inside old begun mid new begins keeps) drops)
+
+  -- one whose commit is tried may commit what it made of the tables that the store held
+  pub made_atomic : (Makes : tables.State → tables.State → Type 0) → (HasCleanDisk begun → Begins old begun) → (HasCleanDisk mid → Makes (tables_in begun.now) (tables_in mid.now))
+      → Survives mid new (MayLeave (λ t. t ≡ tables_in mid.now)) → IsAtomic (Makes (tables_in old.now)) old new
+  made_atomic Makes begun_as made commits =
+      let survives = made_survives old begun mid new begins keeps Makes begun_as made commits in
+      commit_atomic old new last (Makes (tables_in old.now)) survives
+      (shut_keeps old new _ survives (λ clean trees it. (begun_as (was_clean begun mid keeps.crash (was_clean mid new commits clean))).shown.was_open))
+
+-- ---- what is left of a store, by the law of what holds its database
+
+module _ {S : Type 0} (g : Ghosts S) (settled : (s : S) (trees : Trees) → IsTrue (g.view s).is_open → g.recovers s trees → trees ≡ (g.view s).committed) (h : Held S) (sound : IsSound (state g h)) where
+  -- its last commit
+  pub leaves_commit : IsTrue (state g h).is_open → LeavesOnly (λ left. left ≡ tables_in (state g h).committed) (state g h)
+  leaves_commit is_open clean trees may = holds_left (state g h).committed trees ((sound clean).committed is_open) (settled h.store trees is_open may)
+
+  -- the end of a transaction leaves that, or the tables that it showed
+  pub ended_atomic : (new : State) → Survives (state g h) new (λ db. (db ≡ (state g h).now.trees) × IsTrue (state g h).in_transaction)
+      → IsAtomic (λ left. left ≡ tables_in (state g h).now) (state g h) new
+  ended_atomic new survives =
+      commit_atomic (state g h) new leaves_commit _ (commits_tables (state g h) new sound survives)
+      (shut_keeps (state g h) new _ survives (λ clean trees made. (sound (was_clean (state g h) new survives clean)).open_inside made.1))
+
+  -- and once they are, these alone are left
+  pub ended_left : {X : Type 0} (result : Result X StoreError) (May : Trees → Type 0) (new : Held S) → Survives (state g h) (state g new) May
+      → (HasCleanDisk (state g new) → OnOk result (IsTrue (state g h).in_transaction × Shows (state g h) (state g new) (state g h).now (state g h).now false))
+      → OnOk result (LeavesOnly (λ left. left ≡ tables_in (state g h).now) (state g new))
+  ended_left (Ok x) May new survives committed = λ clean trees may.
+      let ends = committed clean in
+      holds_left (state g h).now trees (shows_state (state g h) sound ends.0 (was_clean (state g h) (state g new) survives clean))
+      (settled new.store trees ends.1.is_open may ∙ ap (λ (db : Database). db.trees) ends.1.committed_is)
+  ended_left (Err e) May new survives committed = tt
+
+  -- a batch that has begun leaves what the store shows, and nothing else
+  pub begun_left : (begun : Held S) → KeepsCrash (state g h) (state g begun) → (HasCleanDisk (state g begun) → Begins (state g h) (state g begun))
+      → LeavesOnly (λ left. left ≡ tables_in (state g h).now) (state g begun)
+  begun_left begun keeps begins clean trees may =
+      let began = begins clean in
+      holds_left (state g h).now trees ((sound (was_clean (state g h) (state g begun) keeps clean)).now began.shown.was_open)
+      (settled begun.store trees began.shown.is_open may ∙ ap (λ (db : Database). db.trees) (began.shown.committed_is ∙ sym began.settled))

@@ -11,8 +11,10 @@ pub mod EditingLemmas
 pub mod Examples
 pub mod Found
 pub mod FoundRows
+pub mod LeftLemmas
 pub mod ListedRows
 pub mod MemoryLemmas
+pub mod MoveLemmas
 pub mod NumberedRows
 pub mod OrderLemmas
 pub mod PutLemmas

@@ -1,13 +1,33 @@
--- What a crash may leave of a call that commits.
+-- What a crash may leave of a store.
+use Rattle.std.specs.Prelude.{◌≡◌, ◌⊎◌, IsTrue, false}
 use Rattle.sqlite_schema.specs.declared.schema.Schema.{Schema}
 use Rattle.sqlite_trees.specs.Tree.{Trees}
-use Rattle.cs_value.specs.State.{State}
+use Rattle.sqlite.specs.Effect.{Database, IsDatabase}
+use Rattle.sqlite.specs.State.{State, HasCleanDisk, Survives}
+use Rattle.cs_value.specs.State as tables
+use Rattle.cs_store.specs.Records.{KeepsCrash}
 use Rattle.cs_store.specs.Stored.{state_of}
-use Rattle.cs_store.specs.Store.{HoldsState}
+use Rattle.cs_store.specs.Store.{HoldsState, tables_in}
 
 -- with the schema of a store, which is that of its one table of records, the trees are those of a state: so they are taken
 -- over as a store, with its tables, and of these tables this holds
-pub record MayLeave (Holds : State → Type 0) (trees : Trees) : Type 0 where
+pub record MayLeave (Holds : tables.State → Type 0) (trees : Trees) : Type 0 where
   pub schema : Schema
   pub store : HoldsState (record { schema = schema; trees = trees })
   pub tables : Holds (state_of (trees 0))
+
+-- a crash leaves a store with tables of which this holds, and nothing else, if the disk has returned what was written
+abbrev pub LeavesOnly : (tables.State → Type 0) → State → Type 0
+LeavesOnly Holds s = HasCleanDisk s → (trees : Trees) → s.may_leave trees → MayLeave Holds trees
+
+-- What a crash leaves at the end of a call that commits once. Where the store was open before, that is the tables of its last
+-- commit then, or those that the call commits, and nothing else. Where it was shut, nothing that it could not leave before.
+pub record IsAtomic (Commits : tables.State → Type 0) (old new : State) : Type 0 where
+  pub survives : Survives old new (MayLeave Commits)
+  pub opened : IsTrue old.is_open → LeavesOnly (λ left. (left ≡ tables_in old.committed) ⊎ Commits left) new
+  pub shut : old.is_open ≡ false → KeepsCrash old new
+
+-- the database is what a crash left of these tables, as an open finds it
+pub record IsLeftOf (held : tables.State) (db : Database) : Type 0 where
+  pub sound : IsDatabase db
+  pub left : MayLeave (λ left. left ≡ held) db.trees

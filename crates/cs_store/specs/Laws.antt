@@ -1,9 +1,11 @@
 -- What calls on a store keep, one after another.
-use Rattle.std.proofs.Common.{◌≡◌, inl, refl, sym, subst, IsTrue, ◌∙◌, arith}
+use Rattle.std.proofs.Common.{◌≡◌, inl, inr, refl, sym, subst, IsTrue, ◌∙◌, arith}
 use Rattle.sqlite_trees.specs.Tree.{Trees}
 use Rattle.sqlite.specs.State.{State, HasCleanDisk, Survives}
 use Rattle.sqlite.proofs.StateLemmas.{survives_then}
+use Rattle.cs_value.specs.State as tables
 use Rattle.cs_store.specs.Records.{KeepsContent}
+use Rattle.cs_store.specs.Crash.{LeavesOnly}
 use Rattle.cs_store.specs.Store.{KeepsStore}
 
 -- an honest disk was honest before
@@ -63,3 +65,11 @@ keeps_then {a} {b} {c} one two = record {
       λ k. first.now k ∙ settled (first.was_open k) ∙ sym (first.committed k) in
       content_then first (two.outside clean (first.mode ∙ out) still);
 }
+
+-- and what a crash leaves only is left only
+pub leaves_then : {a b : State} {Holds : tables.State → Type 0} → KeepsStore a b → LeavesOnly Holds a → LeavesOnly Holds b
+leaves_then {a} {b} keeps leaves clean trees may =
+    elim (keeps.crash.crash clean trees may) [
+      | inl was ↦ leaves (was_clean a b keeps.crash clean) trees was
+      | inr none ↦ absurd none
+    ]

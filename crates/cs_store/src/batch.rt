@@ -1,13 +1,13 @@
 //! Batches: rows of a store that are written together.
 ghost use Rattle.std.specs.Prelude.{◌≡◌, ◌⊎◌, OnOk, OnErr, IfErr};
-ghost use Rattle.sqlite.specs.State.{HasCleanDisk, Survives};
+ghost use Rattle.sqlite.specs.State.{HasCleanDisk};
 ghost use Rattle.sqlite.specs.Held.{state};
 ghost use Rattle.cs_value.specs.Table.{IsName};
 ghost use Rattle.cs_store.specs.declared.fault.StoreError.TheVariants.{TableExists as TakenName};
 ghost use Rattle.cs_store.specs.Faults.{IsResource, IsReadRefusal};
 ghost use Rattle.cs_store.specs.Rows.{IsDeclared};
 ghost use Rattle.cs_store.specs.Records.{IsUndone, KeepsCrash};
-ghost use Rattle.cs_store.specs.Crash.{MayLeave};
+ghost use Rattle.cs_store.specs.Crash.{IsAtomic, LeavesOnly};
 ghost use Rattle.cs_store.specs.Store.{AddsTable, Ends, KeepsStore, tables_in};
 
 use crate::fault::StoreError;
@@ -46,15 +46,18 @@ impl<S: Alter> SqlBatch<'_, S> {
         known::add_table(&mut store.conn, &mut store.known, alloc, name, schema)
     }
 
-    /// Commits the writes of the batch. Where it is refused, the store is as when the batch began.
+    /// Commits the writes of the batch. Where it is refused, the store is as when the batch began. A crash
+    /// leaves the tables as when the batch began, or as it has them; once this is done, these alone.
     pub fn commit(self) -> Result<(), StoreError>
         ensures committed { HasCleanDisk (state S.Store self.exit.0.now)
             → OnOk result (Ends (state S.Store self.entry.store.now) (state S.Store self.exit.0.now)) }
         ensures undone { HasCleanDisk (state S.Store self.exit.0.now)
             → OnErr result (IsUndone (state S.Store self.entry.store.now) (state S.Store self.exit.0.now)) }
         ensures refused { IfErr result IsResource }
-        ensures survives { Survives (state S.Store self.entry.store.now) (state S.Store self.exit.0.now)
-            (MayLeave (λ tables. tables ≡ tables_in (state S.Store self.entry.store.now).now)) }
+        ensures atomic { IsAtomic (λ left. left ≡ tables_in (state S.Store self.entry.store.now).now)
+            (state S.Store self.entry.store.now) (state S.Store self.exit.0.now) }
+        ensures left { OnOk result (LeavesOnly (λ left. left ≡ tables_in (state S.Store self.entry.store.now).now)
+            (state S.Store self.exit.0.now)) }
     {
         let SqlBatch { store } = self;
         store.known = None;
@@ -78,6 +81,7 @@ impl<S: Alter> Rows for SqlBatch<'_, S> {
     ghost use Rattle.std.proofs.Common.{◌≡◌, refl, ◌∙◌};
     ghost use Rattle.sqlite.specs.State.{HasCleanDisk};
     ghost use Rattle.sqlite.specs.Held.{state as shown};
+    ghost use Rattle.cs_store.specs.Crash.{LeavesOnly};
     ghost use Rattle.cs_store.specs.Store.{KeepsStore, tables_in};
     ghost use Rattle.cs_store.specs.Laws as laws;
 
@@ -91,6 +95,10 @@ impl<S: Alter> Rows for SqlBatch<'_, S> {
     ghost keeps_itself = { λ b. (refl, laws.keeps_itself) };
 
     ghost keeps_then = { λ a b c one two. (two.0 ∙ one.0, laws.keeps_then one.1 two.1) };
+
+    ghost leaves_only = { λ b held. LeavesOnly (λ left. left ≡ held) (shown S.Store b.store.now) };
+
+    ghost leaves_still = { λ a b held kept leaves. laws.leaves_then kept.1 leaves };
 
     fn schema(&mut self, alloc: Global, table: &str) -> Result<Option<Schema>, StoreError> {
         self.store.schema(alloc, table)

@@ -1,10 +1,10 @@
 //! Edits of rows, through whatever holds them.
-ghost use Rattle.std.specs.Prelude.{◌≡◌, ◌⊎◌, [], ◌∷◌, Some, None, Ok};
+ghost use Rattle.std.specs.Prelude.{◌≡◌, ◌≢◌, ◌⊎◌, [], ◌∷◌, Some, None, Ok};
 ghost use Rattle.std.specs.Prelude.{Err, map, string_bytes, IfOk, IfErr, IsSome, OnOk};
 ghost use Rattle.std.specs.Rc.{rc_str_bytes};
 ghost use Rattle.cs_value.specs.Value.{IsRow};
 ghost use Rattle.cs_value.specs.Table.{IsKeyedRow};
-ghost use Rattle.cs_value.specs.State.{IsRowAt, schema_at, row_at, with_row, without_row};
+ghost use Rattle.cs_value.specs.State.{State, IsRowAt, schema_at, row_at, with_row, without_row};
 ghost use Rattle.cs_store.specs.Rows.{IsDeclared, Fits};
 ghost use Rattle.cs_store.specs.Faults.{IsResource, IsEditRefusal};
 ghost use Rattle.cs_store.specs.Editing.{edited, written_of, row_fault, in_table, inserted, updated, deleted};
@@ -39,6 +39,7 @@ pub fn edit_in<B: Rows>(
     ensures named { IfErr result IsEditRefusal }
     ensures was_honest { B.is_honest rows.new → B.is_honest rows.old }
     ensures kept { B.keeps rows.old rows.new }
+    ensures leaves { (held : State) → B.leaves_only rows.old held → B.leaves_only rows.new held }
 {
     match edit {
         Edit::Insert { table, row } => insert_row(alloc, rows, table.as_str(), row),
@@ -214,7 +215,8 @@ fn replace_row<B: Rows>(
     Ok(written)
 }
 
-/// Puts a row under another key than that of the one whose place it takes.
+/// Puts a row under another key than that of the one whose place it takes. It is put first, so that rows which
+/// refuse to take it have the former still.
 fn move_row<B: Rows>(
     alloc: Global,
     rows: &mut B,
@@ -225,6 +227,7 @@ fn move_row<B: Rows>(
     row: &Row,
 ) -> Result<Vec<Written>, StoreError>
     requires fits { B.is_honest rows.old → Fits (B.state rows.old) table.now next.now row.now }
+    requires apart { key.now ≢ next.now }
     ensures moved { B.is_honest rows.new → OnOk result ((row_at (B.state rows.old) table.now next.now ≡ None)
         × (B.state rows.new ≡ with_row (without_row (B.state rows.old) table.now key.now) table.now next.now row.now)) }
     ensures told { IfOk result (λ w. map written_of w.items
@@ -238,8 +241,8 @@ fn move_row<B: Rows>(
 {
     check_vacant(alloc, rows, table, next)?;
     let written = note_move(alloc, table, key, former, next)?;
-    rows.remove(alloc, table, key)?;
     rows.put(alloc, table, next, row)?;
+    rows.remove(alloc, table, key)?;
     Ok(written)
 }
 

@@ -214,6 +214,10 @@ impl Rows for MemRows {
 
     ghost keeps_then = { λ _ _ _ _ _. tt };
 
+    ghost leaves_only = { λ _ _. ⊤ };
+
+    ghost leaves_still = { λ _ _ _ _ _. tt };
+
     fn schema(&mut self, alloc: Global, table: &str) -> Result<Option<Schema>, StoreError>
         ensures found { IfOk result (λ o. o ≡ schema_at self.old table.now) }
         ensures unchanged { self.new ≡ self.old }

@@ -13,7 +13,7 @@ use std::alloc::Global;
 /// Tables of rows: a finite map from names to schemas, and from names and keys to rows.
 ///
 /// After a refusal nothing is said of what is held, unless the type says it: a batch is then
-/// dropped, which takes its store back to where it began.
+/// dropped, which takes its store back to where it began. What a crash leaves is kept by each call.
 pub trait Rows {
     // What is held.
     ghost state: { Self → State };
@@ -27,6 +27,11 @@ pub trait Rows {
     ghost keeps_itself: { (b : Self) → keeps b b };
 
     ghost keeps_then: { (a b c : Self) → keeps a b → keeps b c → keeps a c };
+
+    // A crash leaves these tables and no others.
+    ghost leaves_only: { Self → State → Type 0 };
+
+    ghost leaves_still: { (a b : Self) (held : State) → keeps a b → leaves_only a held → leaves_only b held };
 
     /// The schema of a table, and none where no table has the name.
     fn schema(&mut self, alloc: Global, table: &str) -> Result<Option<Schema>, StoreError>

@@ -8,12 +8,13 @@ ghost use Rattle.cs_store.specs.declared.fault.StoreError.TheVariants.{DamagedSt
 ghost use Rattle.cs_store.specs.declared.fault.StoreError.TheVariants.{BadSchema as NoSchema, TableExists as TakenName};
 ghost use Rattle.cs_store.specs.Faults.{IsResource, IsReadRefusal, IsEditRefusal};
 ghost use Rattle.cs_store.specs.Editing.{Declares, EditsInto, schema_of, edited, written_of};
-ghost use Rattle.cs_store.specs.Crash.{MayLeave};
+ghost use Rattle.cs_store.specs.Crash.{IsAtomic, IsLeftOf, LeavesOnly, MayLeave};
 ghost use Rattle.cs_store.specs.Records.{KeepsContent, KeepsCrash};
 ghost use Rattle.cs_store.specs.Rows.{IsDeclared, Fits};
 ghost use Rattle.sqlite.specs.State.{HasCleanDisk, Survives};
 ghost use Rattle.sqlite.specs.Held.{state};
-ghost use Rattle.sqlite.specs.Files.{file_state};
+ghost use Rattle.sqlite.specs.Files.{HoldsDatabase, file_state};
+ghost use Rattle.sqlite.specs.Tree.{Trees};
 ghost use Rattle.sqlite.specs.Steps.{over_memory};
 ghost use Rattle.sqlite_wal.specs.Files.{image_at};
 ghost use Rattle.cs_store.specs.Store.{Adopts, Begins, HoldsTables, IsAtRest, KeepsStore, OpensFiles};
@@ -73,7 +74,8 @@ impl Store<MemStore> {
 
 impl<S: Start> Store<FileStore<FileFrom<S>>> {
     /// Opens the store in the database file at a path. Where there is no file one is made, with sums
-    /// of its pages or without. `start` stands for what the files are taken to hold.
+    /// of its pages or without. `start` stands for what the files are taken to hold. What a crash left of a
+    /// store is opened with its tables.
     ///
     /// Refused as by [`adopt`](Store::adopt), and with [`StoreFault`](StoreError::StoreFault) for a
     /// file that is no database or cannot be opened.
@@ -85,6 +87,9 @@ impl<S: Start> Store<FileStore<FileFrom<S>>> {
     ) -> Result<Store<FileStore<FileFrom<S>>>, StoreError>
         ensures opened { IfOk result (λ s. HasCleanDisk (file_state s)
             → OpensFiles (image_at S.Start) (file_state s)) }
+        ensures recovers { (held : tables.State) (trees : Trees) → HoldsDatabase (image_at S.Start) trees
+            → MayLeave (λ left. left ≡ held) trees → IfOk result (λ s. HasCleanDisk (file_state s)
+            → tables_in (file_state s).now ≡ held) }
         ensures named { IfErr result IsReadRefusal }
     {
         match Connection::open_from(rt, path, new_has_sums, start) {
@@ -105,7 +110,8 @@ impl<S: Alter> Store<S> {
     /// tables, or a table of the name `rec` was declared otherwise, and with
     /// [`StoreFault`](StoreError::StoreFault) where the database has other tables, where a transaction
     /// is open, and where the database refuses. The connection is handed back as it was. A crash leaves what
-    /// it could leave before, or the store.
+    /// it could leave before, or the store. What a crash left of a store is taken over with its tables, or
+    /// refused for memory or by the database.
     pub fn adopt(
         alloc: Global,
         mut conn: Connection<S>,
@@ -114,6 +120,9 @@ impl<S: Alter> Store<S> {
             → Adopts (state S.Store conn) (state S.Store s)) }
         ensures refused { IfErr result (λ e. HasCleanDisk (state S.Store e.1) → ((e.0 ≡ Damaged)
             × ((held : tables.State) → ¬ HoldsTables (state S.Store conn).now held)) ⊎ IsResource e.0) }
+        ensures recovers { (held : tables.State) → IsLeftOf held (state S.Store conn).now → MatchResult result
+            (λ s. HasCleanDisk (state S.Store s) → tables_in (state S.Store s).now ≡ held)
+            (λ e. HasCleanDisk (state S.Store e.1) → IsResource e.0) }
         ensures named { IfErr result (λ e. IsReadRefusal e.0) }
         ensures kept { IfErr result (λ e. HasCleanDisk (state S.Store e.1)
             → KeepsContent (state S.Store conn) (state S.Store e.1)) }
@@ -136,6 +145,14 @@ impl<S: Alter> Store<S> {
         let _ = &self.conn;
     }
 
+    /// While a store is open, a crash leaves its last commit, and nothing else. It has no effect.
+    pub fn crash_law(&self)
+        ensures { IsTrue (state S.Store self.now).is_open → LeavesOnly
+            (λ left. left ≡ tables_in (state S.Store self.now).committed) (state S.Store self.now) }
+    {
+        let _ = &self.conn;
+    }
+
     /// The connection to the database of the store.
     pub fn into_connection(self) -> Connection<S>
         ensures { result ≡ self }
@@ -152,7 +169,8 @@ impl<S: Alter> Store<S> {
     /// Begins a batch of writes, which last once it is committed and are undone where it is dropped.
     ///
     /// Refused where the database refuses, and where a transaction is open. A refusal leaves what the
-    /// store shows and what was committed as they were. A crash leaves no more than it could before.
+    /// store shows and what was committed as they were. A crash leaves no more than it could before, and
+    /// once the batch has begun, the tables that the store shows and nothing else.
     pub fn begin(&mut self) -> Result<SqlBatch<'_, S>, StoreError>
         ensures* refused { sem 𝓛 (RestsIfErr (the_row S.row S.Store) self.entry
             (λ b. b.store.ghost_name) result
@@ -165,6 +183,8 @@ impl<S: Alter> Store<S> {
             → Begins (state S.Store self.old) (state S.Store b.store.now)) }
         ensures survives { IfOk result (λ b. KeepsCrash (state S.Store self.old)
             (state S.Store b.store.now)) }
+        ensures leaves { IfOk result (λ b. LeavesOnly
+            (λ left. left ≡ tables_in (state S.Store self.old).now) (state S.Store b.store.now)) }
     {
         self.known = None;
         match transactions::begin(&mut self.conn) {
@@ -174,7 +194,7 @@ impl<S: Alter> Store<S> {
     }
 
     /// Declares a table without rows: the names of its columns, of which the marked ones are the key. A crash
-    /// leaves what it could leave before, or the tables with this one.
+    /// leaves the tables as before, or with this one; once this is done, these alone.
     ///
     /// Refuses with [`BadSchema`](StoreError::BadSchema) where the name or the columns make no table,
     /// and then with [`TableExists`](StoreError::TableExists). A refusal changes nothing.
@@ -198,10 +218,12 @@ impl<S: Alter> Store<S> {
         ensures at_rest { HasCleanDisk (state S.Store self.new) → OnOk result (IsAtRest (state S.Store self.new)) }
         ensures kept { HasCleanDisk (state S.Store self.new)
             → OnErr result (KeepsContent (state S.Store self.old) (state S.Store self.new)) }
-        ensures survives { Survives (state S.Store self.old) (state S.Store self.new)
-            (MayLeave (λ left. Declares (tables_in (state S.Store self.old).now) name.now
-            (schema_of columns.now keys.now) (Ok left))) }
+        ensures atomic { IsAtomic (λ left. Declares (tables_in (state S.Store self.old).now) name.now
+            (schema_of columns.now keys.now) (Ok left)) (state S.Store self.old) (state S.Store self.new) }
+        ensures left { OnOk result (LeavesOnly (λ left. left ≡ tables_in (state S.Store self.new).now)
+            (state S.Store self.new)) }
     {
+        self.crash_law();
         if !is_table_name(name) {
             return Err(StoreError::BadSchema);
         }
@@ -294,7 +316,7 @@ impl<S: Alter> Store<S> {
     }
 
     /// Carries out an edit as [`edit_in`] does, and commits it. A refusal changes nothing. A crash leaves
-    /// what it could leave before, or the tables as edited.
+    /// the tables as before, or as edited; once this is done, these alone.
     pub fn edit(&mut self, alloc: Global, edit: &Edit) -> Result<Vec<Written>, StoreError>
         ensures edited { HasCleanDisk (state S.Store self.new)
             → IfOk result (λ w. edited (tables_in (state S.Store self.old).now) edit.now
@@ -307,9 +329,12 @@ impl<S: Alter> Store<S> {
         ensures at_rest { HasCleanDisk (state S.Store self.new) → OnOk result (IsAtRest (state S.Store self.new)) }
         ensures kept { HasCleanDisk (state S.Store self.new)
             → OnErr result (KeepsContent (state S.Store self.old) (state S.Store self.new)) }
-        ensures survives { Survives (state S.Store self.old) (state S.Store self.new)
-            (MayLeave (EditsInto (tables_in (state S.Store self.old).now) edit.now)) }
+        ensures atomic { IsAtomic (EditsInto (tables_in (state S.Store self.old).now) edit.now)
+            (state S.Store self.old) (state S.Store self.new) }
+        ensures left { OnOk result (LeavesOnly (λ left. left ≡ tables_in (state S.Store self.new).now)
+            (state S.Store self.new)) }
     {
+        self.crash_law();
         let mut batch = self.begin()?;
         let written = edit_in(alloc, &mut batch, edit)?;
         batch.commit()?;

@@ -1,10 +1,10 @@
--- `store::revert`: the clauses `refused`, `reverts` and `survives`.
+-- `store::revert`: the clauses `refused`, `reverts` and `atomic`.
 use Rattle.std.proofs.Common.{rules}
 use Rattle.std.proofs.lemmas.Result.{IfOk-weaker, IfErr-weaker, MatchResult-from_both}
 use Rattle.cs_apply.specs.declared.running.Direction.TheVariants.{Inverse}
 use Rattle.cs_apply.specs.Running.{AlwaysAborts, IsResource}
 use Rattle.cs_apply.proofs.RevertLemmas.{reverts_ok, reverts_err, refuses_weaker}
-use Rattle.cs_apply.proofs.CrashLemmas.{crash_weaker}
+use Rattle.cs_apply.proofs.CrashLemmas.{revert_atomic}
 use Rattle.cs_apply.proofs.store.revert.Goals as goal
 
 pub returns-clause-refused : goal.returns-clause-refused
@@ -18,6 +18,6 @@ returns-clause-reverts g c = λ clean before leads.
     (IfOk-weaker c.run.result _ _ (λ report applies. reverts_ok _ law c.args.file.now before _ _ report leads applies) (c.run.ensures.applied clean))
     (IfErr-weaker c.run.result _ _ (λ e refuses. reverts_err law c.args.file.now before _ e leads (refuses_weaker _ AlwaysAborts (λ k chosen given. search rules) c.args.file.now Inverse _ e refuses)) (c.run.ensures.refused clean))
 
-pub returns-clause-survives : goal.returns-clause-survives
-returns-clause-survives g c =
-    crash_weaker _ AlwaysAborts (λ k chosen given. search rules) c.args.file.now Inverse _ _ _ c.run.ensures.survives
+pub returns-clause-atomic : goal.returns-clause-atomic
+returns-clause-atomic g c =
+    revert_atomic _ AlwaysAborts (λ k chosen given. search rules) c.args.file.now Inverse _ _ _ c.run.ensures.atomic

@@ -1,8 +1,10 @@
 -- `editing::update_row`: what `replace_row` and `move_row` ask for, the clause `kept`.
-use Rattle.std.proofs.Common.{sym, subst, ◌∙◌, ap, ℕ, List}
+use Rattle.std.proofs.Common.{sym, subst, ◌∙◌, ap, ℕ, List, true≢false}
 use Rattle.std.specs.Cmp.Lexicographic.{same_text}
 use Rattle.cs_value.specs.State.{State, schema_at, IsRowAt}
+use Rattle.cs_store.specs.Records.{same_bytes}
 use Rattle.cs_store.proofs.EditingLemmas.{fits_in}
+use Rattle.cs_store.proofs.RowLemmas.{same_itself}
 use Rattle.cs_store.proofs.editing.update_row.Goals as goal
 
 pub replace_row-requires : goal.replace_row-requires
@@ -27,6 +29,7 @@ move_row-requires g c = record {
       let same = c.in_ok-former.ensures.same honest ∙ c.in_ok-schema.ensures.same before in
       let found = ap (λ (s : State). schema_at s c.args.table.now) same ∙ c.in_ok-schema.ensures.found before in
       fits_in _ c.args.table.now c.in_ok-next.next c.args.row.now c.in_ok-schema.schema found c.in_ok-next.ensures.key;
+  apart = λ same. true≢false (sym (same_itself c.in_ok-next.next) ∙ ap (λ (k : List ℕ). same_bytes k c.in_ok-next.next) (sym same) ∙ sym c.if-eq.ensures);
 }
 
 pub returns-clause-kept : goal.returns-clause-kept

@@ -1,17 +1,17 @@
--- `store::Store::declare`: the clauses `refused`, `kept`, `declared` and `survives`.
+-- `store::Store::declare`: the clauses `refused`, `kept`, `declared`, `atomic` and `left`.
 use Rattle.std.proofs.Common.{◌≡◌, Ok, subst, ◌∙◌, rules}
 use Rattle.std.proofs.lemmas.Result.{err_from_is_err_and}
 use Rattle.cs_value.specs.Table.{IsName}
 use Rattle.cs_value.specs.State.{SchemaData, IsSchema}
 use Rattle.cs_store.specs.Editing.{Declares, schema_of}
 use Rattle.cs_store.specs.Store.{AddsTable, tables_in}
-use Rattle.cs_store.proofs.CrashLemmas.{made_survives}
+use Rattle.cs_store.proofs.CrashLemmas.{unmoved_atomic, idle_atomic, dropped_atomic, made_atomic, commit_left}
 use Rattle.cs_store.proofs.DeclareLemmas.{added_declares, committed_declares, taken_declares}
 use Rattle.cs_store.proofs.WriteLemmas.{on_err_then}
 use Rattle.sqlite.specs.Held.{state}
 use Rattle.sqlite.specs.State.{HasCleanDisk}
 use Rattle.cs_store.specs.Laws.{was_clean}
-use Rattle.cs_store.specs.Records.{KeepsContent}
+use Rattle.cs_store.specs.Records.{KeepsContent, KeepsCrash}
 use Rattle.cs_store.proofs.StoreLemmas.{undone_batch}
 use Rattle.cs_store.proofs.QueryLemmas.{on_err}
 use Rattle.cs_store.proofs.store.Store.declare.Goals as goal
@@ -49,7 +49,7 @@ returns-clause-declared g c clean =
     let last = state g.S.Store c.commit.new.self.0 in
     let same : c.commit.new.self.0 ≡ c.self-2-1.given.0 = search rules in
     let last_clean : HasCleanDisk last = rw same clean in
-    let mid_clean = was_clean mid last c.commit.ensures.survives last_clean in
+    let mid_clean = was_clean mid last c.commit.ensures.atomic.survives last_clean in
     let named : IsName c.args.name.now = search rules in
     let made = c.in_ok-schema.ensures.made in
     let is : IsSchema (schema_of c.args.columns.now c.args.keys.now) = subst IsSchema (c.schema.view_is ∙ made) c.schema.invariant in
@@ -64,11 +64,38 @@ returns-clause-kept g c clean =
     let last = state g.S.Store c.commit.new.self.0 in
     let same : c.commit.new.self.0 ≡ c.self-2-1.given.0 = search rules in
     let last_clean : HasCleanDisk last = rw same clean in
-    let mid_clean = was_clean mid last c.commit.ensures.survives last_clean in
+    let mid_clean = was_clean mid last c.commit.ensures.atomic.survives last_clean in
     rw (← same) (on_err_then c.commit.result _ (KeepsContent old last) (λ undone. undone_batch old begun mid last c.in_ok-batch.ensures.begun c.declare.ensures.kept mid_clean undone) (c.commit.ensures.undone last_clean))
 
-pub returns-clause-survives : goal.returns-clause-survives
-returns-clause-survives g c =
+pub returns-then-not-is_table_name-clause-atomic : goal.returns-then-not-is_table_name-clause-atomic
+returns-then-not-is_table_name-clause-atomic g c =
+    let old = state g.S.Store c.args.self.now in
+    unmoved_atomic old c.crash_law.ensures (λ left. Declares (tables_in old.now) c.args.name.now (schema_of c.args.columns.now c.args.keys.now) (Ok left))
+
+pub returns-in_err-schema-clause-atomic : goal.returns-in_err-schema-clause-atomic
+returns-in_err-schema-clause-atomic g c =
+    let old = state g.S.Store c.args.self.now in
+    unmoved_atomic old c.crash_law.ensures (λ left. Declares (tables_in old.now) c.args.name.now (schema_of c.args.columns.now c.args.keys.now) (Ok left))
+
+pub returns-in_err-batch-clause-atomic : goal.returns-in_err-batch-clause-atomic
+returns-in_err-batch-clause-atomic g c =
+    let old = state g.S.Store c.args.self.now in
+    let new = state g.S.Store c.begin.follows.lender-at-none in
+    let keeps : KeepsCrash old new = search rules in
+    idle_atomic old new c.crash_law.ensures (λ left. Declares (tables_in old.now) c.args.name.now (schema_of c.args.columns.now c.args.keys.now) (Ok left)) keeps
+
+pub returns-in_err-declare-clause-atomic : goal.returns-in_err-declare-clause-atomic
+returns-in_err-declare-clause-atomic g c =
+    let old = state g.S.Store c.args.self.now in
+    let begun = state g.S.Store c.in_ok-batch.batch.store.now in
+    let mid = state g.S.Store c.declare.new.self.store.now in
+    let last = state g.S.Store c.drop-batch.new.self.0 in
+    let same : c.drop-batch.new.self.0 ≡ c.self-in_err-declare-1.given.0 = search rules in
+    rw (← same) (dropped_atomic old begun mid last c.crash_law.ensures c.in_ok-batch.ensures.survives c.declare.ensures.kept
+    (λ left. Declares (tables_in old.now) c.args.name.now (schema_of c.args.columns.now c.args.keys.now) (Ok left)) c.drop-batch.ensures.survives)
+
+pub returns-clause-atomic : goal.returns-clause-atomic
+returns-clause-atomic g c =
     let old = state g.S.Store c.args.self.now in
     let begun = state g.S.Store c.in_ok-batch.batch.store.now in
     let mid = state g.S.Store c.declare.new.self.store.now in
@@ -78,6 +105,13 @@ returns-clause-survives g c =
     let made = c.in_ok-schema.ensures.made in
     let schema = schema_of c.args.columns.now c.args.keys.now in
     let is : IsSchema schema = subst IsSchema (c.schema.view_is ∙ made) c.schema.invariant in
-    rw (← same) (made_survives old begun mid last c.in_ok-batch.ensures.survives c.declare.ensures.kept (λ before left. Declares before c.args.name.now schema (Ok left)) c.in_ok-batch.ensures.begun
+    rw (← same) (made_atomic old begun mid last c.crash_law.ensures c.in_ok-batch.ensures.survives c.declare.ensures.kept (λ before left. Declares before c.args.name.now schema (Ok left)) c.in_ok-batch.ensures.begun
     (λ clean. added_declares (tables_in begun.now) (tables_in mid.now) c.args.name.now schema (named, is)
-    (subst (λ (s : SchemaData). AddsTable (tables_in begun.now) c.args.name.now s (tables_in mid.now)) made (c.in_ok-declare.ensures.declared clean))) c.commit.ensures.survives)
+    (subst (λ (s : SchemaData). AddsTable (tables_in begun.now) c.args.name.now s (tables_in mid.now)) made (c.in_ok-declare.ensures.declared clean))) c.commit.ensures.atomic.survives)
+
+pub returns-clause-left : goal.returns-clause-left
+returns-clause-left g c =
+    let mid = state g.S.Store c.declare.new.self.store.now in
+    let last = state g.S.Store c.commit.new.self.0 in
+    let same : c.commit.new.self.0 ≡ c.self-2-1.given.0 = search rules in
+    rw (← same) (commit_left c.commit.result mid last c.commit.ensures.committed c.commit.ensures.left)

@@ -1,12 +1,13 @@
--- `store::Store::edit`: the clauses `kept` and `survives`.
+-- `store::Store::edit`: the clauses `kept`, `atomic` and `left`.
 use Rattle.std.proofs.Common.{◌≡◌, rules}
 use Rattle.std.specs.Prelude.{map}
 use Rattle.sqlite.specs.Held.{state}
 use Rattle.cs_store.specs.Editing.{EditsInto, written_of}
 use Rattle.sqlite.specs.State.{HasCleanDisk}
 use Rattle.cs_store.specs.Laws.{was_clean}
-use Rattle.cs_store.specs.Records.{KeepsContent}
-use Rattle.cs_store.proofs.CrashLemmas.{made_survives}
+use Rattle.cs_store.specs.Records.{KeepsContent, KeepsCrash}
+use Rattle.cs_store.specs.Store.{tables_in}
+use Rattle.cs_store.proofs.CrashLemmas.{idle_atomic, dropped_atomic, made_atomic, left_new}
 use Rattle.cs_store.proofs.StoreLemmas.{undone_batch}
 use Rattle.cs_store.proofs.QueryLemmas.{on_err}
 use Rattle.cs_store.proofs.store.Store.edit.Goals as goal
@@ -30,25 +31,48 @@ returns-in_err-commit-clause-kept g c clean =
     let last = state g.S.Store c.commit.new.self.0 in
     let same : c.commit.new.self.0 ≡ c.self-2-1.given.0 = search rules in
     let last_clean : HasCleanDisk last = rw same clean in
-    let kept = undone_batch old begun mid last c.in_ok-batch.ensures.begun c.edit_in.ensures.kept.1 (was_clean mid last c.commit.ensures.survives last_clean) (c.in_err-commit.ensures.undone last_clean) in
+    let kept = undone_batch old begun mid last c.in_ok-batch.ensures.begun c.edit_in.ensures.kept.1 (was_clean mid last c.commit.ensures.atomic.survives last_clean) (c.in_err-commit.ensures.undone last_clean) in
     rw (← same) (on_err c.from_residual-in_err-commit.result (KeepsContent old last) kept)
 
-pub returns-in_err-commit-clause-survives : goal.returns-in_err-commit-clause-survives
-returns-in_err-commit-clause-survives g c =
+pub returns-in_err-batch-clause-atomic : goal.returns-in_err-batch-clause-atomic
+returns-in_err-batch-clause-atomic g c =
     let old = state g.S.Store c.args.self.now in
-    let begun = state g.S.Store c.in_ok-batch.batch.store.now in
-    let mid = state g.S.Store c.edit_in.new.rows.store.now in
-    let last = state g.S.Store c.commit.new.self.0 in
-    let same : c.commit.new.self.0 ≡ c.self-2-1.given.0 = search rules in
-    rw (← same) (made_survives old begun mid last c.in_ok-batch.ensures.survives c.edit_in.ensures.kept.1 (λ before. EditsInto before c.args.edit.now) c.in_ok-batch.ensures.begun
-    (λ clean. (map written_of c.in_ok-written.written.items, c.in_ok-written.ensures.edited clean)) c.commit.ensures.survives)
+    let new = state g.S.Store c.begin.follows.lender-at-none in
+    let keeps : KeepsCrash old new = search rules in
+    idle_atomic old new c.crash_law.ensures (EditsInto (tables_in old.now) c.args.edit.now) keeps
 
-pub returns-clause-survives : goal.returns-clause-survives
-returns-clause-survives g c =
+pub returns-in_err-written-clause-atomic : goal.returns-in_err-written-clause-atomic
+returns-in_err-written-clause-atomic g c =
+    let old = state g.S.Store c.args.self.now in
+    let begun = state g.S.Store c.in_ok-batch.batch.store.now in
+    let mid = state g.S.Store c.edit_in.new.rows.store.now in
+    let last = state g.S.Store c.drop-batch.new.self.0 in
+    let same : c.drop-batch.new.self.0 ≡ c.self-in_err-written-1.given.0 = search rules in
+    rw (← same) (dropped_atomic old begun mid last c.crash_law.ensures c.in_ok-batch.ensures.survives c.edit_in.ensures.kept.1 (EditsInto (tables_in old.now) c.args.edit.now) c.drop-batch.ensures.survives)
+
+pub returns-in_err-commit-clause-atomic : goal.returns-in_err-commit-clause-atomic
+returns-in_err-commit-clause-atomic g c =
     let old = state g.S.Store c.args.self.now in
     let begun = state g.S.Store c.in_ok-batch.batch.store.now in
     let mid = state g.S.Store c.edit_in.new.rows.store.now in
     let last = state g.S.Store c.commit.new.self.0 in
     let same : c.commit.new.self.0 ≡ c.self-2-1.given.0 = search rules in
-    rw (← same) (made_survives old begun mid last c.in_ok-batch.ensures.survives c.edit_in.ensures.kept.1 (λ before. EditsInto before c.args.edit.now) c.in_ok-batch.ensures.begun
-    (λ clean. (map written_of c.in_ok-written.written.items, c.in_ok-written.ensures.edited clean)) c.commit.ensures.survives)
+    rw (← same) (made_atomic old begun mid last c.crash_law.ensures c.in_ok-batch.ensures.survives c.edit_in.ensures.kept.1 (λ before. EditsInto before c.args.edit.now) c.in_ok-batch.ensures.begun
+    (λ clean. (map written_of c.in_ok-written.written.items, c.in_ok-written.ensures.edited clean)) c.commit.ensures.atomic.survives)
+
+pub returns-clause-atomic : goal.returns-clause-atomic
+returns-clause-atomic g c =
+    let old = state g.S.Store c.args.self.now in
+    let begun = state g.S.Store c.in_ok-batch.batch.store.now in
+    let mid = state g.S.Store c.edit_in.new.rows.store.now in
+    let last = state g.S.Store c.commit.new.self.0 in
+    let same : c.commit.new.self.0 ≡ c.self-2-1.given.0 = search rules in
+    rw (← same) (made_atomic old begun mid last c.crash_law.ensures c.in_ok-batch.ensures.survives c.edit_in.ensures.kept.1 (λ before. EditsInto before c.args.edit.now) c.in_ok-batch.ensures.begun
+    (λ clean. (map written_of c.in_ok-written.written.items, c.in_ok-written.ensures.edited clean)) c.commit.ensures.atomic.survives)
+
+pub returns-clause-left : goal.returns-clause-left
+returns-clause-left g c =
+    let mid = state g.S.Store c.edit_in.new.rows.store.now in
+    let last = state g.S.Store c.commit.new.self.0 in
+    let same : c.commit.new.self.0 ≡ c.self-2-1.given.0 = search rules in
+    rw (← same) (left_new mid last c.in_ok-commit.ensures.committed c.in_ok-commit.ensures.left)

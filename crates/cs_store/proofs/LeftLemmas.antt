@@ -1,0 +1,62 @@
+-- What a crash left of a store is taken over with its tables.
+use Rattle.std.proofs.Common.{◌≡◌, ◌⊎◌, [], inl, inr, sym, subst, ◌∙◌}
+use Rattle.sqlite_schema.specs.declared.schema.Schema.{Schema}
+use Rattle.sqlite_catalog.specs.Listing.{IsSound as IsSoundIn}
+use Rattle.sqlite_catalog.proofs.ReadLemmas.{reads, read_once}
+use Rattle.sqlite_trees.specs.Tree.{Trees}
+use Rattle.sqlite_trees.specs.Objects.{catalog_tree}
+use Rattle.sqlite_wal.specs.Recovery.{Image}
+use Rattle.sqlite.specs.Effect.{Database}
+use Rattle.sqlite.specs.Files.{HoldsDatabase}
+use Rattle.sqlite.specs.State.{State}
+use Rattle.cs_value.specs.State as tables
+use Rattle.cs_store.specs.declared.fault.StoreError.{StoreError}
+use Rattle.cs_store.specs.declared.fault.StoreError.TheVariants.{DamagedStore}
+use Rattle.cs_store.specs.Faults.{IsResource}
+use Rattle.cs_store.specs.Records.{HoldsRecords, records_in, records_of}
+use Rattle.cs_store.specs.Stored.{Stores}
+use Rattle.cs_store.specs.Store.{HoldsTables, Adopts, OpensFiles, tables_in}
+use Rattle.cs_store.specs.Crash.{MayLeave, IsLeftOf}
+use Rattle.cs_store.proofs.AdoptionLemmas.{none_there, stored_there}
+use Rattle.cs_store.proofs.StateOf.{stored_once}
+
+-- trees list one schema
+listed_once : (trees : Trees) (s t : Schema) → IsSoundIn s trees → IsSoundIn t trees → s ≡ t
+listed_once trees s t one other =
+    let read = reads (trees catalog_tree) s one.lists in
+    read_once _ s t read.tables read.indexes read.views (reads (trees catalog_tree) t other.lists)
+
+-- the database has the records of the tables that are left
+left_stored : (held : tables.State) (db : Database) → IsLeftOf held db → HoldsRecords db × Stores (records_in db) held
+left_stored held db is =
+    let same = listed_once db.trees is.left.schema db.schema is.left.store.records.sound is.sound in (
+      subst (λ (s : Schema). HoldsRecords (record { schema = s; trees = db.trees })) same is.left.store.records,
+      subst (Stores (records_of (db.trees 0))) is.left.tables is.left.store.stores,
+    )
+
+left_holds : (held : tables.State) (db : Database) → IsLeftOf held db → HoldsTables db held
+left_holds held db is = inr (left_stored held db is)
+
+-- and of no others
+left_once : (held other : tables.State) (db : Database) → IsLeftOf held db → HoldsTables db other → other ≡ held
+left_once held other db is there =
+    let own = left_stored held db is in
+    let some : ¬ (db.trees 0 ≡ []) = λ none. let e = sym (none_there (db.trees 0) none [] []) ∙ own.1.each [] [] in cc in
+    stored_once (records_in db) other held (stored_there db other own.0.schema some there).1 own.1
+
+-- so it is adopted with these tables
+pub left_adopts : (held : tables.State) (old new : State) → IsLeftOf held old.now → Adopts old new → tables_in new.now ≡ held
+left_adopts held old new is adopts = left_once held (tables_in new.now) old.now is adopts.held
+
+-- or refused for memory or by the database
+pub left_refused : (held : tables.State) (db : Database) (e : StoreError) → IsLeftOf held db
+    → ((e ≡ DamagedStore) × ((other : tables.State) → HoldsTables db other → ⊥)) ⊎ IsResource e → IsResource e
+left_refused held db e is (inl damaged) = absurd (damaged.1 held (left_holds held db is))
+left_refused held db e is (inr resource) = resource
+
+-- and files that hold it are opened with them
+pub left_opens : (held : tables.State) (trees : Trees) (image : Image) (new : State) → HoldsDatabase image trees → MayLeave (λ left. left ≡ held) trees → OpensFiles image new
+    → tables_in new.now ≡ held
+left_opens held trees image new holds left opens =
+    let same = opens.found trees holds in
+    left_once held (tables_in new.now) opens.db (record { sound = opens.sound; left = subst (MayLeave (λ left. left ≡ held)) (sym same) left }) opens.held

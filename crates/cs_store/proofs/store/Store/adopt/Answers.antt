@@ -1,0 +1,10 @@
+-- `store::Store::adopt`: the clause `recovers`.
+use Rattle.sqlite.specs.Held.{state}
+use Rattle.cs_store.proofs.LeftLemmas.{left_adopts, left_refused}
+use Rattle.cs_store.proofs.store.Store.adopt.Goals as goal
+
+pub returns-in-Ok-clause-recovers : goal.returns-in-Ok-clause-recovers
+returns-in-Ok-clause-recovers g c held left clean = left_adopts held (state g.S.Store c.args.conn) (state g.S.Store c.adopt.new.conn) left (c.in-Ok.ensures.adopted clean)
+
+pub returns-in-Err-clause-recovers : goal.returns-in-Err-clause-recovers
+returns-in-Err-clause-recovers g c held left clean = left_refused held (state g.S.Store c.args.conn).now c.in-Err.error left (c.in-Err.ensures.refused clean)
