@@ -1,5 +1,5 @@
 -- Tables that are attached, as the code and as the definitions have them.
-use Rattle.std.proofs.Common.{◌≡◌, ◌≢◌, ◌↔◌, ◌==◌, ℕ, Bool, true, false, List, [], ◌∷◌, ◌++◌, length, get_or, map, All, Any, IsTrue, refl, sym, ap, subst, ◌∙◌, arith}
+use Rattle.std.proofs.Common.{◌≡◌, ◌≢◌, ◌↔◌, ◌==◌, ℕ, Bool, true, false, List, [], ◌∷◌, ◌++◌, length, get_or, map, All, Any, IsTrue, inl, inr, refl, sym, ap, subst, ◌∙◌, arith}
 use Rattle.std.specs.Prelude.{is_some, Option, None, Some, IfSome, IfNone, Result, Ok, Err, OnOk}
 use Rattle.std.specs.List.{AllByRecursion, list_all}
 use Rattle.std.proofs.lemmas.Bool.{and_parts, eqb-true}
@@ -8,9 +8,12 @@ use Rattle.std.proofs.lemmas.List.Elements.{recursion_from_All, All-from_recursi
 use Rattle.std.proofs.lemmas.List.Quantifiers.{all_pairs_push}
 use Rattle.cs_value.specs.Table.{IsName}
 use Rattle.cs_value.specs.State.{SchemaData, IsSchema, State, schema_at, rows_at}
+use Rattle.cs_store.specs.declared.fault.StoreError.{StoreError}
+use Rattle.cs_store.specs.Faults.{IsReadRefusal}
 use Rattle.cs_session.specs.declared.attached.Attached.{Attached}
 use Rattle.cs_session.specs.FirstImages.{AttachedTable, Notes, IsAttachedTable, IsNotes, rewound_rows, rewound}
-use Rattle.cs_session.specs.Attaching.{IsNewTable, Attaches}
+use Rattle.cs_session.specs.Attaching.{IsNewTable, Attaches, IsAttachRefusal}
+use Rattle.cs_session.specs.Faults.{fault_of}
 use Rattle.cs_session.specs.Views.{attached_of, IsPlace, IsSettled}
 
 -- ---- a name
@@ -88,3 +91,11 @@ pub attached_rewound : {X E : Type 0} (result : Result X E) (state : State) (nam
 attached_rewound (Ok x) state name old new done =
     ap (λ (notes : Notes). rewound notes state) done.is ∙ map-append (rewound_rows state) old (record { name = name; schema = done.schema; firsts = [] } ∷ [])
 attached_rewound (Err e) state name old new done = tt
+
+-- ---- refusals
+
+-- what a read of a store is refused with is what attaching may be refused with
+pub read_refused : (e : StoreError) → IsReadRefusal e → IsAttachRefusal (fault_of e)
+read_refused e (inl damaged) = subst (λ (x : StoreError). IsAttachRefusal (fault_of x)) (sym damaged) (inr (inl refl))
+read_refused e (inr (inl memory)) = subst (λ (x : StoreError). IsAttachRefusal (fault_of x)) (sym memory) tt
+read_refused e (inr (inr shut)) = subst (λ (x : StoreError). IsAttachRefusal (fault_of x)) (sym shut) (inr (inr refl))

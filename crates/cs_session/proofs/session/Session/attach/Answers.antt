@@ -1,8 +1,9 @@
--- `session::Session::attach`: what `push` asks for, the clauses `refused`, `shut`, `attached` and `rewound`.
+-- `session::Session::attach`: what `push` asks for, the clauses `refused`, `named`, `shut`, `attached` and `rewound`.
 use Rattle.std.proofs.Common.{inl, inr, refl, sym, rules, ◌∙◌}
+use Rattle.std.proofs.lemmas.Result.{err_from_is_err_and}
 use Rattle.cs_value.specs.Table.{IsName}
 use Rattle.cs_session.specs.Attaching.{IsNewTable}
-use Rattle.cs_session.proofs.AttachLemmas.{attached_where_some, new_where_none, attaches, attached_rewound}
+use Rattle.cs_session.proofs.AttachLemmas.{read_refused, attached_where_some, new_where_none, attaches, attached_rewound}
 use Rattle.cs_session.proofs.session.Session.attach.Goals as goal
 
 pub returns-then-is_some-clause-refused : goal.returns-then-is_some-clause-refused
@@ -11,6 +12,11 @@ returns-then-is_some-clause-refused g c = λ clean.
 
 pub returns-then-is_some-clause-shut : goal.returns-then-is_some-clause-shut
 returns-then-is_some-clause-shut g c = λ clean shut. inl (refl, returns-then-is_some-clause-refused g c clean)
+
+pub returns-in_err-schema-clause-named : goal.returns-in_err-schema-clause-named
+returns-in_err-schema-clause-named g c =
+    let p = err_from_is_err_and c.from_residual.result c.from_residual.ensures.1 in
+    rw (p.1, p.2) (read_refused c.in_err-schema.field-0.0 c.in_err-schema.ensures.named)
 
 pub push-requires-clause-fresh : goal.push-requires-clause-fresh
 push-requires-clause-fresh g c =
