@@ -42,7 +42,6 @@ fn answer(alloc: Global, rows: &mut TestRows, word: &str) -> Result<usize, NoMem
         "delete" => told(rows.delete(alloc)),
         "apply" => told(rows.apply(alloc)),
         "list" => told(rows.count(alloc)),
-        "tables" => told(rows::count_tables(alloc)),
         _ => Ok(0),
     }
 }
