@@ -55,14 +55,18 @@ class Library:
         self.asked = 0
         self.known = collections.Counter()
 
+    def answers(self, lines):
+        """What the library answers to lines."""
+        text = b"".join(line + b"\n" for line in lines)
+        done = subprocess.run([self.program], input=text, capture_output=True, timeout=PATIENCE)
+        return done.stdout.split(b"\n")
+
     def ask(self, questions):
         """Asks questions, and raises the first difference that no document tells."""
         if not self.is_there or not questions:
             return
         asked = [question.lines() for question in questions]
-        text = b"".join(line + b"\n" for lines in asked for line in lines)
-        done = subprocess.run([self.program], input=text, capture_output=True, timeout=PATIENCE)
-        told = done.stdout.split(b"\n")
+        told = self.answers([line for lines in asked for line in lines])
         for question, lines in zip(questions, asked):
             answers, told = told[:len(lines)], told[len(lines):]
             self.known.update(question.known)
@@ -168,7 +172,7 @@ class Apply:
 
     def sqlite_groups(self):
         """The groups, as SQLite is asked: with its flags, and without what it does not look at."""
-        groups = [(sqlite_flags(flags), name, entries) for flags, name, entries in self.groups]
+        groups = reader.numbered(self.groups)
         if groups != self.groups:
             self.known.append(APPLY_FLAGS)
         kept = [(flags, name, [entry for entry in entries if modifies(entry)]) for flags, name, entries in groups]
@@ -256,15 +260,6 @@ def copied(table):
     copy = Table(table.columns, table.flags)
     copy.rows = dict(table.rows)
     return copy
-
-
-def sqlite_flags(flags):
-    """The flags that SQLite writes of a table whose key has its columns in order."""
-    numbered, number = [], 0
-    for flag in flags:
-        number += flag != 0
-        numbered.append(number if flag else 0)
-    return bytes(numbered)
 
 
 def modifies(entry):

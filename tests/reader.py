@@ -207,3 +207,17 @@ def inverted(groups):
     return [
         (flags, name, [inverted_entry(flags, *entry) for entry in entries]) for flags, name, entries in groups
     ]
+
+
+def numbered_flags(flags):
+    """The flags that SQLite writes of a table whose key has its columns in order: 1, 2 and so on. No byte is more than 255."""
+    numbered, number = [], 0
+    for flag in flags:
+        number += flag != 0
+        numbered.append(min(number, 255) if flag else 0)
+    return bytes(numbered)
+
+
+def numbered(groups):
+    """Groups with the columns of their keys numbered."""
+    return [(numbered_flags(flags), name, entries) for flags, name, entries in groups]

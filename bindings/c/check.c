@@ -1,7 +1,7 @@
 /*
 ** Makes the calls of vollikash.h on what its standard input asks for, a line a call, and prints what they answer:
 **
-**     check HEX | invert HEX | concat HEX HEX | dump HEX | sql HEX      where "-" stands for no bytes
+**     check HEX | invert HEX | number_keys HEX | concat HEX HEX | dump HEX | sql HEX      where "-" stands for no bytes
 **     ok HEX                    the bytes, or the text, that were made
 **     error CODE FILE PLACE     the report of a refusal
 **
@@ -29,7 +29,7 @@ struct bytes {
 
 /* A call, by its name, and its files. */
 struct request {
-    char name[8];
+    char name[16];
     struct bytes first;
     struct bytes second;
 };
@@ -76,6 +76,9 @@ static int call(const struct request *request, struct bytes out, size_t *written
     }
     if (strcmp(request->name, "invert") == 0) {
         return vollikash_invert(first.at, first.count, out.at, out.count, written, fault);
+    }
+    if (strcmp(request->name, "number_keys") == 0) {
+        return vollikash_number_keys(first.at, first.count, out.at, out.count, written, fault);
     }
     if (strcmp(request->name, "dump") == 0) {
         return vollikash_dump(first.at, first.count, out.at, out.count, written, fault);

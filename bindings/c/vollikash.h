@@ -1,6 +1,6 @@
 /*
 ** Vollikash works on changesets, the files of SQLite's session extension: it
-** checks, inverts, joins and prints them. No call needs SQLite or a database.
+** checks, inverts, joins, numbers and prints them. No call needs SQLite or a database.
 **
 ** Of every call here it is proved, for every input, that it returns and what it
 ** answers (docs/PROMISES.md, "Calls for C"). What that takes for granted of the
@@ -19,7 +19,7 @@
 **     aligned to 16 bytes.
 **
 ** The caller owns every buffer. A call takes memory by malloc and realloc, some
-** seven times the bytes of its files at most, but vollikash_check some twenty,
+** eleven times the bytes of its files at most, but vollikash_check some twenty,
 ** and frees all of it before it returns. A text is made in memory first, and
 ** grows with the length of a table's name times the count of its entries. A call
 ** keeps no state, so any number of threads may call at once.
@@ -178,6 +178,16 @@ int vollikash_check(const uint8_t *file, size_t length, struct vollikash_fault *
 */
 int vollikash_invert(const uint8_t *file, size_t length, uint8_t *out, size_t room, size_t *written,
                      struct vollikash_fault *fault) VOLLIKASH_NONNULL;
+
+/*
+** The same changeset with the columns of each key numbered in column order, 1, 2
+** and so on, and 255 from the 255th on. It says and does the same, and is as long.
+** SQLite's sqlite3changeset_apply passes over a table whose flags are not these: a
+** changeset of a table with several key columns goes there by this call. Refused
+** with 1 to 18 or NO_MEMORY.
+*/
+int vollikash_number_keys(const uint8_t *file, size_t length, uint8_t *out, size_t room, size_t *written,
+                          struct vollikash_fault *fault) VOLLIKASH_NONNULL;
 
 /*
 ** The join, which does what the first file does and then what the second does. It

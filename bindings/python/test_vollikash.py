@@ -23,6 +23,10 @@ from vollikash import ChangesetError, Code, _files
 
 HERE = pathlib.Path(__file__).resolve().parent
 TOP = HERE.parent.parent
+sys.path.insert(0, str(TOP / "tests"))
+
+import reader  # noqa: E402
+
 BUILT = HERE.parent / "c/out"
 HEADER = HERE.parent / "c/vollikash.h"
 PROGRAM = TOP / "crates/changeset/out/changeset"
@@ -114,7 +118,13 @@ def wanted_of(files):
     refusals = [text if text.startswith("error") else "" for text in shown]
     # Behind the error line of a file that is refused, the slot of its inverse is printed too, which has no bytes.
     inverses = [refusal or undo for refusal, undo in zip(refusals, undone)]
-    return {"check": refusals, "invert": inverses, "dump": shown, "sql": statements(files)}
+    numbered = [refusal or numbered_by_reader(file) for refusal, file in zip(refusals, files)]
+    return {"check": refusals, "invert": inverses, "number_keys": numbered, "dump": shown, "sql": statements(files)}
+
+
+def numbered_by_reader(file):
+    """A file with the columns of its keys numbered, in digits, by the reader of the tests: no line of the program does it."""
+    return f"{reader.write(reader.numbered(reader.Reader(file).groups())).hex()}\n"
 
 
 class Files(unittest.TestCase):
@@ -139,7 +149,7 @@ class Files(unittest.TestCase):
             answers = harness([f"{call} {file.hex()}" for file in files], name)
             for file, answer, text in zip(files, answers, texts):
                 with self.subTest(call=call, file=file.hex(), by=name):
-                    made = bytes.fromhex if call == "invert" else str.encode
+                    made = bytes.fromhex if call in ("invert", "number_keys") else str.encode
                     self.assertEqual(printed(answer), (text, 1) if text.startswith("error") else (made(text), 0))
 
     def assert_refused(self, file, text):
@@ -147,6 +157,7 @@ class Files(unittest.TestCase):
         for call, files, which in (
             (vollikash.check, [file], 1),
             (vollikash.invert, [file], 1),
+            (vollikash.number_keys, [file], 1),
             (vollikash.dump, [file], 1),
             (vollikash.sql, [file], 1),
             (vollikash.concat, [file, file], 1),
@@ -209,11 +220,48 @@ class Files(unittest.TestCase):
 
     def test_no_bytes(self):
         self.assertIsNone(vollikash.check(b""))
-        self.assertEqual([vollikash.invert(b""), vollikash.concat(b"", b"")], [b"", b""])
+        self.assertEqual([vollikash.invert(b""), vollikash.number_keys(b""), vollikash.concat(b"", b"")], [b""] * 3)
         self.assertEqual([vollikash.dump(b""), vollikash.sql(b"")], ["", ""])
         self.assertEqual(vollikash.concat(b"", INSERT), INSERT)
         for name in CHECKS:
-            self.assertEqual(harness(["check -", "invert -", "concat - -", "dump -", "sql -"], name), ["ok -"] * 5)
+            requests = ["check -", "invert -", "number_keys -", "concat - -", "dump -", "sql -"]
+            self.assertEqual(harness(requests, name), ["ok -"] * len(requests))
+
+
+class Keys(unittest.TestCase):
+    """The columns of keys are numbered."""
+
+    @staticmethod
+    def file_of(flags):
+        """The file of an INSERT into a table with these flags."""
+        values = [b"\x01" + bytes(8)] * len(flags)
+        return reader.write([(bytes(flags), b"t", [(reader.INSERT, b"\x00", [values])])])
+
+    def test_numbers(self):
+        for flags, wanted in (
+            ([1], [1]),
+            ([7], [1]),
+            ([1, 1], [1, 2]),
+            ([2, 1], [1, 2]),
+            ([0, 9, 0, 255, 3], [0, 1, 0, 2, 3]),
+            ([1] * 300, [*range(1, 256), *[255] * 45]),
+            ([1] * 254 + [0, 1, 0, 1], [*range(1, 255), 0, 255, 0, 255]),
+        ):
+            with self.subTest(flags=flags):
+                numbered = vollikash.number_keys(self.file_of(flags))
+                self.assertEqual(numbered, self.file_of(wanted))
+                self.assertEqual(vollikash.number_keys(numbered), numbered)
+
+    def test_what_is_said_and_done_stays(self):
+        """It is numbered as its inverse is, and joins with that to nothing."""
+        for file in (path.read_bytes() for path in RECORDED):
+            if told(vollikash.check, file):
+                continue
+            with self.subTest(file=file.hex()):
+                numbered, inverse = vollikash.number_keys(file), vollikash.invert(file)
+                self.assertEqual(vollikash.invert(numbered), vollikash.number_keys(inverse))
+                self.assertEqual(vollikash.sql(numbered), vollikash.sql(file))
+                self.assertEqual(vollikash.concat(numbered, inverse), b"")
 
 
 class Calls(unittest.TestCase):
@@ -322,13 +370,13 @@ class Linked(unittest.TestCase):
         with tempfile.TemporaryDirectory() as folder:
             copied, beside = pathlib.Path(folder) / "python/vollikash", pathlib.Path(folder) / "c/out" / built.name
             shutil.copytree(HERE / "vollikash", copied)
-            for copy in (beside, copied.parent / built.name):
+            for copy in (beside, copied.parent / built.name, copied.parent / f"{built.name}.1"):
                 copy.parent.mkdir(parents=True, exist_ok=True)
                 shutil.copy(built, copy)
             environment = {**os.environ, "PYTHONPATH": str(copied.parent), "VOLLIKASH_LIBRARY": str(built)}
             words = [sys.executable, "-c", "from vollikash import _files; print(_files.__file__, _files._find())"]
             ran = subprocess.run(words, cwd=folder, env=environment, capture_output=True, text=True, check=True)
-        self.assertEqual(ran.stdout, f"{copied / '_files.py'} {built.name}\n")
+        self.assertEqual(ran.stdout, f"{copied / '_files.py'} {built.name}.1\n")
 
 
 class Readme(unittest.TestCase):

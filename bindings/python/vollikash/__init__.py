@@ -4,16 +4,16 @@
     >>> vollikash.dump(b"\\x54\\x01\\x01t\\x00\\x12\\x00\\x03\\x01x")
     "table 't' columns 1 flags 1\\ninsert 0 new 'x'\\n"
 
-`check`, `invert`, `concat`, `dump` and `sql` call libvollikash.so. `open` opens a store, by a `changeset` program that is
-run beside this one, and asked line by line.
+`check`, `invert`, `number_keys`, `concat`, `dump` and `sql` call libvollikash.so. `open` opens a store, by a `changeset`
+program that is run beside this one, and asked line by line.
 """
-from ._files import ChangesetError, Code, check, concat, dump, invert, sql
+from ._files import ChangesetError, Code, check, concat, dump, invert, number_keys, sql
 from ._lines import Conflict, Report, Value
 from ._process import ProgramError
 from ._store import ConflictError, Session, Store, StoreError, open
 
 __all__ = [
     "ChangesetError", "Code", "Conflict", "ConflictError", "ProgramError", "Report", "Session", "Store", "StoreError",
-    "Value", "check", "concat", "dump", "invert", "open", "sql",
+    "Value", "check", "concat", "dump", "invert", "number_keys", "open", "sql",
 ]
 __version__ = "1.0.0"

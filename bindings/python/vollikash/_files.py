@@ -92,8 +92,9 @@ def _find() -> str:
     # In the repository alone: of a copy of this file elsewhere, that path may be anybody's to write to.
     if here.match("bindings/python/vollikash") and built.exists():
         return str(built)
-    # A name with no slash in it: the loader looks for that where the system keeps libraries, not in the working folder.
-    return "libvollikash.so"
+    # A name with no slash in it: the loader looks for that where the system keeps libraries, not in the working folder. It has
+    # the first number of the version that this file calls.
+    return "libvollikash.so.1"
 
 
 @functools.lru_cache(maxsize=None)
@@ -103,9 +104,9 @@ def _library() -> ctypes.CDLL:
     library.vollikash_version.argtypes = ()
     library.vollikash_check.argtypes = _FILE + _FAULT
     library.vollikash_concat.argtypes = _FILE + _FILE + _OUT + _FAULT
-    for call in (library.vollikash_invert, library.vollikash_dump, library.vollikash_sql):
-        call.argtypes = _FILE + _OUT + _FAULT
-    for name in ("version", "check", "concat", "invert", "dump", "sql"):
+    for name in ("invert", "number_keys", "dump", "sql"):
+        getattr(library, f"vollikash_{name}").argtypes = _FILE + _OUT + _FAULT
+    for name in ("version", "check", "concat", "invert", "number_keys", "dump", "sql"):
         getattr(library, f"vollikash_{name}").restype = ctypes.c_int
     return library
 
@@ -146,6 +147,13 @@ def invert(file: Bytes) -> bytes:
     """The file of the changeset that undoes this one. Raises `ChangesetError`."""
     file = _bytes(file)
     return _made(_library().vollikash_invert, len(file), file)
+
+
+def number_keys(file: Bytes) -> bytes:
+    """The file of the same changeset with the columns of each key numbered in column order, as SQLite's apply wants them: it
+    passes over a table whose flags are others. Raises `ChangesetError`."""
+    file = _bytes(file)
+    return _made(_library().vollikash_number_keys, len(file), file)
 
 
 def concat(first: Bytes, second: Bytes) -> bytes:

@@ -1,6 +1,6 @@
 //! Calls on changesets.
 
-use cs_group::{ConcatFault, Merged, concat, invert, merge};
+use cs_group::{ConcatFault, Merged, concat, invert, merge, number_keys};
 use cs_value::{NoMemory, OwnedValue, Row};
 use cs_wire::{Change, Changeset, Cursor, Entry, Group, Header, Item, ReadError, read, write};
 use std::alloc::Global;
@@ -108,6 +108,12 @@ pub(crate) fn make_group(alloc: Global) -> Result<usize, NoMemory> {
 pub(crate) fn invert_read(alloc: Global) -> Result<usize, ReadError> {
     let inverse = invert(alloc, read(alloc, UPDATE)?)?;
     Ok(write(alloc, &inverse)?.len())
+}
+
+/// Numbers the keys of a changeset, and tells how many bytes it is written with.
+pub(crate) fn number_read(alloc: Global) -> Result<usize, ReadError> {
+    let numbered = number_keys(alloc, read(alloc, UPDATE)?)?;
+    Ok(write(alloc, &numbered)?.len())
 }
 
 /// Joins two changesets, and tells how many bytes the join is written with.

@@ -33,6 +33,7 @@ fn answer(alloc: Global, rows: &mut TestRows, word: &str) -> Result<usize, NoMem
         "push" => told(changes::add_entry(alloc)),
         "group" => changes::make_group(alloc),
         "invert" => told(changes::invert_read(alloc)),
+        "number" => told(changes::number_read(alloc)),
         "concat" => told(changes::join_read(alloc)),
         "merge" => changes::merge_two(alloc),
         "declare" => told(rows.declare(alloc)),
@@ -41,7 +42,6 @@ fn answer(alloc: Global, rows: &mut TestRows, word: &str) -> Result<usize, NoMem
         "delete" => told(rows.delete(alloc)),
         "apply" => told(rows.apply(alloc)),
         "list" => told(rows.count(alloc)),
-        "tables" => told(rows::count_tables(alloc)),
         _ => Ok(0),
     }
 }

@@ -1,7 +1,7 @@
 //! Calls on tables in memory.
 
 use cs_apply::{ApplyFault, Choice, Direction, run_in};
-use cs_store::{Edit, MemRows, Rows, Store, StoreError, edit_in};
+use cs_store::{Edit, MemRows, Rows, StoreError, edit_in};
 use cs_value::{Key, NoMemory, OwnedValue, Row};
 use std::alloc::Global;
 
@@ -31,13 +31,6 @@ fn key_of(alloc: Global, number: i64) -> Result<Key, NoMemory> {
 fn column_names(alloc: Global) -> Result<Vec<String>, NoMemory> {
     let (first, second) = (String::from_str(alloc, "a")?, String::from_str(alloc, "b")?);
     Ok(vec![in alloc; first, second]?)
-}
-
-/// Declares a table in a new store in memory, and tells how many tables that has.
-pub(crate) fn count_tables(alloc: Global) -> Result<usize, StoreError> {
-    let mut store = Store::new_memory(alloc)?;
-    store.declare(alloc, "t", &column_names(alloc)?, &[true, false])?;
-    Ok(store.tables(alloc)?.len())
 }
 
 impl TestRows {

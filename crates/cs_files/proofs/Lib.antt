@@ -2,6 +2,7 @@ pub mod Examples
 pub mod GatherLemmas
 pub mod InvertLemmas
 pub mod JoiningLemmas
+pub mod NumberLemmas
 pub mod PassLemmas
 pub mod PrintLemmas
 pub mod SeparatedLemmas

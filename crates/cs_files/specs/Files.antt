@@ -1,9 +1,11 @@
--- What it is for files to be the inverse of one, and the join of two, and for a text to be what is printed of one.
+-- What it is for files to be the inverse of one, one with its key columns numbered, and the join of two, and for a text
+-- to be what is printed of one.
 use Rattle.std.specs.Prelude.{◌≡◌, ℕ, List}
 use Rattle.cs_wire.specs.Changeset.{GroupData, IsChangeset, IsAccepted, file_bytes}
 use Rattle.cs_wire.specs.ReadFaults.{ReadFails}
 use Rattle.cs_group.specs.Inverse.{IsInverse}
 use Rattle.cs_group.specs.Joining.{IsJoined, FirstClash}
+use Rattle.cs_group.specs.Numbering.{numbered}
 use Rattle.cs_files.specs.declared.fault.FileFault.{FileFault}
 use Rattle.cs_files.specs.declared.fault.FileFault.TheVariants.{First, Second, Schema}
 
@@ -16,6 +18,14 @@ pub record Inverts (file out : List ℕ) : Type 0 where
   pub is_inverse : IsInverse changeset inverse
   pub inverse_is_changeset : IsChangeset inverse
   pub inverse_is_file : out ≡ file_bytes inverse
+
+-- the bytes are the file of a changeset, and out is that of it with its key columns numbered
+pub record Numbers (file out : List ℕ) : Type 0 where
+  pub changeset : List GroupData
+  pub is_changeset : IsChangeset changeset
+  pub is_file : file ≡ file_bytes changeset
+  pub numbered_is_changeset : IsChangeset (numbered changeset)
+  pub numbered_is_file : out ≡ file_bytes (numbered changeset)
 
 -- two files, of these changesets
 pub record AreFiles (first second : List ℕ) (changeset other : List GroupData) : Type 0 where

@@ -21,5 +21,6 @@ pub use Rattle.cs_wire.specs.Entry
 pub use Rattle.cs_wire.specs.Changeset
 pub use Rattle.cs_wire.specs.ReadFaults
 pub use Rattle.cs_group.specs.Inverse
+pub use Rattle.cs_group.specs.Numbering
 pub use Rattle.cs_group.specs.Net
 pub use Rattle.cs_group.specs.Joining

@@ -2,7 +2,7 @@
 ghost use Rattle.std.specs.Prelude.{◌≡◌, ◌+◌, ◌≤◌, length, IfOk, IfErr, IsTrue, OnOk};
 ghost use Rattle.cs_value.specs.Refusals.{Refuses};
 ghost use Rattle.cs_wire.specs.ReadFaults.{ReadFails};
-ghost use Rattle.cs_files.specs.Files.{Inverts, Joins, Prints, JoinFails, FirstFails};
+ghost use Rattle.cs_files.specs.Files.{Inverts, Joins, Numbers, Prints, JoinFails, FirstFails};
 ghost use Rattle.cs_files.specs.Told.{has_failed};
 ghost use Rattle.cs_files.specs.Texts.{dump_of, sql_of};
 ghost use Rattle.cs_files.specs.Forms.{form_text};
@@ -11,9 +11,10 @@ ghost use Rattle.cs_files.specs.Printing.{IfUnread, IfUnwritten, PrintsTo, Print
 use crate::fault::{PrintFault, ToolFault, first_fault, second_fault, text_fault};
 use crate::inverting::write_inverse;
 use crate::joining::join_tables;
+use crate::numbering::write_numbered;
 use crate::texts::{Form, write_tables};
 use crate::told::Told;
-use cs_wire::{ReadError, Tables};
+use cs_wire::{NamedTables, ReadError, Tables};
 use std::alloc::Global;
 use std::io::Write;
 
@@ -33,6 +34,25 @@ pub fn invert_bytes(alloc: Global, file: &[u8]) -> Result<Vec<u8>, ReadError>
     let tables = Tables::read(alloc, file)?;
     let mut out = Vec::with_capacity(alloc, file.len())?;
     write_inverse(&mut out, tables)?;
+    Ok(out)
+}
+
+/// The file of the changeset with the flags of key columns numbered, as [`cs_group::number_keys`] does it. It says and does
+/// the same, and is as long. It takes as many bytes, beside these what reading takes, and the tables of the file by their names.
+///
+/// # Errors
+///
+/// `Fault` where the bytes are no changeset's file, with the fault's kind and place, and `NoMemory`
+/// where memory is refused.
+pub fn number_keys_bytes(alloc: Global, file: &[u8]) -> Result<Vec<u8>, ReadError>
+    ensures numbered { IfOk result (λ out. Numbers file.now out.items) }
+    ensures length { IfOk result (λ out. length out.items ≡ length file.now) }
+    ensures refused { IfErr result (Refuses (λ f. ReadFails file.now f.kind f.place)) }
+{
+    let tables = Tables::read(alloc, file)?;
+    let named = NamedTables::list(alloc, tables)?;
+    let mut out = Vec::with_capacity(alloc, file.len())?;
+    write_numbered(alloc, &mut out, &named)?;
     Ok(out)
 }
 

@@ -8,7 +8,7 @@ ghost use Rattle.cs_files.specs.Files.{AreUnjoined};
 
 mod columns;
 mod entries;
-mod tables;
+pub(crate) mod tables;
 
 use crate::fault::{FileFault, ToolFault};
 use crate::joining::columns::first_clash;

@@ -9,7 +9,8 @@
 //! assert_eq!(rt; text, b"DELETE FROM \"t\" WHERE c1='x';\n");
 //! ```
 //!
-//! `files` makes files and texts of files, `inverting` writes an inverse, and `fault` says why not. `texts` has the readable texts of
+//! `files` makes files and texts of files, `inverting` writes an inverse, `joining` a join, `numbering` a
+//! file whose key columns are numbered, and `fault` says why not. `texts` has the readable texts of
 //! changesets, owned or where they stand in a file, and `gather` what is gathered of them before it is
 //! written. `told` has the readers and writers that remember whether a call failed, and what writes all
 //! of some bytes to one.
@@ -22,11 +23,14 @@ mod files;
 mod gather;
 mod inverting;
 mod joining;
+mod numbering;
 mod texts;
 mod told;
 
 pub use fault::{FileFault, OutputFault, PrintFault, ToolFault, first_fault};
-pub use files::{concat_bytes, dump_file, invert_bytes, print_dump, print_sql, sql_file};
+pub use files::{
+    concat_bytes, dump_file, invert_bytes, number_keys_bytes, print_dump, print_sql, sql_file,
+};
 pub use gather::Gather;
 pub use texts::{Piece, add_pieces, dump_text, sql_text};
 pub use told::{Told, write_whole};

@@ -22,3 +22,5 @@ pub mod NetLemmas
 pub mod ApplyLemmas
 pub mod JudgingLemmas
 pub mod ApplyExamples
+pub mod NumberingLemmas
+pub mod NumberingExamples

@@ -8,6 +8,7 @@ pub mod Judging
 pub mod Conflicts
 pub mod Applying
 pub mod Laws
+pub mod Numbering
 pub use Rattle.cs_value.specs.Value
 pub use Rattle.cs_value.specs.Key
 pub use Rattle.cs_value.specs.Table

@@ -10,7 +10,8 @@
 //! assert_eq!(rt; write(alloc, &both)?, b"\x54\x02\x01\x00t\x00\x12\x00\x03\x01k\x03\x01y");
 //! ```
 //!
-//! `inverse` makes the changeset that undoes another one, and `joining` one changeset of two: `columns`
+//! `inverse` makes the changeset that undoes another one, `numbering` the one whose key columns are numbered as
+//! SQLite numbers them, and `joining` one changeset of two: `columns`
 //! tells whether that can be, `entries` goes by the keys of a table, `keyed` finds groups by names and entries by keys,
 //! `joined` gathers what comes out, and `merging` makes one entry of two. `net` has the change from one row to another, `image` what entries say of rows before and
 //! after, and `fault` says why two changesets are not joined.
@@ -33,6 +34,7 @@ mod keyed;
 mod laws;
 mod merging;
 mod net;
+mod numbering;
 
 pub use columns::have_same_columns;
 pub use conflict::{Choice, Kind, conflict_kind, row_after};
@@ -43,3 +45,4 @@ pub use judging::{Judgement, judge};
 pub use laws::{applied_once_law, applied_reverts_law, written_tells_law};
 pub use merging::{Merged, merge, merge_refs};
 pub use net::{net_change, net_row_change};
+pub use numbering::{number_flags, number_keys};

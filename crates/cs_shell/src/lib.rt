@@ -39,7 +39,7 @@ mod workspace;
 
 pub use cs_files::{
     FileFault, OutputFault, PrintFault, Told, ToolFault, concat_bytes, dump_file, dump_text,
-    first_fault, invert_bytes, print_dump, print_sql, sql_file, sql_text,
+    first_fault, invert_bytes, number_keys_bytes, print_dump, print_sql, sql_file, sql_text,
 };
 pub use cs_group::SchemaFault;
 pub use cs_lines::{Assignment, Command, LineFault, SyntaxFault, parse_line};

@@ -1,7 +1,10 @@
-//! Databases in memory that are taken over as stores, or handed back.
+//! Databases that are taken over as stores, or handed back.
 
+use crate::stores::fill;
 use cs_store::{Store, StoreError};
-use sqlite::{Alter, Connection, MemStore};
+use cs_value::Value;
+use sqlite::{Alter, Connection, Error, FileStore, Leftover, MemStore, Options};
+use sqlite_disk::{Disk, Files};
 use std::process::Abort;
 
 /// A database in memory.
@@ -14,6 +17,33 @@ fn adopted<S: Alter>(rt: &(impl Abort + AllocGlobal), conn: Connection<S>) -> St
     match Store::adopt(rt.alloc(), conn) {
         Ok(store) => store,
         Err((error, _)) => panic!(rt; "no store: {error}"),
+    }
+}
+
+/// What opening a database answers. What is written goes to the log at once, and what is in the log is copied back before
+/// a transaction writes.
+pub(crate) fn open<D: Disk + Drop>(
+    rt: &(impl Abort + AllocGlobal),
+    files: Files<D>,
+) -> Result<Connection<FileStore<D>>, (Error, Leftover<D>)> {
+    assert!(rt; files.log.may_be_used() && files.db.may_be_used());
+    let options = Options {
+        cache_pages: 4,
+        spill_pages: 1,
+        checkpoint_frames: 1,
+        seed: 1,
+    };
+    Connection::open_files(rt.alloc(), files, options)
+}
+
+/// The store on disks that answer.
+pub(crate) fn opened<D: Disk + Drop>(
+    rt: &(impl Abort + AllocGlobal),
+    files: Files<D>,
+) -> Store<FileStore<D>> {
+    match open(rt, files) {
+        Ok(conn) => adopted(rt, conn),
+        Err((error, _)) => panic!(rt; "no database: {error}"),
     }
 }
 
@@ -49,4 +79,48 @@ fn hands_a_connection_back(rt: HostRuntime) {
         .expect(&rt, "a table");
     conn.execute("COMMIT", &[]).expect(&rt, "a commit");
     let _conn = handed_back(&rt, conn, StoreError::DamagedStore);
+}
+
+/// What is done to a store with the row (1, 'x') of t, so that its records are not those of tables.
+const DAMAGES: &[&str] = &[
+    // The version is another one.
+    "UPDATE rec SET rowb = X'03' WHERE tab = '' AND keyb = X''",
+    // The declaration of t goes on behind its last column.
+    "UPDATE rec SET rowb = X'0201016100016200' WHERE tab = '' AND keyb = X'74'",
+    // The row has one value.
+    "UPDATE rec SET rowb = X'010000000000000001' WHERE tab = 't'",
+    // The key is that of (2, 'x').
+    "UPDATE rec SET keyb = X'010000000000000002' WHERE tab = 't'",
+    // The key is NULL.
+    "UPDATE rec SET keyb = X'05', rowb = X'05030178' WHERE tab = 't'",
+    // The second value is a real.
+    "UPDATE rec SET rowb = X'010000000000000001023ff0000000000000' WHERE tab = 't'",
+    // The version is missing.
+    "DELETE FROM rec WHERE tab = '' AND keyb = X''",
+];
+
+/// A store with the row (1, 'x') of t, to which that is done.
+fn damaged(rt: &(impl Abort + AllocGlobal), damage: &str) -> Connection<MemStore> {
+    let mut store = Store::new_memory(rt.alloc()).expect(rt, "a store");
+    fill(rt, &mut store, &[[Value::Int(1), Value::Text("x")]]);
+    let mut conn = store.into_connection();
+    assert!(rt; conn.execute(damage, &[]) == Ok(1));
+    conn
+}
+
+/// The records of a database, as a text.
+fn records_of<S: Alter>(rt: &(impl Abort + AllocGlobal), conn: &mut Connection<S>) -> String {
+    let sql = "SELECT group_concat(tab || '|' || hex(keyb) || '|' || hex(rowb)) FROM rec";
+    let row = conn.query_row(sql, &[]).expect(rt, "a row");
+    row.get(0).expect(rt, "a text")
+}
+
+#[test]
+fn refuses_damaged_stores(rt: HostRuntime) {
+    for (place, damage) in DAMAGES.iter().enumerate() {
+        let mut conn = damaged(&rt, damage);
+        let records = records_of(&rt, &mut conn);
+        let mut conn = handed_back(&rt, conn, StoreError::DamagedStore);
+        assert!(rt; records_of(&rt, &mut conn) == records, "at {place}");
+    }
 }

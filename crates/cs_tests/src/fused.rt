@@ -2,37 +2,56 @@
 //!
 //! The table t of these tests has the columns a and b, of which a is the key.
 
+use crate::adoption::opened;
 use crate::session::{edited, session_of};
 use crate::stores::{Call, declaration, edit_of, end, store_with_table};
 use cs_session::Session;
 use cs_store::Store;
 use cs_value::Value;
 use cs_wire::write;
-use sqlite::{Alter, Connection, FileStore, MemStore, Options};
-use sqlite_disk::{Files, Fuse, Memory};
+use sqlite::{Alter, FileStore, MemStore};
+use sqlite_disk::{Disk, Files, Fuse, Memory};
 use std::process::Abort;
 
-/// A database whose log is on a disk that answers so many calls.
-fn database(rt: &(impl Abort + AllocGlobal), calls: u64) -> Connection<FileStore<Fuse<Memory>>> {
-    let files = Files {
-        log: Fuse::new(Memory::new(rt.alloc()), calls),
-        db: Fuse::new(Memory::new(rt.alloc()), u64::MAX),
-    };
-    match Connection::open_files(rt.alloc(), files, Options::new(1)) {
-        Ok(conn) => conn,
-        Err((error, _)) => panic!(rt; "no database: {error}"),
+/// Files that hold nothing.
+pub(crate) fn new_files(rt: &(impl Abort + AllocGlobal)) -> Files<Memory> {
+    Files {
+        log: Memory::new(rt.alloc()),
+        db: Memory::new(rt.alloc()),
     }
 }
 
-/// A store with t there.
-fn store_on(rt: &(impl Abort + AllocGlobal), calls: u64) -> Store<FileStore<Fuse<Memory>>> {
-    match Store::adopt(rt.alloc(), database(rt, calls)) {
-        Ok(mut store) => {
-            declaration(rt, &mut store, "t", &[true, false]).expect(rt, "a table");
-            store
-        }
-        Err((error, _)) => panic!(rt; "no store: {error}"),
+/// A file with the bytes of another, all of which are synced.
+pub(crate) fn copy_of(rt: &(impl Abort + AllocGlobal), file: &Memory) -> Memory {
+    let mut copy = Memory::new(rt.alloc());
+    copy.write_at(0, file.bytes()).expect(rt, "memory");
+    copy.sync().expect(rt, "memory");
+    copy
+}
+
+/// Copies of files, of which the log, or else the database, answers so many calls.
+pub(crate) fn fused(
+    rt: &(impl Abort + AllocGlobal),
+    files: &Files<Memory>,
+    is_log: bool,
+    calls: u64,
+) -> Files<Fuse<Memory>> {
+    let (log, db) = if is_log {
+        (calls, u64::MAX)
+    } else {
+        (u64::MAX, calls)
+    };
+    Files {
+        log: Fuse::new(copy_of(rt, &files.log), log),
+        db: Fuse::new(copy_of(rt, &files.db), db),
     }
+}
+
+/// A store with t whose log is on a disk that answers so many calls.
+fn store_on(rt: &(impl Abort + AllocGlobal), calls: u64) -> Store<FileStore<Fuse<Memory>>> {
+    let mut store = opened(rt, fused(rt, &new_files(rt), true, calls));
+    declaration(rt, &mut store, "t", &[true, false]).expect(rt, "a table");
+    store
 }
 
 /// The bytes of the changeset that a session tells of a store.
@@ -88,7 +107,7 @@ fn count_edits<S: Alter>(rt: &(impl Abort + AllocGlobal), store: &mut Store<S>) 
 #[test]
 fn a_refused_commit_is_not_noted(rt: HostRuntime) {
     let mut most = 0;
-    for calls in 28..=36 {
+    for calls in 56..=100 {
         let mut store = store_on(&rt, calls);
         let count = count_edits(&rt, &mut store);
         assert!(rt;

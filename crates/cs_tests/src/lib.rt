@@ -2,7 +2,7 @@
 //!
 //! `value`, `wire`, `group`, `lines`, `files`, `store`, `apply` and `session` have those of a crate each, and `refusals`
 //! the numbers, names and texts of what they refuse with. `stores` has those of stores over SQL,
-//! `adoption` those of what is taken over as a store, `fused` those of disks that stop to answer, and `calling` the
+//! `adoption` those of what is taken over as a store, `fused` and `stopped` those of disks that stop to answer, and `calling` the
 //! callers of `CALLING.md`.
 #![tactic(auto)]
 
@@ -24,6 +24,8 @@ mod lines;
 mod refusals;
 #[cfg(test)]
 mod session;
+#[cfg(test)]
+mod stopped;
 #[cfg(test)]
 mod store;
 #[cfg(test)]

@@ -3,7 +3,7 @@
 //! The table t of these tests has the columns a and b, of which a is the key.
 
 use crate::store::{deletion, insertion, names, update};
-use crate::stores::{Call, are, declaration, edit_of, end, rows_of, store_with_table};
+use crate::stores::{Call, are, edit_of, end, fill, rows_of, store_with_table};
 use cs_session::{Session, SessionFault};
 use cs_store::{Edit, Store};
 use cs_value::{Fault, Value};
@@ -12,9 +12,9 @@ use std::fs;
 use std::process::Abort;
 
 /// The number of a refusal, or 0.
-fn number(answer: Result<(), SessionFault>) -> u8 {
+pub(crate) fn number<T: Drop, E: Fault + Drop>(answer: Result<T, E>) -> u8 {
     match answer {
-        Ok(()) => 0,
+        Ok(_) => 0,
         Err(fault) => fault.code(),
     }
 }
@@ -63,7 +63,7 @@ const OTHERS: &[(&str, &str, &[bool], u8)] = &[
 ];
 
 /// A session with t of a store, which is no more.
-fn session_alone(rt: &(impl Abort + AllocGlobal)) -> Session {
+pub(crate) fn session_alone(rt: &(impl Abort + AllocGlobal)) -> Session {
     let mut store = store_with_table(rt);
     let session = session_of(rt, &mut store, &["t"]);
     end(store);
@@ -91,10 +91,7 @@ fn changeset_number<S: Alter>(
     session: &Session,
     store: &mut Store<S>,
 ) -> u8 {
-    match session.changeset(rt.alloc(), store) {
-        Ok(_) => 0,
-        Err(fault) => fault.code(),
-    }
+    number(session.changeset(rt.alloc(), store))
 }
 
 /// The number that a session refuses to undo with, or 0.
@@ -103,10 +100,7 @@ fn undo_number<S: Alter>(
     session: &Session,
     store: &mut Store<S>,
 ) -> u8 {
-    match session.undo(rt.alloc(), store) {
-        Ok(_) => 0,
-        Err(fault) => fault.code(),
-    }
+    number(session.undo(rt.alloc(), store))
 }
 
 /// Whether a session answers this number for a store whatever it is asked: to an edit of t, to the
@@ -195,19 +189,10 @@ fn edit_and_undo<S: Alter>(rt: &(impl Abort + AllocGlobal), store: &mut Store<S>
     assert!(rt; report.is_clean() && report.written.len() == 20);
 }
 
-/// Declares t in a store, with its ten rows.
-fn fill_with_ten<S: Alter>(rt: &(impl Abort + AllocGlobal), store: &mut Store<S>) {
-    declaration(rt, store, "t", &[true, false]).expect(rt, "a table");
-    for row in TEN {
-        let edit = insertion(rt, "t", row);
-        store.edit(rt.alloc(), &edit).expect(rt, "no refusal");
-    }
-}
-
 /// Fills a store, and has a session edit it and undo that, where it is new. It has the ten rows then.
 fn expect_ten<S: Alter>(rt: &(impl Abort + AllocGlobal), store: &mut Store<S>, is_new: bool) {
     if is_new {
-        fill_with_ten(rt, store);
+        fill(rt, store, TEN);
         edit_and_undo(rt, store);
     }
     assert!(rt; are(rt, &rows_of(rt, store), TEN));

@@ -25,6 +25,19 @@ pub(crate) fn store_with_table(rt: &(impl Abort + AllocGlobal)) -> Store<MemStor
     store
 }
 
+/// Declares t in a store, with these rows.
+pub(crate) fn fill<S: Alter>(
+    rt: &(impl Abort + AllocGlobal),
+    store: &mut Store<S>,
+    rows: &[[Value<'_>; 2]],
+) {
+    declaration(rt, store, "t", &[true, false]).expect(rt, "a table");
+    for row in rows {
+        let edit = insertion(rt, "t", row);
+        store.edit(rt.alloc(), &edit).expect(rt, "no refusal");
+    }
+}
+
 /// Ends a store.
 pub(crate) fn end(store: Store<MemStore>) {
     let _conn = store.into_connection();
@@ -60,18 +73,49 @@ pub(crate) fn are(
     true
 }
 
-/// Whether a store has t alone.
-fn has_only_t<S: Alter>(rt: &(impl Abort + AllocGlobal), store: &mut Store<S>) -> bool {
-    let tables = store.tables(rt.alloc()).expect(rt, "names");
-    tables.len() == 1 && tables.first().expect(rt, "a name").as_str() == "t"
-}
-
-/// Whether a store has a table of this name, whose first column of two is its key.
+/// Whether a store has a table of this name, with the columns a and b, of which a is the key.
 fn has_schema<S: Alter>(rt: &(impl Abort + AllocGlobal), store: &mut Store<S>, name: &str) -> bool {
     match store.schema(rt.alloc(), name).expect(rt, "memory") {
-        Some(schema) => schema.flags() == [1, 0].as_slice(),
+        Some(schema) => {
+            schema.columns() == names(rt, "a", "b").as_slice()
+                && schema.flags() == [1, 0].as_slice()
+        }
         None => false,
     }
+}
+
+/// Whether a store has a table with these rows.
+fn has_table<S: Alter>(
+    rt: &(impl Abort + AllocGlobal),
+    store: &mut Store<S>,
+    name: &str,
+    rows: &[[Value<'_>; 2]],
+) -> bool {
+    let listed = store.rows(rt.alloc(), name).expect(rt, "a table");
+    has_schema(rt, store, name) && are(rt, &listed, rows)
+}
+
+/// The names of the tables of a store, and the rows of t. Each other table has none.
+pub(crate) type State = (&'static [&'static str], &'static [[Value<'static>; 2]]);
+
+/// Whether a store has these tables, and no other.
+pub(crate) fn has<S: Alter>(
+    rt: &(impl Abort + AllocGlobal),
+    store: &mut Store<S>,
+    state: State,
+) -> bool {
+    let (names, rows) = state;
+    let listed = store.tables(rt.alloc()).expect(rt, "names");
+    if listed.len() != names.len() {
+        return false;
+    }
+    for (name, wanted) in listed.iter().zip(names) {
+        let rows = if *wanted == "t" { rows } else { &[] };
+        if name.as_str() != *wanted || !has_table(rt, store, wanted, rows) {
+            return false;
+        }
+    }
+    true
 }
 
 /// What a store answers for the row of a table at the key 1.
@@ -100,8 +144,8 @@ fn has_the_declared_tables_alone(rt: HostRuntime) {
     let mut store = store_with_table(&rt);
     let again = declaration(&rt, &mut store, "t", &[true, false]);
     assert!(rt; again == Err(StoreError::TableExists));
-    assert!(rt; has_only_t(&rt, &mut store));
-    assert!(rt; has_schema(&rt, &mut store, "t") && !has_schema(&rt, &mut store, "u"));
+    assert!(rt; has(&rt, &mut store, (&["t"], &[])));
+    assert!(rt; !has_schema(&rt, &mut store, "u"));
     assert!(rt; found(&rt, &mut store, "t") == Ok(None));
     assert!(rt; has_no_rows(&rt, &mut store, "u"));
     end(store);

@@ -10,7 +10,7 @@
 
 ghost use Rattle.std.specs.Prelude.{◌≡◌, ◌≢◌, ◌+◌, ◌≤◌, length, pos};
 ghost use Rattle.cs_wire.specs.Changeset.{IsAccepted};
-ghost use Rattle.cs_files.specs.Files.{Inverts, Joins, Prints, JoinFails, FirstFails};
+ghost use Rattle.cs_files.specs.Files.{Inverts, Joins, Numbers, Prints, JoinFails, FirstFails};
 ghost use Rattle.cs_files.specs.Texts.{dump_of, sql_of};
 ghost use Rattle.vollikash.specs.Answers.{Gives, Lacks, Tells, IsMadeCode, IsRefusal, no_fault};
 
@@ -18,7 +18,7 @@ mod answer;
 
 pub use answer::{FaultReport, NO_ROOM, OK};
 use answer::{hand_out, report, report_plain};
-use cs_files::{concat_bytes, dump_file, first_fault, invert_bytes, sql_file};
+use cs_files::{concat_bytes, dump_file, first_fault, invert_bytes, number_keys_bytes, sql_file};
 use cs_wire::Tables;
 use std::alloc::Global;
 
@@ -96,6 +96,30 @@ pub extern "C" fn vollikash_concat(
     ensures plain { IsMadeCode result → fault.new ≡ no_fault result }
 {
     hand_out(concat_bytes(alloc, first, second), out, written, fault)
+}
+
+/// Puts the file of the changeset of this file with the columns of each key numbered, as SQLite numbers them, into `out`,
+/// and its length, which is that of the file, into `written`.
+///
+/// It answers `OK`, `NO_ROOM`, or the number of what is wrong with the file, or that memory was refused.
+#[unsafe(no_mangle)]
+pub extern "C" fn vollikash_number_keys(
+    alloc: Global,
+    file: &[u8],
+    out: &mut [u8],
+    written: &mut usize,
+    fault: &mut FaultReport,
+) -> i32
+    ensures numbered { result ≡ OK → Gives (Numbers file.now) out.old out.new written.new }
+    ensures room { result ≡ NO_ROOM → Lacks (Numbers file.now) out.old written.new }
+    ensures enough { length file.now ≤ length out.old → result ≢ NO_ROOM }
+    ensures refused { IsRefusal result → Tells (FirstFails file.now) fault.new written.new }
+    ensures same { result ≢ OK → out.new ≡ out.old }
+    ensures code { fault.new.code ≡ result }
+    ensures plain { IsMadeCode result → fault.new ≡ no_fault result }
+{
+    let numbered = number_keys_bytes(alloc, file).map_err(|error| first_fault(error));
+    hand_out(numbered, out, written, fault)
 }
 
 /// Puts what the changeset of this file holds into `out`, for a reader, a line for each table and for each

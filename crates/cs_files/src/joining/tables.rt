@@ -84,8 +84,8 @@ fn write_new_table<'a>(
     }
 }
 
-/// Appends a table as it is.
-fn write_table<'a>(
+/// Appends a table as it is, under this header.
+pub(crate) fn write_table<'a>(
     out: &mut Vec<u8>,
     header: &HeaderRef<'a>,
     tables: Tables<'a>,

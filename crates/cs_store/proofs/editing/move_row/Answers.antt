@@ -27,11 +27,12 @@ returns-clause-moved g c = λ honest.
     let put = c.in_ok-remove.ensures.was_honest honest in
     let before = c.in_ok-put.ensures.was_honest put in
     let same = c.in_ok-check_vacant.ensures.same before in
-    let name = c.args.table.now in
-    (c.in_ok-check_vacant.ensures.vacant before,
-    c.in_ok-remove.ensures.removed honest
-    ∙ ap (λ (s : State). without_row s name c.args.key.now) (c.in_ok-put.ensures.set put ∙ ap (λ (s : State). with_row s name c.args.next.now c.args.row.now) same)
-    ∙ moved_either_way _ name c.args.key.now c.args.next.now c.args.row.now (c.requires.fits (c.in_ok-check_vacant.ensures.was_honest before)) c.requires.apart)
+    let name = c.args.table.now in (
+      c.in_ok-check_vacant.ensures.vacant before,
+      c.in_ok-remove.ensures.removed honest
+          ∙ ap (λ (s : State). without_row s name c.args.key.now) (c.in_ok-put.ensures.set put ∙ ap (λ (s : State). with_row s name c.args.next.now c.args.row.now) same)
+          ∙ moved_either_way _ name c.args.key.now c.args.next.now c.args.row.now (c.requires.fits (c.in_ok-check_vacant.ensures.was_honest before)) c.requires.apart,
+    )
 
 pub returns-clause-kept : goal.returns-clause-kept
 returns-clause-kept g c =
