@@ -1,10 +1,10 @@
 //! Changesets applied to stores.
-ghost use Rattle.std.specs.Prelude.{◌≡◌, [], IfOk, IfErr, OnOk, OnErr, MatchResult};
+ghost use Rattle.std.specs.Prelude.{◌≡◌, [], IsTrue, IfOk, IfErr, OnOk, OnErr, MatchResult};
 ghost use Rattle.std.specs.Fn.{FnReturnsAt};
 ghost use Rattle.sqlite.specs.State.{HasCleanDisk};
 ghost use Rattle.sqlite.specs.Held.{state};
 ghost use Rattle.cs_value.specs.State.{State};
-ghost use Rattle.cs_store.specs.Crash.{IsAtomic, LeavesOnly};
+ghost use Rattle.cs_store.specs.Crash.{CanBegin, IsAtomic, LeavesOnly};
 ghost use Rattle.cs_store.specs.Records.{KeepsContent};
 ghost use Rattle.cs_store.specs.Store.{IsAtRest, RefusesShut, tables_in};
 ghost use Rattle.cs_group.specs.declared.conflict.Choice.TheVariants.{Abort as AbortChoice};
@@ -23,7 +23,8 @@ use sqlite::Alter;
 use std::alloc::Global;
 
 /// Applies the changeset of a file to a store in one transaction, as [`run_in`] does. A refusal changes
-/// nothing. A crash leaves the tables as before, or as applied; once this is done, these alone.
+/// nothing. A crash leaves the tables as before, or as applied; once this is done, these alone, and once
+/// it is refused and the store is open still, those alone.
 pub fn apply<S: Alter, H: Fn(&Conflict) -> Choice>(
     alloc: Global,
     store: &mut Store<S>,
@@ -41,17 +42,19 @@ pub fn apply<S: Alter, H: Fn(&Conflict) -> Choice>(
     ensures at_rest { HasCleanDisk (state S.Store store.new) → OnOk result (IsAtRest (state S.Store store.new)) }
     ensures kept { HasCleanDisk (state S.Store store.new)
         → OnErr result (KeepsContent (state S.Store store.old) (state S.Store store.new)) }
-    ensures atomic { IsAtomic (AppliesInto (FnReturnsAt H.Fn handler.now) file.now ForwardRun (tables_in (state S.Store store.old).now))
+    ensures atomic { IsAtomic CanBegin (AppliesInto (FnReturnsAt H.Fn handler.now) file.now ForwardRun (tables_in (state S.Store store.old).now))
         (state S.Store store.old) (state S.Store store.new) }
     ensures left { OnOk result (LeavesOnly (λ left. left ≡ tables_in (state S.Store store.new).now)
         (state S.Store store.new)) }
+    ensures stands { OnErr result (IsTrue (state S.Store store.new).is_open → LeavesOnly
+        (λ left. left ≡ tables_in (state S.Store store.old).committed) (state S.Store store.new)) }
 {
     run(alloc, store, file, Direction::Forward, handler)
 }
 
 /// Applies the inverse of the changeset of a file to a store in one transaction. Each conflict ends the
 /// call. A refusal changes nothing. A crash leaves the tables as before, or as applied; once this is done,
-/// these alone.
+/// these alone, and once it is refused and the store is open still, those alone.
 ///
 /// On the tables that an apply of the file left without a conflict it meets none, and gives the tables
 /// back that were there before, unless memory is refused, or the database refuses.
@@ -74,10 +77,12 @@ pub fn revert<S: Alter>(
     ensures at_rest { HasCleanDisk (state S.Store store.new) → OnOk result (IsAtRest (state S.Store store.new)) }
     ensures kept { HasCleanDisk (state S.Store store.new)
         → OnErr result (KeepsContent (state S.Store store.old) (state S.Store store.new)) }
-    ensures atomic { IsAtomic (AppliesInto AlwaysAborts file.now InverseRun (tables_in (state S.Store store.old).now))
+    ensures atomic { IsAtomic CanBegin (AppliesInto AlwaysAborts file.now InverseRun (tables_in (state S.Store store.old).now))
         (state S.Store store.old) (state S.Store store.new) }
     ensures left { OnOk result (LeavesOnly (λ left. left ≡ tables_in (state S.Store store.new).now)
         (state S.Store store.new)) }
+    ensures stands { OnErr result (IsTrue (state S.Store store.new).is_open → LeavesOnly
+        (λ left. left ≡ tables_in (state S.Store store.old).committed) (state S.Store store.new)) }
 {
     changeset_files_law();
     run(alloc, store, file, Direction::Inverse, &abort)
@@ -109,10 +114,12 @@ fn run<S: Alter, H: Fn(&Conflict) -> Choice>(
     ensures at_rest { HasCleanDisk (state S.Store store.new) → OnOk result (IsAtRest (state S.Store store.new)) }
     ensures kept { HasCleanDisk (state S.Store store.new)
         → OnErr result (KeepsContent (state S.Store store.old) (state S.Store store.new)) }
-    ensures atomic { IsAtomic (AppliesInto (FnReturnsAt H.Fn handler.now) file.now direction (tables_in (state S.Store store.old).now))
+    ensures atomic { IsAtomic CanBegin (AppliesInto (FnReturnsAt H.Fn handler.now) file.now direction (tables_in (state S.Store store.old).now))
         (state S.Store store.old) (state S.Store store.new) }
     ensures left { OnOk result (LeavesOnly (λ left. left ≡ tables_in (state S.Store store.new).now)
         (state S.Store store.new)) }
+    ensures stands { OnErr result (IsTrue (state S.Store store.new).is_open → LeavesOnly
+        (λ left. left ≡ tables_in (state S.Store store.old).committed) (state S.Store store.new)) }
 {
     store.crash_law();
     let mut batch = store.begin()?;

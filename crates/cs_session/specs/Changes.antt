@@ -37,5 +37,5 @@ abbrev pub RefusesNamed : State → List ℕ → Notes → SessionFault → Type
 RefusesNamed state name notes fault = ((fault ≡ WrongStore) × LacksNamed state name notes) ⊎ IsResource fault
 
 -- what a reading of tables may be refused with, whatever the disk returns
-abbrev pub IsNamed : SessionFault → Type 0
-IsNamed fault = (fault ≡ WrongStore) ⊎ (fault ≡ Store DamagedStore) ⊎ IsResource fault
+abbrev pub IsChangesRefusal : SessionFault → Type 0
+IsChangesRefusal fault = (fault ≡ WrongStore) ⊎ (fault ≡ Store DamagedStore) ⊎ IsResource fault

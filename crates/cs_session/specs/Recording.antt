@@ -8,7 +8,9 @@ use Rattle.cs_store.specs.Editing.{written_of, edited}
 use Rattle.cs_store.specs.Faults as store
 use Rattle.cs_apply.specs.declared.report.Report.{Report}
 use Rattle.cs_apply.specs.declared.running.Direction.TheVariants.{Forward}
-use Rattle.cs_apply.specs.Running.{Handler, Applies, Refuses, IsNamed as IsRunRefusal}
+use Rattle.cs_apply.specs.declared.fault.ApplyFault.{ApplyFault}
+use Rattle.cs_apply.specs.declared.fault.ApplyFault.TheVariants as apply_fault
+use Rattle.cs_apply.specs.Running.{Handler, Applies, Refuses}
 use Rattle.cs_session.specs.declared.fault.SessionFault.{SessionFault}
 use Rattle.cs_session.specs.declared.fault.SessionFault.TheVariants.{Store, Apply, AlreadyAttached, WrongStore, NoMemory}
 use Rattle.cs_session.specs.FirstImages.{Notes, recorded}
@@ -59,10 +61,16 @@ RefusesApply chooses file old notes (Store error) = error ≡ StoreFault
 RefusesApply chooses file old notes NoMemory = Unit {0}
 RefusesApply chooses file old notes AlreadyAttached = ⊥
 
+-- a fault of the changeset, or of what it meets: the store's refusals and want of memory are told as the session's own
+abbrev pub IsOfChangeset : ApplyFault → Type 0
+IsOfChangeset (apply_fault.Store error) = ⊥
+IsOfChangeset apply_fault.NoMemory = ⊥
+IsOfChangeset fault = Unit {0}
+
 -- what an apply may be refused with, whatever the disk returns
 abbrev pub IsApplyRefusal : SessionFault → Type 0
 IsApplyRefusal WrongStore = Unit {0}
-IsApplyRefusal (Apply fault) = IsRunRefusal fault
+IsApplyRefusal (Apply fault) = IsOfChangeset fault
 IsApplyRefusal (Store error) = (error ≡ DamagedStore) ⊎ (error ≡ StoreFault)
 IsApplyRefusal NoMemory = Unit {0}
 IsApplyRefusal AlreadyAttached = ⊥

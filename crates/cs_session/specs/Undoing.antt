@@ -10,7 +10,7 @@ use Rattle.cs_session.specs.declared.fault.SessionFault.{SessionFault}
 use Rattle.cs_session.specs.declared.fault.SessionFault.TheVariants.{Apply}
 use Rattle.cs_session.specs.FirstImages.{Notes, rewound, rewound_state, recorded_changes}
 use Rattle.cs_session.specs.Changes.{HasTables}
-use Rattle.cs_session.specs.Recording.{IsApplyRefusal}
+use Rattle.cs_session.specs.Recording.{IsApplyRefusal, IsOfChangeset}
 
 -- the changeset meets no conflict in the state with the rows from before, and makes this one of it
 pub record LeadsBackTo (notes : Notes) (state : State) (changeset : List GroupData) : Type 0 where
@@ -33,5 +33,5 @@ UndoesInto notes old left = left ≡ rewound_state notes old
 
 -- what it may be refused with, whatever the disk returns
 abbrev pub IsUndoRefusal : SessionFault → Type 0
-IsUndoRefusal (Apply fault) = IsNoReadFault fault
+IsUndoRefusal (Apply fault) = IsOfChangeset fault × IsNoReadFault fault
 IsUndoRefusal fault = IsApplyRefusal fault

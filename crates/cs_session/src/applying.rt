@@ -1,11 +1,11 @@
 //! Applies whose keys are noted.
-ghost use Rattle.std.specs.Prelude.{◌≡◌, map, IfOk, IfErr, OnOk, OnErr};
+ghost use Rattle.std.specs.Prelude.{◌≡◌, map, IsTrue, IfOk, IfErr, OnOk, OnErr};
 ghost use Rattle.std.specs.Fn.{FnReturnsAt};
 ghost use Rattle.std.specs.List.{AllByRecursion};
 ghost use Rattle.sqlite.specs.State.{HasCleanDisk};
 ghost use Rattle.sqlite.specs.Held.{state};
 ghost use Rattle.cs_value.specs.State.{IsState};
-ghost use Rattle.cs_store.specs.Crash.{IsAtomic, LeavesOnly};
+ghost use Rattle.cs_store.specs.Crash.{CanBegin, IsAtomic, LeavesOnly};
 ghost use Rattle.cs_store.specs.Records.{KeepsContent};
 ghost use Rattle.cs_store.specs.Store.{IsAtRest, RefusesShut, tables_in};
 ghost use Rattle.cs_apply.specs.declared.running.Direction.TheVariants.{Forward as ForwardRun};
@@ -47,10 +47,12 @@ pub(crate) fn apply_noted<S: Alter, H: Fn(&Conflict) -> Choice>(
     ensures at_rest { HasCleanDisk (state S.Store store.new) → OnOk result (IsAtRest (state S.Store store.new)) }
     ensures kept { HasCleanDisk (state S.Store store.new)
         → OnErr result (KeepsContent (state S.Store store.old) (state S.Store store.new)) }
-    ensures atomic { IsAtomic (AppliesInto (FnReturnsAt H.Fn handler.now) file.now ForwardRun (tables_in (state S.Store store.old).now))
+    ensures atomic { IsAtomic CanBegin (AppliesInto (FnReturnsAt H.Fn handler.now) file.now ForwardRun (tables_in (state S.Store store.old).now))
         (state S.Store store.old) (state S.Store store.new) }
     ensures left { OnOk result (LeavesOnly (λ left. left ≡ tables_in (state S.Store store.new).now)
         (state S.Store store.new)) }
+    ensures stands { OnErr result (IsTrue (state S.Store store.new).is_open → LeavesOnly
+        (λ left. left ≡ tables_in (state S.Store store.old).committed) (state S.Store store.new)) }
 {
     match apply_batch(alloc, tables, store, file, handler) {
         Ok(report) => {
@@ -87,10 +89,12 @@ fn apply_batch<S: Alter, H: Fn(&Conflict) -> Choice>(
     ensures at_rest { HasCleanDisk (state S.Store store.new) → OnOk result (IsAtRest (state S.Store store.new)) }
     ensures kept { HasCleanDisk (state S.Store store.new)
         → OnErr result (KeepsContent (state S.Store store.old) (state S.Store store.new)) }
-    ensures atomic { IsAtomic (AppliesInto (FnReturnsAt H.Fn handler.now) file.now ForwardRun (tables_in (state S.Store store.old).now))
+    ensures atomic { IsAtomic CanBegin (AppliesInto (FnReturnsAt H.Fn handler.now) file.now ForwardRun (tables_in (state S.Store store.old).now))
         (state S.Store store.old) (state S.Store store.new) }
     ensures left { OnOk result (LeavesOnly (λ left. left ≡ tables_in (state S.Store store.new).now)
         (state S.Store store.new)) }
+    ensures stands { OnErr result (IsTrue (state S.Store store.new).is_open → LeavesOnly
+        (λ left. left ≡ tables_in (state S.Store store.old).committed) (state S.Store store.new)) }
 {
     store.tables_law();
     store.crash_law();

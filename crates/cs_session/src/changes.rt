@@ -6,7 +6,7 @@ ghost use Rattle.cs_wire.specs.Entry.{IsChange, IsEntry, key_of};
 ghost use Rattle.cs_group.specs.Net.{net_row_change as change_between};
 ghost use Rattle.cs_session.specs.FirstImages.{IsNotes, IsAttachedTable, HasAttached};
 ghost use Rattle.cs_session.specs.FirstImages.{entry_since, net_group, recorded_changes};
-ghost use Rattle.cs_session.specs.Changes.{HasTables, RefusesChanges, IsNamed, IsResource};
+ghost use Rattle.cs_session.specs.Changes.{HasTables, RefusesChanges, IsChangesRefusal, IsResource};
 ghost use Rattle.cs_session.specs.Views.{attached_of};
 
 use crate::attached::Attached;
@@ -35,7 +35,7 @@ pub(crate) fn net_changeset<B: Rows>(
     ensures same { B.is_honest rows.new → OnOk result (B.state rows.new ≡ B.state rows.old) }
     ensures refused { B.is_honest rows.new
         → IfErr result (RefusesChanges (B.state rows.old) (map attached_of tables.now)) }
-    ensures named { IfErr result IsNamed }
+    ensures named { IfErr result IsChangesRefusal }
     ensures was_honest { B.is_honest rows.new → B.is_honest rows.old }
     ensures kept { B.keeps rows.old rows.new }
 {
@@ -62,7 +62,7 @@ fn table_changes<B: Rows>(
     ensures of_table { IfOk result (λ group. IfSome group (λ g. g.header.name ≡ rc_str_bytes table.now.name)) }
     ensures same { B.is_honest rows.new → OnOk result (B.state rows.new ≡ B.state rows.old) }
     ensures refused { B.is_honest rows.new → IfErr result IsResource }
-    ensures named { IfErr result IsNamed }
+    ensures named { IfErr result IsChangesRefusal }
     ensures was_honest { B.is_honest rows.new → B.is_honest rows.old }
     ensures kept { B.keeps rows.old rows.new }
 {
@@ -90,7 +90,7 @@ fn table_entries<B: Rows>(
         ≢ key_of table.now.schema.flags e.change) entries.items) }
     ensures same { B.is_honest rows.new → OnOk result (B.state rows.new ≡ B.state rows.old) }
     ensures refused { B.is_honest rows.new → IfErr result IsResource }
-    ensures named { IfErr result IsNamed }
+    ensures named { IfErr result IsChangesRefusal }
     ensures was_honest { B.is_honest rows.new → B.is_honest rows.old }
     ensures kept { B.keeps rows.old rows.new }
 {
@@ -122,7 +122,7 @@ fn row_change<B: Rows>(
         × (key_of table.now.schema.flags c ≡ key.now))) }
     ensures same { B.is_honest rows.new → OnOk result (B.state rows.new ≡ B.state rows.old) }
     ensures refused { B.is_honest rows.new → IfErr result IsResource }
-    ensures named { IfErr result IsNamed }
+    ensures named { IfErr result IsChangesRefusal }
     ensures was_honest { B.is_honest rows.new → B.is_honest rows.old }
     ensures kept { B.keeps rows.old rows.new }
 {

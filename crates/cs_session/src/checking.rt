@@ -4,7 +4,7 @@ ghost use Rattle.cs_value.specs.State.{IsRowAt};
 ghost use Rattle.cs_session.specs.declared.fault.SessionFault.TheVariants.{NoMemory as OutOfMemory};
 ghost use Rattle.cs_session.specs.FirstImages.{HasAttached};
 ghost use Rattle.cs_session.specs.Noting.{AreApart, IsDamage};
-ghost use Rattle.cs_session.specs.Changes.{HasTables, HasNamed, RefusesTable, RefusesNamed, RefusesChanges, IsNamed};
+ghost use Rattle.cs_session.specs.Changes.{HasTables, HasNamed, RefusesTable, RefusesNamed, RefusesChanges, IsChangesRefusal};
 ghost use Rattle.cs_session.specs.Views.{attached_of};
 
 use crate::attached::Attached;
@@ -24,7 +24,7 @@ pub(crate) fn check_tables<B: Rows>(
     ensures same { B.is_honest rows.new → OnOk result (B.state rows.new ≡ B.state rows.old) }
     ensures refused { B.is_honest rows.new
         → IfErr result (RefusesChanges (B.state rows.old) (map attached_of tables.now)) }
-    ensures named { IfErr result IsNamed }
+    ensures named { IfErr result IsChangesRefusal }
     ensures was_honest { B.is_honest rows.new → B.is_honest rows.old }
     ensures kept { B.keeps rows.old rows.new }
 {
@@ -47,7 +47,7 @@ pub(crate) fn check_named<B: Rows>(
     ensures same { B.is_honest rows.new → OnOk result (B.state rows.new ≡ B.state rows.old) }
     ensures refused { B.is_honest rows.new
         → IfErr result (RefusesNamed (B.state rows.old) name.now (map attached_of tables.now)) }
-    ensures named { IfErr result IsNamed }
+    ensures named { IfErr result IsChangesRefusal }
     ensures was_honest { B.is_honest rows.new → B.is_honest rows.old }
     ensures kept { B.keeps rows.old rows.new }
 {
@@ -66,7 +66,7 @@ pub(crate) fn check_table<B: Rows>(
     ensures attached { B.is_honest rows.new → OnOk result (HasAttached (B.state rows.old) (attached_of table.now)) }
     ensures same { B.is_honest rows.new → OnOk result (B.state rows.new ≡ B.state rows.old) }
     ensures refused { B.is_honest rows.new → IfErr result (RefusesTable (B.state rows.old) (attached_of table.now)) }
-    ensures named { IfErr result IsNamed }
+    ensures named { IfErr result IsChangesRefusal }
     ensures was_honest { B.is_honest rows.new → B.is_honest rows.old }
     ensures kept { B.keeps rows.old rows.new }
 {

@@ -1,10 +1,10 @@
 //! Edits whose keys are noted.
-ghost use Rattle.std.specs.Prelude.{◌≡◌, map, OnOk, OnErr, IfErr};
+ghost use Rattle.std.specs.Prelude.{◌≡◌, map, IsTrue, OnOk, OnErr, IfErr};
 ghost use Rattle.std.specs.List.{AllByRecursion};
 ghost use Rattle.sqlite.specs.State.{HasCleanDisk};
 ghost use Rattle.sqlite.specs.Held.{state};
 ghost use Rattle.cs_value.specs.State.{IsState};
-ghost use Rattle.cs_store.specs.Crash.{IsAtomic, LeavesOnly};
+ghost use Rattle.cs_store.specs.Crash.{CanBegin, IsAtomic, LeavesOnly};
 ghost use Rattle.cs_store.specs.Editing.{EditsInto};
 ghost use Rattle.cs_store.specs.Records.{KeepsContent};
 ghost use Rattle.cs_store.specs.Store.{IsAtRest, RefusesShut, tables_in};
@@ -42,10 +42,12 @@ pub(crate) fn edit_noted<S: Alter>(
     ensures at_rest { HasCleanDisk (state S.Store store.new) → OnOk result (IsAtRest (state S.Store store.new)) }
     ensures kept { HasCleanDisk (state S.Store store.new)
         → OnErr result (KeepsContent (state S.Store store.old) (state S.Store store.new)) }
-    ensures atomic { IsAtomic (EditsInto (tables_in (state S.Store store.old).now) edit.now)
+    ensures atomic { IsAtomic CanBegin (EditsInto (tables_in (state S.Store store.old).now) edit.now)
         (state S.Store store.old) (state S.Store store.new) }
     ensures left { OnOk result (LeavesOnly (λ left. left ≡ tables_in (state S.Store store.new).now)
         (state S.Store store.new)) }
+    ensures stands { OnErr result (IsTrue (state S.Store store.new).is_open → LeavesOnly
+        (λ left. left ≡ tables_in (state S.Store store.old).committed) (state S.Store store.new)) }
 {
     match edit_batch(alloc, tables, store, edit) {
         Ok(()) => {
@@ -80,10 +82,12 @@ fn edit_batch<S: Alter>(
     ensures at_rest { HasCleanDisk (state S.Store store.new) → OnOk result (IsAtRest (state S.Store store.new)) }
     ensures kept { HasCleanDisk (state S.Store store.new)
         → OnErr result (KeepsContent (state S.Store store.old) (state S.Store store.new)) }
-    ensures atomic { IsAtomic (EditsInto (tables_in (state S.Store store.old).now) edit.now)
+    ensures atomic { IsAtomic CanBegin (EditsInto (tables_in (state S.Store store.old).now) edit.now)
         (state S.Store store.old) (state S.Store store.new) }
     ensures left { OnOk result (LeavesOnly (λ left. left ≡ tables_in (state S.Store store.new).now)
         (state S.Store store.new)) }
+    ensures stands { OnErr result (IsTrue (state S.Store store.new).is_open → LeavesOnly
+        (λ left. left ≡ tables_in (state S.Store store.old).committed) (state S.Store store.new)) }
 {
     store.tables_law();
     store.crash_law();

@@ -3,7 +3,7 @@ ghost use Rattle.std.specs.Prelude.{◌≡◌, ◌⊎◌, ◌↔◌, [], ◌∷�
 ghost use Rattle.std.specs.Fn.{FnReturnsAt};
 ghost use Rattle.sqlite.specs.State.{HasCleanDisk};
 ghost use Rattle.sqlite.specs.Held.{state};
-ghost use Rattle.cs_store.specs.Crash.{IsAtomic, LeavesOnly};
+ghost use Rattle.cs_store.specs.Crash.{CanBegin, IsAtomic, LeavesOnly};
 ghost use Rattle.cs_store.specs.Editing.{EditsInto};
 ghost use Rattle.cs_store.specs.Records.{KeepsContent, KeepsCrash};
 ghost use Rattle.cs_store.specs.Store.{IsAtRest, KeepsStore, RefusesShut, tables_in};
@@ -12,7 +12,7 @@ ghost use Rattle.cs_value.specs.State.{rows_at};
 ghost use Rattle.cs_session.specs.declared.fault.SessionFault.TheVariants.{AlreadyAttached as IsThere, NoMemory as OutOfMemory};
 ghost use Rattle.cs_session.specs.FirstImages.{AttachedTable, IsNotes, rewound, recorded_changes};
 ghost use Rattle.cs_session.specs.Attaching.{Attaches, RefusesAttach, IsAttachRefusal, IsNewTable};
-ghost use Rattle.cs_session.specs.Changes.{HasTables, IsNamed, IsResource, RefusesChanges};
+ghost use Rattle.cs_session.specs.Changes.{HasTables, IsChangesRefusal, IsResource, RefusesChanges};
 ghost use Rattle.cs_session.specs.Recording.{Records, RefusesEdit, IsEditRefusal, RecordsApply, RefusesApply, IsApplyRefusal};
 ghost use Rattle.cs_apply.specs.declared.running.Direction.TheVariants.{Forward as ForwardRun};
 ghost use Rattle.cs_apply.specs.Crash.{AppliesInto};
@@ -122,7 +122,8 @@ impl Session {
     ///
     /// Refuses with [`WrongStore`](SessionFault::WrongStore) where the table is attached and the store
     /// has not the table as it was, and then as [`Store::edit`] does. A refusal changes nothing. A crash
-    /// leaves the tables as before or as edited.
+    /// leaves the tables as before, or as edited; once this is
+    /// done, these alone, and once it is refused and the store is open still, those alone.
     pub fn edit<S: Alter>(
         &mut self,
         alloc: Global,
@@ -144,10 +145,12 @@ impl Session {
         ensures at_rest { HasCleanDisk (state S.Store store.new) → OnOk result (IsAtRest (state S.Store store.new)) }
         ensures kept { HasCleanDisk (state S.Store store.new)
             → OnErr result (KeepsContent (state S.Store store.old) (state S.Store store.new)) }
-        ensures atomic { IsAtomic (EditsInto (tables_in (state S.Store store.old).now) edit.now)
+        ensures atomic { IsAtomic CanBegin (EditsInto (tables_in (state S.Store store.old).now) edit.now)
             (state S.Store store.old) (state S.Store store.new) }
         ensures left { OnOk result (LeavesOnly (λ left. left ≡ tables_in (state S.Store store.new).now)
             (state S.Store store.new)) }
+        ensures stands { OnErr result (IsTrue (state S.Store store.new).is_open → LeavesOnly
+            (λ left. left ≡ tables_in (state S.Store store.old).committed) (state S.Store store.new)) }
     {
         edit_noted(alloc, &mut self.tables, store, edit)
     }
@@ -156,8 +159,9 @@ impl Session {
     /// the keys that were written where their table is attached.
     ///
     /// Refuses with [`WrongStore`](SessionFault::WrongStore) where the store has not one of the tables as
-    /// it was attached, and then as `apply` does. A refusal changes nothing. A crash leaves what it
-    /// could leave before, or the tables as applied.
+    /// it was attached, and then as `apply` does. A refusal changes nothing. A crash leaves the
+    /// tables as before, or as applied; once this is
+    /// done, these alone, and once it is refused and the store is open still, those alone.
     pub fn apply_recorded<S: Alter, H: Fn(&Conflict) -> Choice>(
         &mut self,
         alloc: Global,
@@ -182,10 +186,12 @@ impl Session {
         ensures at_rest { HasCleanDisk (state S.Store store.new) → OnOk result (IsAtRest (state S.Store store.new)) }
         ensures kept { HasCleanDisk (state S.Store store.new)
             → OnErr result (KeepsContent (state S.Store store.old) (state S.Store store.new)) }
-        ensures atomic { IsAtomic (AppliesInto (FnReturnsAt H.Fn handler.now) file.now ForwardRun (tables_in (state S.Store store.old).now))
+        ensures atomic { IsAtomic CanBegin (AppliesInto (FnReturnsAt H.Fn handler.now) file.now ForwardRun (tables_in (state S.Store store.old).now))
             (state S.Store store.old) (state S.Store store.new) }
         ensures left { OnOk result (LeavesOnly (λ left. left ≡ tables_in (state S.Store store.new).now)
             (state S.Store store.new)) }
+        ensures stands { OnErr result (IsTrue (state S.Store store.new).is_open → LeavesOnly
+            (λ left. left ≡ tables_in (state S.Store store.old).committed) (state S.Store store.new)) }
     {
         apply_noted(alloc, &mut self.tables, store, file, handler)
     }
@@ -211,7 +217,7 @@ impl Session {
             → IfErr result (RefusesChanges (tables_in (state S.Store store.old).now) self.now) }
         ensures shut { HasCleanDisk (state S.Store store.new)
             → RefusesShut (state S.Store store.old) IsResource result }
-        ensures named { IfErr result IsNamed }
+        ensures named { IfErr result IsChangesRefusal }
         ensures kept { HasCleanDisk (state S.Store store.new)
             → KeepsContent (state S.Store store.old) (state S.Store store.new) }
         ensures survives { KeepsCrash (state S.Store store.old) (state S.Store store.new) }
@@ -225,8 +231,9 @@ impl Session {
     /// transaction. What is noted stays.
     ///
     /// Refuses with [`WrongStore`](SessionFault::WrongStore) where the store has not one of the tables as
-    /// it was attached. A refusal changes nothing. A crash leaves what it could leave before, or the tables
-    /// as undone.
+    /// it was attached. A refusal changes nothing. A crash leaves the tables as before, or
+    /// as undone; once this is
+    /// done, these alone, and once it is refused and the store is open still, those alone.
     pub fn undo<S: Alter>(
         &self,
         alloc: Global,
@@ -243,10 +250,12 @@ impl Session {
         ensures at_rest { HasCleanDisk (state S.Store store.new) → OnOk result (IsAtRest (state S.Store store.new)) }
         ensures kept { HasCleanDisk (state S.Store store.new)
             → OnErr result (KeepsContent (state S.Store store.old) (state S.Store store.new)) }
-        ensures atomic { IsAtomic (UndoesInto self.now (tables_in (state S.Store store.old).now))
+        ensures atomic { IsAtomic CanBegin (UndoesInto self.now (tables_in (state S.Store store.old).now))
             (state S.Store store.old) (state S.Store store.new) }
         ensures left { OnOk result (LeavesOnly (λ left. left ≡ tables_in (state S.Store store.new).now)
             (state S.Store store.new)) }
+        ensures stands { OnErr result (IsTrue (state S.Store store.new).is_open → LeavesOnly
+            (λ left. left ≡ tables_in (state S.Store store.old).committed) (state S.Store store.new)) }
     {
         store.tables_law();
         store.crash_law();

@@ -1,17 +1,17 @@
 -- What a crash leaves of a batch, and of a call that does nothing.
-use Rattle.std.proofs.Common.{◌≡◌, ◌⊎◌, inl, inr, false, true≢false, IsTrue, Result, Ok, Err, OnOk, refl, sym, ap, subst, ◌∙◌}
+use Rattle.std.proofs.Common.{◌≡◌, ◌⊎◌, inl, inr, false, IsTrue, Result, Ok, Err, OnOk, OnErr, refl, sym, ap, subst, ◌∙◌}
 use Rattle.sqlite_trees.specs.Tree.{Trees}
 use Rattle.sqlite_trees.specs.declared.store.Store.{Ghosts}
 use Rattle.sqlite.specs.Effect.{Database}
 use Rattle.sqlite.specs.Held.{Held, state}
-use Rattle.sqlite.specs.State.{State, HasCleanDisk, Shows, Survives}
+use Rattle.sqlite.specs.State.{State, HasCleanDisk, KeepsCommit, Shows, Survives}
 use Rattle.sqlite.proofs.StateLemmas.{survives_then, survives_weaker}
 use Rattle.cs_value.specs.State as tables
 use Rattle.cs_store.specs.declared.fault.StoreError.{StoreError}
-use Rattle.cs_store.specs.Records.{IsUndone, KeepsCrash}
+use Rattle.cs_store.specs.Records.{IsUndone, KeepsContent, KeepsCrash}
 use Rattle.cs_store.specs.Stored.{state_of}
-use Rattle.cs_store.specs.Store.{HoldsState, IsSound, KeepsStore, Begins, Ends, tables_in}
-use Rattle.cs_store.specs.Crash.{MayLeave, LeavesOnly, IsAtomic}
+use Rattle.cs_store.specs.Store.{HoldsState, IsSound, IsInside, KeepsStore, Begins, Ends, tables_in}
+use Rattle.cs_store.specs.Crash.{MayLeave, LeavesOnly, CanBegin, IsAtomic}
 use Rattle.cs_store.specs.Laws.{was_clean, keeps_itself}
 use Rattle.cs_store.proofs.WriteLemmas.{shows_state}
 
@@ -83,9 +83,9 @@ module _ (old begun mid new : State) (begins : KeepsCrash old begun) (keeps : Ke
 holds_left : (db : Database) (trees : Trees) → HoldsState db → trees ≡ db.trees → MayLeave (λ left. left ≡ tables_in db) trees
 holds_left db trees holds same = subst (MayLeave (λ left. left ≡ tables_in db)) (sym same) (record { schema = db.schema; store = holds; tables = refl })
 
--- a call that commits only where the store was open commits nothing where it was shut
-pub shut_keeps : (old new : State) (May : Trees → Type 0) → Survives old new May → (HasCleanDisk new → (trees : Trees) → May trees → IsTrue old.is_open) → old.is_open ≡ false → KeepsCrash old new
-shut_keeps old new May survives was_open shut = survives_weaker old new May (λ _. ⊥) (λ clean trees made. true≢false (sym (was_open clean trees made) ∙ shut)) survives
+-- a call that commits only where it could start commits nothing where it could not
+pub unstarted_keeps : (Starts : Type 0) (old new : State) (May : Trees → Type 0) → Survives old new May → (HasCleanDisk new → (trees : Trees) → May trees → Starts) → ¬ Starts → KeepsCrash old new
+unstarted_keeps Starts old new May survives starts none = survives_weaker old new May (λ _. ⊥) (λ clean trees made. none (starts clean trees made)) survives
 
 -- a batch that has ended leaves what it showed, which the store shows now
 pub left_new : (mid new : State) → (HasCleanDisk new → Ends mid new) → LeavesOnly (λ left. left ≡ tables_in mid.now) new → LeavesOnly (λ left. left ≡ tables_in new.now) new
@@ -100,49 +100,51 @@ commit_left (Err e) mid new ends leaves = tt
 
 -- ---- what is left at the end of a call that commits
 
-module _ (old new : State) (last : IsTrue old.is_open → LeavesOnly (λ left. left ≡ tables_in old.committed) old) (Commits : tables.State → Type 0) where
+module _ (old new : State) (last : IsTrue old.is_open → LeavesOnly (λ left. left ≡ tables_in old.committed) old) (Starts : State → Type 0) (Commits : tables.State → Type 0) where
   -- the last commit, or what the call commits
-  pub commit_atomic : Survives old new (MayLeave Commits) → (old.is_open ≡ false → KeepsCrash old new) → IsAtomic Commits old new
-  commit_atomic survives shut = record {
+  pub commit_atomic : Survives old new (MayLeave Commits) → (¬ Starts old → KeepsCrash old new) → IsAtomic Starts Commits old new
+  commit_atomic survives unstarted = record {
     survives = survives;
     opened = λ is_open clean trees may. elim (survives.crash clean trees may) [
       | inl was ↦ leaves_weaker _ (λ left. (left ≡ tables_in old.committed) ⊎ Commits left) (λ t same. inl same) trees (last is_open (was_clean old new survives clean) trees was)
       | inr made ↦ leaves_weaker _ (λ left. (left ≡ tables_in old.committed) ⊎ Commits left) (λ t it. inr it) trees made
     ];
-    shut = shut;
+    unstarted = unstarted;
   }
 
   -- that alone, where it commits nothing
-  pub idle_atomic : KeepsCrash old new → IsAtomic Commits old new
-  idle_atomic keeps = commit_atomic (crash_weaker old new (MayLeave Commits) keeps) (λ shut. keeps)
+  pub idle_atomic : KeepsCrash old new → IsAtomic Starts Commits old new
+  idle_atomic keeps = commit_atomic (crash_weaker old new (MayLeave Commits) keeps) (λ none. keeps)
 
 -- so does one that does nothing
-pub unmoved_atomic : (s : State) → (IsTrue s.is_open → LeavesOnly (λ left. left ≡ tables_in s.committed) s) → (Commits : tables.State → Type 0) → IsAtomic Commits s s
-unmoved_atomic s last Commits = idle_atomic s s last Commits (keeps_itself {s = s}).crash
+pub unmoved_atomic : (s : State) → (IsTrue s.is_open → LeavesOnly (λ left. left ≡ tables_in s.committed) s) → (Starts : State → Type 0) (Commits : tables.State → Type 0) → IsAtomic Starts Commits s s
+unmoved_atomic s last Starts Commits = idle_atomic s s last Starts Commits (keeps_itself {s = s}).crash
 
 -- of what is committed something else holds
-pub atomic_weaker : (P Q : tables.State → Type 0) (old new : State) → ((t : tables.State) → P t → Q t) → IsAtomic P old new → IsAtomic Q old new
-atomic_weaker P Q old new f is = record {
+pub atomic_weaker : (Starts : State → Type 0) (P Q : tables.State → Type 0) (old new : State) → ((t : tables.State) → P t → Q t) → IsAtomic Starts P old new → IsAtomic Starts Q old new
+atomic_weaker Starts P Q old new f is = record {
   survives = survives_weaker old new (MayLeave P) (MayLeave Q) (λ clean. leaves_weaker P Q f) is.survives;
   opened = λ is_open clean trees may.
       leaves_weaker (λ left. (left ≡ tables_in old.committed) ⊎ P left) (λ left. (left ≡ tables_in old.committed) ⊎ Q left)
       (λ t it. elim it [ inl same ↦ inl same | inr made ↦ inr (f t made) ]) trees (is.opened is_open clean trees may);
-  shut = is.shut;
+  unstarted = is.unstarted;
 }
 
 module _ (old begun mid new : State) (last : IsTrue old.is_open → LeavesOnly (λ left. left ≡ tables_in old.committed) old)
     (begins : KeepsCrash old begun) (keeps : KeepsStore begun mid) where
   -- a batch that is dropped commits nothing
-  pub dropped_atomic : (Commits : tables.State → Type 0) → KeepsCrash mid new → IsAtomic Commits old new
-  dropped_atomic Commits drops = idle_atomic old new last Commits (crash_then old mid new (inside old begun mid new begins keeps) drops)
+  pub dropped_atomic : (Commits : tables.State → Type 0) → KeepsCrash mid new → IsAtomic CanBegin Commits old new
+  dropped_atomic Commits drops = idle_atomic old new last CanBegin Commits (crash_then old mid new (inside old begun mid new begins keeps) drops)
 
   -- one whose commit is tried may commit what it made of the tables that the store held
   pub made_atomic : (Makes : tables.State → tables.State → Type 0) → (HasCleanDisk begun → Begins old begun) → (HasCleanDisk mid → Makes (tables_in begun.now) (tables_in mid.now))
-      → Survives mid new (MayLeave (λ t. t ≡ tables_in mid.now)) → IsAtomic (Makes (tables_in old.now)) old new
+      → Survives mid new (MayLeave (λ t. t ≡ tables_in mid.now)) → IsAtomic CanBegin (Makes (tables_in old.now)) old new
   made_atomic Makes begun_as made commits =
       let survives = made_survives old begun mid new begins keeps Makes begun_as made commits in
-      commit_atomic old new last (Makes (tables_in old.now)) survives
-      (shut_keeps old new _ survives (λ clean trees it. (begun_as (was_clean begun mid keeps.crash (was_clean mid new commits clean))).shown.was_open))
+      commit_atomic old new last CanBegin (Makes (tables_in old.now)) survives
+      (unstarted_keeps (CanBegin old) old new _ survives (λ clean trees it.
+      let began = begun_as (was_clean begun mid keeps.crash (was_clean mid new commits clean)) in
+      record { is_open = began.shown.was_open; autocommit = began.autocommit }))
 
 -- ---- what is left of a store, by the law of what holds its database
 
@@ -153,10 +155,11 @@ module _ {S : Type 0} (g : Ghosts S) (settled : (s : S) (trees : Trees) → IsTr
 
   -- the end of a transaction leaves that, or the tables that it showed
   pub ended_atomic : (new : State) → Survives (state g h) new (λ db. (db ≡ (state g h).now.trees) × IsTrue (state g h).in_transaction)
-      → IsAtomic (λ left. left ≡ tables_in (state g h).now) (state g h) new
+      → IsAtomic IsInside (λ left. left ≡ tables_in (state g h).now) (state g h) new
   ended_atomic new survives =
-      commit_atomic (state g h) new leaves_commit _ (commits_tables (state g h) new sound survives)
-      (shut_keeps (state g h) new _ survives (λ clean trees made. (sound (was_clean (state g h) new survives clean)).open_inside made.1))
+      commit_atomic (state g h) new leaves_commit IsInside _ (commits_tables (state g h) new sound survives)
+      (unstarted_keeps (IsInside (state g h)) (state g h) new _ survives (λ clean trees made.
+      record { is_open = (sound (was_clean (state g h) new survives clean)).open_inside made.1; inside = made.1 }))
 
   -- and once they are, these alone are left
   pub ended_left : {X : Type 0} (result : Result X StoreError) (May : Trees → Type 0) (new : Held S) → Survives (state g h) (state g new) May
@@ -175,3 +178,33 @@ module _ {S : Type 0} (g : Ghosts S) (settled : (s : S) (trees : Trees) → IsTr
       let began = begins clean in
       holds_left (state g h).now trees ((sound (was_clean (state g h) (state g begun) keeps clean)).now began.shown.was_open)
       (settled begun.store trees began.shown.is_open may ∙ ap (λ (db : Database). db.trees) (began.shown.committed_is ∙ sym began.settled))
+
+-- ---- what is left behind a refusal
+
+module _ {S : Type 0} (g : Ghosts S) (settled : (s : S) (trees : Trees) → IsTrue (g.view s).is_open → g.recovers s trees → trees ≡ (g.view s).committed)
+    (stays : (s : S) → IsTrue (g.view s).is_open → g.recovers s (g.view s).committed) (old new : Held S)
+    (last : IsTrue (state g old).is_open → LeavesOnly (λ left. left ≡ tables_in (state g old).committed) (state g old)) where
+  -- a store that is open still leaves the last commit, if that stands
+  last_stands : (HasCleanDisk (state g new) → HasCleanDisk (state g old)) → (HasCleanDisk (state g new) → KeepsCommit (state g old) (state g new))
+      → IsTrue (state g new).is_open → LeavesOnly (λ left. left ≡ tables_in (state g old).committed) (state g new)
+  last_stands was keeps is_open clean trees may =
+      let kept = keeps clean in
+      let was_open = kept.was_open is_open in
+      subst (MayLeave (λ left. left ≡ tables_in (state g old).committed)) (sym (settled new.store trees is_open may ∙ ap (λ (db : Database). db.trees) (kept.committed is_open)))
+      (last was_open (was clean) (state g old).committed.trees (stays old.store was_open))
+
+  -- where a call that commits is refused
+  pub refused_stands : {X E : Type 0} (result : Result X E) (Starts : State → Type 0) (Commits : tables.State → Type 0) → IsAtomic Starts Commits (state g old) (state g new)
+      → (HasCleanDisk (state g new) → OnErr result (KeepsContent (state g old) (state g new)))
+      → OnErr result (IsTrue (state g new).is_open → LeavesOnly (λ left. left ≡ tables_in (state g old).committed) (state g new))
+  refused_stands (Ok x) Starts Commits is kept = tt
+  refused_stands (Err e) Starts Commits is kept =
+      last_stands (was_clean (state g old) (state g new) is.survives) (λ clean. let content = kept clean in record { was_open = content.was_open; committed = content.committed })
+
+  -- where a batch is not committed
+  pub undone_stands : {X E : Type 0} (result : Result X E) (Starts : State → Type 0) (Commits : tables.State → Type 0) → IsAtomic Starts Commits (state g old) (state g new)
+      → (HasCleanDisk (state g new) → OnErr result (IsUndone (state g old) (state g new)))
+      → OnErr result (IsTrue (state g new).is_open → LeavesOnly (λ left. left ≡ tables_in (state g old).committed) (state g new))
+  undone_stands (Ok x) Starts Commits is undone = tt
+  undone_stands (Err e) Starts Commits is undone =
+      last_stands (was_clean (state g old) (state g new) is.survives) (λ clean. let back = undone clean in record { was_open = back.was_open; committed = back.committed })

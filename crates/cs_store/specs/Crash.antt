@@ -20,12 +20,18 @@ pub record MayLeave (Holds : tables.State → Type 0) (trees : Trees) : Type 0 w
 abbrev pub LeavesOnly : (tables.State → Type 0) → State → Type 0
 LeavesOnly Holds s = HasCleanDisk s → (trees : Trees) → s.may_leave trees → MayLeave Holds trees
 
--- What a crash leaves at the end of a call that commits once. Where the store was open before, that is the tables of its last
--- commit then, or those that the call commits, and nothing else. Where it was shut, nothing that it could not leave before.
-pub record IsAtomic (Commits : tables.State → Type 0) (old new : State) : Type 0 where
+-- a batch can begin
+pub record CanBegin (s : State) : Type 0 where
+  pub is_open : IsTrue s.is_open
+  pub autocommit : s.in_transaction ≡ false
+
+-- What a crash leaves at the end of a call that commits once, if it starts. Of any store that is what it could leave before, or what
+-- the call commits; of one that was open before, the tables of its last commit then, or those that the call commits. Where the call
+-- cannot start, it is nothing that could not be left before.
+pub record IsAtomic (Starts : State → Type 0) (Commits : tables.State → Type 0) (old new : State) : Type 0 where
   pub survives : Survives old new (MayLeave Commits)
   pub opened : IsTrue old.is_open → LeavesOnly (λ left. (left ≡ tables_in old.committed) ⊎ Commits left) new
-  pub shut : old.is_open ≡ false → KeepsCrash old new
+  pub unstarted : ¬ Starts old → KeepsCrash old new
 
 -- the database is what a crash left of these tables, as an open finds it
 pub record IsLeftOf (held : tables.State) (db : Database) : Type 0 where

@@ -1,5 +1,5 @@
 //! Batches: rows of a store that are written together.
-ghost use Rattle.std.specs.Prelude.{◌≡◌, ◌⊎◌, OnOk, OnErr, IfErr};
+ghost use Rattle.std.specs.Prelude.{◌≡◌, ◌⊎◌, IsTrue, OnOk, OnErr, IfErr};
 ghost use Rattle.sqlite.specs.State.{HasCleanDisk};
 ghost use Rattle.sqlite.specs.Held.{state};
 ghost use Rattle.cs_value.specs.Table.{IsName};
@@ -8,7 +8,7 @@ ghost use Rattle.cs_store.specs.Faults.{IsResource, IsReadRefusal};
 ghost use Rattle.cs_store.specs.Rows.{IsDeclared};
 ghost use Rattle.cs_store.specs.Records.{IsUndone, KeepsCrash};
 ghost use Rattle.cs_store.specs.Crash.{IsAtomic, LeavesOnly};
-ghost use Rattle.cs_store.specs.Store.{AddsTable, Ends, KeepsStore, tables_in};
+ghost use Rattle.cs_store.specs.Store.{AddsTable, Ends, IsInside, KeepsStore, tables_in};
 
 use crate::fault::StoreError;
 use crate::rows::Rows;
@@ -47,17 +47,20 @@ impl<S: Alter> SqlBatch<'_, S> {
     }
 
     /// Commits the writes of the batch. Where it is refused, the store is as when the batch began. A crash
-    /// leaves the tables as when the batch began, or as it has them; once this is done, these alone.
+    /// leaves the tables as when the batch began, or as it has them; once this is done, these alone, and
+    /// once it is refused and the store is open still, those alone.
     pub fn commit(self) -> Result<(), StoreError>
         ensures committed { HasCleanDisk (state S.Store self.exit.0.now)
             → OnOk result (Ends (state S.Store self.entry.store.now) (state S.Store self.exit.0.now)) }
         ensures undone { HasCleanDisk (state S.Store self.exit.0.now)
             → OnErr result (IsUndone (state S.Store self.entry.store.now) (state S.Store self.exit.0.now)) }
         ensures refused { IfErr result IsResource }
-        ensures atomic { IsAtomic (λ left. left ≡ tables_in (state S.Store self.entry.store.now).now)
+        ensures atomic { IsAtomic IsInside (λ left. left ≡ tables_in (state S.Store self.entry.store.now).now)
             (state S.Store self.entry.store.now) (state S.Store self.exit.0.now) }
         ensures left { OnOk result (LeavesOnly (λ left. left ≡ tables_in (state S.Store self.entry.store.now).now)
             (state S.Store self.exit.0.now)) }
+        ensures stands { OnErr result (IsTrue (state S.Store self.exit.0.now).is_open → LeavesOnly
+            (λ left. left ≡ tables_in (state S.Store self.entry.store.now).committed) (state S.Store self.exit.0.now)) }
     {
         let SqlBatch { store } = self;
         store.known = None;

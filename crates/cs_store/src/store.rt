@@ -8,9 +8,10 @@ ghost use Rattle.cs_store.specs.declared.fault.StoreError.TheVariants.{DamagedSt
 ghost use Rattle.cs_store.specs.declared.fault.StoreError.TheVariants.{BadSchema as NoSchema, TableExists as TakenName};
 ghost use Rattle.cs_store.specs.Faults.{IsResource, IsReadRefusal, IsEditRefusal};
 ghost use Rattle.cs_store.specs.Editing.{Declares, EditsInto, schema_of, edited, written_of};
-ghost use Rattle.cs_store.specs.Crash.{IsAtomic, IsLeftOf, LeavesOnly, MayLeave};
+ghost use Rattle.cs_store.specs.Crash.{CanBegin, IsAtomic, IsLeftOf, LeavesOnly, MayLeave};
 ghost use Rattle.cs_store.specs.Records.{KeepsContent, KeepsCrash};
 ghost use Rattle.cs_store.specs.Rows.{IsDeclared, Fits};
+ghost use Rattle.sqlite.specs.Effect.{IsDatabase};
 ghost use Rattle.sqlite.specs.State.{HasCleanDisk, Survives};
 ghost use Rattle.sqlite.specs.Held.{state};
 ghost use Rattle.sqlite.specs.Files.{HoldsDatabase, file_state};
@@ -153,6 +154,18 @@ impl<S: Alter> Store<S> {
         let _ = &self.conn;
     }
 
+    /// A database that is found with trees which a crash may leave of this store, if it leaves none but those
+    /// of some tables, is what [`adopt`](Store::adopt) takes over with these tables. It has no effect.
+    pub fn left_law<T: Alter>(&self, found: &Connection<T>)
+        ensures { (held : tables.State) → HasCleanDisk (state S.Store self.now)
+            → LeavesOnly (λ left. left ≡ held) (state S.Store self.now)
+            → (state S.Store self.now).may_leave (state T.Store found.now).now.trees
+            → IsDatabase (state T.Store found.now).now → IsLeftOf held (state T.Store found.now).now }
+    {
+        let _ = &self.conn;
+        let _ = found;
+    }
+
     /// The connection to the database of the store.
     pub fn into_connection(self) -> Connection<S>
         ensures { result ≡ self }
@@ -194,7 +207,8 @@ impl<S: Alter> Store<S> {
     }
 
     /// Declares a table without rows: the names of its columns, of which the marked ones are the key. A crash
-    /// leaves the tables as before, or with this one; once this is done, these alone.
+    /// leaves the tables as before, or with this one; once this is done, these alone, and once it is refused
+    /// and the store is open still, those alone.
     ///
     /// Refuses with [`BadSchema`](StoreError::BadSchema) where the name or the columns make no table,
     /// and then with [`TableExists`](StoreError::TableExists). A refusal changes nothing.
@@ -218,10 +232,12 @@ impl<S: Alter> Store<S> {
         ensures at_rest { HasCleanDisk (state S.Store self.new) → OnOk result (IsAtRest (state S.Store self.new)) }
         ensures kept { HasCleanDisk (state S.Store self.new)
             → OnErr result (KeepsContent (state S.Store self.old) (state S.Store self.new)) }
-        ensures atomic { IsAtomic (λ left. Declares (tables_in (state S.Store self.old).now) name.now
+        ensures atomic { IsAtomic CanBegin (λ left. Declares (tables_in (state S.Store self.old).now) name.now
             (schema_of columns.now keys.now) (Ok left)) (state S.Store self.old) (state S.Store self.new) }
         ensures left { OnOk result (LeavesOnly (λ left. left ≡ tables_in (state S.Store self.new).now)
             (state S.Store self.new)) }
+        ensures stands { OnErr result (IsTrue (state S.Store self.new).is_open → LeavesOnly
+            (λ left. left ≡ tables_in (state S.Store self.old).committed) (state S.Store self.new)) }
     {
         self.crash_law();
         if !is_table_name(name) {
@@ -316,7 +332,8 @@ impl<S: Alter> Store<S> {
     }
 
     /// Carries out an edit as [`edit_in`] does, and commits it. A refusal changes nothing. A crash leaves
-    /// the tables as before, or as edited; once this is done, these alone.
+    /// the tables as before, or as edited; once this is done, these alone, and once it is refused and the
+    /// store is open still, those alone.
     pub fn edit(&mut self, alloc: Global, edit: &Edit) -> Result<Vec<Written>, StoreError>
         ensures edited { HasCleanDisk (state S.Store self.new)
             → IfOk result (λ w. edited (tables_in (state S.Store self.old).now) edit.now
@@ -329,10 +346,12 @@ impl<S: Alter> Store<S> {
         ensures at_rest { HasCleanDisk (state S.Store self.new) → OnOk result (IsAtRest (state S.Store self.new)) }
         ensures kept { HasCleanDisk (state S.Store self.new)
             → OnErr result (KeepsContent (state S.Store self.old) (state S.Store self.new)) }
-        ensures atomic { IsAtomic (EditsInto (tables_in (state S.Store self.old).now) edit.now)
+        ensures atomic { IsAtomic CanBegin (EditsInto (tables_in (state S.Store self.old).now) edit.now)
             (state S.Store self.old) (state S.Store self.new) }
         ensures left { OnOk result (LeavesOnly (λ left. left ≡ tables_in (state S.Store self.new).now)
             (state S.Store self.new)) }
+        ensures stands { OnErr result (IsTrue (state S.Store self.new).is_open → LeavesOnly
+            (λ left. left ≡ tables_in (state S.Store self.old).committed) (state S.Store self.new)) }
     {
         self.crash_law();
         let mut batch = self.begin()?;

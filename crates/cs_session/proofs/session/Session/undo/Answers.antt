@@ -1,9 +1,11 @@
--- `session::Session::undo`: what `undo_rows` asks for, the clauses `atomic` and `left`.
-use Rattle.std.proofs.Common.{◌≡◌, map, rules}
+-- `session::Session::undo`: what `undo_rows` asks for, the clauses `atomic`, `left` and `stands`.
+use Rattle.std.proofs.Common.{◌≡◌, map, OnErr, rules}
 use Rattle.sqlite.specs.Held.{state}
-use Rattle.cs_store.specs.Records.{KeepsCrash}
+use Rattle.sqlite.specs.State.{HasCleanDisk}
+use Rattle.cs_store.specs.Crash.{CanBegin}
+use Rattle.cs_store.specs.Records.{KeepsContent, KeepsCrash}
 use Rattle.cs_store.specs.Store.{tables_in}
-use Rattle.cs_store.proofs.CrashLemmas.{idle_atomic, dropped_atomic, made_atomic, left_new}
+use Rattle.cs_store.proofs.CrashLemmas.{idle_atomic, dropped_atomic, made_atomic, left_new, refused_stands}
 use Rattle.cs_session.specs.Undoing.{UndoesInto}
 use Rattle.cs_session.specs.Views.{attached_of}
 use Rattle.cs_session.proofs.OutcomeLemmas.{begun_state}
@@ -18,7 +20,7 @@ returns-in_err-batch-clause-atomic g c =
     let old = state g.S.Store c.args.store.now in
     let new = state g.S.Store c.begin.follows.lender-at-none in
     let keeps : KeepsCrash old new = search rules in
-    idle_atomic old new c.crash_law.ensures (UndoesInto c.args.self.now (tables_in old.now)) keeps
+    idle_atomic old new c.crash_law.ensures CanBegin (UndoesInto c.args.self.now (tables_in old.now)) keeps
 
 pub returns-in_err-report-clause-atomic : goal.returns-in_err-report-clause-atomic
 returns-in_err-report-clause-atomic g c =
@@ -57,3 +59,18 @@ returns-clause-left g c =
     let last = state g.S.Store c.commit.new.self.0 in
     let same : c.commit.new.self.0 ≡ c.store-2-1.given.0 = search rules in
     rw (← same) (left_new mid last c.in_ok-commit.ensures.committed c.in_ok-commit.ensures.left)
+
+pub returns-in_err-batch-clause-stands : goal.returns-in_err-batch-clause-stands
+returns-in_err-batch-clause-stands g c =
+    let kept : HasCleanDisk (state g.S.Store c.begin.follows.lender-at-none) → OnErr c.from_residual.result (KeepsContent (state g.S.Store c.args.store.now) (state g.S.Store c.begin.follows.lender-at-none)) = search rules in
+    refused_stands g.S.Store g.met.S.Store.settled g.met.S.Store.stays c.args.store.now c.begin.follows.lender-at-none c.crash_law.ensures c.from_residual.result _ _ (returns-in_err-batch-clause-atomic g c) (kept)
+
+pub returns-in_err-report-clause-stands : goal.returns-in_err-report-clause-stands
+returns-in_err-report-clause-stands g c =
+    let kept : HasCleanDisk (state g.S.Store c.store-in_err-report-1.given.0) → OnErr c.from_residual-in_err-report.result (KeepsContent (state g.S.Store c.args.store.now) (state g.S.Store c.store-in_err-report-1.given.0)) = search rules in
+    refused_stands g.S.Store g.met.S.Store.settled g.met.S.Store.stays c.args.store.now c.store-in_err-report-1.given.0 c.crash_law.ensures c.from_residual-in_err-report.result _ _ (returns-in_err-report-clause-atomic g c) (kept)
+
+pub returns-in_err-commit-clause-stands : goal.returns-in_err-commit-clause-stands
+returns-in_err-commit-clause-stands g c =
+    let kept : HasCleanDisk (state g.S.Store c.store-2-1.given.0) → OnErr c.from_residual-in_err-commit.result (KeepsContent (state g.S.Store c.args.store.now) (state g.S.Store c.store-2-1.given.0)) = search rules in
+    refused_stands g.S.Store g.met.S.Store.settled g.met.S.Store.stays c.args.store.now c.store-2-1.given.0 c.crash_law.ensures c.from_residual-in_err-commit.result _ _ (returns-in_err-commit-clause-atomic g c) (kept)

@@ -1,6 +1,6 @@
--- `batch::SqlBatch::commit`: the clauses `atomic` and `left`.
+-- `batch::SqlBatch::commit`: the clauses `atomic`, `left` and `stands`.
 use Rattle.sqlite.specs.Held.{state}
-use Rattle.cs_store.proofs.CrashLemmas.{ended_atomic, ended_left}
+use Rattle.cs_store.proofs.CrashLemmas.{ended_atomic, ended_left, leaves_commit, undone_stands}
 use Rattle.cs_store.proofs.batch.SqlBatch.commit.Goals as goal
 
 pub returns-clause-atomic : goal.returns-clause-atomic
@@ -10,3 +10,9 @@ returns-clause-atomic g c =
 pub returns-clause-left : goal.returns-clause-left
 returns-clause-left g c =
     rw (← c.store.view_is) (ended_left g.S.Store g.met.S.Store.settled c.store.inside.conn c.store.invariant.0 c.commit.result _ c.commit.new.conn c.commit.ensures.survives c.commit.ensures.committed)
+
+pub returns-clause-stands : goal.returns-clause-stands
+returns-clause-stands g c =
+    rw (← c.store.view_is) (undone_stands g.S.Store g.met.S.Store.settled g.met.S.Store.stays c.store.inside.conn c.commit.new.conn
+    (leaves_commit g.S.Store g.met.S.Store.settled c.store.inside.conn c.store.invariant.0) c.commit.result _ _
+    (ended_atomic g.S.Store g.met.S.Store.settled c.store.inside.conn c.store.invariant.0 (state g.S.Store c.commit.new.conn) c.commit.ensures.survives) c.commit.ensures.undone)

@@ -1,17 +1,18 @@
--- `store::Store::declare`: the clauses `refused`, `kept`, `declared`, `atomic` and `left`.
-use Rattle.std.proofs.Common.{◌≡◌, Ok, subst, ◌∙◌, rules}
+-- `store::Store::declare`: the clauses `refused`, `kept`, `declared`, `atomic`, `left` and `stands`.
+use Rattle.std.proofs.Common.{◌≡◌, Ok, OnErr, subst, ◌∙◌, rules}
 use Rattle.std.proofs.lemmas.Result.{err_from_is_err_and}
 use Rattle.cs_value.specs.Table.{IsName}
 use Rattle.cs_value.specs.State.{SchemaData, IsSchema}
 use Rattle.cs_store.specs.Editing.{Declares, schema_of}
 use Rattle.cs_store.specs.Store.{AddsTable, tables_in}
-use Rattle.cs_store.proofs.CrashLemmas.{unmoved_atomic, idle_atomic, dropped_atomic, made_atomic, commit_left}
+use Rattle.cs_store.proofs.CrashLemmas.{unmoved_atomic, idle_atomic, dropped_atomic, made_atomic, commit_left, refused_stands}
 use Rattle.cs_store.proofs.DeclareLemmas.{added_declares, committed_declares, taken_declares}
 use Rattle.cs_store.proofs.WriteLemmas.{on_err_then}
 use Rattle.sqlite.specs.Held.{state}
 use Rattle.sqlite.specs.State.{HasCleanDisk}
 use Rattle.cs_store.specs.Laws.{was_clean}
 use Rattle.cs_store.specs.Records.{KeepsContent, KeepsCrash}
+use Rattle.cs_store.specs.Crash.{CanBegin}
 use Rattle.cs_store.proofs.StoreLemmas.{undone_batch}
 use Rattle.cs_store.proofs.QueryLemmas.{on_err}
 use Rattle.cs_store.proofs.store.Store.declare.Goals as goal
@@ -70,19 +71,19 @@ returns-clause-kept g c clean =
 pub returns-then-not-is_table_name-clause-atomic : goal.returns-then-not-is_table_name-clause-atomic
 returns-then-not-is_table_name-clause-atomic g c =
     let old = state g.S.Store c.args.self.now in
-    unmoved_atomic old c.crash_law.ensures (λ left. Declares (tables_in old.now) c.args.name.now (schema_of c.args.columns.now c.args.keys.now) (Ok left))
+    unmoved_atomic old c.crash_law.ensures CanBegin (λ left. Declares (tables_in old.now) c.args.name.now (schema_of c.args.columns.now c.args.keys.now) (Ok left))
 
 pub returns-in_err-schema-clause-atomic : goal.returns-in_err-schema-clause-atomic
 returns-in_err-schema-clause-atomic g c =
     let old = state g.S.Store c.args.self.now in
-    unmoved_atomic old c.crash_law.ensures (λ left. Declares (tables_in old.now) c.args.name.now (schema_of c.args.columns.now c.args.keys.now) (Ok left))
+    unmoved_atomic old c.crash_law.ensures CanBegin (λ left. Declares (tables_in old.now) c.args.name.now (schema_of c.args.columns.now c.args.keys.now) (Ok left))
 
 pub returns-in_err-batch-clause-atomic : goal.returns-in_err-batch-clause-atomic
 returns-in_err-batch-clause-atomic g c =
     let old = state g.S.Store c.args.self.now in
     let new = state g.S.Store c.begin.follows.lender-at-none in
     let keeps : KeepsCrash old new = search rules in
-    idle_atomic old new c.crash_law.ensures (λ left. Declares (tables_in old.now) c.args.name.now (schema_of c.args.columns.now c.args.keys.now) (Ok left)) keeps
+    idle_atomic old new c.crash_law.ensures CanBegin (λ left. Declares (tables_in old.now) c.args.name.now (schema_of c.args.columns.now c.args.keys.now) (Ok left)) keeps
 
 pub returns-in_err-declare-clause-atomic : goal.returns-in_err-declare-clause-atomic
 returns-in_err-declare-clause-atomic g c =
@@ -115,3 +116,25 @@ returns-clause-left g c =
     let last = state g.S.Store c.commit.new.self.0 in
     let same : c.commit.new.self.0 ≡ c.self-2-1.given.0 = search rules in
     rw (← same) (commit_left c.commit.result mid last c.commit.ensures.committed c.commit.ensures.left)
+
+pub returns-then-not-is_table_name-clause-stands : goal.returns-then-not-is_table_name-clause-stands
+returns-then-not-is_table_name-clause-stands g c = c.crash_law.ensures
+
+pub returns-in_err-schema-clause-stands : goal.returns-in_err-schema-clause-stands
+returns-in_err-schema-clause-stands g c = on_err c.from_residual.result _ c.crash_law.ensures
+
+pub returns-in_err-batch-clause-stands : goal.returns-in_err-batch-clause-stands
+returns-in_err-batch-clause-stands g c =
+    let old = state g.S.Store c.args.self.now in
+    let new = state g.S.Store c.begin.follows.lender-at-none in
+    let kept : HasCleanDisk new → OnErr c.from_residual-in_err-batch.result (KeepsContent old new) = search rules in
+    refused_stands g.S.Store g.met.S.Store.settled g.met.S.Store.stays c.args.self.now c.begin.follows.lender-at-none c.crash_law.ensures c.from_residual-in_err-batch.result _ _ (returns-in_err-batch-clause-atomic g c) kept
+
+pub returns-in_err-declare-clause-stands : goal.returns-in_err-declare-clause-stands
+returns-in_err-declare-clause-stands g c =
+    refused_stands g.S.Store g.met.S.Store.settled g.met.S.Store.stays c.args.self.now c.self-in_err-declare-1.given.0 c.crash_law.ensures c.from_residual-in_err-declare.result _ _ (returns-in_err-declare-clause-atomic g c)
+    (returns-in_err-declare-clause-kept g c)
+
+pub returns-clause-stands : goal.returns-clause-stands
+returns-clause-stands g c =
+    refused_stands g.S.Store g.met.S.Store.settled g.met.S.Store.stays c.args.self.now c.self-2-1.given.0 c.crash_law.ensures c.commit.result _ _ (returns-clause-atomic g c) (returns-clause-kept g c)

@@ -1,13 +1,14 @@
--- `store::Store::edit`: the clauses `kept`, `atomic` and `left`.
+-- `store::Store::edit`: the clauses `kept`, `atomic`, `left` and `stands`.
 use Rattle.std.proofs.Common.{◌≡◌, rules}
-use Rattle.std.specs.Prelude.{map}
+use Rattle.std.specs.Prelude.{map, OnErr}
 use Rattle.sqlite.specs.Held.{state}
 use Rattle.cs_store.specs.Editing.{EditsInto, written_of}
 use Rattle.sqlite.specs.State.{HasCleanDisk}
 use Rattle.cs_store.specs.Laws.{was_clean}
 use Rattle.cs_store.specs.Records.{KeepsContent, KeepsCrash}
+use Rattle.cs_store.specs.Crash.{CanBegin}
 use Rattle.cs_store.specs.Store.{tables_in}
-use Rattle.cs_store.proofs.CrashLemmas.{idle_atomic, dropped_atomic, made_atomic, left_new}
+use Rattle.cs_store.proofs.CrashLemmas.{idle_atomic, dropped_atomic, made_atomic, left_new, refused_stands}
 use Rattle.cs_store.proofs.StoreLemmas.{undone_batch}
 use Rattle.cs_store.proofs.QueryLemmas.{on_err}
 use Rattle.cs_store.proofs.store.Store.edit.Goals as goal
@@ -39,7 +40,7 @@ returns-in_err-batch-clause-atomic g c =
     let old = state g.S.Store c.args.self.now in
     let new = state g.S.Store c.begin.follows.lender-at-none in
     let keeps : KeepsCrash old new = search rules in
-    idle_atomic old new c.crash_law.ensures (EditsInto (tables_in old.now) c.args.edit.now) keeps
+    idle_atomic old new c.crash_law.ensures CanBegin (EditsInto (tables_in old.now) c.args.edit.now) keeps
 
 pub returns-in_err-written-clause-atomic : goal.returns-in_err-written-clause-atomic
 returns-in_err-written-clause-atomic g c =
@@ -76,3 +77,16 @@ returns-clause-left g c =
     let last = state g.S.Store c.commit.new.self.0 in
     let same : c.commit.new.self.0 ≡ c.self-2-1.given.0 = search rules in
     rw (← same) (left_new mid last c.in_ok-commit.ensures.committed c.in_ok-commit.ensures.left)
+
+pub returns-in_err-batch-clause-stands : goal.returns-in_err-batch-clause-stands
+returns-in_err-batch-clause-stands g c =
+    let kept : HasCleanDisk (state g.S.Store c.begin.follows.lender-at-none) → OnErr c.from_residual.result (KeepsContent (state g.S.Store c.args.self.now) (state g.S.Store c.begin.follows.lender-at-none)) = search rules in
+    refused_stands g.S.Store g.met.S.Store.settled g.met.S.Store.stays c.args.self.now c.begin.follows.lender-at-none c.crash_law.ensures c.from_residual.result _ _ (returns-in_err-batch-clause-atomic g c) (kept)
+
+pub returns-in_err-written-clause-stands : goal.returns-in_err-written-clause-stands
+returns-in_err-written-clause-stands g c =
+    refused_stands g.S.Store g.met.S.Store.settled g.met.S.Store.stays c.args.self.now c.self-in_err-written-1.given.0 c.crash_law.ensures c.from_residual-in_err-written.result _ _ (returns-in_err-written-clause-atomic g c) (returns-in_err-written-clause-kept g c)
+
+pub returns-in_err-commit-clause-stands : goal.returns-in_err-commit-clause-stands
+returns-in_err-commit-clause-stands g c =
+    refused_stands g.S.Store g.met.S.Store.settled g.met.S.Store.stays c.args.self.now c.self-2-1.given.0 c.crash_law.ensures c.from_residual-in_err-commit.result _ _ (returns-in_err-commit-clause-atomic g c) (returns-in_err-commit-clause-kept g c)
