@@ -95,6 +95,20 @@ fn has_table<S: Alter>(
     has_schema(rt, store, name) && are(rt, &listed, rows)
 }
 
+/// Whether a store has a table with these rows if it is t, and else with none.
+fn has_rows<S: Alter>(
+    rt: &(impl Abort + AllocGlobal),
+    store: &mut Store<S>,
+    name: &str,
+    rows: &[[Value<'_>; 2]],
+) -> bool {
+    if name == "t" {
+        has_table(rt, store, name, rows)
+    } else {
+        has_table(rt, store, name, &[])
+    }
+}
+
 /// The names of the tables of a store, and the rows of t. Each other table has none.
 pub(crate) type State = (&'static [&'static str], &'static [[Value<'static>; 2]]);
 
@@ -110,8 +124,7 @@ pub(crate) fn has<S: Alter>(
         return false;
     }
     for (name, wanted) in listed.iter().zip(names) {
-        let rows = if *wanted == "t" { rows } else { &[] };
-        if name.as_str() != *wanted || !has_table(rt, store, wanted, rows) {
+        if name.as_str() != *wanted || !has_rows(rt, store, wanted, rows) {
             return false;
         }
     }
