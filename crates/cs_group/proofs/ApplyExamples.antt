@@ -24,7 +24,7 @@ use Rattle.cs_group.specs.declared.conflict.Choice.TheVariants.{Omit, Replace, A
 use Rattle.cs_group.specs.declared.merging.Merged.TheVariants.{Keep, Becomes}
 use Rattle.cs_group.specs.Joining.{merged}
 use Rattle.cs_group.specs.Judging.{judgement, judged, is_skipped, is_compatible}
-use Rattle.cs_group.specs.Conflicts.{has_values, conflict_kind, row_after, is_carried_out, entry_result}
+use Rattle.cs_group.specs.Conflicts.{has_values, conflict_kind, is_idle, row_after, is_carried_out, entry_result}
 use Rattle.cs_group.specs.Applying.{PlacedEntry, placed_by, placed, placed_result, current, IsElsewhere, skipped, FirstWider, applicable, conflict_with, conflict_at, conflicts, NoneWider, IsClean, Choices, written_for, written, AreApplied, IsApplied, omit_all}
 use Rattle.cs_group.proofs.ApplyLemmas.{applied_reverts}
 use Rattle.cs_group.proofs.Examples.{update_and_back}
@@ -169,6 +169,39 @@ middle_update_meets_data = refl
 -- in its place it leaves (1, 'y', 'q'): the third column, which it does not say, stays
 middle_update_replaces : entry_result (1 ∷ 0 ∷ 0 ∷ []) middle_update (Some (wide (Text (codes "z")))) Replace ≡ Some (Some (wide y))
 middle_update_replaces = refl
+
+-- ---- changes that change nothing
+
+-- an insert of (1, 'x') is idle at that row, and not at (1, 'z')
+insert_is_idle : is_idle flags (Insert row) (Some row) ≡ true
+insert_is_idle = refl
+
+other_insert_is_not_idle : is_idle flags (Insert row) (Some apart) ≡ false
+other_insert_is_not_idle = refl
+
+-- nor where no row stands, where it meets no conflict
+new_insert_is_not_idle : is_idle flags (Insert row) None ≡ false
+new_insert_is_not_idle = refl
+
+-- a delete is idle where no row stands, and not at another row than its own
+delete_is_idle : is_idle flags (Delete row) None ≡ true
+delete_is_idle = refl
+
+other_delete_is_not_idle : is_idle flags (Delete row) (Some later) ≡ false
+other_delete_is_not_idle = refl
+
+-- the update of 'x' to 'y' is idle at (1, 'y'), and neither at (1, 'x') nor at (1, 'z') nor where no row stands
+update_is_idle : is_idle flags (update x y) (Some later) ≡ true
+update_is_idle = refl
+
+clean_update_is_not_idle : is_idle flags (update x y) (Some row) ≡ false
+clean_update_is_not_idle = refl
+
+other_update_is_not_idle : is_idle flags (update x y) (Some apart) ≡ false
+other_update_is_not_idle = refl
+
+update_of_none_is_not_idle : is_idle flags (update x y) None ≡ false
+update_of_none_is_not_idle = refl
 
 -- ---- the columns of a group and of its table
 

@@ -16,7 +16,7 @@ use Rattle.cs_group.specs.declared.judging.Judgement.TheVariants.{Wider}
 use Rattle.cs_group.specs.declared.conflict.Kind.{Kind}
 use Rattle.cs_group.specs.Judging.{judgement, judged, is_compatible}
 use Rattle.cs_group.specs.Conflicts.{row_after, is_carried_out, ends}
-use Rattle.cs_group.specs.Applying.{PlacedEntry, placed_by, placed_in, placed, placed_key, current, IsElsewhere, compatible_groups, applicable, placed_kind, conflict_at, Choices, written_for, written, placed_result}
+use Rattle.cs_group.specs.Applying.{PlacedEntry, placed_by, placed_in, placed, placed_key, current, IsElsewhere, compatible_groups, applicable, heeded, placed_kind, conflict_at, Choices, written_for, written_under, placed_result}
 use Rattle.cs_group.specs.Laws.{AppliedOnce, AppliedReverts, WrittenTells}
 use Rattle.cs_group.proofs.ConflictLemmas.{undone}
 use Rattle.std.proofs.lemmas.Option.{same_Some}
@@ -69,9 +69,9 @@ same_state state other schemas rows = same_maps state other (λ table. same_tabl
 -- ---- one state alone
 
 pub applied_once : AppliedOnce
-applied_once old changeset choose new other p q =
+applied_once noop old changeset choose new other p q =
     same_state new other (λ table. p.schemas table ∙ sym (q.schemas table)) (λ table key.
-    let ps = applicable old changeset in
+    let ps = heeded noop old changeset in
     let same : All (λ p. current new p ≡ current other p) ps = λ k d lt. same_Some _ _ (sym (p.results k d lt) ∙ q.results k d lt) in
     by_place table key (λ p. current new p ≡ current other p) ps (recursion_from_All _ ps same) (λ p e here. at_place new other p table key e here.0 here.1) (λ elsewhere.
     let all = All-from_recursion (λ p. IsElsewhere p table key) ps elsewhere in
@@ -124,12 +124,12 @@ module _ (old new : State) (choose : Choices) where
       at false is left next = found is (is_here table key p) left next
 
 pub written_tells : WrittenTells
-written_tells old changeset choose new is =
-    let ps = applicable old changeset in
+written_tells noop old changeset choose new is =
+    let ps = heeded noop old changeset in
     record {
-      told = All-from_recursion _ (written old changeset choose) (told_of old new choose ps);
+      told = All-from_recursion _ (written_under noop old changeset choose) (told_of old new choose ps);
       others = λ table key untold.
-          other_rows old new choose table key ps (recursion_from_All _ ps is.results) (recursion_from_All _ (written old changeset choose) untold) (λ rest.
+          other_rows old new choose table key ps (recursion_from_All _ ps is.results) (recursion_from_All _ (written_under noop old changeset choose) untold) (λ rest.
           is.others table key (All-from_recursion _ ps rest));
     }
 

@@ -21,6 +21,7 @@ pub mod ConflictLemmas
 pub mod NetLemmas
 pub mod ApplyLemmas
 pub mod JudgingLemmas
+pub mod IdleLemmas
 pub mod ApplyExamples
 pub mod NumberingLemmas
 pub mod NumberingExamples

@@ -1,5 +1,5 @@
 -- What a changeset does to a state: the interface of SQLite's session extension, under "sqlite3changeset_apply".
-use Rattle.std.specs.Prelude.{◌≡◌, ◌≢◌, ℕ, ◌<◌, if◌then◌else◌, List, [], length, map, take, All, HoldsAt}
+use Rattle.std.specs.Prelude.{◌≡◌, ◌≢◌, ℕ, ◌<◌, Bool, not, if◌then◌else◌, List, [], length, map, take, All, HoldsAt}
 use Rattle.std.specs.Prelude.{filter, filter_map, Option, None, Some, option_map}
 use Rattle.std.specs.List.{flat_map}
 use Rattle.cs_value.specs.declared.value.OwnedValue.{OwnedValue}
@@ -11,8 +11,10 @@ use Rattle.cs_group.specs.declared.judging.Judgement.TheVariants.{Wider}
 use Rattle.cs_group.specs.declared.conflict.Kind.{Kind}
 use Rattle.cs_group.specs.declared.conflict.Choice.{Choice}
 use Rattle.cs_group.specs.declared.conflict.Choice.TheVariants.{Omit}
+use Rattle.cs_group.specs.declared.conflict.Noop.{Noop}
+use Rattle.cs_group.specs.declared.conflict.Noop.TheVariants.{Report, Ignore}
 use Rattle.cs_group.specs.Judging.{judged, is_skipped, is_compatible}
-use Rattle.cs_group.specs.Conflicts.{conflict_kind, is_carried_out, entry_result}
+use Rattle.cs_group.specs.Conflicts.{conflict_kind, is_idle, is_carried_out, entry_result}
 
 -- ---- the entries of a changeset
 
@@ -67,6 +69,31 @@ compatible_groups state changeset = filter (λ g. is_compatible (judged state g)
 abbrev pub applicable : State → List GroupData → List PlacedEntry
 applicable state changeset = placed (compatible_groups state changeset)
 
+-- ---- entries that change nothing
+
+-- the row of the entry already agrees with what it leaves, and it meets a conflict there
+abbrev pub is_idle_at : State → PlacedEntry → Bool
+is_idle_at state p = is_idle p.flags p.entry.change (current state p)
+
+-- those of the entries that are idle, where these are to be ignored: for them nothing is asked, nothing is written, and
+-- nothing is told but their number
+abbrev pub ignored_of : Noop → State → List PlacedEntry → List PlacedEntry
+ignored_of Report state entries = []
+ignored_of Ignore state entries = filter (is_idle_at state) entries
+
+-- the others
+abbrev pub heeded_of : Noop → State → List PlacedEntry → List PlacedEntry
+heeded_of Report state entries = entries
+heeded_of Ignore state entries = filter (λ p. not (is_idle_at state p)) entries
+
+-- the entries of a changeset that are applied, without those that are ignored
+abbrev pub heeded : Noop → State → List GroupData → List PlacedEntry
+heeded noop state changeset = heeded_of noop state (applicable state changeset)
+
+-- how many entries of a changeset are ignored
+abbrev pub ignored : Noop → State → List GroupData → ℕ
+ignored noop state changeset = length (ignored_of noop state (applicable state changeset))
+
 -- ---- conflicts
 
 pub record ConflictData : Type 0 where
@@ -86,9 +113,13 @@ conflict_with p row = option_map (λ kind. record { kind = kind; table = p.table
 abbrev pub conflict_at : State → PlacedEntry → Option ConflictData
 conflict_at state p = conflict_with p (current state p)
 
--- the conflicts that a changeset meets, in the order of the file
+-- the conflicts that a changeset meets and of which a choice is asked, in the order of the file
+abbrev pub conflicts_under : Noop → State → List GroupData → List ConflictData
+conflicts_under noop state changeset = filter_map (conflict_at state) (heeded noop state changeset)
+
+-- all conflicts that it meets
 abbrev pub conflicts : State → List GroupData → List ConflictData
-conflicts state changeset = filter_map (conflict_at state) (applicable state changeset)
+conflicts = conflicts_under Report
 
 -- it meets none, and no table is wider
 pub record IsClean (state : State) (changeset : List GroupData) : Type 0 where
@@ -110,16 +141,20 @@ abbrev pub met_at : State → Choices → PlacedEntry → Option MetData
 met_at state choose p = option_map (λ k. record { conflict = k; choice = choose p }) (conflict_at state p)
 
 -- the conflicts with the choices, in the order of the file
-abbrev pub met : State → List GroupData → Choices → List MetData
-met state changeset choose = filter_map (met_at state choose) (applicable state changeset)
+abbrev pub met_under : Noop → State → List GroupData → Choices → List MetData
+met_under noop state changeset choose = filter_map (met_at state choose) (heeded noop state changeset)
 
 abbrev pub written_for : State → Choices → PlacedEntry → Option WrittenData
 written_for state choose p =
     if is_carried_out (placed_kind state p) (choose p) then Some (written_at state p.table (placed_key p)) else None
 
 -- the keys of the entries that are carried out, in the order of the file, with the rows that stood there
+abbrev pub written_under : Noop → State → List GroupData → Choices → List WrittenData
+written_under noop state changeset choose = filter_map (written_for state choose) (heeded noop state changeset)
+
+-- those where nothing is ignored
 abbrev pub written : State → List GroupData → Choices → List WrittenData
-written state changeset choose = filter_map (written_for state choose) (applicable state changeset)
+written = written_under Report
 
 -- what an entry leaves at its key, if there is an afterwards
 abbrev pub placed_result : State → Choices → PlacedEntry → Option (Option (List OwnedValue))
@@ -133,9 +168,14 @@ pub record AreApplied (old : State) (entries : List PlacedEntry) (choose : Choic
   pub others : (table key : List ℕ) → All (λ p. IsElsewhere p table key) entries
       → row_at new table key ≡ row_at old table key
 
--- the state after the changeset: the rows at the keys of compatible groups are the results
+-- the state after the changeset: the rows at the keys of compatible groups are the results, and where an entry is ignored
+-- the row that stood there
+abbrev pub IsAppliedUnder : Noop → State → List GroupData → Choices → State → Type 0
+IsAppliedUnder noop old changeset choose new = AreApplied old (heeded noop old changeset) choose new
+
+-- that where nothing is ignored
 abbrev pub IsApplied : State → List GroupData → Choices → State → Type 0
-IsApplied old changeset choose new = AreApplied old (applicable old changeset) choose new
+IsApplied = IsAppliedUnder Report
 
 -- what is chosen does not matter where no conflict is met
 abbrev pub omit_all : Choices

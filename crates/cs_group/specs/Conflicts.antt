@@ -2,7 +2,7 @@
 -- "sqlite3changeset_apply", "constants passed to the conflict handler" and "constants returned by the conflict
 -- handler".
 use Rattle.std.specs.Prelude.{ℕ, Bool, true, false, ◌&&◌, if◌then◌else◌, List, [], ◌∷◌}
-use Rattle.std.specs.Prelude.{Option, None, Some, option_map, unwrap_or}
+use Rattle.std.specs.Prelude.{Option, None, Some, is_some, option_map, unwrap_or}
 use Rattle.cs_value.specs.declared.value.OwnedValue.{OwnedValue}
 use Rattle.cs_value.specs.declared.value.OwnedField.{OwnedField}
 use Rattle.cs_value.specs.declared.value.OwnedField.TheVariants.{Undefined, Defined}
@@ -32,6 +32,19 @@ kind_between (Some image) (Some row) = if has_values row image then None else So
 -- the conflict that a change meets at the row with its key, if it meets one
 abbrev pub conflict_kind : Change → Option (List OwnedValue) → Option Kind
 conflict_kind change row = kind_between (before_image change) row
+
+-- a row has the values of an image of the row afterwards; where that image is absent there is no row
+abbrev pub agrees : Option (List OwnedField) → Option (List OwnedValue) → Bool
+agrees None None = true
+agrees None (Some row) = false
+agrees (Some image) None = false
+agrees (Some image) (Some row) = has_values row image
+
+-- a change is idle at a row, or none, where it meets a conflict and what stands there already agrees with what it leaves:
+-- the changes for which SQLite does not call the conflict handler under SQLITE_CHANGESETAPPLY_IGNORENOOP (its "Flags for
+-- sqlite3changeset_apply_v2")
+abbrev pub is_idle : List ℕ → Change → Option (List OwnedValue) → Bool
+is_idle flags change row = is_some (conflict_kind change row) && agrees (after_image flags change) row
 
 -- the value of a field, and where it is undefined the one that stands in its column
 abbrev pub value_in : OwnedField → Option OwnedValue → Option OwnedValue

@@ -1,14 +1,23 @@
 -- What holds of all states and changesets.
-use Rattle.std.specs.Prelude.{◌≡◌, ℕ, List, All}
+use Rattle.std.specs.Prelude.{◌≡◌, ◌↔◌, ◌&&◌, ℕ, true, false, not, List, All, Option, None, Some}
+use Rattle.cs_value.specs.declared.value.OwnedValue.{OwnedValue}
+use Rattle.cs_value.specs.declared.value.OwnedField.{OwnedField}
+use Rattle.cs_value.specs.Key.{row_key, image_key}
 use Rattle.cs_value.specs.State.{State, WrittenData, row_at}
+use Rattle.cs_value.specs.Table.{IsKeyedRow}
+use Rattle.cs_value.specs.Value.{IsRow}
+use Rattle.cs_wire.specs.declared.entry.Change.TheVariants.{Insert, Delete, Update}
+use Rattle.cs_wire.specs.Entry.{IsChange}
 use Rattle.cs_wire.specs.Changeset.{GroupData, IsChangeset}
 use Rattle.cs_group.specs.Inverse.{IsInverse}
-use Rattle.cs_group.specs.Applying.{Choices, IsClean, IsApplied, written}
+use Rattle.cs_group.specs.declared.conflict.Noop.{Noop}
+use Rattle.cs_group.specs.Conflicts.{has_values, is_idle}
+use Rattle.cs_group.specs.Applying.{Choices, IsClean, IsApplied, IsAppliedUnder, applicable, current, ignored_of, written_under}
 
 -- a changeset with these choices makes one state alone
 abbrev pub AppliedOnce : Type 0
-AppliedOnce = (old : State) (changeset : List GroupData) (choose : Choices) (new other : State)
-    → IsApplied old changeset choose new → IsApplied old changeset choose other → new ≡ other
+AppliedOnce = (noop : Noop) (old : State) (changeset : List GroupData) (choose : Choices) (new other : State)
+    → IsAppliedUnder noop old changeset choose new → IsAppliedUnder noop old changeset choose other → new ≡ other
 
 -- after a changeset that met no conflict its inverse meets none, and gives the state back
 abbrev pub AppliedReverts : Type 0
@@ -23,5 +32,23 @@ pub record TellsFormer (old new : State) (written : List WrittenData) : Type 0 w
       → row_at new table key ≡ row_at old table key
 
 abbrev pub WrittenTells : Type 0
-WrittenTells = (old : State) (changeset : List GroupData) (choose : Choices) (new : State)
-    → IsApplied old changeset choose new → TellsFormer old new (written old changeset choose)
+WrittenTells = (noop : Noop) (old : State) (changeset : List GroupData) (choose : Choices) (new : State)
+    → IsAppliedUnder noop old changeset choose new → TellsFormer old new (written_under noop old changeset choose)
+
+-- which changes are idle: a delete where no row stands, an insert where its row stands, and an update where the row with
+-- its key has the new values in the modified columns, and not all of the old ones
+pub record IdleCases : Type 0 where
+  pub deleted : (flags : List ℕ) (old : List OwnedValue) (row : Option (List OwnedValue))
+      → (is_idle flags (Delete old) row ≡ true) ↔ (row ≡ None)
+  pub inserted : (flags : List ℕ) (new : List OwnedValue) (row : Option (List OwnedValue))
+      → (is_idle flags (Insert new) row ≡ true) ↔ (row ≡ Some new)
+  pub updated : (flags : List ℕ) (old new : List OwnedField) (row : List OwnedValue) → IsChange flags (Update old new)
+      → IsRow row → IsKeyedRow flags row → row_key flags row ≡ image_key flags old
+      → is_idle flags (Update old new) (Some row) ≡ (not (has_values row old) && has_values row new)
+  pub missing : (flags : List ℕ) (old new : List OwnedField) → is_idle flags (Update old new) None ≡ false
+
+-- the row of an entry that is ignored stays
+abbrev pub IgnoredStand : Type 0
+IgnoredStand = (noop : Noop) (old : State) (changeset : List GroupData) (choose : Choices) (new : State) → IsChangeset changeset
+    → IsAppliedUnder noop old changeset choose new
+    → All (λ p. current new p ≡ current old p) (ignored_of noop old (applicable old changeset))

@@ -3,10 +3,10 @@ ghost use Rattle.std.specs.Prelude.{◌≡◌, ◌≢◌, [], ◌∷◌, if◌th
 ghost use Rattle.cs_value.specs.Value.{field_of, FieldFits};
 ghost use Rattle.cs_value.specs.Table.{IsKeyedRow};
 ghost use Rattle.cs_value.specs.Key.{row_key};
-ghost use Rattle.cs_wire.specs.Entry.{key_of};
+ghost use Rattle.cs_wire.specs.Entry.{key_of, after_image};
 ghost use Rattle.cs_group.specs.declared.conflict.Kind.TheVariants.{Data as DataKind, NotFound as NotFoundKind};
 ghost use Rattle.cs_group.specs.Conflicts.{conflict_kind as kind_of, row_after as row_of_change};
-ghost use Rattle.cs_group.specs.Conflicts.{has_values as values_of_image};
+ghost use Rattle.cs_group.specs.Conflicts.{has_values as values_of_image, agrees as agrees_with};
 ghost use Rattle.cs_group.specs.Conflicts.{filled, value_in as value_of_field};
 
 use cs_value::{Field, NoMemory, OwnedValue, Row};
@@ -36,6 +36,16 @@ pub enum Choice {
     Abort,
 }
 
+/// What is done about a change that meets a conflict where what stands at its key, a row or none, is already what the
+/// change would leave.
+#[derive(Clone, Copy, Debug, PartialEq, Eq)]
+pub enum Noop {
+    /// It is a conflict like any other.
+    Report,
+    /// It is passed over, and no choice is asked for: SQLite's `SQLITE_CHANGESETAPPLY_IGNORENOOP`.
+    Ignore,
+}
+
 /// The conflict that an entry meets at the row with its key, or None where there is none. It takes no
 /// memory.
 pub fn conflict_kind(entry: &EntryRef<'_>, row: Option<&Row>) -> Option<Kind>
@@ -54,6 +64,18 @@ fn data_unless(is_same: bool) -> Option<Kind>
     ensures { result ≡ (if is_same then None else Some DataKind) }
 {
     if is_same { None } else { Some(Kind::Data) }
+}
+
+/// Whether what stands at the key of an entry, a row or none, is already what the entry leaves there. An entry of
+/// which that is so, and which meets a conflict, is idle. It takes no memory.
+pub fn agrees(entry: &EntryRef<'_>, row: Option<&Row>) -> bool
+    ensures { result ≡ agrees_with (after_image entry.now.flags entry.now.entry.change) (option_map (λ r. r.now) row.entry) }
+{
+    match (entry.fields_after(), row) {
+        (None, None) => true,
+        (Some(fields), Some(row)) => has_values(row, fields),
+        (None, Some(_)) | (Some(_), None) => false,
+    }
 }
 
 /// Whether a row has the values of the fields that are defined.

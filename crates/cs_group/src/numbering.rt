@@ -15,7 +15,8 @@ use std::alloc::Global;
 /// 255th on. It says and does the same, and its file is as long.
 ///
 /// SQLite's `sqlite3changeset_apply` passes over a table whose flags are not those numbers, while a changeset may
-/// have any other than 0 at key columns.
+/// have any other than 0 at key columns. What SQLite recorded has its numbers already, and they need not be in column
+/// order: it is not to go through this.
 ///
 /// # Errors
 ///
