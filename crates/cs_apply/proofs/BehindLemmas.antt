@@ -1,5 +1,5 @@
 -- How a run goes on from one item to the next.
-use Rattle.std.proofs.Common.{◌≡◌, ◌≢◌, ℕ, suc, Bool, true, false, cond, if◌then◌else◌, List, [], ◌∷◌, ◌++◌, length, length-append, take, map, Option, Some, None, option_map, append_assoc, refl, sym, ap, ap₂, subst, ◌∙◌, arith}
+use Rattle.std.proofs.Common.{◌≡◌, ◌≢◌, ℕ, suc, ◌+◌, Bool, true, false, cond, if◌then◌else◌, List, [], ◌∷◌, ◌++◌, length, length-append, take, map, Option, Some, None, option_map, append_assoc, refl, sym, ap, ap₂, subst, ◌∙◌, arith}
 use Rattle.std.specs.Prelude.{string_bytes}
 use Rattle.std.specs.List.{AllByRecursion}
 use Rattle.std.specs.Rc.{rc_str_bytes}
@@ -15,8 +15,9 @@ use Rattle.cs_wire.specs.Items.{FlaggedEntry}
 use Rattle.cs_store.specs.Editing.{written_of}
 use Rattle.cs_group.specs.declared.judging.Judgement.{Judgement}
 use Rattle.cs_group.specs.declared.judging.Judgement.TheVariants.{Skipped, Wider, Compatible}
+use Rattle.cs_group.specs.declared.conflict.Noop.{Noop}
 use Rattle.cs_group.specs.Judging.{judgement, judged, is_compatible, is_skipped}
-use Rattle.cs_group.specs.Applying.{PlacedEntry, placed, placed_by, placed_in, IsElsewhere, NoneWider, FirstWider, applicable, skipped}
+use Rattle.cs_group.specs.Applying.{PlacedEntry, placed, placed_by, placed_in, IsElsewhere, NoneWider, FirstWider, current, applicable, heeded, heeded_of, ignored, ignored_of, skipped}
 use Rattle.cs_apply.specs.declared.ending.Ending.{Ending}
 use Rattle.cs_apply.specs.declared.ending.Ending.TheVariants.{Aborted, Misused}
 use Rattle.cs_apply.specs.declared.report.Report.{Report}
@@ -26,7 +27,8 @@ use Rattle.cs_apply.specs.Running.{Handler}
 use Rattle.cs_apply.specs.Steps.{HasTable, Carries, ComesTo, StopsAs, header_in, placed_in_table}
 use Rattle.cs_apply.specs.Run.{IsAtStart, IsBehind, IsNewEntry, CameTo, TakesEntries, TakesTable, first_wider, group_of, last_group, wider_then}
 use Rattle.cs_apply.proofs.RunLemmas.{applicable_more, each_map, has_table, other_tables, skipped_more, table_stays}
-use Rattle.cs_apply.proofs.StepLemmas.{Apart, carries_none, carries_then, stops_as_more, stops_as_then}
+use Rattle.cs_apply.proofs.StepLemmas.{Apart, carries_none, carries_then, same_rows, stops_as_more, stops_as_then}
+use Rattle.cs_apply.proofs.HeededLemmas.{heeded_before, heeded_behind, heeded_more, heeded_none, heeded_same, ignored_more, ignored_none, ignored_same}
 
 -- ---- the last of some groups
 
@@ -122,7 +124,9 @@ behind_start chooses s run is = record {
   opened = tt;
   schemas = λ table. refl;
   wider = is.wider;
-  came_to = λ none. rw is.ended (carries_none chooses s run.report, sym (append-nil (map string_bytes run.report.skipped.items)));
+  came_to = λ none.
+      rw (is.ended, heeded_none run.noop s, ignored_none run.noop s)
+      (carries_none chooses s run.report, sym (append-nil (map string_bytes run.report.skipped.items)), omega arith);
 }
 
 -- ---- a table
@@ -157,18 +161,19 @@ module _ (s : State) (gs : List GroupData) (h : HeaderData) where
         takes.wider ∙ rw (is.wider, is.tables, judged_now) (ap (λ (n : ℕ). wider_then (first_wider (map (judged s) gs)) n new_judgement) (sym (length-map gs (judged s))))
         ∙ sym (wider_more (map (judged s) gs) new_judgement) ∙ ap first_wider (sym (map-append (judged s) gs (group_of h [] ∷ [])))
 
-    came_now : next.wider ≡ None → CameTo chooses s opened is.start next.report b next.ended
-    came_now none = rw (takes.same, takes.ended) (by run.ended (is.came_to (was_none run.wider run.tables next.judgement (sym takes.wider ∙ none))))
+    came_now : next.wider ≡ None → CameTo chooses next.noop s opened is.start next.report b next.ended
+    came_now none = rw (takes.same, takes.ended, takes.noop) (by run.ended (is.came_to (was_none run.wider run.tables next.judgement (sym takes.wider ∙ none))))
       where
-        by : (o : Option Ending) → CameTo chooses s gs is.start run.report a o → CameTo chooses s opened is.start next.report a o
+        by : (o : Option Ending) → CameTo chooses run.noop s gs is.start run.report a o → CameTo chooses run.noop s opened is.start next.report a o
         by None came = (
-          rw applicable_opened (carries_same chooses (applicable s gs) s a is.start run.report next.report came.0 takes.conflicts takes.written),
+          rw applicable_opened (carries_same chooses (heeded run.noop s gs) s a is.start run.report next.report came.0 takes.conflicts takes.written),
           takes.skipped ∙ ap (λ (l : List (List ℕ)). l ++ (if is_skipped next.judgement then h.name ∷ [] else [])) came.1
               ∙ append_assoc (map string_bytes is.start.skipped.items) (skipped s gs) (if is_skipped next.judgement then h.name ∷ [] else [])
               ∙ ap (λ (l : List (List ℕ)). map string_bytes is.start.skipped.items ++ l)
               (ap (λ (j : Judgement). skipped s gs ++ (if is_skipped j then h.name ∷ [] else [])) judged_now ∙ sym skipped_opened),
+          takes.ignored ∙ came.2 ∙ ap (λ (ps : List PlacedEntry). is.start.ignored + length (ignored_of run.noop s ps)) (sym applicable_opened),
         )
-        by (Some e) came = rw applicable_opened (stops_as_same chooses (applicable s gs) s is.start run.report next.report e came takes.conflicts)
+        by (Some e) came = rw applicable_opened (stops_as_same chooses (heeded run.noop s gs) s is.start run.report next.report e came takes.conflicts)
 
     pub behind_table : IsBehind chooses s opened next b
     behind_table = record {
@@ -258,27 +263,29 @@ module _ (s : State) (closed : List GroupData) (h : HeaderData) (es : List Entry
       came_to = λ none. by none run.ended refl (is.came_to none);
     }
       where
-        by : run.wider ≡ None → (o : Option Ending) → run.ended ≡ o → CameTo chooses s here is.start run.report a o → CameTo chooses s grown is.start run.report a o
+        by : run.wider ≡ None → (o : Option Ending) → run.ended ≡ o → CameTo chooses run.noop s here is.start run.report a o → CameTo chooses run.noop s grown is.start run.report a o
         by none None goes_on came =
             let none_added : added ≡ [] =
             rw (is_passed its_judgement (λ compatible. passed (record { compatible = is_open.1 ∙ compatible; none_wider = none; goes_on = goes_on }))) refl in (
               rw (applicable_grown, none_added, append-nil (applicable s here)) came.0,
               rw skipped_grown came.1,
+              rw (applicable_grown, none_added, append-nil (applicable s here)) came.2,
             )
-        by none (Some ending) goes_on came = rw applicable_grown (stops_as_more chooses (applicable s here) s is.start added run.report ending came)
+        by none (Some ending) goes_on came =
+            rw (applicable_grown, heeded_more run.noop s (applicable s here) added) (stops_as_more chooses (heeded run.noop s here) s is.start (heeded_of run.noop s added) run.report ending came)
 
     -- it is carried out, or does not stand in the way, or ends the run
     pub behind_taken : (next : Run) (b : State) (seen : FlaggedEntry) → TakesEntries run → IsNewEntry closed h es e → seen.flags ≡ h.flags → seen.entry ≡ e
-        → next.table ≡ run.table → next.judgement ≡ run.judgement → next.tables ≡ run.tables → next.wider ≡ run.wider → next.report.skipped ≡ run.report.skipped
-        → ComesTo chooses (placed_in_table (rc_str_bytes run.table) seen) a run.report b next.report next.ended → IsBehind chooses s grown next b
-    behind_taken next b seen takes new flags entry table judged_as tables wider skips comes = record {
+        → next.table ≡ run.table → next.judgement ≡ run.judgement → next.tables ≡ run.tables → next.wider ≡ run.wider → next.noop ≡ run.noop → next.report.skipped ≡ run.report.skipped
+        → ComesTo chooses run.noop (placed_in_table (rc_str_bytes run.table) seen) a run.report b next.report next.ended → IsBehind chooses s grown next b
+    behind_taken next b seen takes new flags entry table judged_as tables wider noop skips comes = record {
       start = is.start;
       empty = is.empty;
       tables = tables ∙ is.tables ∙ sym same_count;
       opened = rw (last_is closed (group_of h (es ++ e ∷ []))) (rw table is_open.0, judged_as ∙ is_open.1);
       schemas = (by next.ended comes_here).0;
       wider = wider ∙ is.wider ∙ ap first_wider (sym same_judged);
-      came_to = λ none. (by next.ended comes_here).1;
+      came_to = λ none. rw noop (by next.ended comes_here).1;
     }
       where
         same : placed_in_table (rc_str_bytes run.table) seen ≡ placed_by h e
@@ -286,27 +293,51 @@ module _ (s : State) (closed : List GroupData) (h : HeaderData) (es : List Entry
             ap₂ (λ (table flags : List ℕ). record { table = table; flags = flags; entry = seen.entry }) is_open.0 flags
             ∙ ap (λ (entry : Entry). record { table = h.name; flags = h.flags; entry = entry }) entry
 
-        comes_here : ComesTo chooses (placed_by h e) a run.report b next.report next.ended
+        comes_here : ComesTo chooses run.noop (placed_by h e) a run.report b next.report next.ended
         comes_here = rw same at comes
 
-        was : CameTo chooses s here is.start run.report a None
+        was : CameTo chooses run.noop s here is.start run.report a None
         was = rw takes.goes_on at (is.came_to takes.none_wider)
 
         one_added : added ≡ placed_by h e ∷ []
         one_added = let compatible : its_judgement ≡ Compatible = sym is_open.1 ∙ takes.compatible in rw compatible refl
 
-        by : (o : Option Ending) → ComesTo chooses (placed_by h e) a run.report b next.report o
-            → ((t : List ℕ) → schema_at b t ≡ schema_at s t) × CameTo chooses s grown is.start next.report b o
+        -- its row is as before the run, so that it is idle where it was
+        apart : Apart (heeded run.noop s here) (placed_by h e ∷ [])
+        apart = heeded_before run.noop s (applicable s here) (placed_by h e ∷ []) (apart_grown new)
+
+        same_row : current a (placed_by h e) ≡ current s (placed_by h e)
+        same_row = (same_rows (heeded run.noop s here) (placed_by h e ∷ []) s a was.0.choose was.0.choose apart was.0.applied).0
+
+        heeded_here : heeded_of run.noop a (placed_by h e ∷ []) ≡ heeded_of run.noop s (placed_by h e ∷ [])
+        heeded_here = heeded_same s (placed_by h e) a same_row run.noop
+
+        heeded_grown : heeded run.noop s grown ≡ heeded run.noop s here ++ heeded_of run.noop s (placed_by h e ∷ [])
+        heeded_grown = ap (heeded_of run.noop s) (applicable_grown ∙ ap (λ (l : List PlacedEntry). applicable s here ++ l) one_added) ∙ heeded_more run.noop s (applicable s here) (placed_by h e ∷ [])
+
+        ignored_grown : ignored run.noop s grown ≡ ignored run.noop s here + length (ignored_of run.noop a (placed_by h e ∷ []))
+        ignored_grown =
+            ap (λ (l : List PlacedEntry). length (ignored_of run.noop s l)) (applicable_grown ∙ ap (λ (l : List PlacedEntry). applicable s here ++ l) one_added)
+            ∙ ignored_more run.noop s (applicable s here) (placed_by h e ∷ [])
+            ∙ ap (λ (n : ℕ). ignored run.noop s here + n) (sym (ignored_same s (placed_by h e) a same_row run.noop))
+
+        by : (o : Option Ending) → ComesTo chooses run.noop (placed_by h e) a run.report b next.report o
+            → ((t : List ℕ) → schema_at b t ≡ schema_at s t) × CameTo chooses run.noop s grown is.start next.report b o
         by None two = (
-          λ t. two.applied.schemas t ∙ is.schemas t,
+          λ t. two.0.applied.schemas t ∙ is.schemas t,
           (
-            rw (applicable_grown, one_added) (carries_then chooses (applicable s here) (placed_by h e ∷ []) s a is.start run.report (apart_grown new) was.0 b next.report two),
+            subst (λ (l : List PlacedEntry). Carries chooses l s is.start b next.report) (sym heeded_grown)
+                (carries_then chooses (heeded run.noop s here) (heeded_of run.noop s (placed_by h e ∷ [])) s a is.start run.report (heeded_behind run.noop s (heeded run.noop s here) (placed_by h e ∷ []) apart) was.0 b next.report
+                (subst (λ (l : List PlacedEntry). Carries chooses l a run.report b next.report) heeded_here two.0)),
             rw (skips, skipped_grown) was.1,
+            omega (arith, two.1, was.2, ignored_grown),
           ),
         )
         by (Some ending) two = (
           λ t. ap (λ (n : State). schema_at n t) two.1 ∙ is.schemas t,
-          rw (applicable_grown, one_added) (stops_as_then chooses (applicable s here) s is.start (placed_by h e ∷ []) a run.report next.report ending (apart_grown new) was.0 two.0),
+          subst (λ (l : List PlacedEntry). StopsAs chooses l s is.start next.report ending) (sym heeded_grown)
+              (stops_as_then chooses (heeded run.noop s here) s is.start (heeded_of run.noop s (placed_by h e ∷ [])) a run.report next.report ending (heeded_behind run.noop s (heeded run.noop s here) (placed_by h e ∷ []) apart) was.0
+              (subst (λ (l : List PlacedEntry). StopsAs chooses l a run.report next.report ending) heeded_here two.0)),
         )
 
 -- the table that is open is there
@@ -318,9 +349,9 @@ has_open_table chooses s gs run a g seen is last flags compatible =
     rw same (table_stays s a g.header is.schemas (has_table s g (sym opened.1 ∙ compatible)))
 
 -- an entry leaves the schemas as they were
-pub comes_schemas : (chooses : Handler) (p : PlacedEntry) (a : State) (r : Report) (b : State) (t : Report) (o : Option Ending) → ComesTo chooses p a r b t o → (name : List ℕ) → schema_at b name ≡ schema_at a name
-comes_schemas chooses p a r b t None two name = two.applied.schemas name
-comes_schemas chooses p a r b t (Some ending) two name = ap (λ (n : State). schema_at n name) two.1
+pub comes_schemas : (chooses : Handler) (noop : Noop) (p : PlacedEntry) (a : State) (r : Report) (b : State) (t : Report) (o : Option Ending) → ComesTo chooses noop p a r b t o → (name : List ℕ) → schema_at b name ≡ schema_at a name
+comes_schemas chooses noop p a r b t None two name = two.0.applied.schemas name
+comes_schemas chooses noop p a r b t (Some ending) two name = ap (λ (n : State). schema_at n name) two.1
 
 -- the table of a group is there where it was judged compatible
 pub has_judged_table : (a : State) (run : Run) (h : HeaderData) (seen : FlaggedEntry) → rc_str_bytes run.table ≡ h.name → run.judgement ≡ judged a (group_of h []) → seen.flags ≡ h.flags → run.judgement ≡ Compatible

@@ -10,7 +10,7 @@ use Rattle.cs_value.proofs.ListLemmas.{cons_option-nil}
 use Rattle.cs_store.specs.Editing.{written_of}
 use Rattle.cs_group.specs.declared.conflict.Choice.{Choice}
 use Rattle.cs_group.specs.Conflicts.{conflict_kind, row_after, ends, is_carried_out}
-use Rattle.cs_group.specs.Applying.{PlacedEntry, placed_key, current, IsElsewhere, MetData, Choices, conflict_with, conflict_at, met_at, placed_result}
+use Rattle.cs_group.specs.Applying.{PlacedEntry, placed_key, current, IsElsewhere, MetData, Choices, conflict_with, conflict_at, met_at, placed_result, omit_all}
 use Rattle.cs_apply.specs.declared.conflict.Conflict.{Conflict}
 use Rattle.cs_apply.specs.declared.ending.Ending.{Ending}
 use Rattle.cs_apply.specs.declared.ending.Ending.TheVariants.{Aborted, Misused}
@@ -72,6 +72,20 @@ module _ (chooses : Handler) (s : State) (p : PlacedEntry) (row : Option (List O
         chosen = settles.chosen;
         written = ap (map written_of) written ∙ rw passed (sym (append-nil (map written_of r.written.items)));
       }
+
+  -- an entry that is ignored tells nothing
+  pub carries_ignored : (next : State) → next ≡ s → t.conflicts.items ≡ r.conflicts.items → t.written.items ≡ r.written.items → Carries chooses [] s r next t
+  carries_ignored next same conflicts written = record {
+    choose = omit_all;
+    applied = record {
+      schemas = λ table. ap (λ (n : State). schema_at n table) same;
+      results = All-nil (λ q. placed_result s omit_all q ≡ Some (current next q));
+      others = λ table key away. ap (λ (n : State). row_at n table key) same;
+    };
+    conflicts = ap (map met_of) conflicts ∙ sym (append-nil (map met_of r.conflicts.items));
+    chosen = λ all. rw conflicts all;
+    written = ap (map written_of) written ∙ sym (append-nil (map written_of r.written.items));
+  }
 
   stops_here : (conflict : Conflict) → EndsRun p row r.conflicts.items t.conflicts.items conflict → Stops chooses (p ∷ []) s r t conflict
   stops_here conflict ended = record {

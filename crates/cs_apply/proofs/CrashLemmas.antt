@@ -5,14 +5,15 @@ use Rattle.cs_value.specs.State as tables
 use Rattle.cs_store.specs.Crash.{CanBegin, IsAtomic}
 use Rattle.cs_store.proofs.CrashLemmas.{atomic_weaker}
 use Rattle.cs_group.specs.declared.conflict.Choice.{Choice}
+use Rattle.cs_group.specs.declared.conflict.Noop.{Noop}
 use Rattle.cs_apply.specs.declared.conflict.Conflict.{Conflict}
 use Rattle.cs_apply.specs.declared.running.Direction.{Direction}
 use Rattle.cs_apply.specs.Running.{Handler}
 use Rattle.cs_apply.specs.Crash.{AppliesInto}
 use Rattle.cs_apply.proofs.RevertLemmas.{applies_weaker}
 
-pub revert_atomic : (P Q : Handler) → ((k : Conflict) (c : Choice) → P k c → Q k c) → (file : List ℕ) (direction : Direction) (before : tables.State) (old new : State)
-    → IsAtomic CanBegin (AppliesInto P file direction before) old new → IsAtomic CanBegin (AppliesInto Q file direction before) old new
-revert_atomic P Q f file direction before old new =
-    atomic_weaker CanBegin (AppliesInto P file direction before) (AppliesInto Q file direction before) old new
-    (λ left may. (may.0, applies_weaker P Q f file direction before may.0 left may.1))
+pub revert_atomic : (P Q : Handler) → ((k : Conflict) (c : Choice) → P k c → Q k c) → (noop : Noop) (file : List ℕ) (direction : Direction) (before : tables.State) (old new : State)
+    → IsAtomic CanBegin (AppliesInto P noop file direction before) old new → IsAtomic CanBegin (AppliesInto Q noop file direction before) old new
+revert_atomic P Q f noop file direction before old new =
+    atomic_weaker CanBegin (AppliesInto P noop file direction before) (AppliesInto Q noop file direction before) old new
+    (λ left may. (may.0, applies_weaker P Q f noop file direction before may.0 left may.1))

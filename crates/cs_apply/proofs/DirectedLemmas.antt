@@ -188,18 +188,18 @@ read_as Inverse file gs is = (gs, is.0, is.1, (groups_inverse gs (recursion_from
 
 module _ (chooses : Handler) (d : Direction) (file : List ℕ) (gs : List GroupData) (s : State) (run : Run) (a : State) (read : IsReadAs file d gs) (is : IsBehind chooses s gs run a) where
   abbrev Outcome : Result Report ApplyFault → Type 0
-  Outcome result = IfOk result (λ report. Applies chooses file d s report a) × IfErr result (Refuses chooses file d s)
+  Outcome result = IfOk result (λ report. Applies chooses run.noop file d s report a) × IfErr result (Refuses chooses run.noop file d s)
 
   by : (w : Option ℕ) (o : Option Ending) → run.wider ≡ w → run.ended ≡ o → Outcome (outcome_of w o run.report)
   by (Some place) o wider ended = (tt, record { changeset = gs; read = read; first = some_wider s gs place (sym is.wider ∙ wider) })
   by None None none goes_on =
       let came = rw goes_on at (is.came_to none) in
-      (applies_from chooses file d s is.start run.report gs read (none_wider s gs (sym is.wider ∙ none)) is.empty s refl a came.0 came.1, tt)
+      (applies_from chooses run.noop file d s is.start run.report gs read (none_wider s gs (sym is.wider ∙ none)) is.empty s refl a came.0 came.1 came.2, tt)
   by None (Some ending) none ended =
       let came = rw ended at (is.came_to none) in
-      (tt, refuses_from chooses file d s is.start run.report gs read (none_wider s gs (sym is.wider ∙ none)) is.empty s refl ending came)
+      (tt, refuses_from chooses run.noop file d s is.start run.report gs read (none_wider s gs (sym is.wider ∙ none)) is.empty s refl ending came)
 
-  pub run_outcome : (result : Result Report ApplyFault) → result ≡ answer_of run → IfOk result (λ report. Applies chooses file d s report a) × IfErr result (Refuses chooses file d s)
+  pub run_outcome : (result : Result Report ApplyFault) → result ≡ answer_of run → IfOk result (λ report. Applies chooses run.noop file d s report a) × IfErr result (Refuses chooses run.noop file d s)
   run_outcome result same = subst Outcome (sym same) (by run.wider run.ended refl refl)
 
 -- and what it is refused with has a name

@@ -1,5 +1,6 @@
 pub mod WriteLemmas
 pub mod StepLemmas
+pub mod HeededLemmas
 pub mod RunLemmas
 pub mod EntryLemmas
 pub mod CarryLemmas

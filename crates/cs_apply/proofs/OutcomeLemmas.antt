@@ -1,12 +1,13 @@
 -- What a whole run comes to.
-use Rattle.std.proofs.Common.{◌≡◌, ℕ, List, ◌++◌, map, filter_map, ap, subst, ◌∙◌}
+use Rattle.std.proofs.Common.{◌≡◌, ℕ, ◌+◌, List, ◌++◌, map, filter_map, ap, subst, ◌∙◌, arith}
 use Rattle.std.specs.Prelude.{string_bytes}
 use Rattle.std.proofs.lemmas.List.Elements.{All-nil}
 use Rattle.cs_value.specs.State.{State}
 use Rattle.cs_wire.specs.Changeset.{GroupData}
 use Rattle.cs_store.specs.declared.edit.Written.{Written}
 use Rattle.cs_store.specs.Editing.{written_of}
-use Rattle.cs_group.specs.Applying.{NoneWider, applicable, met_at, written_for, skipped}
+use Rattle.cs_group.specs.declared.conflict.Noop.{Noop}
+use Rattle.cs_group.specs.Applying.{NoneWider, heeded, ignored, met_at, written_for, skipped}
 use Rattle.cs_apply.specs.declared.conflict.Conflict.{Conflict}
 use Rattle.cs_apply.specs.declared.conflict.Met.{Met}
 use Rattle.cs_apply.specs.declared.report.Report.{Report}
@@ -18,25 +19,26 @@ use Rattle.cs_apply.specs.Run.{IsEmpty}
 use Rattle.cs_apply.specs.Running.{Handler, IsReadAs, GoesOn, Applies, IsReached, Refuses}
 use Rattle.cs_apply.specs.Steps.{Carries, Stops, StopsAs, refusal_of}
 
-module _ (chooses : Handler) (file : List ℕ) (direction : Direction) (old : State) (r t : Report) (changeset : List GroupData)
+module _ (chooses : Handler) (noop : Noop) (file : List ℕ) (direction : Direction) (old : State) (r t : Report) (changeset : List GroupData)
     (read : IsReadAs file direction changeset) (none_wider : NoneWider old changeset) (empty : IsEmpty r) (mid : State) (same : mid ≡ old) where
-  pub applies_from : (new : State) → Carries chooses (applicable mid changeset) mid r new t → map string_bytes t.skipped.items ≡ map string_bytes r.skipped.items ++ skipped mid changeset
-      → Applies chooses file direction old t new
-  applies_from new ran told =
-      let carried = subst (λ (s : State). Carries chooses (applicable s changeset) s r new t) same ran in
+  pub applies_from : (new : State) → Carries chooses (heeded noop mid changeset) mid r new t → map string_bytes t.skipped.items ≡ map string_bytes r.skipped.items ++ skipped mid changeset
+      → t.ignored ≡ r.ignored + ignored noop mid changeset → Applies chooses noop file direction old t new
+  applies_from new ran told counted =
+      let carried = subst (λ (s : State). Carries chooses (heeded noop s changeset) s r new t) same ran in
       record {
         changeset = changeset;
         read = read;
         none_wider = none_wider;
         choose = carried.choose;
         applied = carried.applied;
-        conflicts = carried.conflicts ∙ ap (λ (l : List Met). map met_of l ++ filter_map (met_at old carried.choose) (applicable old changeset)) empty.conflicts;
+        conflicts = carried.conflicts ∙ ap (λ (l : List Met). map met_of l ++ filter_map (met_at old carried.choose) (heeded noop old changeset)) empty.conflicts;
         chosen = carried.chosen (rw empty.conflicts (All-nil (GoesOn chooses)));
         skipped = rw (empty.skipped, same) at told;
-        written = carried.written ∙ ap (λ (l : List Written). map written_of l ++ filter_map (written_for old carried.choose) (applicable old changeset)) empty.written;
+        written = carried.written ∙ ap (λ (l : List Written). map written_of l ++ filter_map (written_for old carried.choose) (heeded noop old changeset)) empty.written;
+        ignored = let told : t.ignored ≡ r.ignored + ignored noop old changeset = rw same at counted in omega (arith, told, empty.ignored);
       }
 
-  reached : (conflict : Conflict) → Stops chooses (applicable old changeset) old r t conflict → IsReached chooses old changeset conflict
+  reached : (conflict : Conflict) → Stops chooses (heeded noop old changeset) old r t conflict → IsReached chooses noop old changeset conflict
   reached conflict ended = record {
     earlier = t.conflicts.items;
     later = ended.later;
@@ -44,9 +46,9 @@ module _ (chooses : Handler) (file : List ℕ) (direction : Direction) (old : St
     listed = rw empty.conflicts at ended.listed;
   }
 
-  refuses_now : (e : Ending) → StopsAs chooses (applicable old changeset) old r t e → Refuses chooses file direction old (refusal_of e)
+  refuses_now : (e : Ending) → StopsAs chooses (heeded noop old changeset) old r t e → Refuses chooses noop file direction old (refusal_of e)
   refuses_now (Aborted k) h = record { changeset = changeset; read = read; none_wider = none_wider; reached = reached k h.0; chosen = h.1 }
   refuses_now (Misused k) h = (record { changeset = changeset; read = read; none_wider = none_wider; reached = reached k h.0; chosen = h.1 }, h.2)
 
-  pub refuses_from : (e : Ending) → StopsAs chooses (applicable mid changeset) mid r t e → Refuses chooses file direction old (refusal_of e)
-  refuses_from e ended = refuses_now e (subst (λ (s : State). StopsAs chooses (applicable s changeset) s r t e) same ended)
+  pub refuses_from : (e : Ending) → StopsAs chooses (heeded noop mid changeset) mid r t e → Refuses chooses noop file direction old (refusal_of e)
+  refuses_from e ended = refuses_now e (subst (λ (s : State). StopsAs chooses (heeded noop s changeset) s r t e) same ended)

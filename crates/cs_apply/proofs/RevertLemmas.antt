@@ -1,19 +1,22 @@
 -- What reverting gives back.
-use Rattle.std.proofs.Common.{◌≡◌, inl, inr, ℕ, List, [], ◌∷◌, ◌++◌, length, All, Option, Some, None, filter_map, refl, sym, ap, subst, ◌∙◌}
+use Rattle.std.proofs.Common.{◌≡◌, inl, inr, ℕ, List, [], ◌∷◌, ◌++◌, length, map, All, Option, Some, None, filter_map, refl, sym, ap, subst, ◌∙◌}
 use Rattle.std.proofs.lemmas.List.{nil_from_length, length-map}
 use Rattle.cs_value.specs.State.{State}
 use Rattle.cs_wire.specs.Changeset.{GroupData}
 use Rattle.cs_wire.specs.Laws.{ChangesetFiles}
 use Rattle.cs_group.specs.declared.conflict.Choice.{Choice}
 use Rattle.cs_group.specs.declared.conflict.Choice.TheVariants as choice
+use Rattle.cs_group.specs.declared.conflict.Noop.{Noop}
+use Rattle.cs_group.specs.declared.conflict.Noop.TheVariants.{Report as Reported}
 use Rattle.cs_group.specs.Inverse.{IsInverse}
-use Rattle.cs_group.specs.Applying.{PlacedEntry, ConflictData, Choices, applicable, conflict_at, met_at, IsClean, IsApplied, omit_all}
+use Rattle.cs_group.specs.Applying.{PlacedEntry, ConflictData, Choices, applicable, conflict_at, heeded, met_at, IsClean, IsApplied, AreApplied, omit_all}
 use Rattle.cs_group.proofs.ApplyLemmas.{applied_once, applied_reverts}
+use Rattle.cs_apply.proofs.HeededLemmas.{heeded_all}
 use Rattle.cs_apply.specs.declared.conflict.Conflict.{Conflict}
 use Rattle.cs_apply.specs.declared.conflict.Met.{Met}
 use Rattle.cs_apply.specs.declared.report.Report.{Report}
 use Rattle.cs_apply.specs.declared.running.Direction.{Direction}
-use Rattle.cs_apply.specs.declared.running.Direction.TheVariants.{Inverse}
+use Rattle.cs_apply.specs.declared.running.Direction.TheVariants.{Forward, Inverse}
 use Rattle.cs_apply.specs.declared.fault.ApplyFault.{ApplyFault}
 use Rattle.cs_apply.specs.declared.fault.ApplyFault.TheVariants as fault
 use Rattle.cs_apply.specs.Report.{conflict_of, met_of}
@@ -33,6 +36,31 @@ none_last : {X : Type 0} (xs ys : List X) (x : X) → xs ++ x ∷ ys ≡ [] → 
 none_last [] ys x e = cc
 none_last (y ∷ xs) ys x e = cc
 
+none_met_none : (s : State) (choose : Choices) (ps : List PlacedEntry) → filter_map (met_at s choose) ps ≡ [] → filter_map (conflict_at s) ps ≡ []
+none_met_none s choose [] e = refl
+none_met_none s choose (p ∷ ps) e = at (conflict_at s p) refl (none_met_none s choose ps)
+  where
+    at : (o : Option ConflictData) → conflict_at s p ≡ o → (filter_map (met_at s choose) ps ≡ [] → filter_map (conflict_at s) ps ≡ []) → filter_map (conflict_at s) (p ∷ ps) ≡ []
+    at None is others = rw is (others (rw is at e))
+    at (Some k) is others = absurd (let some = rw is at e in cc)
+
+-- ---- an apply that meets no conflict and ignores nothing
+
+pub leads_clean : (chooses : Handler) (noop : Noop) (file : List ℕ) (old new : State) (report : Report) → Applies chooses noop file Forward old report new → report.conflicts.items ≡ [] → report.ignored ≡ 0
+    → Leads file old new
+leads_clean chooses noop file old new report applies no_conflict none_ignored =
+    let ps = applicable old applies.changeset in
+    let all : heeded noop old applies.changeset ≡ ps = heeded_all noop old ps (sym applies.ignored ∙ none_ignored) in
+    let none : filter_map (met_at old applies.choose) (heeded noop old applies.changeset) ≡ [] = sym applies.conflicts ∙ ap (map met_of) no_conflict in
+    record {
+      changeset = applies.changeset;
+      is_changeset = applies.read.0;
+      is_file = applies.read.1;
+      clean = record { none_wider = applies.none_wider; no_conflict = none_met_none old applies.choose ps (rw all at none) };
+      choose = applies.choose;
+      applied = subst (λ (qs : List PlacedEntry). AreApplied old qs applies.choose new) all applies.applied;
+    }
+
 -- ---- the inverse, on what was left
 
 module _ (law : ChangesetFiles) (file : List ℕ) (before old : State) (leads : Leads file before old) (inverse : List GroupData) (read : IsReadAs file Inverse inverse) where
@@ -44,12 +72,12 @@ module _ (law : ChangesetFiles) (file : List ℕ) (before old : State) (leads : 
   back : (again : Choices) → IsClean old inverse × IsApplied old inverse again before
   back again = applied_reverts before leads.changeset inverse leads.choose again old leads.is_changeset undoes leads.clean leads.applied
 
-pub reverts_ok : (chooses : Handler) (law : ChangesetFiles) (file : List ℕ) (before old new : State) (report : Report) → Leads file before old → Applies chooses file Inverse old report new
+pub reverts_ok : (chooses : Handler) (law : ChangesetFiles) (file : List ℕ) (before old new : State) (report : Report) → Leads file before old → Applies chooses Reported file Inverse old report new
     → (report.conflicts.items ≡ []) × (new ≡ before)
 reverts_ok chooses law file before old new report leads applies =
     let given = back law file before old leads applies.changeset applies.read applies.choose in
     let none = none_met old applies.choose (applicable old applies.changeset) given.0.no_conflict in
-    (nil_from_length report.conflicts.items (sym (length-map report.conflicts.items met_of) ∙ ap length (applies.conflicts ∙ none)), applied_once old applies.changeset applies.choose new before applies.applied given.1)
+    (nil_from_length report.conflicts.items (sym (length-map report.conflicts.items met_of) ∙ ap length (applies.conflicts ∙ none)), applied_once Reported old applies.changeset applies.choose new before applies.applied given.1)
 
 no_group : GroupData
 no_group = record { header = record { name = []; flags = [] }; entries = [] }
@@ -58,9 +86,9 @@ no_group = record { header = record { name = []; flags = [] }; entries = [] }
 goes_weaker : (P Q : Handler) → ((k : Conflict) (c : Choice) → P k c → Q k c) → (ms : List Met) → All (GoesOn P) ms → All (GoesOn Q) ms
 goes_weaker P Q f ms all = λ k d lt. record { chosen = f _ _ (all k d lt).chosen; goes_on = (all k d lt).goes_on }
 
-ends_weaker : (P Q : Handler) → ((k : Conflict) (c : Choice) → P k c → Q k c) → (file : List ℕ) (direction : Direction) (old : State) (k : Conflict) (c : Choice)
-    → EndsAt P file direction old k c → EndsAt Q file direction old k c
-ends_weaker P Q f file direction old k c ended = record {
+ends_weaker : (P Q : Handler) → ((k : Conflict) (c : Choice) → P k c → Q k c) → (noop : Noop) (file : List ℕ) (direction : Direction) (old : State) (k : Conflict) (c : Choice)
+    → EndsAt P noop file direction old k c → EndsAt Q noop file direction old k c
+ends_weaker P Q f noop file direction old k c ended = record {
   changeset = ended.changeset;
   read = ended.read;
   none_wider = ended.none_wider;
@@ -68,18 +96,18 @@ ends_weaker P Q f file direction old k c ended = record {
   chosen = f k c ended.chosen;
 }
 
-pub refuses_weaker : (P Q : Handler) → ((k : Conflict) (c : Choice) → P k c → Q k c) → (file : List ℕ) (direction : Direction) (old : State) (e : ApplyFault)
-    → Refuses P file direction old e → Refuses Q file direction old e
-refuses_weaker P Q f file direction old (fault.Read x) h = h
-refuses_weaker P Q f file direction old (fault.Wider place) h = h
-refuses_weaker P Q f file direction old (fault.Abort k) h = ends_weaker P Q f file direction old k choice.Abort h
-refuses_weaker P Q f file direction old (fault.Misuse k) h = (ends_weaker P Q f file direction old k choice.Replace h.0, h.1)
-refuses_weaker P Q f file direction old (fault.Store x) h = h
-refuses_weaker P Q f file direction old fault.NoMemory h = h
+pub refuses_weaker : (P Q : Handler) → ((k : Conflict) (c : Choice) → P k c → Q k c) → (noop : Noop) (file : List ℕ) (direction : Direction) (old : State) (e : ApplyFault)
+    → Refuses P noop file direction old e → Refuses Q noop file direction old e
+refuses_weaker P Q f noop file direction old (fault.Read x) h = h
+refuses_weaker P Q f noop file direction old (fault.Wider place) h = h
+refuses_weaker P Q f noop file direction old (fault.Abort k) h = ends_weaker P Q f noop file direction old k choice.Abort h
+refuses_weaker P Q f noop file direction old (fault.Misuse k) h = (ends_weaker P Q f noop file direction old k choice.Replace h.0, h.1)
+refuses_weaker P Q f noop file direction old (fault.Store x) h = h
+refuses_weaker P Q f noop file direction old fault.NoMemory h = h
 
-pub applies_weaker : (P Q : Handler) → ((k : Conflict) (c : Choice) → P k c → Q k c) → (file : List ℕ) (direction : Direction) (old : State) (report : Report) (new : State)
-    → Applies P file direction old report new → Applies Q file direction old report new
-applies_weaker P Q f file direction old report new applies = record {
+pub applies_weaker : (P Q : Handler) → ((k : Conflict) (c : Choice) → P k c → Q k c) → (noop : Noop) (file : List ℕ) (direction : Direction) (old : State) (report : Report) (new : State)
+    → Applies P noop file direction old report new → Applies Q noop file direction old report new
+applies_weaker P Q f noop file direction old report new applies = record {
   changeset = applies.changeset;
   read = applies.read;
   none_wider = applies.none_wider;
@@ -89,9 +117,10 @@ applies_weaker P Q f file direction old report new applies = record {
   chosen = goes_weaker P Q f report.conflicts.items applies.chosen;
   skipped = applies.skipped;
   written = applies.written;
+  ignored = applies.ignored;
 }
 
-pub reverts_err : (law : ChangesetFiles) (file : List ℕ) (before old : State) (e : ApplyFault) → Leads file before old → Refuses AlwaysAborts file Inverse old e → IsResource e
+pub reverts_err : (law : ChangesetFiles) (file : List ℕ) (before old : State) (e : ApplyFault) → Leads file before old → Refuses AlwaysAborts Reported file Inverse old e → IsResource e
 reverts_err law file before old (fault.Read f) leads refuses = absurd (refuses.refused (leads.changeset, leads.is_changeset, leads.is_file))
 reverts_err law file before old (fault.Wider place) leads refuses =
     let given = back law file before old leads refuses.changeset refuses.read omit_all in

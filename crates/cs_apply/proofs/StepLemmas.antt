@@ -95,7 +95,7 @@ module _ (ps qs : List PlacedEntry) (a b : State) (first second : Choices) (apar
   chosen_first = AllByRecursion-weaker _ _ (λ p e. rw e refl) ps (all_among ps)
 
   -- the rows of the second run are as before the first
-  same_rows : AllByRecursion (λ q. current b q ≡ current a q) qs
+  pub same_rows : AllByRecursion (λ q. current b q ≡ current a q) qs
   same_rows = AllByRecursion-weaker _ _ (λ q away. applied.others q.table (placed_key q) (All-from_recursion _ ps away)) qs apart
 
   chosen_second : AllByRecursion (λ q. both q ≡ second q) qs

@@ -12,7 +12,8 @@ use Rattle.cs_group.specs.declared.judging.Judgement.{Judgement}
 use Rattle.cs_group.specs.declared.judging.Judgement.TheVariants as judgement
 use Rattle.cs_group.specs.Judging.{judged, is_skipped}
 use Rattle.cs_group.specs.Judging as judging
-use Rattle.cs_group.specs.Applying.{applicable, skipped}
+use Rattle.cs_group.specs.declared.conflict.Noop.{Noop}
+use Rattle.cs_group.specs.Applying.{heeded, ignored, skipped}
 use Rattle.cs_apply.specs.declared.ending.Ending.{Ending}
 use Rattle.cs_apply.specs.declared.fault.ApplyFault.{ApplyFault}
 use Rattle.cs_apply.specs.declared.fault.ApplyFault.TheVariants.{Wider}
@@ -45,6 +46,7 @@ pub record IsEmpty (r : Report) : Type 0 where
   pub conflicts : r.conflicts.items ≡ []
   pub skipped : r.skipped.items ≡ []
   pub written : r.written.items ≡ []
+  pub ignored : r.ignored ≡ 0
 
 -- a run before the first item
 pub record IsAtStart (run : Run) : Type 0 where
@@ -60,13 +62,14 @@ first_wider (judgement.Wider ∷ js) = Some 0
 first_wider (judgement.Skipped ∷ js) = option_map suc (first_wider js)
 first_wider (judgement.Compatible ∷ js) = option_map suc (first_wider js)
 
--- what became of the entries: all were carried out or passed over, or the run ended at one of them
-abbrev pub CameTo : Handler → State → List GroupData → Report → Report → State → Option Ending → Type 0
-CameTo chooses before groups start report after None =
-    Carries chooses (applicable before groups) before start after report
+-- what became of the entries: all were carried out, passed over or ignored, or the run ended at one of them
+abbrev pub CameTo : Handler → Noop → State → List GroupData → Report → Report → State → Option Ending → Type 0
+CameTo chooses noop before groups start report after None =
+    Carries chooses (heeded noop before groups) before start after report
     × (map string_bytes report.skipped.items ≡ map string_bytes start.skipped.items ++ skipped before groups)
-CameTo chooses before groups start report after (Some ending) =
-    StopsAs chooses (applicable before groups) before start report ending
+    × (report.ignored ≡ start.ignored + ignored noop before groups)
+CameTo chooses noop before groups start report after (Some ending) =
+    StopsAs chooses (heeded noop before groups) before start report ending
 
 abbrev pub last_group : List GroupData → Option GroupData
 last_group [] = None
@@ -86,7 +89,7 @@ pub record IsBehind (chooses : Handler) (before : State) (groups : List GroupDat
   pub opened : HasOpen before groups run
   pub schemas : (table : List ℕ) → schema_at after table ≡ schema_at before table
   pub wider : run.wider ≡ first_wider (map (judged before) groups)
-  pub came_to : run.wider ≡ None → CameTo chooses before groups start run.report after run.ended
+  pub came_to : run.wider ≡ None → CameTo chooses run.noop before groups start run.report after run.ended
 
 -- the first place is remembered
 abbrev pub wider_then : Option ℕ → ℕ → Judgement → Option ℕ
@@ -106,6 +109,8 @@ pub record TakesTable (state : State) (run : Run) (header : HeaderData) (next : 
   pub ended : next.ended ≡ run.ended
   pub conflicts : next.report.conflicts ≡ run.report.conflicts
   pub written : next.report.written ≡ run.report.written
+  pub ignored : next.report.ignored ≡ run.report.ignored
+  pub noop : next.noop ≡ run.noop
   pub skipped : map string_bytes next.report.skipped.items
       ≡ map string_bytes run.report.skipped.items ++ (if is_skipped next.judgement then header.name ∷ [] else [])
 

@@ -9,9 +9,11 @@ use Rattle.cs_store.specs.Editing.{written_of}
 use Rattle.cs_group.specs.declared.conflict.Kind.TheVariants.{NotFound}
 use Rattle.cs_group.specs.declared.conflict.Choice.{Choice}
 use Rattle.cs_group.specs.declared.conflict.Choice.TheVariants as choice
+use Rattle.cs_group.specs.declared.conflict.Noop.{Noop}
 use Rattle.cs_group.specs.Inverse.{IsInverse}
 use Rattle.cs_group.specs.Conflicts.{ends}
-use Rattle.cs_group.specs.Applying.{ConflictData, Choices, FirstWider, NoneWider, IsClean, IsApplied, conflicts, met, skipped, written}
+use Rattle.cs_group.specs.Applying.{ConflictData, Choices, FirstWider, NoneWider, IsClean, IsApplied}
+use Rattle.cs_group.specs.Applying.{IsAppliedUnder, conflicts_under, met_under, skipped, written_under, ignored}
 use Rattle.cs_apply.specs.declared.conflict.Conflict.{Conflict}
 use Rattle.cs_apply.specs.declared.conflict.Met.{Met}
 use Rattle.cs_apply.specs.declared.report.Report.{Report}
@@ -37,32 +39,33 @@ pub record GoesOn (chooses : Handler) (m : Met) : Type 0 where
   pub goes_on : ends (Some m.conflict.kind) m.choice ≡ false
 
 -- a file is applied, with what the report tells
-pub record Applies (chooses : Handler) (file : List ℕ) (direction : Direction) (old : State) (report : Report)
-    (new : State) : Type 0 where
+pub record Applies (chooses : Handler) (noop : Noop) (file : List ℕ) (direction : Direction) (old : State)
+    (report : Report) (new : State) : Type 0 where
   pub changeset : List GroupData
   pub read : IsReadAs file direction changeset
   pub none_wider : NoneWider old changeset
   pub choose : Choices
-  pub applied : IsApplied old changeset choose new
-  pub conflicts : map met_of report.conflicts.items ≡ met old changeset choose
+  pub applied : IsAppliedUnder noop old changeset choose new
+  pub conflicts : map met_of report.conflicts.items ≡ met_under noop old changeset choose
   pub chosen : All (GoesOn chooses) report.conflicts.items
   pub skipped : map string_bytes report.skipped.items ≡ skipped old changeset
-  pub written : map written_of report.written.items ≡ written old changeset choose
+  pub written : map written_of report.written.items ≡ written_under noop old changeset choose
+  pub ignored : report.ignored ≡ ignored noop old changeset
 
 -- the conflict is one of a changeset, and for each before it the handler chose to go on
-pub record IsReached (chooses : Handler) (old : State) (changeset : List GroupData) (conflict : Conflict) : Type 0 where
+pub record IsReached (chooses : Handler) (noop : Noop) (old : State) (changeset : List GroupData) (conflict : Conflict) : Type 0 where
   pub earlier : List Met
   pub later : List ConflictData
   pub chosen : All (GoesOn chooses) earlier
-  pub listed : conflicts old changeset ≡ map (λ m. conflict_of m.conflict) earlier ++ conflict_of conflict ∷ later
+  pub listed : conflicts_under noop old changeset ≡ map (λ m. conflict_of m.conflict) earlier ++ conflict_of conflict ∷ later
 
 -- the run ends at a conflict, with this choice
-pub record EndsAt (chooses : Handler) (file : List ℕ) (direction : Direction) (old : State) (conflict : Conflict)
-    (choice : Choice) : Type 0 where
+pub record EndsAt (chooses : Handler) (noop : Noop) (file : List ℕ) (direction : Direction) (old : State)
+    (conflict : Conflict) (choice : Choice) : Type 0 where
   pub changeset : List GroupData
   pub read : IsReadAs file direction changeset
   pub none_wider : NoneWider old changeset
-  pub reached : IsReached chooses old changeset conflict
+  pub reached : IsReached chooses noop old changeset conflict
   pub chosen : chooses conflict choice
 
 pub record IsWider (file : List ℕ) (direction : Direction) (old : State) (place : ℕ) : Type 0 where
@@ -71,14 +74,14 @@ pub record IsWider (file : List ℕ) (direction : Direction) (old : State) (plac
   pub first : FirstWider old changeset place
 
 -- why a file is not applied
-abbrev pub Refuses : Handler → List ℕ → Direction → State → ApplyFault → Type 0
-Refuses chooses file direction old (Read fault) = ReadFails file fault.kind fault.place
-Refuses chooses file direction old (Wider place) = IsWider file direction old place
-Refuses chooses file direction old (Abort conflict) = EndsAt chooses file direction old conflict choice.Abort
-Refuses chooses file direction old (Misuse conflict) =
-    EndsAt chooses file direction old conflict choice.Replace × (conflict.kind ≡ NotFound)
-Refuses chooses file direction old (Store error) = error ≡ StoreFault
-Refuses chooses file direction old NoMemory = Unit {0}
+abbrev pub Refuses : Handler → Noop → List ℕ → Direction → State → ApplyFault → Type 0
+Refuses chooses noop file direction old (Read fault) = ReadFails file fault.kind fault.place
+Refuses chooses noop file direction old (Wider place) = IsWider file direction old place
+Refuses chooses noop file direction old (Abort conflict) = EndsAt chooses noop file direction old conflict choice.Abort
+Refuses chooses noop file direction old (Misuse conflict) =
+    EndsAt chooses noop file direction old conflict choice.Replace × (conflict.kind ≡ NotFound)
+Refuses chooses noop file direction old (Store error) = error ≡ StoreFault
+Refuses chooses noop file direction old NoMemory = Unit {0}
 
 -- memory was refused, or the database refused
 abbrev pub IsResource : ApplyFault → Type 0

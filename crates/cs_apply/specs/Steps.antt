@@ -1,8 +1,9 @@
 -- How a run goes on, entry by entry. No public contract names this.
-use Rattle.std.specs.Prelude.{◌≡◌, ◌⊎◌, ℕ, Bool, true, false, List, [], ◌∷◌, ◌++◌, map, filter_map, All, Option, None, Some}
+use Rattle.std.specs.Prelude.{◌≡◌, ◌⊎◌, ℕ, ◌+◌, length, Bool, true, false, List, [], ◌∷◌, ◌++◌, map, filter_map, All, Option, None, Some}
 use Rattle.std.specs.Prelude.{option_map, option_to_list}
 use Rattle.cs_value.specs.declared.value.OwnedValue.{OwnedValue}
 use Rattle.cs_value.specs.State.{State, SchemaData, schema_at, with_row, without_row}
+use Rattle.cs_wire.specs.declared.entry.Change.{Change}
 use Rattle.cs_wire.specs.Changeset.{HeaderData}
 use Rattle.cs_wire.specs.Items.{FlaggedEntry}
 use Rattle.cs_store.specs.declared.fault.StoreError.TheVariants.{DamagedStore}
@@ -10,10 +11,12 @@ use Rattle.cs_store.specs.Editing.{written_of}
 use Rattle.cs_group.specs.declared.conflict.Kind.TheVariants.{NotFound}
 use Rattle.cs_group.specs.declared.conflict.Choice.{Choice}
 use Rattle.cs_group.specs.declared.conflict.Choice.TheVariants as choice
-use Rattle.cs_group.specs.Conflicts.{conflict_kind, ends, is_carried_out}
+use Rattle.cs_group.specs.declared.conflict.Noop.{Noop}
+use Rattle.cs_group.specs.declared.conflict.Noop.TheVariants as noop
+use Rattle.cs_group.specs.Conflicts.{conflict_kind, is_idle, ends, is_carried_out}
 use Rattle.cs_group.specs.Joining.{key_places}
 use Rattle.cs_group.specs.Applying.{PlacedEntry, ConflictData, Choices, AreApplied, conflict_with, conflict_at}
-use Rattle.cs_group.specs.Applying.{met_at, written_for}
+use Rattle.cs_group.specs.Applying.{met_at, written_for, heeded_of, ignored_of}
 use Rattle.cs_apply.specs.declared.conflict.Conflict.{Conflict}
 use Rattle.cs_apply.specs.declared.conflict.Met.{Met}
 use Rattle.cs_apply.specs.declared.ending.Ending.{Ending}
@@ -21,7 +24,7 @@ use Rattle.cs_apply.specs.declared.ending.Ending.TheVariants.{Aborted, Misused}
 use Rattle.cs_apply.specs.declared.fault.ApplyFault.{ApplyFault}
 use Rattle.cs_apply.specs.declared.fault.ApplyFault.TheVariants.{Abort, Misuse, Store}
 use Rattle.cs_apply.specs.declared.entry.Settled.{Settled}
-use Rattle.cs_apply.specs.declared.entry.Settled.TheVariants.{Carried, Passed, Ended}
+use Rattle.cs_apply.specs.declared.entry.Settled.TheVariants.{Carried, Passed, Ignored, Ended}
 use Rattle.cs_apply.specs.declared.report.Report.{Report}
 use Rattle.cs_apply.specs.Report.{conflict_of, met_of}
 use Rattle.cs_apply.specs.Running.{Handler, GoesOn, IsResource}
@@ -74,11 +77,14 @@ placed_in_table table seen = record { table = table; flags = seen.flags; entry =
 abbrev pub header_in : List ℕ → FlaggedEntry → HeaderData
 header_in table seen = record { name = table; flags = seen.flags }
 
--- what an entry comes to: it is carried out or passed over, or the run ends at it, and the rows are as they were
-abbrev pub ComesTo : Handler → PlacedEntry → State → Report → State → Report → Option Ending → Type 0
-ComesTo chooses p before report after next None = Carries chooses (p ∷ []) before report after next
-ComesTo chooses p before report after next (Some ending) =
-    StopsAs chooses (p ∷ []) before report next ending × (after ≡ before)
+-- what an entry comes to: it is carried out or passed over, or ignored, or the run ends at it, and the rows are as they
+-- were
+abbrev pub ComesTo : Handler → Noop → PlacedEntry → State → Report → State → Report → Option Ending → Type 0
+ComesTo chooses noop p before report after next None =
+    Carries chooses (heeded_of noop before (p ∷ [])) before report after next
+    × (next.ignored ≡ report.ignored + length (ignored_of noop before (p ∷ [])))
+ComesTo chooses noop p before report after next (Some ending) =
+    StopsAs chooses (heeded_of noop before (p ∷ [])) before report next ending × (after ≡ before)
 
 -- an entry, before it is carried out: what it meets, what was chosen for that, and whether it is carried out
 pub record Settles (chooses : Handler) (p : PlacedEntry) (row : Option (List OwnedValue)) (conflicts next : List Met)
@@ -117,7 +123,20 @@ settled_as choice.Abort = Passed
 abbrev pub SettlesAs : Handler → PlacedEntry → Option (List OwnedValue) → List Met → List Met → Settled → Type 0
 SettlesAs chooses p row conflicts next Carried = Settles chooses p row conflicts next true
 SettlesAs chooses p row conflicts next Passed = Settles chooses p row conflicts next false
+SettlesAs chooses p row conflicts next Ignored = next ≡ conflicts
 SettlesAs chooses p row conflicts next (Ended ending) = Unsettled chooses p row conflicts next ending
+
+-- the entry is idle at this row, or none, and that is to be ignored
+abbrev pub is_ignored : Noop → List ℕ → Change → Option (List OwnedValue) → Bool
+is_ignored noop.Report flags change row = false
+is_ignored noop.Ignore flags change row = is_idle flags change row
+
+-- it is ignored
+abbrev pub is_left_out : Settled → Bool
+is_left_out Carried = false
+is_left_out Passed = false
+is_left_out Ignored = true
+is_left_out (Ended ending) = false
 
 -- the row stands at the key, or none does
 abbrev pub with_result : State → List ℕ → List ℕ → Option (List OwnedValue) → State

@@ -1,20 +1,21 @@
 //! One entry of a changeset, carried out.
-ghost use Rattle.std.specs.Prelude.{◌≡◌, ◌≢◌, [], ◌∷◌, ◌++◌, map, Some, IfOk, IfErr, IfSome, OnOk, option_map};
+ghost use Rattle.std.specs.Prelude.{◌≡◌, ◌≢◌, ◌<◌, ◌≤◌, ◌+◌, [], ◌∷◌, ◌++◌, map, Some, IfOk, IfErr, IfSome, OnOk, option_map};
 ghost use Rattle.std.specs.Fn.{FnReturnsAt};
 ghost use Rattle.std.specs.Rc.{rc_str_bytes};
 ghost use Rattle.cs_wire.specs.Entry.{key_of};
 ghost use Rattle.cs_store.specs.Editing.{written_of};
 ghost use Rattle.cs_store.specs.Rows.{Fits};
 ghost use Rattle.cs_group.specs.declared.conflict.Kind.TheVariants.{NotFound as NotFoundKind};
+ghost use Rattle.cs_group.specs.declared.conflict.Noop.TheVariants.{Report as Reported};
 ghost use Rattle.cs_group.specs.Conflicts.{conflict_kind as kind_of, row_after as row_of_change, ends};
 ghost use Rattle.cs_apply.specs.Running.{IsResource};
-ghost use Rattle.cs_apply.specs.Steps.{HasTable, ComesTo, IsStoreRefusal, SettlesAs, header_in, placed_in_table, settled_as, with_result};
+ghost use Rattle.cs_apply.specs.Steps.{HasTable, ComesTo, IsStoreRefusal, SettlesAs, is_ignored, is_left_out, header_in, placed_in_table, settled_as, with_result};
 
 use crate::conflict::{Conflict, Met};
 use crate::ending::Ending;
 use crate::fault::ApplyFault;
 use crate::report::Report;
-use cs_group::{Choice, Kind, conflict_kind, row_after};
+use cs_group::{Choice, Kind, Noop, agrees, conflict_kind, row_after};
 use cs_store::{Rows, Written};
 use cs_value::{Key, NoMemory, Row};
 use cs_wire::EntryRef;
@@ -26,28 +27,35 @@ use std::rc::RcStr;
 pub(crate) enum Settled {
     /// It is carried out: it meets no conflict, or what stands in its way is to be replaced.
     Carried,
-    /// It is passed over.
+    /// It is passed over, as it is chosen.
     Passed,
+    /// It is ignored, since it changes nothing.
+    Ignored,
     /// The run ends at it.
     Ended(Ending),
 }
 
 /// Carries out an entry of a table that is compatible, or does what the handler chooses where the entry
-/// meets a conflict. Answers how the run ends at it, if it does: the rows are as they were then.
+/// meets a conflict, unless that is to be ignored. Answers how the run ends at it, if it does: the rows are as they
+/// were then.
 pub(crate) fn apply_entry<B: Rows, H: Fn(&Conflict) -> Choice>(
     alloc: Global,
     rows: &mut B,
     table: &RcStr,
     entry: &EntryRef<'_>,
+    noop: Noop,
     handler: &H,
     report: &mut Report,
 ) -> Result<Option<Ending>, ApplyFault>
     requires callable { H.IsAlwaysCallable handler.now }
+    requires count { report.old.ignored < usize.MAX }
     requires table { B.is_honest rows.old
         → HasTable (B.state rows.old) (header_in (rc_str_bytes table.now) entry.now) }
-    ensures comes_to { B.is_honest rows.new → IfOk result (ComesTo (FnReturnsAt H.Fn handler.now)
+    ensures comes_to { B.is_honest rows.new → IfOk result (ComesTo (FnReturnsAt H.Fn handler.now) noop
         (placed_in_table (rc_str_bytes table.now) entry.now) (B.state rows.old) report.old (B.state rows.new) report.new) }
     ensures skipped { report.new.skipped ≡ report.old.skipped }
+    ensures ignored { report.new.ignored ≤ report.old.ignored + 1 }
+    ensures reported { noop ≡ Reported → report.new.ignored ≡ report.old.ignored }
     ensures refused { B.is_honest rows.new → IfErr result IsResource }
     ensures named { IfErr result IsStoreRefusal }
     ensures was_honest { B.is_honest rows.new → B.is_honest rows.old }
@@ -57,34 +65,53 @@ pub(crate) fn apply_entry<B: Rows, H: Fn(&Conflict) -> Choice>(
     let key = entry.key(alloc)?;
     let current = rows.get(alloc, name, &key)?;
     let conflicts = &mut report.conflicts;
-    match settle(alloc, name, entry, current.as_ref(), handler, conflicts)? {
+    match settle(
+        alloc,
+        name,
+        entry,
+        current.as_ref(),
+        noop,
+        handler,
+        conflicts,
+    )? {
         Settled::Carried => {
             let written = &mut report.written;
             carry_out(alloc, rows, table, entry, key, current, written)?;
             Ok(None)
         }
         Settled::Passed => Ok(None),
+        Settled::Ignored => {
+            report.ignored += 1;
+            Ok(None)
+        }
         Settled::Ended(ending) => Ok(Some(ending)),
     }
 }
 
-/// What is done about an entry. A conflict is told with what was chosen for it, unless the run ends there.
+/// What is done about an entry. A conflict is told with what was chosen for it, unless the run ends there, or the
+/// entry is ignored.
 fn settle<H: Fn(&Conflict) -> Choice>(
     alloc: Global,
     table: &str,
     entry: &EntryRef<'_>,
     current: Option<&Row>,
+    noop: Noop,
     handler: &H,
     conflicts: &mut Vec<Met>,
 ) -> Result<Settled, NoMemory>
     requires callable { H.IsAlwaysCallable handler.now }
-    ensures { IfOk result (SettlesAs (FnReturnsAt H.Fn handler.now) (placed_in_table table.now entry.now)
+    ensures ignored { IfOk result (λ settled. is_left_out settled
+        ≡ is_ignored noop entry.now.flags entry.now.entry.change (option_map (λ r. r.now) current.entry)) }
+    ensures settles { IfOk result (SettlesAs (FnReturnsAt H.Fn handler.now) (placed_in_table table.now entry.now)
         (option_map (λ r. r.now) current.entry) conflicts.old.items conflicts.new.items) }
 {
     let kind = match conflict_kind(entry, current) {
         None => return Ok(Settled::Carried),
         Some(kind) => kind,
     };
+    if noop == Noop::Ignore && agrees(entry, current) {
+        return Ok(Settled::Ignored);
+    }
     let conflict = Conflict::copy_of(alloc, kind, table, entry, current)?;
     let choice = handler(&conflict);
     if ends_run(kind, choice) {

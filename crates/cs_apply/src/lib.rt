@@ -2,7 +2,7 @@
 //!
 //! ```rust
 //! // Each conflict ends the call, and nothing is changed.
-//! let report = apply(alloc, &mut store, file, &|_| Choice::Abort)?;
+//! let report = apply(alloc, &mut store, file, Noop::Report, &|_| Choice::Abort)?;
 //! assert!(rt; report.is_clean());
 //! // The same file gives the rows back.
 //! revert(alloc, &mut store, file)?;
@@ -29,7 +29,7 @@ mod running;
 mod store;
 
 pub use conflict::{Conflict, Met};
-pub use cs_group::{Choice, Kind};
+pub use cs_group::{Choice, Kind, Noop};
 pub use fault::ApplyFault;
 pub use owned::run_changeset_in;
 pub use policy::Policy;

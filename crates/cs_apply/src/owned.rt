@@ -4,6 +4,7 @@ ghost use Rattle.std.specs.List.{AllByRecursion};
 ghost use Rattle.std.specs.Fn.{FnReturnsAt};
 ghost use Rattle.cs_value.specs.State.{State};
 ghost use Rattle.cs_wire.specs.Changeset.{GroupData, file_bytes};
+ghost use Rattle.cs_group.specs.declared.conflict.Noop.TheVariants.{Report as Reported};
 ghost use Rattle.cs_apply.specs.Running.{Applies, Refuses, IsNamed, IsNoReadFault, IsResource};
 ghost use Rattle.cs_apply.specs.Steps.{IsStoreRefusal};
 ghost use Rattle.cs_apply.specs.Run.{IsBehind, directed_group};
@@ -13,12 +14,13 @@ use crate::fault::ApplyFault;
 use crate::report::Report;
 use crate::run::Run;
 use crate::running::{Direction, directed};
-use cs_group::Choice;
+use cs_group::{Choice, Noop};
 use cs_store::Rows;
 use cs_wire::{Changeset, EntryRef, Group, HeaderRef};
 use std::alloc::Global;
 
-/// Applies a changeset to rows, or its inverse, as [`run_in`](crate::run_in) does with its file; no file is written.
+/// Applies a changeset to rows, or its inverse, as [`run_in`](crate::run_in) does with its file; no file is
+/// written, and no entry is ignored.
 ///
 /// # Errors
 ///
@@ -32,15 +34,15 @@ pub fn run_changeset_in<B: Rows, H: Fn(&Conflict) -> Choice>(
 ) -> Result<Report, ApplyFault>
     requires { H.IsAlwaysCallable handler.now }
     ensures applied { B.is_honest rows.new → IfOk result (λ report.
-        Applies (FnReturnsAt H.Fn handler.now) (file_bytes changeset.now) direction (B.state rows.old) report (B.state rows.new)) }
+        Applies (FnReturnsAt H.Fn handler.now) Reported (file_bytes changeset.now) direction (B.state rows.old) report (B.state rows.new)) }
     ensures refused { B.is_honest rows.new → IfErr result
-        (Refuses (FnReturnsAt H.Fn handler.now) (file_bytes changeset.now) direction (B.state rows.old)) }
+        (Refuses (FnReturnsAt H.Fn handler.now) Reported (file_bytes changeset.now) direction (B.state rows.old)) }
     ensures named { IfErr result IsNamed }
     ensures read { IfErr result IsNoReadFault }
     ensures was_honest { B.is_honest rows.new → B.is_honest rows.old }
     ensures kept { B.keeps rows.old rows.new }
 {
-    let mut run = Run::new(alloc)?;
+    let mut run = Run::new(alloc, Noop::Report)?;
     for group in changeset.groups() {
         take_group(alloc, rows, group, direction, handler, &mut run)?;
     }
@@ -58,12 +60,14 @@ fn take_group<B: Rows, H: Fn(&Conflict) -> Choice>(
 ) -> Result<(), ApplyFault>
     requires callable { H.IsAlwaysCallable handler.now }
     requires count { run.old.tables < usize.MAX }
+    requires reported { (run.old.noop ≡ Reported) × (run.old.report.ignored ≡ 0) }
     ensures behind { B.is_honest rows.new → OnOk result ((before : State) (closed : List GroupData)
         → AllByRecursion (λ g. g.header.name ≢ group.now.header.name) closed
         → IsBehind (FnReturnsAt H.Fn handler.now) before closed run.old (B.state rows.old)
         → IsBehind (FnReturnsAt H.Fn handler.now) before
         (closed ++ directed_group direction group.now ∷ []) run.new (B.state rows.new)) }
     ensures tables { OnOk result (run.new.tables ≡ run.old.tables + 1) }
+    ensures reported { OnOk result ((run.new.noop ≡ Reported) × (run.new.report.ignored ≡ 0)) }
     ensures refused { B.is_honest rows.new → IfErr result IsResource }
     ensures named { IfErr result IsStoreRefusal }
     ensures was_honest { B.is_honest rows.new → B.is_honest rows.old }

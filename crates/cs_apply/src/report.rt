@@ -14,6 +14,8 @@ pub struct Report {
     pub skipped: Vec<String>,
     /// The keys of the entries that were carried out, with the rows that stood there before.
     pub written: Vec<Written>,
+    /// How many entries were ignored, of those that change nothing.
+    pub ignored: usize,
 }
 
 impl Report {
@@ -22,18 +24,20 @@ impl Report {
         ensures conflicts { result.conflicts.items ≡ [] }
         ensures skipped { result.skipped.items ≡ [] }
         ensures written { result.written.items ≡ [] }
+        ensures ignored { result.ignored ≡ 0 }
     {
         Report {
             conflicts: Vec::new(alloc),
             skipped: Vec::new(alloc),
             written: Vec::new(alloc),
+            ignored: 0,
         }
     }
 
-    /// Whether no conflict was met. It takes no memory.
+    /// Whether no conflict was met, and no entry was ignored: then reverting gives the rows back. It takes no memory.
     pub fn is_clean(&self) -> bool
-        ensures { IsTrue result ↔ (self.now.conflicts.items ≡ []) }
+        ensures { IsTrue result ↔ ((self.now.conflicts.items ≡ []) × (self.now.ignored ≡ 0)) }
     {
-        self.conflicts.is_empty()
+        self.conflicts.is_empty() && self.ignored == 0
     }
 }

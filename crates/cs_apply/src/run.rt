@@ -1,5 +1,5 @@
 //! A run through the items of a changeset, from one to the next.
-ghost use Rattle.std.specs.Prelude.{◌≡◌, ◌↔◌, ◌<◌, ◌+◌, ◌∷◌, ◌++◌, [], ℕ, List, IfOk, IfErr, IsTrue, OnOk};
+ghost use Rattle.std.specs.Prelude.{◌≡◌, ◌↔◌, ◌<◌, ◌≤◌, ◌+◌, ◌∷◌, ◌++◌, [], ℕ, List, IfOk, IfErr, IsTrue, OnOk};
 ghost use Rattle.std.specs.Fn.{FnReturnsAt};
 ghost use Rattle.std.specs.Rc.{rc_str_bytes};
 ghost use Rattle.cs_value.specs.State.{State, schema_at};
@@ -7,6 +7,7 @@ ghost use Rattle.cs_wire.specs.declared.entry.Entry.{Entry as EntryData};
 ghost use Rattle.cs_wire.specs.Changeset.{GroupData, HeaderData};
 ghost use Rattle.cs_wire.specs.Items.{header_of};
 ghost use Rattle.cs_group.specs.declared.judging.Judgement.TheVariants.{Compatible as CompatibleTable};
+ghost use Rattle.cs_group.specs.declared.conflict.Noop.TheVariants.{Report as Reported};
 ghost use Rattle.cs_apply.specs.Running.{IsResource};
 ghost use Rattle.cs_apply.specs.Steps.{HasTable, IsStoreRefusal, header_in};
 ghost use Rattle.cs_apply.specs.Run.{IsAtStart, IsBehind, IsNewEntry, TakesEntries, TakesTable, answer_of, group_of};
@@ -17,7 +18,7 @@ use crate::entry::apply_entry;
 use crate::fault::ApplyFault;
 use crate::judging::judge_table;
 use crate::report::Report;
-use cs_group::{Choice, Judgement};
+use cs_group::{Choice, Judgement, Noop};
 use cs_store::Rows;
 use cs_value::NoMemory;
 use cs_wire::{EntryRef, HeaderRef};
@@ -36,13 +37,16 @@ pub(crate) struct Run {
     wider: Option<usize>,
     // How the run ended at an entry.
     ended: Option<Ending>,
+    // What is done about entries that change nothing.
+    noop: Noop,
     report: Report,
 }
 
 impl Run {
     /// A run before the first item.
-    pub(crate) fn new(alloc: Global) -> Result<Run, NoMemory>
-        ensures { IfOk result IsAtStart }
+    pub(crate) fn new(alloc: Global, noop: Noop) -> Result<Run, NoMemory>
+        ensures start { IfOk result IsAtStart }
+        ensures noop { IfOk result (λ run. run.noop ≡ noop) }
     {
         Ok(Run {
             table: RcStr::from_str(alloc, "")?,
@@ -50,6 +54,7 @@ impl Run {
             tables: 0,
             wider: None,
             ended: None,
+            noop,
             report: Report::new(alloc),
         })
     }
@@ -66,6 +71,8 @@ impl Run {
         ensures takes { B.is_honest rows.new → OnOk result
             (TakesTable (B.state rows.old) self.old (header_of header.entry) self.new (B.state rows.new)) }
         ensures tables { OnOk result (self.new.tables ≡ self.old.tables + 1) }
+        ensures ignored { self.new.report.ignored ≡ self.old.report.ignored }
+        ensures noop { self.new.noop ≡ self.old.noop }
         ensures refused { B.is_honest rows.new → IfErr result IsResource }
         ensures named { IfErr result IsStoreRefusal }
         ensures was_honest { B.is_honest rows.new → B.is_honest rows.old }
@@ -103,6 +110,7 @@ impl Run {
         handler: &H,
     ) -> Result<(), ApplyFault>
         requires callable { H.IsAlwaysCallable handler.now }
+        requires count { self.old.report.ignored < usize.MAX }
         requires table { B.is_honest rows.old → self.old.judgement ≡ CompatibleTable
             → HasTable (B.state rows.old) (header_in (rc_str_bytes self.old.table) entry) }
         ensures behind { B.is_honest rows.new → OnOk result ((before : State) (closed : List GroupData)
@@ -115,6 +123,9 @@ impl Run {
             → schema_at (B.state rows.new) name ≡ schema_at (B.state rows.old) name) }
         ensures table { (self.new.table ≡ self.old.table) × (self.new.judgement ≡ self.old.judgement) }
         ensures tables { self.new.tables ≡ self.old.tables }
+        ensures ignored { self.new.report.ignored ≤ self.old.report.ignored + 1 }
+        ensures reported { self.old.noop ≡ Reported → self.new.report.ignored ≡ self.old.report.ignored }
+        ensures noop { self.new.noop ≡ self.old.noop }
         ensures refused { B.is_honest rows.new → IfErr result IsResource }
         ensures named { IfErr result IsStoreRefusal }
         ensures was_honest { B.is_honest rows.new → B.is_honest rows.old }
@@ -123,7 +134,8 @@ impl Run {
         if !self.takes_entries() {
             return Ok(());
         }
-        self.ended = apply_entry(alloc, rows, &self.table, &entry, handler, &mut self.report)?;
+        let report = &mut self.report;
+        self.ended = apply_entry(alloc, rows, &self.table, &entry, self.noop, handler, report)?;
         Ok(())
     }
 

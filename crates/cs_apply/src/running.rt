@@ -10,7 +10,7 @@ use crate::conflict::Conflict;
 use crate::fault::ApplyFault;
 use crate::report::Report;
 use crate::run::Run;
-use cs_group::Choice;
+use cs_group::{Choice, Noop};
 use cs_store::Rows;
 use cs_wire::{Cursor, EntryRef, Item};
 use std::alloc::Global;
@@ -25,8 +25,10 @@ pub enum Direction {
 /// Applies the changeset of a file to rows, or its inverse, as SQLite's `sqlite3changeset_apply` has it.
 ///
 /// A group whose table is not there, has fewer columns or another key is passed over. For each conflict
-/// the handler is asked. The report tells the conflicts, the tables that were passed over, and the keys
-/// that were written, in the order of the file.
+/// the handler is asked, but not for an entry that would change nothing where these are to be ignored
+/// ([`Noop::Ignore`]): a delete that finds no row, an insert that finds its row, and an update that finds its new
+/// values. The report tells the conflicts, the tables that were passed over, and the keys
+/// that were written, in the order of the file, and how many entries were ignored.
 ///
 /// # Errors
 ///
@@ -43,20 +45,21 @@ pub fn run_in<B: Rows, H: Fn(&Conflict) -> Choice>(
     rows: &mut B,
     file: &[u8],
     direction: Direction,
+    noop: Noop,
     handler: &H,
 ) -> Result<Report, ApplyFault>
     requires { H.IsAlwaysCallable handler.now }
     ensures applied { B.is_honest rows.new → IfOk result (λ report.
-        Applies (FnReturnsAt H.Fn handler.now) file.now direction (B.state rows.old) report (B.state rows.new)) }
+        Applies (FnReturnsAt H.Fn handler.now) noop file.now direction (B.state rows.old) report (B.state rows.new)) }
     ensures refused { B.is_honest rows.new → IfErr result
-        (Refuses (FnReturnsAt H.Fn handler.now) file.now direction (B.state rows.old)) }
+        (Refuses (FnReturnsAt H.Fn handler.now) noop file.now direction (B.state rows.old)) }
     ensures named { IfErr result IsNamed }
     ensures was_honest { B.is_honest rows.new → B.is_honest rows.old }
     ensures kept { B.keeps rows.old rows.new }
     ensures leaves { (held : State) → B.leaves_only rows.old held → B.leaves_only rows.new held }
 {
     let mut cursor = Cursor::new(alloc, file);
-    let mut run = Run::new(alloc)?;
+    let mut run = Run::new(alloc, noop)?;
     'items: while let Some(item) = cursor.next()? {
         match item {
             Item::Table(header) => run.take_table(alloc, rows, header)?,

@@ -8,6 +8,7 @@ ghost use Rattle.cs_store.specs.Crash.{CanBegin, IsAtomic, LeavesOnly};
 ghost use Rattle.cs_store.specs.Records.{KeepsContent};
 ghost use Rattle.cs_store.specs.Store.{IsAtRest, RefusesShut, tables_in};
 ghost use Rattle.cs_group.specs.declared.conflict.Choice.TheVariants.{Abort as AbortChoice};
+ghost use Rattle.cs_group.specs.declared.conflict.Noop.TheVariants.{Report as Reported};
 ghost use Rattle.cs_apply.specs.declared.running.Direction.TheVariants.{Forward as ForwardRun, Inverse as InverseRun};
 ghost use Rattle.cs_apply.specs.Crash.{AppliesInto};
 ghost use Rattle.cs_apply.specs.Running.{Applies, Refuses, AlwaysAborts, Leads, IsNamed, IsResource};
@@ -16,7 +17,7 @@ use crate::conflict::Conflict;
 use crate::fault::ApplyFault;
 use crate::report::Report;
 use crate::running::{Direction, run_in};
-use cs_group::Choice;
+use cs_group::{Choice, Noop};
 use cs_store::Store;
 use cs_wire::changeset_files_law;
 use sqlite::Alter;
@@ -25,31 +26,36 @@ use std::alloc::Global;
 /// Applies the changeset of a file to a store in one transaction, as [`run_in`] does. A refusal changes
 /// nothing. A crash leaves the tables as before, or as applied; once this is done, these alone, and once
 /// it is refused and the store is open still, those alone.
+///
+/// Where the report is clean ([`Report::is_clean`]), [`revert`] gives the tables back.
 pub fn apply<S: Alter, H: Fn(&Conflict) -> Choice>(
     alloc: Global,
     store: &mut Store<S>,
     file: &[u8],
+    noop: Noop,
     handler: &H,
 ) -> Result<Report, ApplyFault>
     requires { H.IsAlwaysCallable handler.now }
     ensures applied { HasCleanDisk (state S.Store store.new) → IfOk result (λ report.
-        Applies (FnReturnsAt H.Fn handler.now) file.now ForwardRun (tables_in (state S.Store store.old).now) report
+        Applies (FnReturnsAt H.Fn handler.now) noop file.now ForwardRun (tables_in (state S.Store store.old).now) report
         (tables_in (state S.Store store.new).now)) }
+    ensures clean { HasCleanDisk (state S.Store store.new) → IfOk result (λ report. report.conflicts.items ≡ []
+        → report.ignored ≡ 0 → Leads file.now (tables_in (state S.Store store.old).now) (tables_in (state S.Store store.new).now)) }
     ensures refused { HasCleanDisk (state S.Store store.new) → IfErr result
-        (Refuses (FnReturnsAt H.Fn handler.now) file.now ForwardRun (tables_in (state S.Store store.old).now)) }
+        (Refuses (FnReturnsAt H.Fn handler.now) noop file.now ForwardRun (tables_in (state S.Store store.old).now)) }
     ensures shut { HasCleanDisk (state S.Store store.new) → RefusesShut (state S.Store store.old) IsResource result }
     ensures named { IfErr result IsNamed }
     ensures at_rest { HasCleanDisk (state S.Store store.new) → OnOk result (IsAtRest (state S.Store store.new)) }
     ensures kept { HasCleanDisk (state S.Store store.new)
         → OnErr result (KeepsContent (state S.Store store.old) (state S.Store store.new)) }
-    ensures atomic { IsAtomic CanBegin (AppliesInto (FnReturnsAt H.Fn handler.now) file.now ForwardRun (tables_in (state S.Store store.old).now))
+    ensures atomic { IsAtomic CanBegin (AppliesInto (FnReturnsAt H.Fn handler.now) noop file.now ForwardRun (tables_in (state S.Store store.old).now))
         (state S.Store store.old) (state S.Store store.new) }
     ensures left { OnOk result (LeavesOnly (λ left. left ≡ tables_in (state S.Store store.new).now)
         (state S.Store store.new)) }
     ensures stands { OnErr result (IsTrue (state S.Store store.new).is_open → LeavesOnly
         (λ left. left ≡ tables_in (state S.Store store.old).committed) (state S.Store store.new)) }
 {
-    run(alloc, store, file, Direction::Forward, handler)
+    run(alloc, store, file, Direction::Forward, noop, handler)
 }
 
 /// Applies the inverse of the changeset of a file to a store in one transaction. Each conflict ends the
@@ -64,10 +70,10 @@ pub fn revert<S: Alter>(
     file: &[u8],
 ) -> Result<Report, ApplyFault>
     ensures applied { HasCleanDisk (state S.Store store.new) → IfOk result (λ report.
-        Applies AlwaysAborts file.now InverseRun (tables_in (state S.Store store.old).now) report
+        Applies AlwaysAborts Reported file.now InverseRun (tables_in (state S.Store store.old).now) report
         (tables_in (state S.Store store.new).now)) }
     ensures refused { HasCleanDisk (state S.Store store.new) → IfErr result
-        (Refuses AlwaysAborts file.now InverseRun (tables_in (state S.Store store.old).now)) }
+        (Refuses AlwaysAborts Reported file.now InverseRun (tables_in (state S.Store store.old).now)) }
     ensures reverts { HasCleanDisk (state S.Store store.new) → (before : State)
         → Leads file.now before (tables_in (state S.Store store.old).now)
         → MatchResult result (λ report. (report.conflicts.items ≡ [])
@@ -77,7 +83,7 @@ pub fn revert<S: Alter>(
     ensures at_rest { HasCleanDisk (state S.Store store.new) → OnOk result (IsAtRest (state S.Store store.new)) }
     ensures kept { HasCleanDisk (state S.Store store.new)
         → OnErr result (KeepsContent (state S.Store store.old) (state S.Store store.new)) }
-    ensures atomic { IsAtomic CanBegin (AppliesInto AlwaysAborts file.now InverseRun (tables_in (state S.Store store.old).now))
+    ensures atomic { IsAtomic CanBegin (AppliesInto AlwaysAborts Reported file.now InverseRun (tables_in (state S.Store store.old).now))
         (state S.Store store.old) (state S.Store store.new) }
     ensures left { OnOk result (LeavesOnly (λ left. left ≡ tables_in (state S.Store store.new).now)
         (state S.Store store.new)) }
@@ -85,7 +91,7 @@ pub fn revert<S: Alter>(
         (λ left. left ≡ tables_in (state S.Store store.old).committed) (state S.Store store.new)) }
 {
     changeset_files_law();
-    run(alloc, store, file, Direction::Inverse, &abort)
+    run(alloc, store, file, Direction::Inverse, Noop::Report, &abort)
 }
 
 /// Aborts at each conflict.
@@ -101,20 +107,21 @@ fn run<S: Alter, H: Fn(&Conflict) -> Choice>(
     store: &mut Store<S>,
     file: &[u8],
     direction: Direction,
+    noop: Noop,
     handler: &H,
 ) -> Result<Report, ApplyFault>
     requires { H.IsAlwaysCallable handler.now }
     ensures applied { HasCleanDisk (state S.Store store.new) → IfOk result (λ report.
-        Applies (FnReturnsAt H.Fn handler.now) file.now direction (tables_in (state S.Store store.old).now) report
+        Applies (FnReturnsAt H.Fn handler.now) noop file.now direction (tables_in (state S.Store store.old).now) report
         (tables_in (state S.Store store.new).now)) }
     ensures refused { HasCleanDisk (state S.Store store.new) → IfErr result
-        (Refuses (FnReturnsAt H.Fn handler.now) file.now direction (tables_in (state S.Store store.old).now)) }
+        (Refuses (FnReturnsAt H.Fn handler.now) noop file.now direction (tables_in (state S.Store store.old).now)) }
     ensures shut { HasCleanDisk (state S.Store store.new) → RefusesShut (state S.Store store.old) IsResource result }
     ensures named { IfErr result IsNamed }
     ensures at_rest { HasCleanDisk (state S.Store store.new) → OnOk result (IsAtRest (state S.Store store.new)) }
     ensures kept { HasCleanDisk (state S.Store store.new)
         → OnErr result (KeepsContent (state S.Store store.old) (state S.Store store.new)) }
-    ensures atomic { IsAtomic CanBegin (AppliesInto (FnReturnsAt H.Fn handler.now) file.now direction (tables_in (state S.Store store.old).now))
+    ensures atomic { IsAtomic CanBegin (AppliesInto (FnReturnsAt H.Fn handler.now) noop file.now direction (tables_in (state S.Store store.old).now))
         (state S.Store store.old) (state S.Store store.new) }
     ensures left { OnOk result (LeavesOnly (λ left. left ≡ tables_in (state S.Store store.new).now)
         (state S.Store store.new)) }
@@ -123,7 +130,7 @@ fn run<S: Alter, H: Fn(&Conflict) -> Choice>(
 {
     store.crash_law();
     let mut batch = store.begin()?;
-    let report = run_in(alloc, &mut batch, file, direction, handler)?;
+    let report = run_in(alloc, &mut batch, file, direction, noop, handler)?;
     batch.commit()?;
     Ok(report)
 }

@@ -8,8 +8,8 @@ use Rattle.cs_apply.specs.Steps.{placed_in_table}
 use Rattle.cs_apply.proofs.EntryLemmas.{conflict_is, unsettled, settled}
 use Rattle.cs_apply.proofs.entry.settle.Goals as goal
 
-pub returns-then-ends_run : goal.returns-then-ends_run
-returns-then-ends_run g c =
+pub returns-then-ends_run-clause-settles : goal.returns-then-ends_run-clause-settles
+returns-then-ends_run-clause-settles g c =
     let conflict = c.in_ok-conflict.conflict in
     let choice = c.handler-choice.result in
     let row = option_map (λ r. r.now) c.args.current in
@@ -21,8 +21,8 @@ returns-then-ends_run g c =
     let ended : ends (Some conflict.kind) choice ≡ true = rw kind (sym c.ends_run.ensures ∙ c.if-ends_run.true) in
     rw c.at.ensures (unsettled (FnReturnsAt g.H.Fn c.args.handler.now) p row c.args.conflicts.now.items conflict choice ended is given)
 
-pub returns : goal.returns
-returns g c =
+pub returns-clause-settles : goal.returns-clause-settles
+returns-clause-settles g c =
     let conflict = c.in_ok-conflict.conflict in
     let choice = c.handler-choice.result in
     let row = option_map (λ r. r.now) c.args.current in

@@ -12,8 +12,9 @@ pub loop-group-init : goal.loop-group-init
 loop-group-init g c = (
   c.requires,
   g.B.Rows.keeps_itself _,
-  c.in_ok-run.ensures.tables,
-  λ honest. (honest, rw (directed_none c.args.direction) (behind_start (FnReturnsAt g.H.Fn c.args.handler.now) (g.B.Rows.state c.args.rows.now) c.in_ok-run.run' c.in_ok-run.ensures)),
+  c.in_ok-run.ensures.start.tables,
+  (c.in_ok-run.ensures.noop, c.in_ok-run.ensures.start.empty.ignored),
+  λ honest. (honest, rw (directed_none c.args.direction) (behind_start (FnReturnsAt g.H.Fn c.args.handler.now) (g.B.Rows.state c.args.rows.now) c.in_ok-run.run' c.in_ok-run.ensures.start)),
 )
 
 pub loop-group-preserved : goal.loop-group-preserved
@@ -28,8 +29,9 @@ loop-group-preserved g c =
       so.0,
       g.B.Rows.keeps_then _ _ _ so.1 c.take_group.ensures.kept,
       c.in_ok-take_group.ensures.tables ∙ ap (λ (n : ℕ). n + 1) so.2,
+      c.in_ok-take_group.ensures.reported,
       λ honest.
-          let was = so.3 (c.take_group.ensures.was_honest honest) in (
+          let was = so.4 (c.take_group.ensures.was_honest honest) in (
             was.0,
             rw (groups_more c.args.direction all i group within is)
                 (c.in_ok-take_group.ensures.behind honest (g.B.Rows.state c.args.rows.now) _ (group_names c.args.direction all i group groups.well_formed within is) was.1),
@@ -41,8 +43,8 @@ returns-clause-applied g c = λ honest.
     let all = c.args.changeset.now in
     let groups = c.groups-group-items.ensures in
     let whole = take_all c.loop-group.group-index all (rw groups.same at c.loop-group-test.false) in
-    let behind = rw whole at (c.loop-group.invariant.3 honest).1 in
-    (run_outcome (FnReturnsAt g.H.Fn c.args.handler.now) c.args.direction (file_bytes all) (directed c.args.direction all) _ c.loop-group.run _ (read_as c.args.direction (file_bytes all) all (groups.well_formed, refl)) behind
+    let behind = rw whole at (c.loop-group.invariant.4 honest).1 in
+    rw c.loop-group.invariant.3.0 at (run_outcome (FnReturnsAt g.H.Fn c.args.handler.now) c.args.direction (file_bytes all) (directed c.args.direction all) _ c.loop-group.run _ (read_as c.args.direction (file_bytes all) all (groups.well_formed, refl)) behind
     c.finish.result c.finish.ensures).0
 
 pub returns-clause-refused : goal.returns-clause-refused
@@ -50,8 +52,8 @@ returns-clause-refused g c = λ honest.
     let all = c.args.changeset.now in
     let groups = c.groups-group-items.ensures in
     let whole = take_all c.loop-group.group-index all (rw groups.same at c.loop-group-test.false) in
-    let behind = rw whole at (c.loop-group.invariant.3 honest).1 in
-    (run_outcome (FnReturnsAt g.H.Fn c.args.handler.now) c.args.direction (file_bytes all) (directed c.args.direction all) _ c.loop-group.run _ (read_as c.args.direction (file_bytes all) all (groups.well_formed, refl)) behind
+    let behind = rw whole at (c.loop-group.invariant.4 honest).1 in
+    rw c.loop-group.invariant.3.0 at (run_outcome (FnReturnsAt g.H.Fn c.args.handler.now) c.args.direction (file_bytes all) (directed c.args.direction all) _ c.loop-group.run _ (read_as c.args.direction (file_bytes all) all (groups.well_formed, refl)) behind
     c.finish.result c.finish.ensures).1
 
 pub returns-clause-named : goal.returns-clause-named
