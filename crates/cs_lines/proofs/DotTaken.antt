@@ -1,42 +1,29 @@
 -- What is read as a dot line is spelled as one.
 use Rattle.std.proofs.Common.{◌≡◌, ◌≢◌, ◌⊎◌, inl, inr, ℕ, ◌++◌, List, [], ◌∷◌, map, Option, Some, None, option_map, Bool, true, false, refl, sym, ap, subst, ◌∙◌, append_assoc, lit<}
 use Rattle.std.specs.Prelude.{if◌then◌else◌, codes, IsUtf8, unwrap_or}
-use Rattle.std.specs.List.{AllByRecursion}
 use Rattle.std.specs.Str.{is_utf8, bytes_eq}
 use Rattle.std.proofs.lemmas.Bool.{cond-false, cond-true}
 use Rattle.std.proofs.lemmas.Str.{IsUtf8-from_is_utf8, IsUtf8-from_ascii}
-use Rattle.std.proofs.lemmas.Slice.Eq.{bytes_eq-Decides}
-use Rattle.cs_value.proofs.ListLemmas.{PairsByRecursion, AllPairs-from_recursion, AllByRecursion-weaker}
-use Rattle.cs_group.specs.declared.conflict.Kind.{Kind}
+use Rattle.cs_value.proofs.ListLemmas.{AllPairs-from_recursion}
 use Rattle.cs_group.specs.declared.conflict.Kind.TheVariants as kind
-use Rattle.cs_group.specs.declared.conflict.Choice.{Choice}
 use Rattle.cs_group.specs.declared.conflict.Choice.TheVariants as choice
-use Rattle.cs_lines.specs.declared.dot.Settings.{Settings}
+use Rattle.cs_group.specs.declared.conflict.Noop.TheVariants.{Report}
 use Rattle.cs_lines.specs.Tokens.{Token, Fixed, Name, Value, is_blank}
-use Rattle.cs_lines.specs.Commands.{CommandData, IsDotLine, IsSlot, IsChosen, Setting, setting_text, Load, Hex, Dump, Invert, Concat, Apply, Revert}
+use Rattle.cs_lines.specs.Commands.{CommandData, IsDotLine, IsSlot, ForKind, ForNoop, option_of, Load, Hex, Dump, Invert, Concat, Apply, Revert}
 use Rattle.cs_lines.specs.Commands.{SessionOpen, SessionAttach, SessionChangeset, SessionIsEmpty, SessionUndo, SessionClose}
 use Rattle.cs_lines.specs.Lines.{words_of, ends_word, onto_first, IsAttach}
 use Rattle.cs_lines.specs.Reading.{tokens_of}
 use Rattle.cs_lines.specs.DotReading.{behind_word, is_slot, slot_in, text_in, one_slot_in, no_word_in, digits_in, load_in, hex_in, dump_in, revert_in, invert_in, concat_in, apply_in}
-use Rattle.cs_lines.specs.DotReading.{chosen_in, when_none, or_else, setting_in, settings_in, no_settings, attach_in, session_in, session_of, dot_of, dot_in}
+use Rattle.cs_lines.specs.DotReading.{settings_in, no_settings, attach_in, session_in, session_of, dot_of, dot_in}
 use Rattle.cs_lines.proofs.TokenLemmas.{tokens_taken}
 use Rattle.cs_lines.proofs.StatementLaws.{then_some}
 use Rattle.cs_lines.proofs.WordLemmas.{words_of-nil, words_of-blank, behind_word-blank}
-use Rattle.cs_lines.proofs.ApplyAgain.{at as chosen_for, set_at as choose}
+use Rattle.cs_lines.proofs.SettingLemmas.{at, settings_taken, chosen_of, none_some, some_same, same_bytes}
 use Rattle.cs_lines.proofs.DotLemmas.{is_slot-says, dot_is, dot_none, session_is, session_none, not_ended, words_of-join, tail, words_behind}
 use Rattle.cs_lines.proofs.DotLemmas.{dot_of-load, dot_of-hex, dot_of-dump, dot_of-invert, dot_of-concat, dot_of-apply, dot_of-revert, dot_of-session, dot_of-none}
 use Rattle.cs_lines.proofs.DotLemmas.{session_of-attach, session_of-changeset, session_of-open, session_of-isempty, session_of-undo, session_of-close, session_of-none}
 
 -- ---- words
-
-some_same : {X : Type 0} (x y : X) → Some x ≡ Some y → x ≡ y
-some_same x y h = cc
-
-none_some : {X : Type 0} (x : X) → None ≡ Some x → ⊥
-none_some x h = cc
-
-same_bytes : (xs ys : List ℕ) → bytes_eq xs ys ≡ true → xs ≡ ys
-same_bytes xs ys h = (bytes_eq-Decides xs ys).0 h
 
 slot_if : (q : Bool) (t u : List ℕ × List (List ℕ)) → (if q then Some t else None) ≡ Some u → (q ≡ true) × (t ≡ u)
 slot_if true t u h = (refl, cc)
@@ -144,133 +131,22 @@ load_taken ws c h =
 
 -- ---- `.apply`
 
--- what a choice changes
-abbrev Changes : Settings → Settings → Kind → Choice → Kind → Type 0
-Changes s t k c j = ((k ≡ j) × (chosen_for t j ≡ Some c)) ⊎ ((k ≢ j) × (chosen_for t j ≡ chosen_for s j))
-
-changes : (s : Settings) (k : Kind) (c : Choice) (j : Kind) → Changes s (choose s k c) k c j
-changes s kind.Data c kind.Data = inl (refl, refl)
-changes s kind.Data c kind.NotFound = inr (λ e. cc, refl)
-changes s kind.Data c kind.Conflict = inr (λ e. cc, refl)
-changes s kind.NotFound c kind.Data = inr (λ e. cc, refl)
-changes s kind.NotFound c kind.NotFound = inl (refl, refl)
-changes s kind.NotFound c kind.Conflict = inr (λ e. cc, refl)
-changes s kind.Conflict c kind.Data = inr (λ e. cc, refl)
-changes s kind.Conflict c kind.NotFound = inr (λ e. cc, refl)
-changes s kind.Conflict c kind.Conflict = inl (refl, refl)
-
-abbrev text_of : Kind → Choice → List ℕ
-text_of k c = setting_text (record { kind = k; choice = c })
-
-choice_by : (k : Kind) (w : List ℕ) (c : Choice) (p q r : Bool) → (p ≡ true → w ≡ text_of k choice.Omit) → (q ≡ true → w ≡ text_of k choice.Replace) → (r ≡ true → w ≡ text_of k choice.Abort)
-    → (if p then Some choice.Omit else if q then Some choice.Replace else if r then Some choice.Abort else None) ≡ Some c → w ≡ text_of k c
-choice_by k w c true q r o p a h = o refl ∙ ap (text_of k) (some_same choice.Omit c h)
-choice_by k w c false true r o p a h = p refl ∙ ap (text_of k) (some_same choice.Replace c h)
-choice_by k w c false false true o p a h = a refl ∙ ap (text_of k) (some_same choice.Abort c h)
-choice_by k w c false false false o p a h = absurd (cc)
-
-chosen_word : (k : Kind) (w : List ℕ) (c : Choice) → chosen_in k w ≡ Some c → w ≡ text_of k c
-chosen_word k w c h =
-    choice_by k w c (bytes_eq w (text_of k choice.Omit)) (bytes_eq w (text_of k choice.Replace)) (bytes_eq w (text_of k choice.Abort))
-    (same_bytes w (text_of k choice.Omit)) (same_bytes w (text_of k choice.Replace)) (same_bytes w (text_of k choice.Abort)) h
-
--- a word that sets what was not set
-record Sets (s t : Settings) (word : List ℕ) : Type 0 where
-  of_kind : Kind
-  chosen : Choice
-  spelled : word ≡ text_of of_kind chosen
-  unset : chosen_for s of_kind ≡ None
-  after : (j : Kind) → Changes s t of_kind chosen j
-
-sets_by : (s t : Settings) (w : List ℕ) (k : Kind) (o old : Option Choice) (other : Option Settings) → ((c : Choice) → o ≡ Some c → w ≡ text_of k c) → old ≡ chosen_for s k
-    → or_else o (λ c. when_none old (choose s k c)) other ≡ Some t → Sets s t w ⊎ (other ≡ Some t)
-sets_by s t w k None old other spelled is h = inr h
-sets_by s t w k (Some c) (Some d) other spelled is h = absurd (cc)
-sets_by s t w k (Some c) None other spelled is h = inl (record {
-  of_kind = k;
-  chosen = c;
-  spelled = spelled c refl;
-  unset = sym is;
-  after = λ j. subst (λ t. Changes s t k c j) (some_same (choose s k c) t h) (changes s k c j);
-})
-
-or_next : {A B : Type 0} → A ⊎ B → (B → A) → A
-or_next (inl a) next = a
-or_next (inr b) next = next b
-
-setting_sets : (s t : Settings) (w : List ℕ) → setting_in s w ≡ Some t → Sets s t w
-unfolding setting_in
-setting_sets s t w h =
-    or_next (sets_by s t w kind.Data (chosen_in kind.Data w) s.on_data
-    (or_else (chosen_in kind.NotFound w) (λ c. when_none s.on_notfound (choose s kind.NotFound c)) (or_else (chosen_in kind.Conflict w) (λ c. when_none s.on_conflict (choose s kind.Conflict c)) None))
-    (chosen_word kind.Data w) refl h)
-    (λ h. or_next (sets_by s t w kind.NotFound (chosen_in kind.NotFound w) s.on_notfound
-    (or_else (chosen_in kind.Conflict w) (λ c. when_none s.on_conflict (choose s kind.Conflict c)) None)
-    (chosen_word kind.NotFound w) refl h)
-    (λ h. or_next (sets_by s t w kind.Conflict (chosen_in kind.Conflict w) s.on_conflict None (chosen_word kind.Conflict w) refl h)
-    (λ h. absurd (none_some t h))))
-
--- words that are settings, each of a kind that is not set before
-record AreSettings (s t : Settings) (words : List (List ℕ)) : Type 0 where
-  settings : List Setting
-  spelled : words ≡ map setting_text settings
-  unset : AllByRecursion (λ x. chosen_for s x.kind ≡ None) settings
-  apart : PairsByRecursion (λ x y. x.kind ≢ y.kind) settings
-  kept : (j : Kind) (c : Choice) → chosen_for s j ≡ Some c → chosen_for t j ≡ Some c
-  chosen : (j : Kind) → chosen_for s j ≡ None → IsChosen settings j (unwrap_or (chosen_for t j) choice.Abort)
-
-unset_before : (s t : Settings) (k : Kind) (c : Choice) (j : Kind) → Changes s t k c j → chosen_for t j ≡ None → (k ≢ j) × (chosen_for s j ≡ None)
-unset_before s t k c j (inl e) none = absurd (none_some c (sym none ∙ e.1))
-unset_before s t k c j (inr e) none = (e.0, sym e.1 ∙ none)
-
-kept_before : (s t : Settings) (k : Kind) (c : Choice) (j : Kind) (d : Choice) → Changes s t k c j → chosen_for s k ≡ None → chosen_for s j ≡ Some d → chosen_for t j ≡ Some d
-kept_before s t k c j d (inl e) none is = absurd (none_some d (sym none ∙ ap (chosen_for s) e.0 ∙ is))
-kept_before s t k c j d (inr e) none is = e.1 ∙ is
-
-chosen_before : (s t u : Settings) (k : Kind) (c : Choice) (j : Kind) (settings : List Setting) → Changes s t k c j → (chosen_for t j ≡ Some c → chosen_for u j ≡ Some c)
-    → (chosen_for t j ≡ None → IsChosen settings j (unwrap_or (chosen_for u j) choice.Abort)) → chosen_for s j ≡ None
-    → IsChosen (record { kind = k; choice = c } ∷ settings) j (unwrap_or (chosen_for u j) choice.Abort)
-chosen_before s t u k c j settings (inl e) kept more none = inl (e.0, ap (λ o. unwrap_or o choice.Abort) (kept e.1))
-chosen_before s t u k c j settings (inr e) kept more none = inr (e.0, more (e.1 ∙ none))
-
-one_more : (s t u : Settings) (w : List ℕ) (ws : List (List ℕ)) → Sets s t w → AreSettings t u ws → AreSettings s u (w ∷ ws)
-one_more s t u w ws k r = record {
-  settings = record { kind = k.of_kind; choice = k.chosen } ∷ r.settings;
-  spelled = ap (λ w. w ∷ ws) k.spelled ∙ ap (λ ws. text_of k.of_kind k.chosen ∷ ws) r.spelled;
-  unset = (k.unset, AllByRecursion-weaker (λ x. chosen_for t x.kind ≡ None) (λ x. chosen_for s x.kind ≡ None) (λ x none. (unset_before s t k.of_kind k.chosen x.kind (k.after x.kind) none).1) r.settings r.unset);
-  apart = (AllByRecursion-weaker (λ x. chosen_for t x.kind ≡ None) (λ x. k.of_kind ≢ x.kind) (λ x none. (unset_before s t k.of_kind k.chosen x.kind (k.after x.kind) none).0) r.settings r.unset, r.apart);
-  kept = λ j d is. r.kept j d (kept_before s t k.of_kind k.chosen j d (k.after j) k.unset is);
-  chosen = λ j none. chosen_before s t u k.of_kind k.chosen j r.settings (k.after j) (r.kept j k.chosen) (r.chosen j) none;
-}
-
-settings_taken : (s t : Settings) (ws : List (List ℕ)) → settings_in s ws ≡ Some t → AreSettings s t ws
-unfolding settings_in
-settings_taken s t [] h =
-    let e : s ≡ t = some_same s t h in record {
-      settings = [];
-      spelled = refl;
-      unset = tt;
-      apart = tt;
-      kept = λ j c is. sym (ap (λ s. chosen_for s j) e) ∙ is;
-      chosen = λ j none. ap (λ o. unwrap_or o choice.Abort) (sym (ap (λ s. chosen_for s j) e) ∙ none);
-    }
-settings_taken s t (w ∷ ws) h = let f = then_some (setting_in s w) _ t h in one_more s f.0 t w ws (setting_sets s f.0 w f.1) (settings_taken f.0 t ws f.2)
-
 apply_taken : (ws : List (List ℕ)) (c : CommandData) → apply_in ws ≡ Some c → IsDotLine (codes ".apply" ∷ ws) c
 unfolding apply_in
 apply_taken ws c h =
     let f = then_some (slot_in ws) _ c h in
-    let m = mapped (λ s. Apply f.0.0 (unwrap_or s.on_data choice.Abort) (unwrap_or s.on_notfound choice.Abort) (unwrap_or s.on_conflict choice.Abort)) (settings_in no_settings f.0.1) c f.2 in
+    let m = mapped (λ s. Apply f.0.0 (unwrap_or s.on_data choice.Abort) (unwrap_or s.on_notfound choice.Abort) (unwrap_or s.on_conflict choice.Abort) (unwrap_or s.noop Report)) (settings_in no_settings f.0.1) c f.2 in
     let j = slot_words ws f.0.1 f.0.0 f.1 in
     let r = settings_taken no_settings m.0 f.0.1 m.1 in
     subst (λ c. IsDotLine (codes ".apply" ∷ ws) c) m.2 (
       j.0,
       r.settings,
       ap (λ ws. codes ".apply" ∷ ws) (j.1 ∙ ap (λ ws. f.0.0 ∷ ws) r.spelled),
-      AllPairs-from_recursion (λ x y. x.kind ≢ y.kind) r.settings r.apart,
-      r.chosen kind.Data refl,
-      r.chosen kind.NotFound refl,
-      r.chosen kind.Conflict refl,
+      AllPairs-from_recursion (λ x y. option_of x ≢ option_of y) r.settings r.apart,
+      chosen_of (ForKind kind.Data) choice.Abort r.settings r.apart m.0.on_data (λ c. sym (ap (λ t. at t (ForKind kind.Data c)) r.after)),
+      chosen_of (ForKind kind.NotFound) choice.Abort r.settings r.apart m.0.on_notfound (λ c. sym (ap (λ t. at t (ForKind kind.NotFound c)) r.after)),
+      chosen_of (ForKind kind.Conflict) choice.Abort r.settings r.apart m.0.on_conflict (λ c. sym (ap (λ t. at t (ForKind kind.Conflict c)) r.after)),
+      chosen_of ForNoop Report r.settings r.apart m.0.noop (λ n. sym (ap (λ t. at t (ForNoop n)) r.after)),
     )
 
 -- ---- `.session`

@@ -10,7 +10,7 @@ pub mod DotLemmas
 pub mod StatementLemmas
 pub mod StatementLaws
 pub mod StatementForms
-pub mod ApplyAgain
+pub mod SettingLemmas
 pub mod AttachAgain
 pub mod DotTaken
 pub mod LineLaws

@@ -4,6 +4,7 @@ use Rattle.std.specs.Prelude.{⊤, pos, negsuc}
 use Rattle.std.proofs.lemmas.Str.{IsUtf8-from_is_utf8}
 use Rattle.cs_value.specs.declared.value.OwnedValue.TheVariants.{Int, Text, Blob, Null}
 use Rattle.cs_group.specs.declared.conflict.Choice.TheVariants.{Omit, Replace, Abort}
+use Rattle.cs_group.specs.declared.conflict.Noop.TheVariants.{Report, Ignore}
 use Rattle.cs_lines.specs.Commands.{CommandData, Create, Insert, Update, Delete, Select, Load, Hex, Dump, Invert, Concat, Apply, Revert}
 use Rattle.cs_lines.specs.Commands.{SessionOpen, SessionAttach, SessionChangeset, SessionIsEmpty, SessionUndo, SessionClose}
 use Rattle.cs_lines.specs.Lines.{words_of, IsNothing, Spelled}
@@ -92,17 +93,29 @@ concatenates : Spelled (codes ".concat a b c") (Concat (codes "a") (codes "b") (
 unfolding on_lines
 concatenates = line_taken _ _ (IsUtf8-from_is_utf8 _ refl) refl
 
-applies : Spelled (codes ".apply a") (Apply (codes "a") Abort Abort Abort)
+applies : Spelled (codes ".apply a") (Apply (codes "a") Abort Abort Abort Report)
 unfolding on_lines
 applies = line_taken _ _ (IsUtf8-from_is_utf8 _ refl) refl
 
-applies_with_a_choice : Spelled (codes ".apply a conflict=replace") (Apply (codes "a") Abort Abort Replace)
+applies_with_a_choice : Spelled (codes ".apply a conflict=replace") (Apply (codes "a") Abort Abort Replace Report)
 unfolding on_lines
 applies_with_a_choice = line_taken _ _ (IsUtf8-from_is_utf8 _ refl) refl
 
-applies_with_choices_in_any_order : Spelled (codes ".apply a notfound=abort conflict=omit data=replace") (Apply (codes "a") Replace Abort Omit)
+applies_with_choices_in_any_order : Spelled (codes ".apply a notfound=abort conflict=omit data=replace") (Apply (codes "a") Replace Abort Omit Report)
 unfolding on_lines
 applies_with_choices_in_any_order = line_taken _ _ (IsUtf8-from_is_utf8 _ refl) refl
+
+applies_and_ignores : Spelled (codes ".apply a noop=ignore") (Apply (codes "a") Abort Abort Abort Ignore)
+unfolding on_lines
+applies_and_ignores = line_taken _ _ (IsUtf8-from_is_utf8 _ refl) refl
+
+applies_and_reports : Spelled (codes ".apply a noop=report") (Apply (codes "a") Abort Abort Abort Report)
+unfolding on_lines
+applies_and_reports = line_taken _ _ (IsUtf8-from_is_utf8 _ refl) refl
+
+applies_with_options_in_any_order : Spelled (codes ".apply a conflict=replace noop=ignore data=omit") (Apply (codes "a") Omit Abort Replace Ignore)
+unfolding on_lines
+applies_with_options_in_any_order = line_taken _ _ (IsUtf8-from_is_utf8 _ refl) refl
 
 reverts : Spelled (codes ".revert a") (Revert (codes "a"))
 unfolding on_lines
@@ -169,6 +182,18 @@ keyword_as_a_name = refused _ (IsUtf8-from_is_utf8 _ refl) refl
 choice_given_twice : (command : CommandData) → Spelled (codes ".apply a data=omit data=omit") command → ⊥
 unfolding on_lines
 choice_given_twice = refused _ (IsUtf8-from_is_utf8 _ refl) refl
+
+noop_given_twice : (command : CommandData) → Spelled (codes ".apply a noop=ignore data=omit noop=report") command → ⊥
+unfolding on_lines
+noop_given_twice = refused _ (IsUtf8-from_is_utf8 _ refl) refl
+
+noop_of_another_name : (command : CommandData) → Spelled (codes ".apply a noop=maybe") command → ⊥
+unfolding on_lines
+noop_of_another_name = refused _ (IsUtf8-from_is_utf8 _ refl) refl
+
+noop_of_no_name : (command : CommandData) → Spelled (codes ".apply a noop") command → ⊥
+unfolding on_lines
+noop_of_no_name = refused _ (IsUtf8-from_is_utf8 _ refl) refl
 
 capital_in_a_dot_line : (command : CommandData) → Spelled (codes ".Hex b") command → ⊥
 unfolding on_lines

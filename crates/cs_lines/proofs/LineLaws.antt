@@ -21,10 +21,11 @@ use Rattle.std.specs.Str.{is_utf8}
 use Rattle.std.proofs.lemmas.Bool.Decides.{nat_tests}
 use Rattle.std.proofs.lemmas.Str.{is_utf8-from_IsUtf8, IsUtf8-from_ascii}
 use Rattle.cs_group.specs.declared.conflict.Choice.{Choice}
+use Rattle.cs_group.specs.declared.conflict.Noop.{Noop}
 use Rattle.cs_lines.specs.Commands.{IsSlot}
 use Rattle.cs_lines.specs.DotReading.{slot_in, text_in, one_slot_in, no_word_in, digits_in, load_in, hex_in, dump_in, revert_in, invert_in, concat_in, dot_of, session_of}
 use Rattle.cs_lines.proofs.DotLemmas.{says-is_slot, Leads, leads, words_of-join, dot_by, session_by, rest_of, rest_of_two}
-use Rattle.cs_lines.proofs.ApplyAgain.{apply_read}
+use Rattle.cs_lines.proofs.SettingLemmas.{apply_read}
 use Rattle.cs_lines.proofs.AttachAgain.{attach_again}
 use Rattle.cs_lines.specs.Commands.{setting_text}
 use Rattle.cs_lines.proofs.DotTaken.{dot_taken}
@@ -84,7 +85,7 @@ dot_words_lead line (Hex slot) h = (codes "hex", _, h.1)
 dot_words_lead line (Dump slot) h = (codes "dump", _, h.1)
 dot_words_lead line (Invert from into) h = (codes "invert", _, h.2)
 dot_words_lead line (Concat first second into) h = (codes "concat", _, h.3)
-dot_words_lead line (Apply slot on_data on_notfound on_conflict) h = (codes "apply", _, h.2)
+dot_words_lead line (Apply slot on_data on_notfound on_conflict noop) h = (codes "apply", _, h.2)
 dot_words_lead line (Revert slot) h = (codes "revert", _, h.1)
 dot_words_lead line SessionOpen h = (codes "session", _, h)
 dot_words_lead line (SessionChangeset slot) h = (codes "session", _, h.1)
@@ -122,10 +123,10 @@ one_slot_read : (w : List ℕ) → IsSlot w → one_slot_in (w ∷ []) ≡ Some 
 unfolding one_slot_in no_word_in
 one_slot_read w s = rw (slot_read w [] s) refl
 
-apply_again : (line slot : List ℕ) (d n k : Choice) → IsDotLine (words_of line) (Apply slot d n k) → dot_in line ≡ Some (Apply slot d n k)
+apply_again : (line slot : List ℕ) (d n k : Choice) (noop : Noop) → IsDotLine (words_of line) (Apply slot d n k noop) → dot_in line ≡ Some (Apply slot d n k noop)
 unfolding dot_of
-apply_again line slot d n k (s, settings, is, apart, data_is, notfound_is, conflict_is) =
-    dot_by line _ _ _ is (rw (rest_of line _ _ is) (apply_read slot settings d n k (slot_read slot (map setting_text settings) s) apart data_is notfound_is conflict_is))
+apply_again line slot d n k noop (s, settings, is, apart, data_is, notfound_is, conflict_is, noop_is) =
+    dot_by line _ _ _ is (rw (rest_of line _ _ is) (apply_read slot settings d n k noop (slot_read slot (map setting_text settings) s) apart data_is notfound_is conflict_is noop_is))
 
 dot_words_again : (line : List ℕ) (c : CommandData) → IsUtf8 line → IsDotLine (words_of line) c → dot_in line ≡ Some c
 unfolding dot_of session_of load_in digits_in text_in hex_in dump_in invert_in concat_in revert_in no_word_in
@@ -139,7 +140,7 @@ dot_words_again line (Revert slot) utf8 h = dot_by line _ _ _ h.1 (rw (rest_of l
 dot_words_again line (Invert from into) utf8 h = dot_by line _ _ _ h.2 (rw (rest_of line _ _ h.2, slot_read from (into ∷ []) h.0, one_slot_read into h.1) refl)
 dot_words_again line (Concat first second into) utf8 h =
     dot_by line _ _ _ h.3 (rw (rest_of line _ _ h.3, slot_read first (second ∷ into ∷ []) h.0, slot_read second (into ∷ []) h.1, one_slot_read into h.2) refl)
-dot_words_again line (Apply slot on_data on_notfound on_conflict) utf8 h = apply_again line slot on_data on_notfound on_conflict h
+dot_words_again line (Apply slot on_data on_notfound on_conflict noop) utf8 h = apply_again line slot on_data on_notfound on_conflict noop h
 dot_words_again line SessionOpen utf8 h = session_by line _ _ _ h (rw (rest_of_two line _ _ _ h) refl)
 dot_words_again line SessionIsEmpty utf8 h = session_by line _ _ _ h (rw (rest_of_two line _ _ _ h) refl)
 dot_words_again line SessionUndo utf8 h = session_by line _ _ _ h (rw (rest_of_two line _ _ _ h) refl)

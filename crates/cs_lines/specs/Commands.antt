@@ -1,12 +1,14 @@
 -- The commands that lines ask for, and the tokens and words of each. The grammar is this project's own: of SQL and of the
 -- shell of SQLite it has the few forms that tables, rows and changesets need.
-use Rattle.std.specs.Prelude.{◌≡◌, ◌≢◌, ◌⊎◌, ℕ, List, [], ◌∷◌, ◌++◌, map, true, codes, AllPairs, IsUtf8, string_bytes}
+use Rattle.std.specs.Prelude.{◌≡◌, ◌≢◌, ◌⊎◌, ℕ, List, [], ◌∷◌, ◌++◌, map, true, codes, AllPairs, Contains, IsUtf8, string_bytes}
 use Rattle.std.specs.List.{flat_map, AllByRecursion}
 use Rattle.cs_value.specs.declared.value.OwnedValue.{OwnedValue}
 use Rattle.cs_group.specs.declared.conflict.Kind.{Kind}
 use Rattle.cs_group.specs.declared.conflict.Kind.TheVariants as kind
 use Rattle.cs_group.specs.declared.conflict.Choice.{Choice}
 use Rattle.cs_group.specs.declared.conflict.Choice.TheVariants as choice
+use Rattle.cs_group.specs.declared.conflict.Noop.{Noop}
+use Rattle.cs_group.specs.declared.conflict.Noop.TheVariants.{Report, Ignore}
 use Rattle.cs_lines.specs.declared.command.Command.{Command}
 use Rattle.cs_lines.specs.declared.command.Command.TheVariants as command
 use Rattle.cs_lines.specs.declared.command.Assignment.{Assignment}
@@ -34,7 +36,7 @@ pub data CommandData : Type 0 where
   Dump : (slot : List ℕ) → CommandData
   Invert : (from into : List ℕ) → CommandData
   Concat : (first second into : List ℕ) → CommandData
-  Apply : (slot : List ℕ) (on_data on_notfound on_conflict : Choice) → CommandData
+  Apply : (slot : List ℕ) (on_data on_notfound on_conflict : Choice) (noop : Noop) → CommandData
   Revert : (slot : List ℕ) → CommandData
   SessionOpen : CommandData
   SessionAttach : (table : List ℕ) → CommandData
@@ -93,19 +95,32 @@ choice_text choice.Omit = codes "omit"
 choice_text choice.Replace = codes "replace"
 choice_text choice.Abort = codes "abort"
 
--- what is chosen for the conflicts of a kind
-pub record Setting : Type 0 where
-  pub kind : Kind
-  pub choice : Choice
+abbrev pub noop_text : Noop → List ℕ
+noop_text Report = codes "report"
+noop_text Ignore = codes "ignore"
+
+-- an option, and what it is set to
+pub data Setting : Type 0 where
+  ForKind : Kind → Choice → Setting
+  ForNoop : Noop → Setting
+
+-- the option's name
+abbrev pub option_of : Setting → List ℕ
+option_of (ForKind kind choice) = kind_text kind
+option_of (ForNoop noop) = codes "noop"
+
+-- the name of what it is set to
+abbrev pub value_of : Setting → List ℕ
+value_of (ForKind kind choice) = choice_text choice
+value_of (ForNoop noop) = noop_text noop
 
 abbrev pub setting_text : Setting → List ℕ
-setting_text s = kind_text s.kind ++ codes "=" ++ choice_text s.choice
+setting_text s = option_of s ++ codes "=" ++ value_of s
 
--- the choice is the one that is set for the kind, or Abort where none is
-abbrev pub IsChosen : List Setting → Kind → Choice → Type 0
-IsChosen [] kind chosen = chosen ≡ choice.Abort
-IsChosen (s ∷ settings) kind chosen =
-    ((s.kind ≡ kind) × (chosen ≡ s.choice)) ⊎ ((s.kind ≢ kind) × IsChosen settings kind chosen)
+-- the value is the one that the option is set to, or the default where it is not set
+abbrev pub IsChosen : {X : Type 0} → (X → Setting) → X → List Setting → X → Type 0
+IsChosen {X} option default settings value = Contains settings (option value)
+    ⊎ ((value ≡ default) × ((other : X) → Contains settings (option other) → ⊥))
 
 -- the words are the dot line's, of which digits are any text; `.session attach`, which a name follows, is no matter of words alone
 abbrev pub IsDotLine : List (List ℕ) → CommandData → Type 0
@@ -116,10 +131,12 @@ IsDotLine words (Dump slot) = IsSlot slot × (words ≡ codes ".dump" ∷ slot �
 IsDotLine words (Invert from into) = IsSlot from × IsSlot into × (words ≡ codes ".invert" ∷ from ∷ into ∷ [])
 IsDotLine words (Concat first second into) = IsSlot first × IsSlot second × IsSlot into
     × (words ≡ codes ".concat" ∷ first ∷ second ∷ into ∷ [])
-IsDotLine words (Apply slot on_data on_notfound on_conflict) = IsSlot slot × (settings : List Setting)
-    × (words ≡ codes ".apply" ∷ slot ∷ map setting_text settings) × AllPairs (λ s t. s.kind ≢ t.kind) settings
-    × IsChosen settings kind.Data on_data × IsChosen settings kind.NotFound on_notfound
-    × IsChosen settings kind.Conflict on_conflict
+IsDotLine words (Apply slot on_data on_notfound on_conflict noop) = IsSlot slot × (settings : List Setting)
+    × (words ≡ codes ".apply" ∷ slot ∷ map setting_text settings) × AllPairs (λ s t. option_of s ≢ option_of t) settings
+    × IsChosen (ForKind kind.Data) choice.Abort settings on_data
+    × IsChosen (ForKind kind.NotFound) choice.Abort settings on_notfound
+    × IsChosen (ForKind kind.Conflict) choice.Abort settings on_conflict
+    × IsChosen ForNoop Report settings noop
 IsDotLine words (Revert slot) = IsSlot slot × (words ≡ codes ".revert" ∷ slot ∷ [])
 IsDotLine words SessionOpen = words ≡ codes ".session" ∷ codes "open" ∷ []
 IsDotLine words (SessionChangeset slot) = IsSlot slot × (words ≡ codes ".session" ∷ codes "changeset" ∷ slot ∷ [])
@@ -148,7 +165,8 @@ command_of (command.Dump slot) = Dump (string_bytes slot)
 command_of (command.Invert from into) = Invert (string_bytes from) (string_bytes into)
 command_of (command.Concat first second into) =
     Concat (string_bytes first) (string_bytes second) (string_bytes into)
-command_of (command.Apply slot on_data on_notfound on_conflict) = Apply (string_bytes slot) on_data on_notfound on_conflict
+command_of (command.Apply slot on_data on_notfound on_conflict noop) =
+    Apply (string_bytes slot) on_data on_notfound on_conflict noop
 command_of (command.Revert slot) = Revert (string_bytes slot)
 command_of command.SessionOpen = SessionOpen
 command_of (command.SessionAttach table) = SessionAttach (string_bytes table)

@@ -6,12 +6,14 @@ use Rattle.cs_group.specs.declared.conflict.Kind.{Kind}
 use Rattle.cs_group.specs.declared.conflict.Kind.TheVariants as kind
 use Rattle.cs_group.specs.declared.conflict.Choice.{Choice}
 use Rattle.cs_group.specs.declared.conflict.Choice.TheVariants as choice
+use Rattle.cs_group.specs.declared.conflict.Noop.{Noop}
+use Rattle.cs_group.specs.declared.conflict.Noop.TheVariants.{Report, Ignore}
 use Rattle.cs_lines.specs.declared.dot.Settings.{Settings}
 use Rattle.cs_lines.specs.Tokens.{is_blank, is_word_byte, Token}
 use Rattle.cs_lines.specs.Lines.{words_of, ends_word}
 use Rattle.cs_lines.specs.Commands.{CommandData, Load, Hex, Dump, Invert, Concat, Apply, Revert}
 use Rattle.cs_lines.specs.Commands.{SessionOpen, SessionAttach, SessionChangeset, SessionIsEmpty, SessionUndo, SessionClose}
-use Rattle.cs_lines.specs.Commands.{setting_text}
+use Rattle.cs_lines.specs.Commands.{ForKind, ForNoop, setting_text}
 use Rattle.cs_lines.specs.Reading.{tokens_of}
 use Rattle.cs_lines.specs.StatementReading.{and_then, name_of}
 
@@ -79,9 +81,16 @@ concat_in words = and_then (slot_in words) (λ first. and_then (slot_in first.1)
 -- what the word chooses for the kind
 abbrev pub chosen_in : Kind → List ℕ → Option Choice
 chosen_in kind word =
-    if bytes_eq word (setting_text (record { kind = kind; choice = choice.Omit })) then Some choice.Omit
-    else if bytes_eq word (setting_text (record { kind = kind; choice = choice.Replace })) then Some choice.Replace
-    else if bytes_eq word (setting_text (record { kind = kind; choice = choice.Abort })) then Some choice.Abort
+    if bytes_eq word (setting_text (ForKind kind choice.Omit)) then Some choice.Omit
+    else if bytes_eq word (setting_text (ForKind kind choice.Replace)) then Some choice.Replace
+    else if bytes_eq word (setting_text (ForKind kind choice.Abort)) then Some choice.Abort
+    else None
+
+-- what the word sets `noop` to
+abbrev pub noop_in : List ℕ → Option Noop
+noop_in word =
+    if bytes_eq word (setting_text (ForNoop Report)) then Some Report
+    else if bytes_eq word (setting_text (ForNoop Ignore)) then Some Ignore
     else None
 
 abbrev pub when_none : {X Y : Type 0} → Option X → Y → Option Y
@@ -96,19 +105,20 @@ unfoldable pub setting_in : Settings → List ℕ → Option Settings
 setting_in s word =
     or_else (chosen_in kind.Data word) (λ c. when_none s.on_data (record s { on_data = Some c }))
     (or_else (chosen_in kind.NotFound word) (λ c. when_none s.on_notfound (record s { on_notfound = Some c }))
-    (or_else (chosen_in kind.Conflict word) (λ c. when_none s.on_conflict (record s { on_conflict = Some c })) None))
+    (or_else (chosen_in kind.Conflict word) (λ c. when_none s.on_conflict (record s { on_conflict = Some c }))
+    (or_else (noop_in word) (λ n. when_none s.noop (record s { noop = Some n })) None)))
 
 unfoldable pub settings_in : Settings → Words → Option Settings
 settings_in s [] = Some s
 settings_in s (word ∷ words) = and_then (setting_in s word) (λ s. settings_in s words)
 
 abbrev pub no_settings : Settings
-no_settings = record { on_data = None; on_notfound = None; on_conflict = None }
+no_settings = record { on_data = None; on_notfound = None; on_conflict = None; noop = None }
 
 unfoldable pub apply_in : Words → Option CommandData
 apply_in words = and_then (slot_in words) (λ t. option_map
     (λ s. Apply t.0 (unwrap_or s.on_data choice.Abort) (unwrap_or s.on_notfound choice.Abort)
-    (unwrap_or s.on_conflict choice.Abort))
+    (unwrap_or s.on_conflict choice.Abort) (unwrap_or s.noop Report))
     (settings_in no_settings t.1))
 
 -- a name, and nothing else

@@ -1,5 +1,5 @@
 //! What lines ask for.
-use cs_group::Choice;
+use cs_group::{Choice, Noop};
 use cs_value::OwnedValue;
 
 /// A column, and the value that it gets or has.
@@ -62,13 +62,15 @@ pub enum Command {
         second: String,
         into: String,
     },
-    /// `.apply slot data=choice notfound=choice conflict=choice`: the slot's changeset is applied. A
-    /// choice that is not given is to abort.
+    /// `.apply slot data=choice notfound=choice conflict=choice noop=noop`: the slot's changeset is
+    /// applied. The options stand in any order, each once or not at all: a choice that is not given is to
+    /// abort, and a noop that is not given is to report.
     Apply {
         slot: String,
         on_data: Choice,
         on_notfound: Choice,
         on_conflict: Choice,
+        noop: Noop,
     },
     /// `.revert slot`: the slot's changeset is reverted.
     Revert {

@@ -5,22 +5,23 @@ ghost use Rattle.cs_lines.specs.Lines.{words_of};
 ghost use Rattle.cs_lines.specs.Reading.{tokens_of};
 ghost use Rattle.cs_lines.specs.StatementReading.{Reads};
 ghost use Rattle.cs_lines.specs.DotReading.{load_in, digits_in, hex_in, dump_in, revert_in, invert_in, concat_in, apply_in};
-ghost use Rattle.cs_lines.specs.DotReading.{chosen_in, setting_in, settings_in, no_settings, attach_in, one_slot_in, no_word_in};
+ghost use Rattle.cs_lines.specs.DotReading.{chosen_in, noop_in, setting_in, settings_in, no_settings, attach_in, one_slot_in, no_word_in};
 ghost use Rattle.cs_lines.specs.DotReading.{session_in, dot_in};
 
 use crate::command::Command;
 use crate::stop::{Stop, misfit_at};
 use crate::token::{Found, Token, next_token};
 use crate::words::{is_word, next_word, no_word, one_slot, slot, text};
-use cs_group::{Choice, Kind};
+use cs_group::{Choice, Kind, Noop};
 use std::alloc::Global;
 
-/// What a line chooses for the conflicts of each kind, where it chooses.
+/// What a line sets each option to, where it sets it.
 #[derive(Clone, Copy, Debug)]
 struct Settings {
     on_data: Option<Choice>,
     on_notfound: Option<Choice>,
     on_conflict: Option<Choice>,
+    noop: Option<Noop>,
 }
 
 /// The command that a dot line asks for.
@@ -139,10 +140,11 @@ fn apply(alloc: Global, line: &[u8]) -> Result<Command, Stop>
         on_data: settings.on_data.unwrap_or(Choice::Abort),
         on_notfound: settings.on_notfound.unwrap_or(Choice::Abort),
         on_conflict: settings.on_conflict.unwrap_or(Choice::Abort),
+        noop: settings.noop.unwrap_or(Noop::Report),
     })
 }
 
-/// What the words of a line choose, each for another kind.
+/// What the words of a line set, each another option.
 #[tactic(auto, using(crate::proofs::DotLemmas::settings_go, crate::proofs::DotLemmas::no_setting, crate::proofs::DotLemmas::settings_end))]
 fn read_settings(line: &[u8]) -> Result<Settings, Stop>
     ensures { Reads result (λ s. s) (settings_in no_settings (words_of line.now)) }
@@ -151,6 +153,7 @@ fn read_settings(line: &[u8]) -> Result<Settings, Stop>
         on_data: None,
         on_notfound: None,
         on_conflict: None,
+        noop: None,
     };
     let mut rest = line;
     while let Some((word, after)) = next_word(rest) {
@@ -163,7 +166,7 @@ fn read_settings(line: &[u8]) -> Result<Settings, Stop>
     Ok(settings)
 }
 
-/// What is chosen with one more word, or None where it is no choice, or one for a kind that has one.
+/// What is set with one more word, or None where it sets no option, or one that is set.
 #[tactic(auto, unfolding(crate::specs::DotReading::setting_in))]
 fn with_setting(settings: Settings, word: &[u8]) -> Option<Settings>
     ensures { result ≡ setting_in settings word.now }
@@ -180,9 +183,15 @@ fn with_setting(settings: Settings, word: &[u8]) -> Option<Settings>
             ..settings
         });
     }
-    let choice = chosen(word, Kind::Conflict)?;
-    settings.on_conflict.is_none().then_some(Settings {
-        on_conflict: Some(choice),
+    if let Some(choice) = chosen(word, Kind::Conflict) {
+        return settings.on_conflict.is_none().then_some(Settings {
+            on_conflict: Some(choice),
+            ..settings
+        });
+    }
+    let noop = chosen_noop(word)?;
+    settings.noop.is_none().then_some(Settings {
+        noop: Some(noop),
         ..settings
     })
 }
@@ -202,6 +211,19 @@ fn chosen(word: &[u8], kind: Kind) -> Option<Choice>
         Some(Choice::Replace)
     } else if is_word(word, abort) {
         Some(Choice::Abort)
+    } else {
+        None
+    }
+}
+
+/// What a word sets the option `noop` to.
+fn chosen_noop(word: &[u8]) -> Option<Noop>
+    ensures { result ≡ noop_in word.now }
+{
+    if is_word(word, b"noop=report") {
+        Some(Noop::Report)
+    } else if is_word(word, b"noop=ignore") {
+        Some(Noop::Ignore)
     } else {
         None
     }

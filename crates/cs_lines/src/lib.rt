@@ -7,8 +7,9 @@
 //!
 //! `line` says what a line asks for, a `command`, or why it asks for nothing: a `fault`. A line is a
 //! `statement`, made of `token`s: each `symbol`, words and integers (`piece`), `quoted` texts and `blob`s;
-//! or a `dot` line, made of `words`. `byte` tells bytes apart. `choice` has the names of conflicts' kinds and
-//! of what is done about them.
+//! or a `dot` line, made of `words`, of which `.apply` has options: a choice for each kind of conflict, and
+//! `noop=ignore` to pass over changes that leave nothing else than stands there. `byte` tells bytes apart.
+//! `choice` has the names of conflicts' kinds and of what is done about them.
 #![tactic(auto)]
 
 mod blob;

@@ -1,13 +1,13 @@
 -- Command lines, and what they ask for.
-use Rattle.std.proofs.Common.{◌≡◌, ◌⊎◌, inl, inr, refl, List, [], ◌∷◌, Option, None, Some, true, codes}
-use Rattle.clap.specs.Words.{Text, takes, IsAmong, fault_of}
+use Rattle.std.proofs.Common.{◌≡◌, refl, [], ◌∷◌, None, Some, true, codes}
+use Rattle.clap.specs.Words.{takes, fault_of}
 use Rattle.clap.specs.declared.error.kind.ErrorKind.TheVariants as kind
 use Rattle.clap.proofs.OnLiterals.{clap_on_literals}
 use Rattle.cs_group.specs.declared.conflict.Choice.{Choice}
 use Rattle.cs_group.specs.declared.conflict.Choice.TheVariants as choice
+use Rattle.cs_group.specs.declared.conflict.Noop.TheVariants.{Report, Ignore}
 use Rattle.cs_apply.specs.declared.policy.Policy.{Policy}
-use Rattle.cs_words.specs.declared.fault.WordsFault.TheVariants as fault
-use Rattle.cs_words.specs.Words.{Asked, asked, command_app, Tells, Apply, Concat, Dump, Sql, Invert, Shell}
+use Rattle.cs_words.specs.Words.{asked, command_app, Apply, Concat, Dump, Sql, Invert, Shell}
 
 abbrev policy : Choice → Choice → Choice → Policy
 policy on_data on_notfound on_conflict = record { on_data = on_data; on_notfound = on_notfound; on_conflict = on_conflict }
@@ -21,7 +21,7 @@ the_name_alone = refl
 
 -- ---- each command
 
-applies : asked (codes "changeset" ∷ codes "a.cs" ∷ codes "apply" ∷ codes "s" ∷ []) ≡ Some (Apply (codes "a.cs") (codes "s") (policy choice.Abort choice.Abort choice.Abort))
+applies : asked (codes "changeset" ∷ codes "a.cs" ∷ codes "apply" ∷ codes "s" ∷ []) ≡ Some (Apply (codes "a.cs") (codes "s") (policy choice.Abort choice.Abort choice.Abort) Report)
 unfolding clap_on_literals
 applies = refl
 
@@ -47,17 +47,37 @@ runs_a_shell = refl
 
 -- ---- policies
 
-omits_data : asked (codes "changeset" ∷ codes "--data" ∷ codes "omit" ∷ codes "a.cs" ∷ codes "apply" ∷ codes "s" ∷ []) ≡ Some (Apply (codes "a.cs") (codes "s") (policy choice.Omit choice.Abort choice.Abort))
+omits_data : asked (codes "changeset" ∷ codes "--data" ∷ codes "omit" ∷ codes "a.cs" ∷ codes "apply" ∷ codes "s" ∷ []) ≡ Some (Apply (codes "a.cs") (codes "s") (policy choice.Omit choice.Abort choice.Abort) Report)
 unfolding clap_on_literals
 omits_data = refl
 
-replaces_notfound : asked (codes "changeset" ∷ codes "--notfound=replace" ∷ codes "a.cs" ∷ codes "apply" ∷ codes "s" ∷ []) ≡ Some (Apply (codes "a.cs") (codes "s") (policy choice.Abort choice.Replace choice.Abort))
+replaces_notfound : asked (codes "changeset" ∷ codes "--notfound=replace" ∷ codes "a.cs" ∷ codes "apply" ∷ codes "s" ∷ []) ≡ Some (Apply (codes "a.cs") (codes "s") (policy choice.Abort choice.Replace choice.Abort) Report)
 unfolding clap_on_literals
 replaces_notfound = refl
 
-replaces_conflict : asked (codes "changeset" ∷ codes "a.cs" ∷ codes "apply" ∷ codes "s" ∷ codes "--conflict" ∷ codes "replace" ∷ []) ≡ Some (Apply (codes "a.cs") (codes "s") (policy choice.Abort choice.Abort choice.Replace))
+replaces_conflict : asked (codes "changeset" ∷ codes "a.cs" ∷ codes "apply" ∷ codes "s" ∷ codes "--conflict" ∷ codes "replace" ∷ []) ≡ Some (Apply (codes "a.cs") (codes "s") (policy choice.Abort choice.Abort choice.Replace) Report)
 unfolding clap_on_literals
 replaces_conflict = refl
+
+ignores_noops : asked (codes "changeset" ∷ codes "--ignore-noop" ∷ codes "a.cs" ∷ codes "apply" ∷ codes "s" ∷ []) ≡ Some (Apply (codes "a.cs") (codes "s") (policy choice.Abort choice.Abort choice.Abort) Ignore)
+unfolding clap_on_literals
+ignores_noops = refl
+
+ignores_noops_between : asked (codes "changeset" ∷ codes "a.cs" ∷ codes "--ignore-noop" ∷ codes "apply" ∷ codes "s" ∷ []) ≡ Some (Apply (codes "a.cs") (codes "s") (policy choice.Abort choice.Abort choice.Abort) Ignore)
+unfolding clap_on_literals
+ignores_noops_between = refl
+
+ignores_noops_behind : asked (codes "changeset" ∷ codes "a.cs" ∷ codes "apply" ∷ codes "s" ∷ codes "--ignore-noop" ∷ []) ≡ Some (Apply (codes "a.cs") (codes "s") (policy choice.Abort choice.Abort choice.Abort) Ignore)
+unfolding clap_on_literals
+ignores_noops_behind = refl
+
+ignores_noops_and_omits_data : asked (codes "changeset" ∷ codes "--data" ∷ codes "omit" ∷ codes "--ignore-noop" ∷ codes "a.cs" ∷ codes "apply" ∷ codes "s" ∷ []) ≡ Some (Apply (codes "a.cs") (codes "s") (policy choice.Omit choice.Abort choice.Abort) Ignore)
+unfolding clap_on_literals
+ignores_noops_and_omits_data = refl
+
+dumps_with_the_flag : asked (codes "changeset" ∷ codes "--ignore-noop" ∷ codes "a.cs" ∷ codes "dump" ∷ []) ≡ Some (Dump (codes "a.cs"))
+unfolding clap_on_literals
+dumps_with_the_flag = refl
 
 dumps_with_an_option : asked (codes "changeset" ∷ codes "--data" ∷ codes "omit" ∷ codes "a.cs" ∷ codes "dump" ∷ []) ≡ Some (Dump (codes "a.cs"))
 unfolding clap_on_literals
@@ -76,6 +96,18 @@ no_choice = refl
 an_option_twice : asked (codes "changeset" ∷ codes "--data" ∷ codes "omit" ∷ codes "--data" ∷ codes "omit" ∷ codes "a.cs" ∷ codes "dump" ∷ []) ≡ None
 unfolding clap_on_literals
 an_option_twice = refl
+
+the_flag_twice : asked (codes "changeset" ∷ codes "--ignore-noop" ∷ codes "a.cs" ∷ codes "apply" ∷ codes "s" ∷ codes "--ignore-noop" ∷ []) ≡ None
+unfolding clap_on_literals
+the_flag_twice = refl
+
+the_flag_with_a_value : asked (codes "changeset" ∷ codes "--ignore-noop=true" ∷ codes "a.cs" ∷ codes "apply" ∷ codes "s" ∷ []) ≡ None
+unfolding clap_on_literals
+the_flag_with_a_value = refl
+
+the_flag_with_another_name : asked (codes "changeset" ∷ codes "--noop" ∷ codes "a.cs" ∷ codes "apply" ∷ codes "s" ∷ []) ≡ None
+unfolding clap_on_literals
+the_flag_with_another_name = refl
 
 no_command : asked (codes "changeset" ∷ codes "a.cs" ∷ []) ≡ None
 unfolding clap_on_literals
@@ -105,6 +137,15 @@ asks_for_help = refl
 asks_for_help_shortly : fault_of command_app (codes "changeset" ∷ codes "a.cs" ∷ codes "-h" ∷ []) ≡ kind.DisplayHelp ∷ []
 unfolding clap_on_literals
 asks_for_help_shortly = refl
+
+-- the flag twice, and with a value
+faults_the_flag_twice : fault_of command_app (codes "changeset" ∷ codes "--ignore-noop" ∷ codes "a.cs" ∷ codes "apply" ∷ codes "s" ∷ codes "--ignore-noop" ∷ []) ≡ kind.ArgumentConflict ∷ []
+unfolding clap_on_literals
+faults_the_flag_twice = refl
+
+faults_the_flag_with_a_value : fault_of command_app (codes "changeset" ∷ codes "--ignore-noop=true" ∷ codes "a.cs" ∷ codes "apply" ∷ codes "s" ∷ []) ≡ kind.TooManyValues ∷ []
+unfolding clap_on_literals
+faults_the_flag_with_a_value = refl
 
 -- clap takes the words of a command that there is not
 takes_any_command : takes command_app (codes "changeset" ∷ codes "a.cs" ∷ codes "frob" ∷ []) ≡ true

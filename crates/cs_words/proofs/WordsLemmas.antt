@@ -1,14 +1,15 @@
 -- Lemmas on what words ask for.
-use Rattle.std.proofs.Common.{◌≡◌, ◌⊎◌, ◌∙◌, inl, inr, ℕ, ◌<◌, Bool, true, false, List, [], ◌∷◌, length, Option, Some, None, unwrap_or, option_map, refl, sym, ap, subst, codes, arith}
-use Rattle.clap.specs.Words.{Row, Text, Kinds, IsAmong, all_of, first_of, fault_of, is_simple, matches_of, takes}
+use Rattle.std.proofs.Common.{◌≡◌, ◌⊎◌, ◌∙◌, inl, inr, ◌<◌, true, List, [], ◌∷◌, length, Some, None, refl, sym, ap, codes, arith}
+use Rattle.clap.specs.Words.{Row, Text, Kinds, IsAmong, first_of, fault_of, is_simple, matches_of, takes}
 use Rattle.clap.specs.Faults.{is_simple_and_free}
 use Rattle.clap.specs.declared.error.kind.ErrorKind.{ErrorKind}
 use Rattle.clap.specs.declared.error.kind.ErrorKind.TheVariants as kind
 use Rattle.clap.proofs.OnLiterals.{clap_on_literals}
+use Rattle.cs_group.specs.declared.conflict.Noop.{Noop}
 use Rattle.cs_apply.specs.declared.policy.Policy.{Policy}
 use Rattle.cs_words.specs.declared.fault.WordsFault.{WordsFault}
 use Rattle.cs_words.specs.declared.fault.WordsFault.TheVariants as fault
-use Rattle.cs_words.specs.Words.{Asked, AskNothing, Refuses, Tells, arguments_in, asked, asked_by, asked_where, command_app, command_in, fault_of_kind, policy_in}
+use Rattle.cs_words.specs.Words.{Asked, AskNothing, Refuses, arguments_in, asked, asked_by, asked_where, command_app, command_in, fault_of_kind, noop_in, policy_in}
 
 pub is_simple_app : is_simple command_app ≡ true
 unfolding clap_on_literals
@@ -19,9 +20,9 @@ unfolding clap_on_literals
 is_free_app = refl
 
 -- a policy, a file, and the name of a command are there
-pub asked_with : (rows : List Row) (policy : Policy) (file name : Text) (arguments : List Text) → policy_in rows ≡ Some policy → first_of (codes "FILE") rows ≡ Some file
-    → first_of (codes "COMMAND") rows ≡ Some name → arguments_in rows ≡ arguments → asked_by rows ≡ command_in policy file name arguments
-asked_with rows policy file name arguments p f n a = rw (p, f, n, a) refl
+pub asked_with : (rows : List Row) (policy : Policy) (noop : Noop) (file name : Text) (arguments : List Text) → policy_in rows ≡ Some policy → noop_in rows ≡ noop → first_of (codes "FILE") rows ≡ Some file
+    → first_of (codes "COMMAND") rows ≡ Some name → arguments_in rows ≡ arguments → asked_by rows ≡ command_in policy noop file name arguments
+asked_with rows policy noop file name arguments p i f n a = rw (p, i, f, n, a) refl
 
 -- more than the name is there
 pub asked_long : (words : List Text) → 1 < length words → asked words ≡ asked_where (fault_of command_app words) (matches_of command_app words)

@@ -1,15 +1,18 @@
 -- What the words of a command line ask for, over what `clap` says that a command takes from words. The commands and their
 -- arguments are those of SQLite's `changeset` utility; the options and `shell` are this project's own.
-use Rattle.std.specs.Prelude.{◌≡◌, ◌⊎◌, ℕ, true, List, [], ◌∷◌, codes, if◌then◌else◌}
+use Rattle.std.specs.Prelude.{◌≡◌, ◌⊎◌, true, List, [], ◌∷◌, codes, if◌then◌else◌}
 use Rattle.std.specs.Prelude.{Option, Some, None, option_and_then, option_map, unwrap_or}
 use Rattle.std.specs.Str.{bytes_eq}
 use Rattle.clap.specs.Lexer.{usize_max}
 use Rattle.clap.specs.Words.{App, Row, Rule, Text, all_of, first_of, matches_of, new_app, new_rule, takes, with_rule}
 use Rattle.clap.specs.Words.{fault_of, IsAmong, Kinds}
+use Rattle.clap.specs.declared.builder.action.ArgAction.TheVariants.{SetTrue}
 use Rattle.clap.specs.declared.error.kind.ErrorKind.{ErrorKind}
 use Rattle.clap.specs.declared.error.kind.ErrorKind.TheVariants as kind
 use Rattle.cs_group.specs.declared.conflict.Choice.{Choice}
 use Rattle.cs_group.specs.declared.conflict.Choice.TheVariants as choice
+use Rattle.cs_group.specs.declared.conflict.Noop.{Noop}
+use Rattle.cs_group.specs.declared.conflict.Noop.TheVariants.{Report, Ignore}
 use Rattle.cs_apply.specs.declared.policy.Policy.{Policy}
 use Rattle.cs_lines.specs.Commands.{choice_text}
 use Rattle.cs_words.specs.declared.action.Action.{Action}
@@ -19,7 +22,7 @@ use Rattle.cs_words.specs.declared.fault.WordsFault.TheVariants as fault
 
 -- what words ask for; files and stores are named by bytes
 pub data Asked : Type 0 where
-  Apply : (file store : Text) → Policy → Asked
+  Apply : (file store : Text) → Policy → Noop → Asked
   Concat : (file second out : Text) → Asked
   Dump : (file : Text) → Asked
   Sql : (file : Text) → Asked
@@ -27,7 +30,7 @@ pub data Asked : Type 0 where
   Shell : (file : Text) → Asked
 
 abbrev pub asked_of : Action → Asked
-asked_of (action.Apply file store policy) = Apply file.now store.now policy
+asked_of (action.Apply file store policy noop) = Apply file.now store.now policy noop
 asked_of (action.Concat file second out) = Concat file.now second.now out.now
 asked_of (action.Dump file) = Dump file.now
 asked_of (action.Sql file) = Sql file.now
@@ -40,6 +43,10 @@ asked_of (action.Shell file) = Shell file.now
 abbrev pub choice_rule : Text → Rule
 choice_rule name = record (new_rule name) { long = Some name; defaults = codes "abort" ∷ [] }
 
+-- an option that takes no word
+abbrev pub flag_rule : Text → Rule
+flag_rule name = record (new_rule name) { long = Some name; action = Some SetTrue }
+
 -- a word that has to be there
 abbrev pub operand_rule : Text → Rule
 operand_rule name = record (new_rule name) { required = true }
@@ -48,11 +55,11 @@ operand_rule name = record (new_rule name) { required = true }
 abbrev pub rest_rule : Rule
 rest_rule = record (new_rule (codes "ARG")) { range = Some (record { start_inclusive = 0; end_inclusive = usize_max }) }
 
--- the three options, a file, a command, and that one's arguments
+-- the four options, a file, a command, and that one's arguments
 abbrev pub command_app : App
-command_app = with_rule (with_rule (with_rule (with_rule (with_rule (with_rule (new_app (codes "changeset"))
+command_app = with_rule (with_rule (with_rule (with_rule (with_rule (with_rule (with_rule (new_app (codes "changeset"))
     (choice_rule (codes "data"))) (choice_rule (codes "notfound"))) (choice_rule (codes "conflict")))
-    (operand_rule (codes "FILE"))) (operand_rule (codes "COMMAND"))) rest_rule
+    (flag_rule (codes "ignore-noop"))) (operand_rule (codes "FILE"))) (operand_rule (codes "COMMAND"))) rest_rule
 
 -- ---- what matched words ask for
 
@@ -70,31 +77,39 @@ policy_in rows = option_and_then (λ on_data. option_and_then (λ on_notfound. o
     record { on_data = on_data; on_notfound = on_notfound; on_conflict = on_conflict })
     (choice_in rows (codes "conflict"))) (choice_in rows (codes "notfound"))) (choice_in rows (codes "data"))
 
+-- the value of a flag is `true` where it is given
+abbrev pub noop_where : Option Text → Noop
+noop_where None = Report
+noop_where (Some given) = if bytes_eq given (codes "true") then Ignore else Report
+
+abbrev pub noop_in : List Row → Noop
+noop_in rows = noop_where (first_of (codes "ignore-noop") rows)
+
 -- a command without arguments, with one, and with two
 abbrev pub bare_in : Text → Text → Option Asked
 bare_in file name = if bytes_eq name (codes "dump") then Some (Dump file)
     else (if bytes_eq name (codes "sql") then Some (Sql file)
     else (if bytes_eq name (codes "shell") then Some (Shell file) else None))
 
-abbrev pub short_in : Policy → Text → Text → Text → Option Asked
-short_in policy file name argument = if bytes_eq name (codes "apply") then Some (Apply file argument policy)
+abbrev pub short_in : Policy → Noop → Text → Text → Text → Option Asked
+short_in policy noop file name argument = if bytes_eq name (codes "apply") then Some (Apply file argument policy noop)
     else (if bytes_eq name (codes "invert") then Some (Invert file argument) else None)
 
 abbrev pub long_in : Text → Text → Text → Text → Option Asked
 long_in file name second out = if bytes_eq name (codes "concat") then Some (Concat file second out) else None
 
-abbrev pub command_in : Policy → Text → Text → List Text → Option Asked
-command_in policy file name [] = bare_in file name
-command_in policy file name (argument ∷ []) = short_in policy file name argument
-command_in policy file name (second ∷ out ∷ []) = long_in file name second out
-command_in policy file name _ = None
+abbrev pub command_in : Policy → Noop → Text → Text → List Text → Option Asked
+command_in policy noop file name [] = bare_in file name
+command_in policy noop file name (argument ∷ []) = short_in policy noop file name argument
+command_in policy noop file name (second ∷ out ∷ []) = long_in file name second out
+command_in policy noop file name _ = None
 
 abbrev pub arguments_in : List Row → List Text
 arguments_in rows = unwrap_or (all_of (codes "ARG") rows) []
 
 abbrev pub asked_by : List Row → Option Asked
 asked_by rows = option_and_then (λ policy. option_and_then (λ file. option_and_then (λ name.
-    command_in policy file name (arguments_in rows))
+    command_in policy (noop_in rows) file name (arguments_in rows))
     (first_of (codes "COMMAND") rows)) (first_of (codes "FILE") rows)) (policy_in rows)
 
 -- ---- what words ask for

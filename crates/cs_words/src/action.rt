@@ -1,6 +1,7 @@
 //! What words ask for.
 
 use cs_apply::Policy;
+use cs_group::Noop;
 
 /// The store that is in memory, where a store in a file is named.
 pub const IN_MEMORY: &str = ":memory:";
@@ -13,6 +14,7 @@ pub enum Action<'a> {
         file: &'a str,
         store: &'a str,
         policy: Policy,
+        noop: Noop,
     },
     /// The join of two files is written into a third.
     Concat {

@@ -1,9 +1,9 @@
 //! The command line as `clap` reads it.
 ghost use Rattle.std.specs.Prelude.{◌≡◌, IfOk, false};
 ghost use Rattle.clap.specs.Words.{app_of, rule_of};
-ghost use Rattle.cs_words.specs.Words.{command_app, choice_rule, operand_rule, rest_rule};
+ghost use Rattle.cs_words.specs.Words.{command_app, choice_rule, flag_rule, operand_rule, rest_rule};
 
-use clap::{Arg, Command};
+use clap::{Arg, ArgAction, Command};
 use std::alloc::{AllocError, Global};
 
 /// An option that has a choice, which is `abort` where it is not given.
@@ -12,6 +12,14 @@ fn choice_option<'a>(alloc: Global, name: &'a str) -> Arg<'a>
     ensures local { result.global ≡ false }
 {
     Arg::new(alloc, name).long(name).default_value("abort")
+}
+
+/// An option that takes no word.
+fn flag<'a>(alloc: Global, name: &'a str) -> Arg<'a>
+    ensures rule { rule_of result ≡ flag_rule name.now }
+    ensures local { result.global ≡ false }
+{
+    Arg::new(alloc, name).long(name).action(ArgAction::SetTrue)
 }
 
 /// An operand that has to be there.
@@ -38,6 +46,7 @@ pub(crate) fn command_line<'a>(alloc: Global) -> Result<Command<'a>, AllocError>
         .arg(choice_option(alloc, "data"))?
         .arg(choice_option(alloc, "notfound"))?
         .arg(choice_option(alloc, "conflict"))?
+        .arg(flag(alloc, "ignore-noop"))?
         .arg(operand(alloc, "FILE"))?
         .arg(operand(alloc, "COMMAND"))?
         .arg(other_operands(alloc))

@@ -1,9 +1,10 @@
 //! What the words of a command line ask for.
 //!
 //! ```rust
-//! // changeset --data omit changes.cs apply store.db
-//! let Action::Apply { policy, .. } = parse_words(alloc, &words)? else { .. };
+//! // changeset --data omit --ignore-noop changes.cs apply store.db
+//! let Action::Apply { policy, noop, .. } = parse_words(alloc, &words)? else { .. };
 //! assert!(rt; policy.on_data == Choice::Omit && policy.on_conflict == Choice::Abort);
+//! assert!(rt; noop == Noop::Ignore);
 //! ```
 //!
 //! `command_line` has the options and the operands as `clap` reads them; `parse` takes from its matches what

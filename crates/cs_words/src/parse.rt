@@ -1,7 +1,7 @@
 //! What the words that `clap` matched ask for.
 ghost use Rattle.std.specs.Prelude.{◌≡◌, IfOk, IfErr, map as map_list, option_map, string_bytes};
 ghost use Rattle.clap.specs.Words.{first_of, found_of, rows_of};
-ghost use Rattle.cs_words.specs.Words.{asked, asked_by, asked_of, choice_in, chosen, policy_in, Refuses};
+ghost use Rattle.cs_words.specs.Words.{asked, asked_by, asked_of, choice_in, chosen, noop_in, policy_in, Refuses};
 ghost use Rattle.cs_words.specs.Words.{bare_in, short_in, long_in, command_in};
 
 use crate::action::{Action, IN_MEMORY};
@@ -9,15 +9,16 @@ use crate::command_line::command_line;
 use crate::fault::WordsFault;
 use clap::ArgMatches;
 use cs_apply::{Choice, Policy};
+use cs_group::Noop;
 use cs_lines::choice_name;
 use std::alloc::Global;
 
 /// What the words of a command line ask for, the program's name first. With no word behind the name that
 /// is a script on a store in memory.
 ///
-/// Options may stand before, between and behind the operands, as `--data C` or `--data=C`, each once; what
-/// follows `--` is an operand. Options have no effect on other commands than `apply`, but their choices have to be
-/// some.
+/// Options may stand before, between and behind the operands, as `--data C` or `--data=C`, and as `--ignore-noop`, which
+/// takes no word, each once; what follows `--` is an operand. Options have no effect on other commands than `apply`, but
+/// their choices have to be some.
 ///
 /// # Errors
 ///
@@ -42,10 +43,11 @@ fn action_of<'a>(matches: &ArgMatches<'a>) -> Option<Action<'a>>
     ensures { option_map asked_of result ≡ asked_by (rows_of (found_of matches.now)) }
 {
     let policy = policy_of(matches)?;
+    let noop = noop_of(matches);
     let file = word_of(matches, "FILE")?;
     let name = word_of(matches, "COMMAND")?;
     match matches.get_strs("ARG") {
-        Some(arguments) => command_of(policy, file, name, arguments),
+        Some(arguments) => command_of(policy, noop, file, name, arguments),
         None => bare_command(file, name),
     }
 }
@@ -66,6 +68,16 @@ fn policy_of(matches: &ArgMatches<'_>) -> Option<Policy>
         on_notfound: choice_of(matches, "notfound")?,
         on_conflict: choice_of(matches, "conflict")?,
     })
+}
+
+/// What is done about an entry that meets a conflict and would change nothing.
+fn noop_of(matches: &ArgMatches<'_>) -> Noop
+    ensures { result ≡ noop_in (rows_of (found_of matches.now)) }
+{
+    match word_of(matches, "ignore-noop") {
+        Some("true") => Noop::Ignore,
+        _ => Noop::Report,
+    }
 }
 
 /// The choice that an option has, or None where that is none.
@@ -91,16 +103,17 @@ fn choice_named(name: &str) -> Option<Choice>
 /// What a command's name and its arguments ask for, or None where they fit no command.
 fn command_of<'a>(
     policy: Policy,
+    noop: Noop,
     file: &'a str,
     name: &str,
     arguments: &[&'a str],
 ) -> Option<Action<'a>>
     ensures { option_map asked_of result
-        ≡ command_in policy file.now name.now (map_list (λ word. word.now) arguments.now) }
+        ≡ command_in policy noop file.now name.now (map_list (λ word. word.now) arguments.now) }
 {
     match *arguments {
         [] => bare_command(file, name),
-        [argument] => short_command(policy, file, name, argument),
+        [argument] => short_command(policy, noop, file, name, argument),
         [second, out] => long_command(file, name, second, out),
         _ => None,
     }
@@ -121,17 +134,19 @@ fn bare_command<'a>(file: &'a str, name: &str) -> Option<Action<'a>>
 /// What the name of a command with one argument asks for.
 fn short_command<'a>(
     policy: Policy,
+    noop: Noop,
     file: &'a str,
     name: &str,
     argument: &'a str,
 ) -> Option<Action<'a>>
-    ensures { option_map asked_of result ≡ short_in policy file.now name.now argument.now }
+    ensures { option_map asked_of result ≡ short_in policy noop file.now name.now argument.now }
 {
     match name {
         "apply" => Some(Action::Apply {
             file,
             store: argument,
             policy,
+            noop,
         }),
         "invert" => Some(Action::Invert {
             file,

@@ -1,9 +1,9 @@
 -- `parse::parse_words`: what it ensures.
-use Rattle.std.proofs.Common.{◌≡◌, ◌≤◌, ◌∙◌, List, [], length, map, ap, sym, subst, rules, arith, Some, None, true, option_map}
+use Rattle.std.proofs.Common.{◌≡◌, ◌∙◌, map, ap, sym, subst, arith, option_map}
 use Rattle.std.specs.Prelude.{string_bytes}
 use Rattle.std.proofs.lemmas.List.{length-map}
 use Rattle.std.proofs.lemmas.Result.{err_from_is_err_and}
-use Rattle.clap.specs.Words.{App, Text, HasKind, app_of, fault_of, kind_of, is_simple, matches_of, takes, found_of, rows_of}
+use Rattle.clap.specs.Words.{App, HasKind, app_of, fault_of, kind_of, is_simple, matches_of, takes, found_of, rows_of}
 use Rattle.clap.specs.Faults.{is_simple_and_free}
 use Rattle.cs_words.specs.Words.{asked_by, asked_of, command_app}
 use Rattle.cs_words.proofs.WordsLemmas.{is_simple_app, is_free_app, refuses_kind, refuses_misfit, asked_fit}
