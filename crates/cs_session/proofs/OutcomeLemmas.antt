@@ -19,6 +19,7 @@ use Rattle.cs_group.specs.declared.judging.Judgement.TheVariants.{Compatible}
 use Rattle.cs_group.specs.Judging.{judgement, judged}
 use Rattle.cs_group.specs.Applying.{omit_all, skipped}
 use Rattle.cs_value.proofs.ListLemmas.{recursion_from_AllPairs}
+use Rattle.cs_group.specs.declared.conflict.Noop.TheVariants as noop
 use Rattle.cs_apply.specs.declared.conflict.Conflict.{Conflict}
 use Rattle.cs_apply.specs.declared.fault.ApplyFault.{ApplyFault}
 use Rattle.cs_apply.specs.declared.report.Report.{Report}
@@ -89,7 +90,7 @@ module _ (law : ChangesetFiles) (state : State) (notes : Notes) (is_state : IsSt
   given_back : map (λ t. rows_at (rewound_state notes state) t.name) notes ≡ rewound notes state
   given_back = all_rewound state (rewound_state notes state) notes (rewound_here state notes each (recursion_from_AllPairs (λ (s t : AttachedTable). s.name ≢ t.name) notes are.once))
 
-  skips_none : (report : Report) (new : State) → Applies AlwaysAborts (file_bytes changes) Inverse state report new → report.skipped.items ≡ []
+  skips_none : (report : Report) (new : State) → Applies AlwaysAborts noop.Report (file_bytes changes) Inverse state report new → report.skipped.items ≡ []
   skips_none report new applies =
       let read = applies.read in
       let one : read.0 ≡ changes = law read.0 changes read.1 leads.is_changeset (sym read.2) in
@@ -99,18 +100,18 @@ module _ (law : ChangesetFiles) (state : State) (notes : Notes) (is_state : IsSt
 
   -- its inverse undoes
   pub undoes : (chooses : Handler) → ((k : Conflict) (c : Choice) → chooses k c → AlwaysAborts k c) → (file : List ℕ) → file ≡ file_bytes changes → (mid : State) → mid ≡ state
-      → (report : Report) (new : State) → Applies chooses file Inverse mid report new → Undoes notes state report new
+      → (report : Report) (new : State) → Applies chooses noop.Report file Inverse mid report new → Undoes notes state report new
   undoes chooses aborts file is_file mid same report new applies =
-      let weaker = applies_weaker chooses AlwaysAborts aborts file Inverse mid report new applies in
+      let weaker = applies_weaker chooses AlwaysAborts aborts noop.Report file Inverse mid report new applies in
       let told = rw (is_file, same) at weaker in
       let back = reverts_ok AlwaysAborts law (file_bytes changes) (rewound_state notes state) state new report leads told in
       record { attached = has; applied = told; no_conflict = back.0; none_skipped = skips_none report new told; back = rw back.1 given_back; rewound = back.1 }
 
   -- or memory or the database refuses
   pub refuses_undo : (chooses : Handler) → ((k : Conflict) (c : Choice) → chooses k c → AlwaysAborts k c) → (file : List ℕ) → file ≡ file_bytes changes → (mid : State) → mid ≡ state
-      → (e : ApplyFault) → Refuses chooses file Inverse mid e → RefusesChanges state notes (apply_fault_of e)
+      → (e : ApplyFault) → Refuses chooses noop.Report file Inverse mid e → RefusesChanges state notes (apply_fault_of e)
   refuses_undo chooses aborts file is_file mid same e refuses =
-      at (reverts_err law (file_bytes changes) (rewound_state notes state) state e leads (rw (is_file, same) at (refuses_weaker chooses AlwaysAborts aborts file Inverse mid e refuses)))
+      at (reverts_err law (file_bytes changes) (rewound_state notes state) state e leads (rw (is_file, same) at (refuses_weaker chooses AlwaysAborts aborts noop.Report file Inverse mid e refuses)))
     where
       at : applying.IsResource e → RefusesChanges state notes (apply_fault_of e)
       at (inl is) = inr (inl (ap apply_fault_of is))

@@ -7,6 +7,7 @@ use Rattle.cs_value.specs.State.{State, WrittenData, IsState}
 use Rattle.cs_store.specs.Editing.{written_of}
 use Rattle.cs_group.specs.Laws.{TellsFormer}
 use Rattle.cs_group.proofs.ApplyLemmas.{written_tells}
+use Rattle.cs_group.specs.declared.conflict.Noop.{Noop}
 use Rattle.cs_apply.specs.declared.fault.ApplyFault.{ApplyFault}
 use Rattle.cs_apply.specs.declared.fault.ApplyFault.TheVariants.{Read, Wider, Abort, Misuse, Store, NoMemory}
 use Rattle.cs_apply.specs.declared.report.Report.{Report}
@@ -22,9 +23,9 @@ use Rattle.cs_session.specs.Recording.{RecordsApply, RefusesApply}
 use Rattle.cs_session.proofs.NotesLemmas.{tells_formers}
 use Rattle.cs_session.proofs.FirstLemmas.{rewound_recorded}
 
-module _ (chooses : Handler) (file : List ℕ) (state : State) (notes : Notes) where
+module _ (chooses : Handler) (noop : Noop) (file : List ℕ) (state : State) (notes : Notes) where
   -- why it is refused
-  pub refuses_applying : HasTables state notes → (e : ApplyFault) → Refuses chooses file Forward state e → RefusesApply chooses file state notes (apply_fault_of e)
+  pub refuses_applying : HasTables state notes → (e : ApplyFault) → Refuses chooses noop file Forward state e → RefusesApply chooses noop file state notes (apply_fault_of e)
   refuses_applying has (Read fault) refuses = (has, refuses)
   refuses_applying has (Wider place) refuses = (has, refuses)
   refuses_applying has (Abort conflict) refuses = (has, refuses)
@@ -32,14 +33,14 @@ module _ (chooses : Handler) (file : List ℕ) (state : State) (notes : Notes) w
   refuses_applying has (Store error) refuses = refuses
   refuses_applying has NoMemory refuses = tt
 
-  pub refuses_noting : (written : List WrittenData) (e : SessionFault) → AreFormers notes written → (e ≡ OutOfMemory) ⊎ (IsDamage e × ¬ AreFormers notes written) → RefusesApply chooses file state notes e
-  refuses_noting written e formers (inl is) = subst (RefusesApply chooses file state notes) (sym is) tt
+  pub refuses_noting : (written : List WrittenData) (e : SessionFault) → AreFormers notes written → (e ≡ OutOfMemory) ⊎ (IsDamage e × ¬ AreFormers notes written) → RefusesApply chooses noop file state notes e
+  refuses_noting written e formers (inl is) = subst (RefusesApply chooses noop file state notes) (sym is) tt
   refuses_noting written e formers (inr fails) = absurd (fails.1 formers)
 
-  module _ (report : Report) (new : State) (applies : Applies chooses file Forward state report new) where
+  module _ (report : Report) (new : State) (applies : Applies chooses noop file Forward state report new) where
     -- what the report tells of the writes says which rows stood there
     told : TellsFormer state new (map written_of report.written.items)
-    told = subst (TellsFormer state new) (sym applies.written) (written_tells state applies.changeset applies.choose new applies.applied)
+    told = subst (TellsFormer state new) (sym applies.written) (written_tells noop state applies.changeset applies.choose new applies.applied)
 
     each : (ts : Notes) → AllByRecursion (HasAttached state) ts → AllByRecursion (λ t. HasAttached state t ⊎ (writes_of t.name (map written_of report.written.items) ≡ [])) ts
     each [] has = tt
@@ -50,9 +51,9 @@ module _ (chooses : Handler) (file : List ℕ) (state : State) (notes : Notes) w
         tells_formers state is_state new (map written_of report.written.items) told notes (each notes (recursion_from_All (HasAttached state) notes has))
 
 -- an apply that is noted leaves the rows from before
-pub applied_rewound : {E : Type 0} (r : Result Report E) (chooses : Handler) (file : List ℕ) (state : State) (notes : Notes) (new : State) (after : Notes)
-    → IfOk r (λ report. RecordsApply chooses file state notes report new after) → OnOk r (rewound after new ≡ rewound notes state)
-applied_rewound (Ok report) chooses file state notes new after records =
+pub applied_rewound : {E : Type 0} (r : Result Report E) (chooses : Handler) (noop : Noop) (file : List ℕ) (state : State) (notes : Notes) (new : State) (after : Notes)
+    → IfOk r (λ report. RecordsApply chooses noop file state notes report new after) → OnOk r (rewound after new ≡ rewound notes state)
+applied_rewound (Ok report) chooses noop file state notes new after records =
     ap (λ (ns : Notes). rewound ns new) records.noted
-    ∙ rewound_recorded state new (map written_of report.written.items) (told chooses file state notes report new records.applied) notes
-applied_rewound (Err e) chooses file state notes new after records = tt
+    ∙ rewound_recorded state new (map written_of report.written.items) (told chooses noop file state notes report new records.applied) notes
+applied_rewound (Err e) chooses noop file state notes new after records = tt

@@ -19,7 +19,8 @@ use Rattle.cs_store.specs.Editing.{Declares, Edited}
 use Rattle.cs_store.specs.Records.{KeepsContent}
 use Rattle.cs_store.specs.Store.{tables_in}
 use Rattle.cs_group.specs.Laws.{TellsFormer}
-use Rattle.cs_group.specs.Applying.{written}
+use Rattle.cs_group.specs.declared.conflict.Noop.{Noop}
+use Rattle.cs_group.specs.Applying.{written_under}
 use Rattle.cs_group.proofs.ApplyLemmas.{written_tells}
 use Rattle.cs_apply.specs.declared.report.Report.{Report}
 use Rattle.cs_apply.specs.Running.{Handler}
@@ -65,7 +66,7 @@ refused_keeps m n is step =
 
 applies_keep : (m n : Moment) → IsMoment m → AppliesChangeset m n → Keeps m n []
 applies_keep m n is step =
-    writes_keep m n is (written m.state step.changeset step.choose) step.applied.schemas (written_tells m.state step.changeset step.choose n.state step.applied) step.noted
+    writes_keep m n is (written_under step.noop m.state step.changeset step.choose) step.applied.schemas (written_tells step.noop m.state step.changeset step.choose n.state step.applied) step.noted
 
 edits_keep : (m n : Moment) → IsMoment m → EditsRow m n → Keeps m n []
 edits_keep m n is step =
@@ -186,9 +187,10 @@ rows_from_before m later is run =
 
 -- ---- calls that succeed are steps
 
-unfoldable pub applied_step : (chooses : Handler) (file : List ℕ) (m n : Moment) (report : Report) → RecordsApply chooses file m.state m.notes report n.state n.notes → Step m n
-applied_step chooses file m n report done = inr (inr (inr (inl (record {
+unfoldable pub applied_step : (chooses : Handler) (noop : Noop) (file : List ℕ) (m n : Moment) (report : Report) → RecordsApply chooses noop file m.state m.notes report n.state n.notes → Step m n
+applied_step chooses noop file m n report done = inr (inr (inr (inl (record {
   changeset = done.applied.changeset;
+  noop = noop;
   choose = done.applied.choose;
   applied = done.applied.applied;
   noted = done.noted ∙ ap (recorded m.notes) done.applied.written;

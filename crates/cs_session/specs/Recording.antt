@@ -10,6 +10,7 @@ use Rattle.cs_apply.specs.declared.report.Report.{Report}
 use Rattle.cs_apply.specs.declared.running.Direction.TheVariants.{Forward}
 use Rattle.cs_apply.specs.declared.fault.ApplyFault.{ApplyFault}
 use Rattle.cs_apply.specs.declared.fault.ApplyFault.TheVariants as apply_fault
+use Rattle.cs_group.specs.declared.conflict.Noop.{Noop}
 use Rattle.cs_apply.specs.Running.{Handler, Applies, Refuses}
 use Rattle.cs_session.specs.declared.fault.SessionFault.{SessionFault}
 use Rattle.cs_session.specs.declared.fault.SessionFault.TheVariants.{Store, Apply, AlreadyAttached, WrongStore, NoMemory}
@@ -47,19 +48,19 @@ IsEditRefusal AlreadyAttached = ⊥
 IsEditRefusal (Apply fault) = ⊥
 
 -- the file is applied, with what the report tells, and the keys that were written are noted
-pub record RecordsApply (chooses : Handler) (file : List ℕ) (old : State) (notes : Notes) (report : Report) (new : State)
-    (after : Notes) : Type 0 where
+pub record RecordsApply (chooses : Handler) (noop : Noop) (file : List ℕ) (old : State) (notes : Notes) (report : Report)
+    (new : State) (after : Notes) : Type 0 where
   pub attached : HasTables old notes
-  pub applied : Applies chooses file Forward old report new
+  pub applied : Applies chooses noop file Forward old report new
   pub noted : after ≡ recorded notes (map written_of report.written.items)
 
 -- why it is not
-abbrev pub RefusesApply : Handler → List ℕ → State → Notes → SessionFault → Type 0
-RefusesApply chooses file old notes WrongStore = LacksTable old notes
-RefusesApply chooses file old notes (Apply fault) = HasTables old notes × Refuses chooses file Forward old fault
-RefusesApply chooses file old notes (Store error) = error ≡ StoreFault
-RefusesApply chooses file old notes NoMemory = Unit {0}
-RefusesApply chooses file old notes AlreadyAttached = ⊥
+abbrev pub RefusesApply : Handler → Noop → List ℕ → State → Notes → SessionFault → Type 0
+RefusesApply chooses noop file old notes WrongStore = LacksTable old notes
+RefusesApply chooses noop file old notes (Apply fault) = HasTables old notes × Refuses chooses noop file Forward old fault
+RefusesApply chooses noop file old notes (Store error) = error ≡ StoreFault
+RefusesApply chooses noop file old notes NoMemory = Unit {0}
+RefusesApply chooses noop file old notes AlreadyAttached = ⊥
 
 -- a fault of the changeset, or of what it meets: the store's refusals and want of memory are told as the session's own
 abbrev pub IsOfChangeset : ApplyFault → Type 0

@@ -6,7 +6,8 @@ use Rattle.cs_value.specs.State.{SchemaData, RowMap, State, rows_at}
 use Rattle.cs_wire.specs.Changeset.{GroupData}
 use Rattle.cs_store.specs.declared.edit.Edit.{Edit}
 use Rattle.cs_store.specs.Editing.{Declares}
-use Rattle.cs_group.specs.Applying.{Choices, IsApplied, written}
+use Rattle.cs_group.specs.declared.conflict.Noop.{Noop}
+use Rattle.cs_group.specs.Applying.{Choices, IsAppliedUnder, written_under}
 use Rattle.cs_session.specs.FirstImages.{Notes, rewound, rewound_state, recorded}
 use Rattle.cs_session.specs.Attaching.{Attaches}
 use Rattle.cs_session.specs.Changes.{HasTables}
@@ -42,12 +43,13 @@ pub record EditsRow (m n : Moment) : Type 0 where
   pub edit : Edit
   pub recorded : Records m.state edit m.notes n.state n.notes
 
--- a changeset is applied, with any choices at its conflicts, and noted
+-- a changeset is applied, with any choices at its conflicts, with or without its idle entries, and noted
 pub record AppliesChangeset (m n : Moment) : Type 0 where
   pub changeset : List GroupData
+  pub noop : Noop
   pub choose : Choices
-  pub applied : IsApplied m.state changeset choose n.state
-  pub noted : n.notes ≡ recorded m.notes (written m.state changeset choose)
+  pub applied : IsAppliedUnder noop m.state changeset choose n.state
+  pub noted : n.notes ≡ recorded m.notes (written_under noop m.state changeset choose)
 
 -- the session is undone
 pub record UndoesAll (m n : Moment) : Type 0 where

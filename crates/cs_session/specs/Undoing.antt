@@ -5,6 +5,7 @@ use Rattle.cs_wire.specs.Changeset.{GroupData, file_bytes}
 use Rattle.cs_group.specs.Applying.{Choices, IsClean, IsApplied}
 use Rattle.cs_apply.specs.declared.report.Report.{Report}
 use Rattle.cs_apply.specs.declared.running.Direction.TheVariants.{Inverse}
+use Rattle.cs_group.specs.declared.conflict.Noop.TheVariants as noop
 use Rattle.cs_apply.specs.Running.{Applies, AlwaysAborts, IsNoReadFault}
 use Rattle.cs_session.specs.declared.fault.SessionFault.{SessionFault}
 use Rattle.cs_session.specs.declared.fault.SessionFault.TheVariants.{Apply}
@@ -21,7 +22,7 @@ pub record LeadsBackTo (notes : Notes) (state : State) (changeset : List GroupDa
 -- have the rows from before, and all else is as it was
 pub record Undoes (notes : Notes) (old : State) (report : Report) (new : State) : Type 0 where
   pub attached : HasTables old notes
-  pub applied : Applies AlwaysAborts (file_bytes (recorded_changes notes old)) Inverse old report new
+  pub applied : Applies AlwaysAborts noop.Report (file_bytes (recorded_changes notes old)) Inverse old report new
   pub no_conflict : report.conflicts.items ≡ []
   pub none_skipped : report.skipped.items ≡ []
   pub back : map (λ t. rows_at new t.name) notes ≡ rewound notes old

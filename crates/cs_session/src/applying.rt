@@ -18,7 +18,7 @@ ghost use Rattle.cs_session.specs.Views.{attached_of, kept_of, IsSettled};
 use crate::checking::check_tables;
 use crate::fault::SessionFault;
 use crate::tables::Tables;
-use cs_apply::{Choice, Conflict, Direction, Report, run_in};
+use cs_apply::{Choice, Conflict, Direction, Noop, Report, run_in};
 use cs_store::{Rows, Store};
 use sqlite::Alter;
 use std::alloc::Global;
@@ -29,32 +29,33 @@ pub(crate) fn apply_noted<S: Alter, H: Fn(&Conflict) -> Choice>(
     tables: &mut Tables,
     store: &mut Store<S>,
     file: &[u8],
+    noop: Noop,
     handler: &H,
 ) -> Result<Report, SessionFault>
     requires callable { H.IsAlwaysCallable handler.now }
     requires notes { IsNotes (map attached_of tables.old) }
     requires settled { AllByRecursion IsSettled tables.old }
     ensures recorded { HasCleanDisk (state S.Store store.new) → IfOk result (λ report.
-        RecordsApply (FnReturnsAt H.Fn handler.now) file.now (tables_in (state S.Store store.old).now)
+        RecordsApply (FnReturnsAt H.Fn handler.now) noop file.now (tables_in (state S.Store store.old).now)
         (map attached_of tables.old) report (tables_in (state S.Store store.new).now) (map attached_of tables.new)) }
     ensures same { OnErr result (map attached_of tables.new ≡ map attached_of tables.old) }
     ensures well_formed { IsNotes (map attached_of tables.new) }
     ensures settled { AllByRecursion IsSettled tables.new }
     ensures refused { HasCleanDisk (state S.Store store.new) → IfErr result (RefusesApply (FnReturnsAt H.Fn handler.now)
-        file.now (tables_in (state S.Store store.old).now) (map attached_of tables.old)) }
+        noop file.now (tables_in (state S.Store store.old).now) (map attached_of tables.old)) }
     ensures shut { HasCleanDisk (state S.Store store.new) → RefusesShut (state S.Store store.old) IsResource result }
     ensures named { IfErr result IsApplyRefusal }
     ensures at_rest { HasCleanDisk (state S.Store store.new) → OnOk result (IsAtRest (state S.Store store.new)) }
     ensures kept { HasCleanDisk (state S.Store store.new)
         → OnErr result (KeepsContent (state S.Store store.old) (state S.Store store.new)) }
-    ensures atomic { IsAtomic CanBegin (AppliesInto (FnReturnsAt H.Fn handler.now) file.now ForwardRun (tables_in (state S.Store store.old).now))
+    ensures atomic { IsAtomic CanBegin (AppliesInto (FnReturnsAt H.Fn handler.now) noop file.now ForwardRun (tables_in (state S.Store store.old).now))
         (state S.Store store.old) (state S.Store store.new) }
     ensures left { OnOk result (LeavesOnly (λ left. left ≡ tables_in (state S.Store store.new).now)
         (state S.Store store.new)) }
     ensures stands { OnErr result (IsTrue (state S.Store store.new).is_open → LeavesOnly
         (λ left. left ≡ tables_in (state S.Store store.old).committed) (state S.Store store.new)) }
 {
-    match apply_batch(alloc, tables, store, file, handler) {
+    match apply_batch(alloc, tables, store, file, noop, handler) {
         Ok(report) => {
             tables.keep();
             Ok(report)
@@ -73,23 +74,24 @@ fn apply_batch<S: Alter, H: Fn(&Conflict) -> Choice>(
     tables: &mut Tables,
     store: &mut Store<S>,
     file: &[u8],
+    noop: Noop,
     handler: &H,
 ) -> Result<Report, SessionFault>
     requires callable { H.IsAlwaysCallable handler.now }
     requires notes { IsNotes (map attached_of tables.old) }
     ensures recorded { HasCleanDisk (state S.Store store.new) → IfOk result (λ report.
-        RecordsApply (FnReturnsAt H.Fn handler.now) file.now (tables_in (state S.Store store.old).now)
+        RecordsApply (FnReturnsAt H.Fn handler.now) noop file.now (tables_in (state S.Store store.old).now)
         (map attached_of tables.old) report (tables_in (state S.Store store.new).now) (map attached_of tables.new)) }
     ensures well_formed { OnOk result (IsNotes (map attached_of tables.new)) }
     ensures notes { map kept_of tables.new ≡ map kept_of tables.old }
     ensures refused { HasCleanDisk (state S.Store store.new) → IfErr result (RefusesApply (FnReturnsAt H.Fn handler.now)
-        file.now (tables_in (state S.Store store.old).now) (map attached_of tables.old)) }
+        noop file.now (tables_in (state S.Store store.old).now) (map attached_of tables.old)) }
     ensures shut { HasCleanDisk (state S.Store store.new) → RefusesShut (state S.Store store.old) IsResource result }
     ensures named { IfErr result IsApplyRefusal }
     ensures at_rest { HasCleanDisk (state S.Store store.new) → OnOk result (IsAtRest (state S.Store store.new)) }
     ensures kept { HasCleanDisk (state S.Store store.new)
         → OnErr result (KeepsContent (state S.Store store.old) (state S.Store store.new)) }
-    ensures atomic { IsAtomic CanBegin (AppliesInto (FnReturnsAt H.Fn handler.now) file.now ForwardRun (tables_in (state S.Store store.old).now))
+    ensures atomic { IsAtomic CanBegin (AppliesInto (FnReturnsAt H.Fn handler.now) noop file.now ForwardRun (tables_in (state S.Store store.old).now))
         (state S.Store store.old) (state S.Store store.new) }
     ensures left { OnOk result (LeavesOnly (λ left. left ≡ tables_in (state S.Store store.new).now)
         (state S.Store store.new)) }
@@ -99,7 +101,7 @@ fn apply_batch<S: Alter, H: Fn(&Conflict) -> Choice>(
     store.tables_law();
     store.crash_law();
     let mut batch = store.begin()?;
-    let report = apply_rows(alloc, tables, &mut batch, file, handler)?;
+    let report = apply_rows(alloc, tables, &mut batch, file, noop, handler)?;
     batch.commit()?;
     Ok(report)
 }
@@ -110,24 +112,25 @@ fn apply_rows<B: Rows, H: Fn(&Conflict) -> Choice>(
     tables: &mut Tables,
     rows: &mut B,
     file: &[u8],
+    noop: Noop,
     handler: &H,
 ) -> Result<Report, SessionFault>
     requires callable { H.IsAlwaysCallable handler.now }
     requires notes { IsNotes (map attached_of tables.old) }
     requires state { B.is_honest rows.old → IsState (B.state rows.old) }
     ensures recorded { B.is_honest rows.new → IfOk result (λ report.
-        RecordsApply (FnReturnsAt H.Fn handler.now) file.now (B.state rows.old)
+        RecordsApply (FnReturnsAt H.Fn handler.now) noop file.now (B.state rows.old)
         (map attached_of tables.old) report (B.state rows.new) (map attached_of tables.new)) }
     ensures well_formed { OnOk result (IsNotes (map attached_of tables.new)) }
     ensures notes { map kept_of tables.new ≡ map kept_of tables.old }
     ensures refused { B.is_honest rows.new → IfErr result (RefusesApply (FnReturnsAt H.Fn handler.now)
-        file.now (B.state rows.old) (map attached_of tables.old)) }
+        noop file.now (B.state rows.old) (map attached_of tables.old)) }
     ensures named { IfErr result IsApplyRefusal }
     ensures was_honest { B.is_honest rows.new → B.is_honest rows.old }
     ensures kept { B.keeps rows.old rows.new }
 {
     check_tables(alloc, rows, tables.as_slice())?;
-    let report = run_in(alloc, rows, file, Direction::Forward, handler)?;
+    let report = run_in(alloc, rows, file, Direction::Forward, noop, handler)?;
     tables.note_copies(alloc, &report.written)?;
     Ok(report)
 }

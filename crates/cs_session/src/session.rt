@@ -16,6 +16,7 @@ ghost use Rattle.cs_session.specs.Changes.{HasTables, IsChangesRefusal, IsResour
 ghost use Rattle.cs_session.specs.Recording.{Records, RefusesEdit, IsEditRefusal, RecordsApply, RefusesApply, IsApplyRefusal};
 ghost use Rattle.cs_apply.specs.declared.running.Direction.TheVariants.{Forward as ForwardRun};
 ghost use Rattle.cs_apply.specs.Crash.{AppliesInto};
+ghost use Rattle.cs_apply.specs.Running.{Leads};
 ghost use Rattle.cs_session.specs.Undoing.{LeadsBackTo, Undoes, UndoesInto, IsUndoRefusal};
 
 use crate::applying::apply_noted;
@@ -25,7 +26,7 @@ use crate::editing::edit_noted;
 use crate::fault::SessionFault;
 use crate::tables::Tables;
 use crate::undoing::undo_rows;
-use cs_apply::{Choice, Conflict, Report};
+use cs_apply::{Choice, Conflict, Noop, Report};
 use cs_store::{Edit, Schema, Store, StoreError};
 use cs_value::is_table_name;
 use cs_wire::Changeset;
@@ -122,8 +123,8 @@ impl Session {
     ///
     /// Refuses with [`WrongStore`](SessionFault::WrongStore) where the table is attached and the store
     /// has not the table as it was, and then as [`Store::edit`] does. A refusal changes nothing. A crash
-    /// leaves the tables as before, or as edited; once this is
-    /// done, these alone, and once it is refused and the store is open still, those alone.
+    /// leaves the tables as before, or as edited; once this is done, these alone, and once it is refused and
+    /// the store is open still, those alone.
     pub fn edit<S: Alter>(
         &mut self,
         alloc: Global,
@@ -159,26 +160,29 @@ impl Session {
     /// the keys that were written where their table is attached.
     ///
     /// Refuses with [`WrongStore`](SessionFault::WrongStore) where the store has not one of the tables as
-    /// it was attached, and then as `apply` does. A refusal changes nothing. A crash leaves the
-    /// tables as before, or as applied; once this is
-    /// done, these alone, and once it is refused and the store is open still, those alone.
+    /// it was attached, and then as `apply` does. A refusal changes nothing. A crash leaves the tables as
+    /// before, or as applied; once this is done, these alone, and once it is refused and the store is open
+    /// still, those alone.
     pub fn apply_recorded<S: Alter, H: Fn(&Conflict) -> Choice>(
         &mut self,
         alloc: Global,
         store: &mut Store<S>,
         file: &[u8],
+        noop: Noop,
         handler: &H,
     ) -> Result<Report, SessionFault>
         requires { H.IsAlwaysCallable handler.now }
         ensures recorded { HasCleanDisk (state S.Store store.new) → IfOk result (λ report.
-            RecordsApply (FnReturnsAt H.Fn handler.now) file.now
+            RecordsApply (FnReturnsAt H.Fn handler.now) noop file.now
             (tables_in (state S.Store store.old).now) self.old report
             (tables_in (state S.Store store.new).now) self.new) }
+        ensures clean { HasCleanDisk (state S.Store store.new) → IfOk result (λ report. report.conflicts.items ≡ []
+            → report.ignored ≡ 0 → Leads file.now (tables_in (state S.Store store.old).now) (tables_in (state S.Store store.new).now)) }
         ensures rewound { HasCleanDisk (state S.Store store.new) → OnOk result
             (rewound self.new (tables_in (state S.Store store.new).now)
             ≡ rewound self.old (tables_in (state S.Store store.old).now)) }
         ensures refused { HasCleanDisk (state S.Store store.new) → IfErr result (RefusesApply
-            (FnReturnsAt H.Fn handler.now) file.now (tables_in (state S.Store store.old).now) self.old) }
+            (FnReturnsAt H.Fn handler.now) noop file.now (tables_in (state S.Store store.old).now) self.old) }
         ensures shut { HasCleanDisk (state S.Store store.new)
             → RefusesShut (state S.Store store.old) IsResource result }
         ensures named { IfErr result IsApplyRefusal }
@@ -186,14 +190,14 @@ impl Session {
         ensures at_rest { HasCleanDisk (state S.Store store.new) → OnOk result (IsAtRest (state S.Store store.new)) }
         ensures kept { HasCleanDisk (state S.Store store.new)
             → OnErr result (KeepsContent (state S.Store store.old) (state S.Store store.new)) }
-        ensures atomic { IsAtomic CanBegin (AppliesInto (FnReturnsAt H.Fn handler.now) file.now ForwardRun (tables_in (state S.Store store.old).now))
+        ensures atomic { IsAtomic CanBegin (AppliesInto (FnReturnsAt H.Fn handler.now) noop file.now ForwardRun (tables_in (state S.Store store.old).now))
             (state S.Store store.old) (state S.Store store.new) }
         ensures left { OnOk result (LeavesOnly (λ left. left ≡ tables_in (state S.Store store.new).now)
             (state S.Store store.new)) }
         ensures stands { OnErr result (IsTrue (state S.Store store.new).is_open → LeavesOnly
             (λ left. left ≡ tables_in (state S.Store store.old).committed) (state S.Store store.new)) }
     {
-        apply_noted(alloc, &mut self.tables, store, file, handler)
+        apply_noted(alloc, &mut self.tables, store, file, noop, handler)
     }
 
     /// The net changeset: for each key that was written the change from the row that stood there first to
@@ -231,9 +235,8 @@ impl Session {
     /// transaction. What is noted stays.
     ///
     /// Refuses with [`WrongStore`](SessionFault::WrongStore) where the store has not one of the tables as
-    /// it was attached. A refusal changes nothing. A crash leaves the tables as before, or
-    /// as undone; once this is
-    /// done, these alone, and once it is refused and the store is open still, those alone.
+    /// it was attached. A refusal changes nothing. A crash leaves the tables as before, or as undone; once
+    /// this is done, these alone, and once it is refused and the store is open still, those alone.
     pub fn undo<S: Alter>(
         &self,
         alloc: Global,

@@ -21,7 +21,7 @@ returns-in_err-batch-clause-atomic g c =
     let old = state g.S.Store c.args.store.now in
     let new = state g.S.Store c.begin.follows.lender-at-none in
     let keeps : KeepsCrash old new = search rules in
-    idle_atomic old new c.crash_law.ensures CanBegin (AppliesInto (FnReturnsAt g.H.Fn c.args.handler.now) c.args.file.now Forward (tables_in old.now)) keeps
+    idle_atomic old new c.crash_law.ensures CanBegin (AppliesInto (FnReturnsAt g.H.Fn c.args.handler.now) c.args.noop c.args.file.now Forward (tables_in old.now)) keeps
 
 pub returns-in_err-report-clause-atomic : goal.returns-in_err-report-clause-atomic
 returns-in_err-report-clause-atomic g c =
@@ -30,7 +30,7 @@ returns-in_err-report-clause-atomic g c =
     let mid = state g.S.Store c.apply_rows.new.rows.store.now in
     let last = state g.S.Store c.drop-batch.new.self.0 in
     let same : c.drop-batch.new.self.0 ≡ c.store-in_err-report-1.given.0 = search rules in
-    rw (← same) (dropped_atomic old begun mid last c.crash_law.ensures c.in_ok-batch.ensures.survives c.apply_rows.ensures.kept.1 (AppliesInto (FnReturnsAt g.H.Fn c.args.handler.now) c.args.file.now Forward (tables_in old.now)) c.drop-batch.ensures.survives)
+    rw (← same) (dropped_atomic old begun mid last c.crash_law.ensures c.in_ok-batch.ensures.survives c.apply_rows.ensures.kept.1 (AppliesInto (FnReturnsAt g.H.Fn c.args.handler.now) c.args.noop c.args.file.now Forward (tables_in old.now)) c.drop-batch.ensures.survives)
 
 pub returns-in_err-commit-clause-atomic : goal.returns-in_err-commit-clause-atomic
 returns-in_err-commit-clause-atomic g c =
@@ -39,7 +39,7 @@ returns-in_err-commit-clause-atomic g c =
     let mid = state g.S.Store c.apply_rows.new.rows.store.now in
     let last = state g.S.Store c.commit.new.self.0 in
     let same : c.commit.new.self.0 ≡ c.store-2-1.given.0 = search rules in
-    rw (← same) (made_atomic old begun mid last c.crash_law.ensures c.in_ok-batch.ensures.survives c.apply_rows.ensures.kept.1 (AppliesInto (FnReturnsAt g.H.Fn c.args.handler.now) c.args.file.now Forward)
+    rw (← same) (made_atomic old begun mid last c.crash_law.ensures c.in_ok-batch.ensures.survives c.apply_rows.ensures.kept.1 (AppliesInto (FnReturnsAt g.H.Fn c.args.handler.now) c.args.noop c.args.file.now Forward)
     c.in_ok-batch.ensures.begun (λ clean. (c.in_ok-report.report, (c.in_ok-report.ensures.recorded clean).applied)) c.commit.ensures.atomic.survives)
 
 pub returns-clause-atomic : goal.returns-clause-atomic
@@ -49,7 +49,7 @@ returns-clause-atomic g c =
     let mid = state g.S.Store c.apply_rows.new.rows.store.now in
     let last = state g.S.Store c.commit.new.self.0 in
     let same : c.commit.new.self.0 ≡ c.store-2-1.given.0 = search rules in
-    rw (← same) (made_atomic old begun mid last c.crash_law.ensures c.in_ok-batch.ensures.survives c.apply_rows.ensures.kept.1 (AppliesInto (FnReturnsAt g.H.Fn c.args.handler.now) c.args.file.now Forward)
+    rw (← same) (made_atomic old begun mid last c.crash_law.ensures c.in_ok-batch.ensures.survives c.apply_rows.ensures.kept.1 (AppliesInto (FnReturnsAt g.H.Fn c.args.handler.now) c.args.noop c.args.file.now Forward)
     c.in_ok-batch.ensures.begun (λ clean. (c.in_ok-report.report, (c.in_ok-report.ensures.recorded clean).applied)) c.commit.ensures.atomic.survives)
 
 pub returns-clause-left : goal.returns-clause-left
