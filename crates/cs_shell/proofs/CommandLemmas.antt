@@ -8,6 +8,7 @@ use Rattle.cs_value.specs.declared.refusal.OrNoMemory.{OrNoMemory}
 use Rattle.cs_value.specs.declared.refusal.OrNoMemory.TheVariants as tool
 use Rattle.cs_store.specs.Editing.{inserted}
 use Rattle.cs_group.specs.declared.conflict.Choice.{Choice}
+use Rattle.cs_group.specs.declared.conflict.Noop.{Noop}
 use Rattle.cs_apply.specs.declared.running.Direction.TheVariants.{Forward}
 use Rattle.cs_session.specs.FirstImages.{Notes}
 use Rattle.cs_lines.specs.declared.fault.SyntaxFault.{SyntaxFault}
@@ -73,12 +74,12 @@ module _ (old new : State) (slots : SlotMap) (before after : Option Notes) (repl
 
   -- ---- applies
 
-  pub on_apply : (slot file : List ℕ) (on_data on_notfound on_conflict : Choice) → get slots slot ≡ Some file
-      → Works old new before after (λ s. ApplyGives s (ByKind on_data on_notfound on_conflict) file Forward) reply
-      → WorksOn old new slots slots before after (λ s. CommandGives s (Apply slot on_data on_notfound on_conflict)) reply
-  on_apply slot file on_data on_notfound on_conflict is works =
-      works_on (λ s. CommandGives s (Apply slot on_data on_notfound on_conflict)) (λ s. ApplyGives s (ByKind on_data on_notfound on_conflict) file Forward) old new slots before after reply works
-      (λ t next gives. applies slot on_data on_notfound on_conflict reply next (inr (file, is, gives)))
+  pub on_apply : (slot file : List ℕ) (on_data on_notfound on_conflict : Choice) (noop : Noop) → get slots slot ≡ Some file
+      → Works old new before after (λ s. ApplyGives s (ByKind on_data on_notfound on_conflict) noop file Forward) reply
+      → WorksOn old new slots slots before after (λ s. CommandGives s (Apply slot on_data on_notfound on_conflict noop)) reply
+  on_apply slot file on_data on_notfound on_conflict noop is works =
+      works_on (λ s. CommandGives s (Apply slot on_data on_notfound on_conflict noop)) (λ s. ApplyGives s (ByKind on_data on_notfound on_conflict) noop file Forward) old new slots before after reply works
+      (λ t next gives. applies slot on_data on_notfound on_conflict noop reply next (inr (file, is, gives)))
 
   pub on_revert : (slot file : List ℕ) → get slots slot ≡ Some file → Works old new before after (λ s. RevertGives s file s.session) reply
       → WorksOn old new slots slots before after (λ s. CommandGives s (Revert slot)) reply
@@ -105,11 +106,11 @@ module _ (old new : State) (slots : SlotMap) (before after : Option Notes) (repl
       )) works
 
 module _ (store : State) (slots : SlotMap) (session : Option Notes) where
-  pub on_apply_empty : (slot : List ℕ) (on_data on_notfound on_conflict : Choice) → get slots slot ≡ None
-      → WorksOn store store slots slots session session (λ s. CommandGives s (Apply slot on_data on_notfound on_conflict)) (Refused EmptySlot)
-  on_apply_empty slot on_data on_notfound on_conflict none =
-      works_beside (λ s. CommandGives s (Apply slot on_data on_notfound on_conflict)) store slots session session (Refused EmptySlot) (λ t here. here)
-      (λ t. inl (applies slot on_data on_notfound on_conflict (Refused EmptySlot) _ (inl (none, refl, refl))))
+  pub on_apply_empty : (slot : List ℕ) (on_data on_notfound on_conflict : Choice) (noop : Noop) → get slots slot ≡ None
+      → WorksOn store store slots slots session session (λ s. CommandGives s (Apply slot on_data on_notfound on_conflict noop)) (Refused EmptySlot)
+  on_apply_empty slot on_data on_notfound on_conflict noop none =
+      works_beside (λ s. CommandGives s (Apply slot on_data on_notfound on_conflict noop)) store slots session session (Refused EmptySlot) (λ t here. here)
+      (λ t. inl (applies slot on_data on_notfound on_conflict noop (Refused EmptySlot) _ (inl (none, refl, refl))))
 
   pub on_revert_empty : (slot : List ℕ) → get slots slot ≡ None → WorksOn store store slots slots session session (λ s. CommandGives s (Revert slot)) (Refused EmptySlot)
   on_revert_empty slot none =

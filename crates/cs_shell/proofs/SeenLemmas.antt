@@ -17,7 +17,8 @@ use Rattle.cs_group.specs.declared.conflict.Kind.{Kind}
 use Rattle.cs_group.specs.declared.judging.Judgement.TheVariants.{Compatible}
 use Rattle.cs_group.specs.Judging.{judgement, judged}
 use Rattle.cs_group.specs.JoinLaw.{net_entry}
-use Rattle.cs_group.specs.Applying.{PlacedEntry, placed, placed_in, placed_by, placed_kind, Choices, met_at, met, written_for, written, compatible_groups, applicable}
+use Rattle.cs_group.specs.declared.conflict.Noop.TheVariants as noop
+use Rattle.cs_group.specs.Applying.{PlacedEntry, placed, placed_in, placed_by, placed_kind, Choices, met_at, met_under, written_for, written, compatible_groups, applicable}
 use Rattle.cs_session.specs.FirstImages.{FirstImage, AttachedTable, Notes, IsAttachedTable, IsNotes, HasAttached, first_at, rewound_rows, rewound, rewound_state, noted, noted_in, writes_of, recorded, entry_since, header_of, group_of, recorded_changes}
 use Rattle.cs_session.proofs.FirstLemmas.{put_all_at}
 use Rattle.cs_session.proofs.ChangesLemmas.{all_compatible}
@@ -203,7 +204,7 @@ module _ (state : State) where
 
   -- an undo writes as many keys as there are net changes
   pub undo_count : (notes : Notes) → IsNotes notes → AllByRecursion (HasAttached state) notes → (inverse : List GroupData) (choose : Choices)
-      → AllZip IsInverseGroup (recorded_changes notes state) inverse → met state inverse choose ≡ []
+      → AllZip IsInverseGroup (recorded_changes notes state) inverse → met_under noop.Report state inverse choose ≡ []
       → length (written state inverse choose) ≡ net_count state (map (seen_table state) notes)
   undo_count notes are has inverse choose zip none =
       all_written choose (applicable state inverse) none

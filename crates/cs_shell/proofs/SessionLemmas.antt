@@ -16,7 +16,9 @@ use Rattle.cs_store.specs.declared.edit.Edit.{Edit}
 use Rattle.cs_store.specs.declared.fault.StoreError.{StoreError}
 use Rattle.cs_store.specs.declared.fault.StoreError.TheVariants as store
 use Rattle.cs_store.specs.Editing.{Edited, Declares, edited, written_of}
-use Rattle.cs_group.specs.Applying.{met}
+use Rattle.cs_group.specs.declared.conflict.Noop.{Noop}
+use Rattle.cs_group.specs.declared.conflict.Noop.TheVariants as noop
+use Rattle.cs_group.specs.Applying.{met_under}
 use Rattle.cs_apply.specs.declared.report.Report.{Report}
 use Rattle.cs_apply.specs.declared.running.Direction.{Direction}
 use Rattle.cs_apply.specs.declared.running.Direction.TheVariants.{Forward}
@@ -120,29 +122,29 @@ session_refuses_edit old edit notes (session.Apply fault) why here slots = absur
 
 -- ---- applies
 
-pub session_applies : (chooses : Handler) (file : List ℕ) (old new : State) (notes after : Notes) (report : Report) → RecordsApply chooses file old notes report new after
+pub session_applies : (chooses : Handler) (noop : Noop) (file : List ℕ) (old new : State) (notes after : Notes) (report : Report) → RecordsApply chooses noop file old notes report new after
     → rewound after new ≡ rewound notes old → IsHere old (Some notes) → IsHere new (Some after)
-    × ((slots : SlotMap) → OrUnable (λ s. ApplyGives s chooses file Forward) (seen old slots (Some notes)) (Reported (told_of report)) (seen new slots (Some after)))
-session_applies chooses file old new notes after report done same here = (
-  (step_keeps (at old notes) (at new after) here (applied_step chooses file (at old notes) (at new after) report done)).0,
-  λ slots. inl (subst (λ (s : ShellState). ApplyGives (seen old slots (Some notes)) chooses file Forward (Reported (told_of report)) s)
+    × ((slots : SlotMap) → OrUnable (λ s. ApplyGives s chooses noop file Forward) (seen old slots (Some notes)) (Reported (told_of report)) (seen new slots (Some after)))
+session_applies chooses noop file old new notes after report done same here = (
+  (step_keeps (at old notes) (at new after) here (applied_step chooses noop file (at old notes) (at new after) report done)).0,
+  λ slots. inl (subst (λ (s : ShellState). ApplyGives (seen old slots (Some notes)) chooses noop file Forward (Reported (told_of report)) s)
       (sym (written_seen old new slots (map written_of report.written.items) notes after done.noted same))
       (applied report new done.applied)),
 )
 
-pub store_applies : (chooses : Handler) (file : List ℕ) (direction : Direction) (old new : State) (report : Report) → Applies chooses file direction old report new
+pub store_applies : (chooses : Handler) (noop : Noop) (file : List ℕ) (direction : Direction) (old new : State) (report : Report) → Applies chooses noop file direction old report new
     → IsHere old None → IsHere new None
-    × ((slots : SlotMap) → OrUnable (λ s. ApplyGives s chooses file direction) (seen old slots None) (Reported (told_of report)) (seen new slots None))
-store_applies chooses file direction old new report done here = (tt, λ slots. inl (applied report new done))
+    × ((slots : SlotMap) → OrUnable (λ s. ApplyGives s chooses noop file direction) (seen old slots None) (Reported (told_of report)) (seen new slots None))
+store_applies chooses noop file direction old new report done here = (tt, λ slots. inl (applied report new done))
 
-pub session_refuses_apply : (chooses : Handler) (file : List ℕ) (old : State) (notes : Notes) (fault : SessionFault) → RefusesApply chooses file old notes fault
+pub session_refuses_apply : (chooses : Handler) (noop : Noop) (file : List ℕ) (old : State) (notes : Notes) (fault : SessionFault) → RefusesApply chooses noop file old notes fault
     → IsHere old (Some notes) → (slots : SlotMap)
-    → OrUnable (λ s. ApplyGives s chooses file Forward) (seen old slots (Some notes)) (Refused (of_session fault)) (seen old slots (Some notes))
-session_refuses_apply chooses file old notes session.WrongStore why here slots = absurd (lacks_no_table old notes here.has why)
-session_refuses_apply chooses file old notes (session.Apply fault) why here slots = inl (not_applied fault why.1)
-session_refuses_apply chooses file old notes (session.Store e) why here slots = or_store (λ s. ApplyGives s chooses file Forward) (seen old slots (Some notes)) e (inr (inr why))
-session_refuses_apply chooses file old notes session.NoMemory why here slots = no_memory (λ s. ApplyGives s chooses file Forward) (seen old slots (Some notes))
-session_refuses_apply chooses file old notes session.AlreadyAttached why here slots = absurd why
+    → OrUnable (λ s. ApplyGives s chooses noop file Forward) (seen old slots (Some notes)) (Refused (of_session fault)) (seen old slots (Some notes))
+session_refuses_apply chooses noop file old notes session.WrongStore why here slots = absurd (lacks_no_table old notes here.has why)
+session_refuses_apply chooses noop file old notes (session.Apply fault) why here slots = inl (not_applied fault why.1)
+session_refuses_apply chooses noop file old notes (session.Store e) why here slots = or_store (λ s. ApplyGives s chooses noop file Forward) (seen old slots (Some notes)) e (inr (inr why))
+session_refuses_apply chooses noop file old notes session.NoMemory why here slots = no_memory (λ s. ApplyGives s chooses noop file Forward) (seen old slots (Some notes))
+session_refuses_apply chooses noop file old notes session.AlreadyAttached why here slots = absurd why
 
 -- ---- attaching
 
@@ -212,17 +214,17 @@ session_undoes law old new notes report is_state are done here = (keeps.0, λ sl
         let back : new ≡ put_back (map (seen_table old) notes) old = done.rewound ∙ sym (seen_back old notes) in
         λ i. record { tables = back i; slots = slots; session = Some (same i) }
 
-    told : Reported (told_of report) ≡ Reported (record { skipped = []; conflicts = []; applied = net_count old (map (seen_table old) notes) })
+    told : Reported (told_of report) ≡ Reported (record { skipped = []; conflicts = []; ignored = 0; applied = net_count old (map (seen_table old) notes) })
     told =
         let applies = done.applied in
         let each = recursion_from_All (HasAttached old) notes here.has in
         let changes = recorded_changes notes old in
         let one : applies.read.0 ≡ changes = law applies.read.0 changes applies.read.1 (changes_are old notes is_state are each) (sym applies.read.2) in
         let zip = subst (λ (c : List GroupData). AllZip IsInverseGroup c applies.changeset) one applies.read.3 in
-        let none : met old applies.changeset applies.choose ≡ [] = sym applies.conflicts ∙ ap (map met_of) done.no_conflict in
+        let none : met_under noop.Report old applies.changeset applies.choose ≡ [] = sym applies.conflicts ∙ ap (map met_of) done.no_conflict in
         let count : length report.written.items ≡ net_count old (map (seen_table old) notes) =
         sym (length-map report.written.items written_of) ∙ ap length applies.written ∙ undo_count old notes are each applies.changeset applies.choose zip none in
-        λ i. Reported (record { skipped = map string_bytes (done.none_skipped i); conflicts = map met_of (done.no_conflict i); applied = count i })
+        λ i. Reported (record { skipped = map string_bytes (done.none_skipped i); conflicts = map met_of (done.no_conflict i); ignored = applies.ignored i; applied = count i })
 
 -- ---- declaring
 

@@ -1,5 +1,5 @@
 -- The text of what an apply did, which is this project's own.
-use Rattle.std.specs.Prelude.{ℕ, List, ◌++◌, length, map, codes, decimal, string_bytes}
+use Rattle.std.specs.Prelude.{ℕ, zero, suc, List, [], ◌++◌, length, map, codes, decimal, string_bytes}
 use Rattle.std.specs.List.{flat_map}
 use Rattle.cs_group.specs.declared.conflict.Kind.{Kind}
 use Rattle.cs_group.specs.declared.conflict.Kind.TheVariants as kind
@@ -24,24 +24,33 @@ unfoldable pub met_text : MetData → List ℕ
 met_text met = codes "conflict " ++ decimal (kind_number met.conflict.kind) ++ codes " " ++ kind_text met.conflict.kind
     ++ codes " " ++ choice_text met.choice ++ codes " " ++ quoted 39 met.conflict.table ++ codes "\n"
 
+-- how many entries were ignored, where some were
+unfoldable pub ignored_text : ℕ → List ℕ
+ignored_text zero = []
+ignored_text (suc count) = codes "ignored " ++ decimal (suc count) ++ codes "\n"
+
 unfoldable pub count_text : ℕ → List ℕ
 count_text count = codes "applied " ++ decimal count ++ codes "\n"
 
 -- what is told of an apply: the tables that were passed over, the conflicts with what was chosen for them, and how many
--- entries were carried out
+-- entries were ignored and how many carried out
 pub record ReportData : Type 0 where
   pub skipped : List (List ℕ)
   pub conflicts : List MetData
+  pub ignored : ℕ
   pub applied : ℕ
 
--- a line for each table that was passed over, then one for each conflict, and one with the count
+-- a line for each table that was passed over, then one for each conflict, one with the count of entries that were ignored
+-- where there are some, and one with the count of those that were carried out
 abbrev pub told_text : ReportData → List ℕ
-told_text told = flat_map skip_text told.skipped ++ (flat_map met_text told.conflicts ++ count_text told.applied)
+told_text told = flat_map skip_text told.skipped
+    ++ (flat_map met_text told.conflicts ++ (ignored_text told.ignored ++ count_text told.applied))
 
 abbrev pub told_of : Report → ReportData
 told_of report = record {
   skipped = map string_bytes report.skipped.items;
   conflicts = map met_of report.conflicts.items;
+  ignored = report.ignored;
   applied = length report.written.items;
 }
 

@@ -12,6 +12,8 @@ use Rattle.cs_wire.specs.declared.fault.ReadFault.{ReadFault}
 use Rattle.cs_wire.specs.Changeset.{GroupData, IsChangeset, file_bytes}
 use Rattle.cs_wire.specs.ReadFaults.{ReadFails}
 use Rattle.cs_group.specs.declared.conflict.Choice.{Choice}
+use Rattle.cs_group.specs.declared.conflict.Noop.{Noop}
+use Rattle.cs_group.specs.declared.conflict.Noop.TheVariants as noop
 use Rattle.cs_store.specs.declared.fault.StoreError.{StoreError}
 use Rattle.cs_store.specs.declared.fault.StoreError.TheVariants.{NoTable, NullInKey, NoRow, StoreFault}
 use Rattle.cs_store.specs.Editing.{Edited, Declares, inserted, updated, deleted, written_of}
@@ -145,12 +147,12 @@ SelectGives old name reply new = (new ≡ old)
 -- ---- changesets that are applied
 
 -- a file is applied, with what is told of it, and noted where a session is open; or it is refused
-pub data ApplyGives (old : ShellState) (chooses : Handler) (file : List ℕ) (direction : Direction) : Reply → ShellState → Type 0 where
-  applied : (report : Report) (tables : State) → Applies chooses file direction old.tables report tables
-      → ApplyGives old chooses file direction (Reported (told_of report))
+pub data ApplyGives (old : ShellState) (chooses : Handler) (noop : Noop) (file : List ℕ) (direction : Direction) : Reply → ShellState → Type 0 where
+  applied : (report : Report) (tables : State) → Applies chooses noop file direction old.tables report tables
+      → ApplyGives old chooses noop file direction (Reported (told_of report))
       (written_to old tables (map written_of report.written.items))
-  not_applied : (fault : ApplyFault) → Refuses chooses file direction old.tables fault
-      → ApplyGives old chooses file direction (Refused (of_apply fault)) old
+  not_applied : (fault : ApplyFault) → Refuses chooses noop file direction old.tables fault
+      → ApplyGives old chooses noop file direction (Refused (of_apply fault)) old
 
 -- the handler that goes by the kind of a conflict
 abbrev pub ByKind : Choice → Choice → Choice → Handler
@@ -159,10 +161,10 @@ ByKind on_data on_notfound on_conflict conflict choice =
 
 -- while a session is open, the inverse is written, and that is applied
 pub data RevertGives (old : ShellState) (file : List ℕ) : Option SessionTables → Reply → ShellState → Type 0 where
-  reverted : (reply : Reply) (new : ShellState) → ApplyGives old AlwaysAborts file Inverse reply new
+  reverted : (reply : Reply) (new : ShellState) → ApplyGives old AlwaysAborts noop.Report file Inverse reply new
       → RevertGives old file None reply new
   recorded : (session : SessionTables) (inverse : List ℕ) (reply : Reply) (new : ShellState) → Inverts file inverse
-      → ApplyGives old AlwaysAborts inverse Forward reply new → RevertGives old file (Some session) reply new
+      → ApplyGives old AlwaysAborts noop.Report inverse Forward reply new → RevertGives old file (Some session) reply new
   unread : (session : SessionTables) (fault : ReadFault) → ReadFails file fault.kind fault.place
       → RevertGives old file (Some session) (Refused (Read fault)) old
 
@@ -217,7 +219,7 @@ IsEmptyGives old session reply new = (new ≡ old)
 -- the tables that are attached have their rows back; what was written stays noted
 abbrev pub UndoGives : ShellState → SessionTables → Reply → ShellState → Type 0
 UndoGives old session reply new =
-    (reply ≡ Reported (record { skipped = []; conflicts = []; applied = net_count old.tables session }))
+    (reply ≡ Reported (record { skipped = []; conflicts = []; ignored = 0; applied = net_count old.tables session }))
     × (new ≡ record { tables = put_back session old.tables; slots = old.slots; session = old.session })
 
 abbrev pub CloseGives : ShellState → SessionTables → Reply → ShellState → Type 0
@@ -243,9 +245,9 @@ pub data CommandGives (old : ShellState) : CommandData → Reply → ShellState 
       → CommandGives old (Select table) reply new
   on_slots : (command : CommandData) (reply : Reply) (slots : SlotMap) → SlotsGive old.slots command reply slots
       → CommandGives old command reply (record { tables = old.tables; slots = slots; session = old.session })
-  applies : (slot : List ℕ) (on_data on_notfound on_conflict : Choice) (reply : Reply) (new : ShellState)
-      → WithSlot old slot (λ file. ApplyGives old (ByKind on_data on_notfound on_conflict) file Forward) reply new
-      → CommandGives old (Apply slot on_data on_notfound on_conflict) reply new
+  applies : (slot : List ℕ) (on_data on_notfound on_conflict : Choice) (noop : Noop) (reply : Reply) (new : ShellState)
+      → WithSlot old slot (λ file. ApplyGives old (ByKind on_data on_notfound on_conflict) noop file Forward) reply new
+      → CommandGives old (Apply slot on_data on_notfound on_conflict noop) reply new
   reverts : (slot : List ℕ) (reply : Reply) (new : ShellState)
       → WithSlot old slot (λ file. RevertGives old file old.session) reply new
       → CommandGives old (Revert slot) reply new

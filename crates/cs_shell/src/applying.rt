@@ -8,7 +8,7 @@ ghost use Rattle.cs_shell.specs.Turns.{Works};
 
 use crate::refusal::Refusal;
 use crate::reply::Reply;
-use cs_apply::{Choice, Policy, apply, revert};
+use cs_apply::{Choice, Conflict, Noop, Policy, apply, revert};
 use cs_files::invert_bytes;
 use cs_session::Session;
 use cs_store::Store;
@@ -22,12 +22,14 @@ fn apply_noted<S: Alter>(
     session: &mut Session,
     file: &[u8],
     policy: &Policy,
+    noop: Noop,
 ) -> Result<Reply, Refusal>
     ensures { Works (state S.Store store.old) (state S.Store store.new) (Some session.old) (Some session.new)
         (λ old. ApplyGives old (ByKind policy.now.on_data policy.now.on_notfound policy.now.on_conflict)
-        file.now Forward) (answer_of result) }
+        noop file.now Forward) (answer_of result) }
 {
-    let report = session.apply_recorded(alloc, store, file, &|conflict| policy.choose(conflict))?;
+    let handler = |conflict: &Conflict| policy.choose(conflict);
+    let report = session.apply_recorded(alloc, store, file, noop, &handler)?;
     Ok(Reply::Report(report))
 }
 
@@ -37,12 +39,14 @@ pub(crate) fn apply_unnoted<S: Alter>(
     store: &mut Store<S>,
     file: &[u8],
     policy: &Policy,
+    noop: Noop,
 ) -> Result<Reply, Refusal>
     ensures { Works (state S.Store store.old) (state S.Store store.new) None None
         (λ old. ApplyGives old (ByKind policy.now.on_data policy.now.on_notfound policy.now.on_conflict)
-        file.now Forward) (answer_of result) }
+        noop file.now Forward) (answer_of result) }
 {
-    let report = apply(alloc, store, file, &|conflict| policy.choose(conflict))?;
+    let handler = |conflict: &Conflict| policy.choose(conflict);
+    let report = apply(alloc, store, file, noop, &handler)?;
     Ok(Reply::Report(report))
 }
 
@@ -53,14 +57,15 @@ pub(crate) fn apply_file<S: Alter>(
     session: &mut Option<Session>,
     file: &[u8],
     policy: &Policy,
+    noop: Noop,
 ) -> Result<Reply, Refusal>
     ensures { Works (state S.Store store.old) (state S.Store store.new) session.old session.new
         (λ old. ApplyGives old (ByKind policy.now.on_data policy.now.on_notfound policy.now.on_conflict)
-        file.now Forward) (answer_of result) }
+        noop file.now Forward) (answer_of result) }
 {
     match session {
-        Some(session) => apply_noted(alloc, store, session, file, policy),
-        None => apply_unnoted(alloc, store, file, policy),
+        Some(session) => apply_noted(alloc, store, session, file, policy, noop),
+        None => apply_unnoted(alloc, store, file, policy, noop),
     }
 }
 
@@ -75,7 +80,7 @@ fn revert_noted<S: Alter>(
         (λ old. RevertGives old file.now old.session) (answer_of result) }
 {
     let inverse = invert_bytes(alloc, file)?;
-    let report = session.apply_recorded(alloc, store, &inverse, &|_| Choice::Abort)?;
+    let report = session.apply_recorded(alloc, store, &inverse, Noop::Report, &|_| Choice::Abort)?;
     Ok(Reply::Report(report))
 }
 

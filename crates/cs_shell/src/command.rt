@@ -6,7 +6,7 @@ use crate::output::write_file;
 use crate::print::write_reply;
 use crate::refusal::Refusal;
 use crate::reply::Reply;
-use cs_apply::Policy;
+use cs_apply::{Noop, Policy};
 use cs_files::{OutputFault, Told, concat_bytes, invert_bytes, print_dump, print_sql};
 use cs_store::{Store, StoreError};
 use cs_words::IN_MEMORY;
@@ -83,6 +83,7 @@ pub(crate) fn apply_file<W: Write>(
     file: &str,
     store: &str,
     policy: &Policy,
+    noop: Noop,
     out: &mut Told<W>,
 ) -> Result<(), Refusal> {
     let bytes = read_file(rt, file)?;
@@ -92,9 +93,10 @@ pub(crate) fn apply_file<W: Write>(
             &mut Store::new_memory(rt.alloc())?,
             &bytes,
             policy,
+            noop,
         )?
     } else {
-        apply_to_file(rt, store, &bytes, policy)?
+        apply_to_file(rt, store, &bytes, policy, noop)?
     };
     Ok(write_reply(out, &reply)?)
 }
@@ -121,9 +123,10 @@ fn apply_to_file(
     path: &str,
     bytes: &[u8],
     policy: &Policy,
+    noop: Noop,
 ) -> Result<Reply, Refusal> {
     let mut store = open_store(rt, path)?;
-    let applied = apply_unnoted(rt.alloc(), &mut store, bytes, policy);
+    let applied = apply_unnoted(rt.alloc(), &mut store, bytes, policy, noop);
     let closed = close_store(store);
     let reply = applied?;
     closed?;

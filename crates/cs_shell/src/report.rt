@@ -5,7 +5,7 @@ ghost use Rattle.cs_apply.specs.Report.{met_of};
 ghost use Rattle.cs_files.specs.Calls.{Writes};
 ghost use Rattle.cs_files.specs.Gathering.{Gathers};
 ghost use Rattle.cs_shell.specs.Report.{kind_number as number_of};
-ghost use Rattle.cs_shell.specs.Report.{skip_text, met_text, count_text, report_of};
+ghost use Rattle.cs_shell.specs.Report.{skip_text, met_text, ignored_text, count_text, report_of};
 
 use cs_apply::{Kind, Met, Report};
 use cs_files::{Gather, OutputFault, Piece, Told, add_pieces};
@@ -96,6 +96,29 @@ fn add_conflicts<W: Write>(
     Ok(())
 }
 
+/// Adds the line with the count of the entries that were ignored, where there are some.
+#[tactic(auto, unfolding(crate::specs::Report::ignored_text))]
+fn add_ignored<W: Write>(
+    gather: &mut Gather,
+    out: &mut Told<W>,
+    count: usize,
+) -> Result<(), OutputFault>
+    ensures { Gathers W.contents result gather.old gather.new out.old out.new (ignored_text count) }
+{
+    if count == 0 {
+        return Ok(());
+    }
+    add_pieces(
+        gather,
+        out,
+        &[
+            Piece::Bytes(b"ignored "),
+            Piece::Number(count),
+            Piece::Bytes(b"\n"),
+        ],
+    )
+}
+
 /// Adds the line with the count of the entries that were carried out.
 #[tactic(auto, unfolding(crate::specs::Report::count_text))]
 fn add_count<W: Write>(
@@ -126,13 +149,15 @@ fn add_report<W: Write>(
 {
     add_skips(gather, out, &report.skipped)?;
     add_conflicts(gather, out, &report.conflicts)?;
+    add_ignored(gather, out, report.ignored)?;
     add_count(gather, out, report.written.len())
 }
 
 /// Writes what an apply did: for each table that was passed over, in the order of the file, a line
 /// `warning 17 skipped` with its name; then for each conflict, in that order, a line with the number and
-/// the name of its kind, what was chosen for it, and the table; and then a line `applied` with the count
-/// of the entries that were carried out. It takes no memory.
+/// the name of its kind, what was chosen for it, and the table; a line `ignored` with the count of the entries
+/// that were ignored, where there are some; and then a line `applied` with the count of the entries that were
+/// carried out. It takes no memory.
 ///
 /// # Errors
 ///

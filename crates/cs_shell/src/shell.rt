@@ -113,13 +113,21 @@ fn run_command<S: Alter>(
             on_data,
             on_notfound,
             on_conflict,
+            noop,
         } => {
             let policy = Policy {
                 on_data,
                 on_notfound,
                 on_conflict,
             };
-            applying::apply_file(alloc, store, session, slots.get(slot.as_bytes())?, &policy)
+            applying::apply_file(
+                alloc,
+                store,
+                session,
+                slots.get(slot.as_bytes())?,
+                &policy,
+                noop,
+            )
         }
         Command::Revert { slot } => {
             applying::revert_file(alloc, store, session, slots.get(slot.as_bytes())?)
