@@ -25,6 +25,7 @@ JOIN_CASE = "joins of tables whose names differ in case alone, which are one to 
 APPLY_FLAGS = "applies whose flags are not SQLite's, which passes over the table then: asked with SQLite's"
 APPLY_NOTHING = "applies with updates that modify nothing, which SQLite does not look at: asked without these"
 APPLY_WIDER = "applies to a table of more columns, which SQLite applies to: not asked"
+APPLY_NOOP = "applies that ignore what changes nothing, which SQLite's library can from 3.42 on: not compared"
 APPLY_CASE = "applies among tables whose names differ in case alone, which are one to SQLite: not asked"
 SESSION_ORDER = "net changesets whose tables and entries SQLite orders otherwise"
 SESSION_FLAGS = "net changesets of a table whose key SQLite numbers, and this marks by 1: compared with flags of 1"
@@ -159,7 +160,8 @@ class Apply:
         for name, table in self.tables.items():
             lines += [b"do x" + text.hex().encode() for text in table_texts(name, table)]
         self.asked = self.sqlite_groups()
-        lines.append(b"apply %s x%s" % (letters, hexed(self.asked)))
+        asks = b"ignore" if self.choices[b"noop"] == b"ignore" else b"apply"
+        lines.append(b"%s %s x%s" % (asks, letters, hexed(self.asked)))
         return lines + [b"list x" + (b"SELECT * FROM " + quoted(name, b'"')).hex().encode() for name in self.tables]
 
     def has_wider(self):
@@ -182,6 +184,8 @@ class Apply:
 
     def judge(self, told):
         """Compares the answers."""
+        if b"none" in told:
+            return (APPLY_NOOP,)
         applying, code, met = Applying(self.tables, self.choices), OK, b""
         try:
             applying.run(self.asked)

@@ -368,7 +368,10 @@ class Maker:
     def settings(self):
         """What is chosen about conflicts."""
         kinds = self.chance.sample((b"data", b"notfound", b"conflict"), self.chance.randrange(4))
-        return b"".join(b" %s=%s" % (kind, self.pick(CHOICES)) for kind in kinds)
+        settings = [b" %s=%s" % (kind, self.pick(CHOICES)) for kind in kinds]
+        if self.is_one_in(3):
+            settings.insert(self.chance.randrange(len(settings) + 1), b" noop=" + self.pick((b"ignore", b"ignore", b"report")))
+        return b"".join(settings)
 
     def slot_line(self):
         """A line on slots."""

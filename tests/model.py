@@ -13,7 +13,8 @@ NULL = b"\x05"
 # The kinds of conflicts, and the numbers that are printed of them.
 NUMBERS = {b"data": 1, b"notfound": 2, b"conflict": 3}
 
-ABORTS = {kind: b"abort" for kind in NUMBERS}
+# What is chosen where nothing is said; entries that change nothing are conflicts like others.
+ABORTS = {**{kind: b"abort" for kind in NUMBERS}, b"noop": b"report"}
 
 # An entry that is carried out: the table, the key, and the row that stood there, or none.
 Write = collections.namedtuple("Write", "table key former")
@@ -131,6 +132,14 @@ def row_after(entry, row):
     return tuple(records[0]) if operation == INSERT else None
 
 
+def is_left(entry, row):
+    """Whether the row of an entry's key, or none, is already what the entry leaves."""
+    operation, _, records = entry
+    if row is None or operation == DELETE:
+        return row is None and operation == DELETE
+    return over(records[-1], row) == list(row)
+
+
 class Applying:
     """An apply to tables: what it writes, which is taken back where it is refused, and what it prints."""
 
@@ -139,6 +148,7 @@ class Applying:
         self.choices = choices
         self.writes = []
         self.report = []
+        self.ignored = 0
 
     def run(self, groups):
         """Carries the groups out, and answers the lines of the report."""
@@ -155,7 +165,8 @@ class Applying:
         except Refusal:
             take_back(self.tables, self.writes)
             raise
-        return self.report + [b"applied %d" % len(self.writes)]
+        ignored = [b"ignored %d" % self.ignored] if self.ignored else []
+        return self.report + ignored + [b"applied %d" % len(self.writes)]
 
     def carry_out(self, name, entry):
         """Carries an entry out, or does what is chosen about the conflict that it meets."""
@@ -163,6 +174,9 @@ class Applying:
         key = table.key(entry[2][0])
         row = table.rows.get(key)
         kind = conflict_of(entry, row)
+        if kind is not None and self.choices[b"noop"] == b"ignore" and is_left(entry, row):
+            self.ignored += 1
+            return
         if kind is not None:
             choice = self.choices[kind]
             if choice == b"abort":

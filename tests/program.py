@@ -30,7 +30,7 @@ RECORDED = HERE / "recorded"
 PROGRAM = HERE.parent / "crates/changeset/out/changeset"
 
 USAGE = """\
-Usage: changeset [--data C] [--notfound C] [--conflict C] FILE COMMAND ...
+Usage: changeset [--data C] [--notfound C] [--conflict C] [--ignore-noop] FILE COMMAND ...
 COMMANDs:
   apply STORE        Apply the changeset to the store STORE
   concat FILE2 OUT   Concatenate FILE and FILE2 into OUT
@@ -696,6 +696,33 @@ class Policies(StoreTest):
             self.expect([*option, "a.cs", "apply", "store"], status, printed, reported)
             self.assertEqual(self.read(), tables_of(*left))
 
+    def test_a_changeset_that_arrives_twice(self):
+        """Its entries are conflicts the second time, or are ignored where that is asked for, under each policy."""
+        for rows, changeset, count, left in (
+            ([], INSERT, 1, [(1, "x")]), ([(1, "x")], DELETE, 1, []), ([(1, "x")], UPDATE, 1, [(1, "y")]),
+            ([(1, "x")], T + insert(2, "q") + delete(1, "x"), 2, [(2, "q")]),
+        ):
+            with self.case(changeset=changeset):
+                self.write(tables_of(*rows))
+                self.expect_applied(changeset, f"applied {count}\n")
+                status, printed, reported = self.apply(changeset)
+                self.assertEqual((status, printed, reported[:14]), (1, "", "error 41 Abort"))
+                for choice in ("omit", "replace", "abort"):
+                    options = [f"--{kind}={choice}" for kind in ("data", "notfound", "conflict")]
+                    self.expect([*options, "--ignore-noop", "a.cs", "apply", "store"], 0, f"ignored {count}\napplied 0\n")
+                self.expect(["a.cs", "apply", "store", "--ignore-noop"], 0, f"ignored {count}\napplied 0\n")
+                self.assertEqual(self.read(), tables_of(*left))
+
+    def test_what_changes_something_is_not_ignored(self):
+        for rows, changeset, kind in (
+            ([(1, "z")], INSERT, "conflict"), ([(1, "z")], DELETE, "data"), ([(1, "z")], UPDATE, "data"), ([], UPDATE, "notfound"),
+        ):
+            self.expect_policy(rows, changeset, ["--ignore-noop"], 1, "", f"error 41 Abort {kind} 't'\n", rows)
+
+    def test_words_that_do_not_fit_the_flag(self):
+        for word in ("--ignore-noop=1", "--ignore-no", "--noop", "--ignore-noop --ignore-noop"):
+            self.expect([*word.split(), "a.cs", "dump"], 2, "", USAGE)
+
     def test_each_policy_and_each_kind(self):
         # The rows, the changeset, and what its conflict leaves and counts where it is replaced.
         for kind, number, rows, changeset, replaced in (
@@ -927,7 +954,7 @@ class Readme(ProgramTest):
     def test_commands(self):
         text = (HERE.parent / "README.md").read_text()
         blocks = [block for block in text.split("```") if block.startswith("\n$ ") and not block.startswith("\n$ changeset\n")]
-        self.assertEqual(len(blocks), 2)
+        self.assertEqual(len(blocks), 3)
         os.symlink(HERE.parent / "examples", self.folder / "examples")
         path = {**os.environ, "PATH": f"{PROGRAM.parent}:{os.environ['PATH']}"}
         for block in blocks:

@@ -14,7 +14,7 @@ KEYWORDS = frozenset(
 BLANKS = re.compile(rb"[ \t\r]*")
 WORDS = re.compile(rb"[^ \t\r]+")
 SLOT = re.compile(rb"[A-Za-z0-9_]+")
-SETTING = re.compile(rb"(data|notfound|conflict)=(omit|replace|abort)")
+SETTING = re.compile(rb"((?:data|notfound|conflict)(?==(?:omit|replace|abort)$)|noop(?==(?:report|ignore)$))=([a-z]+)")
 TOKEN = re.compile(
     rb"(?P<blob>[Xx]'(?:[0-9A-Fa-f]{2})*')|(?P<word>(?![Xx]')[A-Za-z_][A-Za-z0-9_]*)|(?P<sign>[(),;=*])"
     rb'|(?P<integer>-?[0-9]+)(?![A-Za-z0-9_])|"(?P<name>(?:[^"]|"")*)"(?!")|' rb"'(?P<text>(?:[^']|'')*)'(?!')"
@@ -213,7 +213,7 @@ class Words:
         return names
 
     def choices(self):
-        """What is chosen about each kind of conflict."""
+        """What is chosen about each kind of conflict, and about entries that change nothing."""
         chosen = {}
         while self.words:
             found = SETTING.fullmatch(self.next()[1])
@@ -388,7 +388,7 @@ class Shell:
         return report
 
     def dot_apply(self, words):
-        """`.apply SLOT [data=C] [notfound=C] [conflict=C]`"""
+        """`.apply SLOT [data=C] [notfound=C] [conflict=C] [noop=N]`"""
         slot, choices = words.slot(), words.choices()
         return self.carry_out(self.groups(slot), choices)
 

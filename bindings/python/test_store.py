@@ -145,7 +145,9 @@ class Stores(Folder):
             error = pickle.loads(pickle.dumps(caught.exception))
             self.assertEqual((error.number, error.name, error.kind, error.table), (41, "Abort", "conflict", "t"))
             report = store.apply(bytearray(FILE), conflict="replace")
-            self.assertEqual(report, ([("conflict", "replace", "t")], [], 1))
+            self.assertEqual(report, ([("conflict", "replace", "t")], [], 1, 0))
+            again = store.apply(FILE, ignore_noop=True)
+            self.assertEqual((again.conflicts, again.applied, again.ignored), ([], 0, 1))
             self.assertEqual(store.revert(FILE).applied, 1)
             self.assertEqual(store.apply(FILE.replace(b"t", b"u")).skipped, ["u"])
             with self.assertRaises(ChangesetError) as damaged:

@@ -7,7 +7,7 @@ Value = Union[int, str, bytes, None]
 _VALUE = re.compile(r"(?P<integer>-?[0-9]+)|(?P<null>NULL)|X'(?P<blob>[0-9a-fA-F]*)'|'(?P<text>(?:[^']|'')*)'")
 _CONFLICT = re.compile(r"conflict [0-9]+ (?P<kind>[a-z]+) (?P<choice>[a-z]+) (?P<table>'(?:[^']|'')*')\n")
 _SKIPPED = re.compile(r"warning 17 skipped (?P<table>'(?:[^']|'')*')\n")
-_APPLIED = re.compile(r"applied (?P<count>[0-9]+)\n")
+_APPLIED = re.compile(r"(?:ignored (?P<ignored>[0-9]+)\n)?applied (?P<count>[0-9]+)\n")
 
 
 class Conflict(NamedTuple):
@@ -19,11 +19,13 @@ class Conflict(NamedTuple):
 
 
 class Report(NamedTuple):
-    """What an apply did: the conflicts that it met, the tables that it passed over, and how many entries it carried out."""
+    """What an apply did: the conflicts that it met, the tables that it passed over, how many entries it carried out, and how
+    many it ignored, since they change nothing. Where there are no conflicts and none is ignored, `Store.revert` undoes it."""
 
     conflicts: List[Conflict]
     skipped: List[str]
     applied: int
+    ignored: int = 0
 
 
 def _one_line(what: str, text: str) -> str:
@@ -106,4 +108,4 @@ def read_report(printed: str) -> Report:
     found = _APPLIED.fullmatch(printed, at)
     if found is None:
         raise AssertionError(f"{printed[at:at + 40]!r} is no report")
-    return Report(conflicts, skipped, int(found["count"]))
+    return Report(conflicts, skipped, int(found["count"]), int(found["ignored"] or 0))

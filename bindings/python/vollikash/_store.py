@@ -158,14 +158,24 @@ class Store:
         """The rows of a table as they stand now, by the bytes of their keys."""
         return read_rows(self._ask(f"SELECT * FROM {spelled_name(table)};"))
 
-    def apply(self, file: Bytes, *, data: str = "abort", notfound: str = "abort", conflict: str = "abort") -> Report:
+    def apply(
+        self,
+        file: Bytes,
+        *,
+        data: str = "abort",
+        notfound: str = "abort",
+        conflict: str = "abort",
+        ignore_noop: bool = False,
+    ) -> Report:
         """Applies a changeset, and tells what that did. What is done about a row that differs, is missing or is there, is
-        "omit", "replace" or "abort": that raises `ConflictError`, and changes nothing."""
+        "omit", "replace" or "abort": that raises `ConflictError`, and changes nothing. With `ignore_noop` entries that
+        would change nothing are ignored, and meet no conflict: a DELETE whose row is missing, an INSERT whose row is
+        there as it says, and an UPDATE whose row has the new values."""
         choices = {"data": data, "notfound": notfound, "conflict": conflict}
         for kind, choice in choices.items():
             if choice not in _CHOICES:
                 raise ValueError(f"{kind} is one of {', '.join(_CHOICES)}, and not {choice!r}")
-        said = " ".join(f"{kind}={choice}" for kind, choice in choices.items())
+        said = " ".join(f"{kind}={choice}" for kind, choice in choices.items()) + (" noop=ignore" if ignore_noop else "")
         return read_report(self._ask(f".load f {bytes(file).hex()}", f".apply f {said}"))
 
     def revert(self, file: Bytes) -> Report:

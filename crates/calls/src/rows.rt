@@ -1,6 +1,6 @@
 //! Calls on tables in memory.
 
-use cs_apply::{ApplyFault, Choice, Direction, run_in};
+use cs_apply::{ApplyFault, Choice, Direction, Noop, run_in};
 use cs_store::{Edit, MemRows, Rows, StoreError, edit_in};
 use cs_value::{Key, NoMemory, OwnedValue, Row};
 use std::alloc::Global;
@@ -78,7 +78,14 @@ impl TestRows {
     /// Applies a file, with what meets a conflict passed over, and tells how many keys were written.
     pub(crate) fn apply(&mut self, alloc: Global) -> Result<usize, ApplyFault> {
         let handler = |_: &_| Choice::Omit;
-        let report = run_in(alloc, &mut self.rows, CHANGES, Direction::Forward, &handler)?;
+        let report = run_in(
+            alloc,
+            &mut self.rows,
+            CHANGES,
+            Direction::Forward,
+            Noop::Report,
+            &handler,
+        )?;
         Ok(report.written.len())
     }
 

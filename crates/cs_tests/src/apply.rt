@@ -5,11 +5,14 @@
 
 use crate::refusals::expect_text;
 use crate::store::{row_of, tables};
-use crate::stores::listed;
+use crate::stores::{end, listed, rows_of, store_with_table};
 use crate::{DELETE, INSERT, UPDATE, WIDER_INSERT};
-use cs_apply::{ApplyFault, Choice, Conflict, Direction, Kind, Report, run_in};
-use cs_store::Rows;
+use cs_apply::{
+    ApplyFault, Choice, Conflict, Direction, Kind, Noop, Report, apply, revert, run_in,
+};
+use cs_store::{Rows, Store};
 use cs_value::{Fault, Row, Value};
+use sqlite::Alter;
 use std::process::Abort;
 
 /// An INSERT of (1, 'z').
@@ -127,7 +130,8 @@ fn run<B: Rows>(
     choice: Choice,
 ) -> Answer {
     let handler = |_: &Conflict| choice;
-    answer(run_in(rt.alloc(), rows, file, Direction::Forward, &handler))
+    let direction = Direction::Forward;
+    answer(run_in(rt.alloc(), rows, file, direction, Noop::Report, &handler))
 }
 
 /// What rows with t answer to the files of a case in turn, of which the first one succeeds.
@@ -152,6 +156,82 @@ fn applies_files_in_memory(rt: HostRuntime) {
     }
 }
 
+/// An INSERT of (1, 'y').
+const LATER: &[u8] = b"T\x02\x01\x00t\x00\x12\x00\x01\x00\x00\x00\x00\x00\x00\x00\x01\x03\x01y";
+
+/// A file that gives t its rows, a file that is applied to these with what changes nothing ignored and each
+/// conflict aborted, and the number of the refusal, or 0, and how many entries are ignored and keys written.
+type IdleCase = (&'static [u8], &'static [u8], IdleAnswer);
+
+/// The number of a refusal, or 0, and how many entries were ignored and keys written.
+type IdleAnswer = [usize; 3];
+
+const IDLE: &[IdleCase] = &[
+    // Each entry changes nothing.
+    (INSERT, INSERT, [0, 1, 0]),
+    (b"", DELETE, [0, 1, 0]),
+    (LATER, UPDATE, [0, 1, 0]),
+    // It would change something.
+    (OTHER, INSERT, [41, 0, 0]),
+    (OTHER, DELETE, [41, 0, 0]),
+    (OTHER, UPDATE, [41, 0, 0]),
+    (b"", UPDATE, [41, 0, 0]),
+    (b"", EMPTY, [41, 0, 0]),
+    // It meets no conflict.
+    (INSERT, SAME, [0, 0, 1]),
+    (INSERT, EMPTY, [0, 0, 1]),
+    (b"", INSERT_DELETE, [0, 1, 1]),
+];
+
+/// What is told of a run in which each conflict ends it. The report is clean where no entry was ignored.
+fn idle_answer(rt: &(impl Abort + AllocGlobal), run: Result<Report, ApplyFault>) -> IdleAnswer {
+    match run {
+        Ok(report) => {
+            assert!(rt; report.conflicts.is_empty());
+            assert!(rt; report.is_clean() == (report.ignored == 0));
+            [0, report.ignored, report.written.len()]
+        }
+        Err(fault) => [fault.code() as usize, 0, 0],
+    }
+}
+
+/// What rows answer to a file, with what changes nothing ignored and each conflict aborted.
+fn ignoring<B: Rows>(
+    rt: &(impl Abort + AllocGlobal),
+    rows: &mut B,
+    file: &[u8],
+) -> Result<Report, ApplyFault> {
+    let handler = |_: &Conflict| Choice::Abort;
+    let direction = Direction::Forward;
+    run_in(rt.alloc(), rows, file, direction, Noop::Ignore, &handler)
+}
+
+#[test]
+fn ignores_what_changes_nothing(rt: HostRuntime) {
+    for (before, file, wanted) in IDLE {
+        let mut rows = tables(&rt);
+        assert!(rt; run(&rt, &mut rows, before, Choice::Abort)[0] == 0);
+        let answer = ignoring(&rt, &mut rows, file);
+        assert!(rt; idle_answer(&rt, answer) == *wanted);
+    }
+}
+
+/// What a store answers to the INSERT of (1, 'x'), ignored where the row is there.
+fn inserted<S: Alter>(rt: &(impl Abort + AllocGlobal), store: &mut Store<S>) -> IdleAnswer {
+    let run = apply(rt.alloc(), store, INSERT, Noop::Ignore, &|_| Choice::Abort);
+    idle_answer(rt, run)
+}
+
+#[test]
+fn ignores_a_file_that_comes_twice(rt: HostRuntime) {
+    let mut store = store_with_table(&rt);
+    assert!(rt; inserted(&rt, &mut store) == [0, 0, 1]);
+    assert!(rt; inserted(&rt, &mut store) == [0, 1, 0]);
+    assert!(rt; revert(rt.alloc(), &mut store, INSERT).is_ok());
+    assert!(rt; rows_of(&rt, &mut store).is_empty());
+    end(store);
+}
+
 /// Replaces rows of t that are in the way, and aborts at other conflicts.
 fn replace_in_t(conflict: &Conflict) -> Choice {
     if conflict.table.as_str() == "t" && conflict.kind == Kind::Conflict {
@@ -164,7 +244,14 @@ fn replace_in_t(conflict: &Conflict) -> Choice {
 /// What rows answer to a file, with that handler.
 fn asked<B: Rows>(rt: &(impl Abort + AllocGlobal), rows: &mut B, file: &[u8]) -> Answer {
     let direction = Direction::Forward;
-    answer(run_in(rt.alloc(), rows, file, direction, &replace_in_t))
+    answer(run_in(
+        rt.alloc(),
+        rows,
+        file,
+        direction,
+        Noop::Report,
+        &replace_in_t,
+    ))
 }
 
 #[test]
@@ -181,7 +268,15 @@ fn refusal(rt: &(impl Abort + AllocGlobal), choice: Choice) -> ApplyFault {
     let handler = |_: &Conflict| choice;
     let mut rows = tables(rt);
     let direction = Direction::Forward;
-    run_in(rt.alloc(), &mut rows, DELETE, direction, &handler).expect_err(rt, "a refusal")
+    run_in(
+        rt.alloc(),
+        &mut rows,
+        DELETE,
+        direction,
+        Noop::Report,
+        &handler,
+    )
+    .expect_err(rt, "a refusal")
 }
 
 #[test]

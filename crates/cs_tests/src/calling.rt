@@ -9,7 +9,7 @@ ghost use Rattle.cs_store.specs.Store.{tables_in};
 use crate::store::insertion;
 use crate::stores::{end, rows_of, store_with_table};
 use crate::{DELETE, INSERT, UPDATE, WIDER_INSERT};
-use cs_apply::{ApplyFault, Choice, Policy, Report, apply};
+use cs_apply::{ApplyFault, Choice, Conflict, Noop, Policy, Report, apply};
 use cs_group::{ConcatFault, concat, invert};
 use cs_session::{Session, SessionFault, runs_law};
 use cs_store::{Edit, Rows, Store, StoreError, edit_in};
@@ -115,7 +115,8 @@ fn replay<S: Alter>(alloc: Global, store: &mut Store<S>, file: &[u8]) -> Result<
         on_notfound: Choice::Omit,
         on_conflict: Choice::Replace,
     };
-    let report = apply(alloc, store, file, &|conflict| policy.choose(conflict))?;
+    let handler = |conflict: &Conflict| policy.choose(conflict);
+    let report = apply(alloc, store, file, Noop::Report, &handler)?;
     Ok(report.written.len())
 }
 
@@ -178,7 +179,7 @@ fn rehearse<S: Alter>(
     let mut session = Session::new(alloc);
     session.attach(alloc, store, table)?;
     session.edit(alloc, store, edit)?;
-    let report = session.apply_recorded(alloc, store, file, &|_| Choice::Omit)?;
+    let report = session.apply_recorded(alloc, store, file, Noop::Report, &|_| Choice::Omit)?;
     session.undo(alloc, store)?;
     runs_law();
     Ok(report)

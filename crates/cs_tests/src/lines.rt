@@ -35,11 +35,11 @@ const FORMS: &[(&str, &str)] = &[
     ),
     (
         ".apply a",
-        "Some(Apply { slot: \"a\", on_data: Abort, on_notfound: Abort, on_conflict: Abort })",
+        "Some(Apply { slot: \"a\", on_data: Abort, on_notfound: Abort, on_conflict: Abort, noop: Report })",
     ),
     (
-        ".apply a conflict=replace data=omit",
-        "Some(Apply { slot: \"a\", on_data: Omit, on_notfound: Abort, on_conflict: Replace })",
+        ".apply a conflict=replace noop=ignore data=omit",
+        "Some(Apply { slot: \"a\", on_data: Omit, on_notfound: Abort, on_conflict: Replace, noop: Ignore })",
     ),
     (".revert a", "Some(Revert { slot: \"a\" })"),
     (".session open", "Some(SessionOpen)"),
@@ -80,6 +80,8 @@ const MISFITS: &[(&str, usize)] = &[
     (".load a-", 7),
     (".apply a data=x", 10),
     (".apply a data=omit data=omit", 20),
+    (".apply a noop=omit", 10),
+    (".apply a noop=ignore noop=ignore", 22),
 ];
 
 #[test]

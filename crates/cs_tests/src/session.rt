@@ -2,8 +2,10 @@
 //!
 //! The table t of these tests has the columns a and b, of which a is the key.
 
+use crate::INSERT;
 use crate::store::{deletion, insertion, names, update};
 use crate::stores::{Call, are, edit_of, end, fill, rows_of, store_with_table};
+use cs_apply::{Choice, Noop};
 use cs_session::{Session, SessionFault};
 use cs_store::{Edit, Store};
 use cs_value::{Fault, Value};
@@ -206,4 +208,27 @@ fn undoes_in_a_file(rt: HostRuntime) {
         store.into_connection().close().expect(&rt, "no refusal");
     }
     fs::remove_file(&rt, FILE).expect(&rt, "a file");
+}
+
+/// How many entries a session ignores of the INSERT of (1, 'x').
+fn ignored<S: Alter>(
+    rt: &(impl Abort + AllocGlobal),
+    session: &mut Session,
+    store: &mut Store<S>,
+) -> usize {
+    session
+        .apply_recorded(rt.alloc(), store, INSERT, Noop::Ignore, &|_| Choice::Abort)
+        .expect(rt, "an apply")
+        .ignored
+}
+
+#[test]
+fn ignores_a_file_that_a_session_has_applied(rt: HostRuntime) {
+    let mut store = store_with_table(&rt);
+    let mut session = session_of(&rt, &mut store, &["t"]);
+    assert!(rt; ignored(&rt, &mut session, &mut store) == 0);
+    assert!(rt; ignored(&rt, &mut session, &mut store) == 1);
+    assert!(rt; session.undo(rt.alloc(), &mut store).is_ok());
+    assert!(rt; rows_of(&rt, &mut store).is_empty());
+    end(store);
 }

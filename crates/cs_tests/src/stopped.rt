@@ -7,7 +7,7 @@ use crate::apply::INSERT_DELETE;
 use crate::fused::{copy_of, fused, new_files};
 use crate::session::{edited, number, session_alone, session_of};
 use crate::stores::{Call, State, declaration, edit_of, end, fill, has};
-use cs_apply::{Choice, Conflict, apply, revert};
+use cs_apply::{Choice, Conflict, Noop, apply, revert};
 use cs_session::Session;
 use cs_store::{Store, StoreError, edit_in};
 use cs_value::Value;
@@ -74,7 +74,7 @@ fn call_session<S: Alter>(
     let answer = if is_edit {
         edited(rt, &mut session, store, MOVE)
     } else {
-        number(session.apply_recorded(rt.alloc(), store, INSERT_DELETE, &handler))
+        number(session.apply_recorded(rt.alloc(), store, INSERT_DELETE, Noop::Report, &handler))
     };
     assert!(rt; session.is_empty() == (answer != 0));
     answer
@@ -98,7 +98,13 @@ fn call<S: Alter>(rt: &(impl Abort + AllocGlobal), store: &mut Store<S>, action:
         Action::Declare => number(declaration(rt, store, "u", &[true, false])),
         Action::Edit => number(store.edit(alloc, &edit_of(rt, MOVE))),
         Action::CommitBatch => number(commit_batch(rt, store)),
-        Action::Apply => number(apply(alloc, store, INSERT_DELETE, &|_| Choice::Abort)),
+        Action::Apply => number(apply(
+            alloc,
+            store,
+            INSERT_DELETE,
+            Noop::Report,
+            &|_| { Choice::Abort },
+        )),
         Action::Revert => number(revert(alloc, store, INSERT_DELETE)),
         Action::EditInSession => call_session(rt, store, true),
         Action::ApplyInSession => call_session(rt, store, false),
