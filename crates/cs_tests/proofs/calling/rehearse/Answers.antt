@@ -8,6 +8,7 @@ use Rattle.cs_value.specs.State.{State, WrittenData, rows_at}
 use Rattle.cs_store.specs.declared.edit.Edit.{Edit}
 use Rattle.cs_store.specs.Editing.{written_of}
 use Rattle.cs_store.specs.Store.{tables_in}
+use Rattle.cs_group.specs.declared.conflict.Noop.{Noop}
 use Rattle.cs_apply.specs.declared.report.Report.{Report}
 use Rattle.cs_apply.specs.Running.{Handler}
 use Rattle.cs_session.specs.FirstImages.{AttachedTable, Notes, HasAttached, recorded, rewound_state}
@@ -19,8 +20,8 @@ use Rattle.cs_value.proofs.ListLemmas.{AllPairs-from_recursion}
 use Rattle.cs_session.proofs.RunsLemmas.{attached_step, edited_step, applied_step}
 use Rattle.cs_tests.proofs.calling.rehearse.Goals as goal
 
-module _ (chooses : Handler) (file name : List ℕ) (edit : Edit) (s0 s1 s2 s3 s4 : State) (n1 n2 n3 : Notes) (report undone : Report) where
-  given_back : RowsFromBefore → Attaches s0 name [] n1 → s1 ≡ s0 → Records s1 edit n1 s2 n2 → RecordsApply chooses file s2 n2 report s3 n3
+module _ (chooses : Handler) (noop : Noop) (file name : List ℕ) (edit : Edit) (s0 s1 s2 s3 s4 : State) (n1 n2 n3 : Notes) (report undone : Report) where
+  given_back : RowsFromBefore → Attaches s0 name [] n1 → s1 ≡ s0 → Records s1 edit n1 s2 n2 → RecordsApply chooses noop file s2 n2 report s3 n3
       → Undoes n3 s3 undone s4 → rows_at s4 name ≡ rows_at s0 name
   unfolding attached_step edited_step applied_step
   given_back law attached same edited applied undo =
@@ -29,7 +30,7 @@ module _ (chooses : Handler) (file name : List ℕ) (edit : Edit) (s0 s1 s2 s3 s
       let m2 : Moment = record { state = s2; notes = n2 } in
       let m3 : Moment = record { state = s3; notes = n3 } in
       let run : Run m0 (m1 ∷ m2 ∷ m3 ∷ []) =
-      (attached_step name m0 m1 attached same, (edited_step edit m1 m2 edited, (applied_step chooses file m2 m3 report applied, tt))) in
+      (attached_step name m0 m1 attached same, (edited_step edit m1 m2 edited, (applied_step chooses noop file m2 m3 report applied, tt))) in
       let keeps : KeepsBefore m0 (m1 ∷ m2 ∷ m3 ∷ []) run = law m0 (m1 ∷ m2 ∷ m3 ∷ []) (record {
         has = All-from_recursion (HasAttached s0) [] tt;
         apart = AllPairs-from_recursion (λ (s t : AttachedTable). s.name ≢ t.name) [] tt;
@@ -49,5 +50,5 @@ returns g c = λ clean.
     let attached : HasCleanDisk (state g.S.Store c.attach.new.store) = omega (arith, c.in_ok-edit.ensures.atomic.survives.clean) in
     let attaches = rw c.new-session.ensures at (c.in_ok-attach.ensures.attached attached) in
     let same = ap (λ (db : Database). tables_in db) (c.in_ok-attach.ensures.read attached) in
-    given_back _ _ _ _ _ _ _ _ _ _ _ _ _ _ c.runs_law.ensures attaches same (c.in_ok-edit.ensures.recorded edited)
+    given_back _ _ _ _ _ _ _ _ _ _ _ _ _ _ _ c.runs_law.ensures attaches same (c.in_ok-edit.ensures.recorded edited)
     (c.in_ok-report.ensures.recorded applied) (c.in_ok-undo.ensures.undone clean)
