@@ -33,7 +33,7 @@ from model import shown_tables
 from refusals import COMMANDS, CREATE, FILES, STORE, Command, T, build_shim, is_store
 from refusals import shown_tables as shown_store
 from shell import Shell
-from stores import expect_whole, insert, literal, read_store
+from stores import FORMER, VERSION, expect_whole, insert, literal, read_store, run_sql
 
 # What a record has of a run: a file is its number, and a name stands without its folder.
 Write = collections.namedtuple("Write", "file place content")
@@ -350,10 +350,11 @@ def opened_again(shell):
 
 
 class Run:
-    """A run on the store in a folder: the files that it finds, its words and its script, and what the model has."""
+    """A run on the store in a folder: the files that it finds, its words and its script, what the model has, and the versions
+    in which the store may be left."""
 
-    def __init__(self, files, words, stdin, story):
-        self.files, self.words, self.stdin, self.story = files, words, stdin, story
+    def __init__(self, files, words, stdin, story, versions=(VERSION,)):
+        self.files, self.words, self.stdin, self.story, self.versions = files, words, stdin, story, versions
         names = sorted({name for shell in story.shells for name in tables_of(shell)} - {"next"})
         quoted = [name.replace('"', '""') for name in names]
         self.behind = [f'SELECT * FROM "{name}";' for name in quoted] + GOING_ON
@@ -372,7 +373,7 @@ class Run:
     def why_not(self, files, printed, opens):
         """Why a cut may not leave these files where so much is printed, or nothing; the program opens them, or not."""
         shells = self.story.may_stand(printed)
-        tables = found_by_sqlite(files)
+        tables = found_by_sqlite(files, self.versions)
         if tables not in map(tables_of, shells):
             return f"SQLite finds {tables!r:.2000}"
         if not opens:
@@ -385,17 +386,19 @@ class Run:
     def again(self, files, printed):
         """The run of the program that opens files and goes on, for each way in which it may."""
         script = MarkedScript(self.behind)
-        return [Run(files, script.words, script.stdin, self.going_on(shell)) for shell in self.story.may_stand(printed)]
+        behind = [self.going_on(shell) for shell in self.story.may_stand(printed)]
+        return [Run(files, script.words, script.stdin, story, self.versions) for story in behind]
 
 
-def found_by_sqlite(files):
-    """The tables that SQLite finds, which has to find the file whole. There are none where it is no database yet."""
+def found_by_sqlite(files, versions=(VERSION,)):
+    """The tables that SQLite finds, which has to find the file whole, and its records in one of these versions. There are
+    none where it is no database yet."""
     with tempfile.TemporaryDirectory() as folder:
         make_files(folder, files)
         store = os.path.join(folder, "store")
         try:
             if is_store(store):
-                return shown_store(read_store(store))
+                return shown_store(read_store(store, versions))
             with contextlib.closing(sqlite3.connect(store)) as base:
                 expect_whole(base)
             return {}
@@ -409,8 +412,8 @@ def script_run(lines):
     return Run({}, script.words, script.stdin, Story(Shell(), lines, True))
 
 
-def apply_run(words):
-    """A command that applies a file to a store that SQLite wrote."""
+def apply_run(words, version=VERSION):
+    """A command that applies a file to a store that SQLite wrote in a version."""
     file, choices = words[words.index("apply") - 1], re.findall(r"--(\w+)[= ](\w+)", " ".join(words))
     rows = [f"INSERT INTO t VALUES({', '.join(map(literal, row))});" for row in STORE["t"].rows]
     made = Story(Shell(), [CREATE, *rows]).shells[-1]
@@ -418,13 +421,15 @@ def apply_run(words):
     story = Story(made, [" ".join([".apply a", *map("=".join, choices)])])
     if story.shells[-1].is_refused:
         story.answers = [""]
-    return Run({**found_by(words), file: CHANGESETS[file]}, words, b"", story)
+    return Run({**found_by(words, version), file: CHANGESETS[file]}, words, b"", story, (VERSION, version))
 
 
-def found_by(words):
-    """The files that a command finds."""
+def found_by(words, version=VERSION):
+    """The files that a command finds, of which the store is written in a version."""
     with tempfile.TemporaryDirectory() as folder:
         Command(words).prepare(folder)
+        if version != VERSION:
+            run_sql(os.path.join(folder, "store"), "DELETE FROM rec WHERE tab = '' AND keyb = X''", records=[version])
         return files_of(folder)
 
 
@@ -483,6 +488,12 @@ class CutTest(unittest.TestCase):
             if "apply" in words:
                 with self.subTest(" ".join(words)):
                     self.expect_store([apply_run(words)], *SHARES)
+
+    def test_stores_of_the_former_version(self):
+        """Behind each cut the store is as it was, or in this version, and the apply stands or does not."""
+        for words in APPLIES:
+            with self.subTest(" ".join(words)):
+                self.expect_store([apply_run(words, FORMER)], *SHARES)
 
     def test_files_that_are_written(self):
         """Behind each cut OUT is the old file or the new one, and the other files are as they were."""

@@ -21,8 +21,8 @@ import time
 import unittest
 
 from stores import (
-    RECORDS, UNDEFINED, VERSION, Table, count_changes, delete, header, insert, literal, read_changeset, read_records,
-    read_store, run_schema, run_sql, run_statements, shown, shown_rows, update, write_store,
+    FORMER, RECORDS, UNDEFINED, VERSION, Table, count_changes, delete, header, insert, literal, read_changeset, read_records,
+    read_store, records_of, run_schema, run_sql, run_statements, shown, shown_rows, update, write_store,
 )
 
 HERE = pathlib.Path(__file__).resolve().parent
@@ -889,11 +889,25 @@ class Stores(StoreTest):
                     self.assertEqual(self.read(), tables_of(*left))
 
     def test_damaged_records(self):
+        """They stay as they are, under the version of stores and under the former one."""
         for what, records in DAMAGED:
-            with self.case(what=what):
-                run_sql(self.folder / "store", RECORDS, records=records)
-                self.assertEqual(self.apply(INSERT), (1, "", DAMAGED_STORE))
-                self.assertEqual(read_records(self.folder / "store"), sorted(records))
+            for version in (VERSION, FORMER):
+                with self.case(what=what, version=version):
+                    records = [version if record == VERSION else record for record in records]
+                    run_sql(self.folder / "store", RECORDS, records=records)
+                    self.assertEqual(self.apply(INSERT), (1, "", DAMAGED_STORE))
+                    self.assertEqual(read_records(self.folder / "store"), sorted(records))
+
+    def test_stores_of_the_former_version(self):
+        """They are opened with their tables, and are of this version from then on; what else they hold stays."""
+        tables = tables_of((1, "x"), (2, None), (3, b"\xff"))
+        for log in (False, True):
+            with self.case(log=log):
+                self.write(tables, log=log, version=FORMER)
+                self.assertEqual(self.run_shell(["SELECT * FROM t;"]), (0, "1|'x'\n2|NULL\n3|X'ff'\n", ""))
+                self.assertEqual(read_records(self.folder / "store"), sorted(records_of(tables)))
+                self.expect_applied(T + delete(3, b"\xff"), "applied 1\n")
+                self.assertEqual(self.read(), tables_of((1, "x"), (2, None)))
 
     def test_other_databases(self):
         for text, line in (

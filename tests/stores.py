@@ -15,8 +15,8 @@ RECORDS = (
     "PRIMARY KEY(tab, keyb)) STRICT"
 )
 
-# The record of a store's version.
-VERSION = ("", b"", b"\x01")
+# The record of a store's version, and that of the former one.
+VERSION, FORMER = ("", b"", b"\x02"), ("", b"", b"\x01")
 
 # The field of an update that is not defined.
 UNDEFINED = object()
@@ -81,9 +81,9 @@ def key_of(table, row):
     return record(value for value, of_key in zip(row, table.keys) if of_key)
 
 
-def records_of(tables):
+def records_of(tables, version=VERSION):
     """The records of a store, by the definition of the format."""
-    records = [VERSION]
+    records = [version]
     for name, table in tables.items():
         records.append(("", name.encode(), declaration(table)))
         records += [(name, key_of(table, row), record(row)) for row in table.rows]
@@ -102,9 +102,9 @@ def run_sql(path, *texts, records=(), log=False):
         base.commit()
 
 
-def write_store(path, tables, page_size=4096, log=False):
+def write_store(path, tables, page_size=4096, log=False, version=VERSION):
     """Has SQLite write a store with these tables."""
-    run_sql(path, f"PRAGMA page_size = {page_size}", RECORDS, records=records_of(tables), log=log)
+    run_sql(path, f"PRAGMA page_size = {page_size}", RECORDS, records=records_of(tables, version), log=log)
 
 
 def expect_whole(base):
@@ -196,14 +196,15 @@ def read_declaration(data):
     return Table(tuple(columns), tuple(keys), [])
 
 
-def read_store(path):
-    """The tables of a store, with their rows by the bytes of their keys. Every record has to be as it is defined."""
+def read_store(path, versions=(VERSION,)):
+    """The tables of a store, with their rows by the bytes of their keys. Every record has to be as it is defined in one of
+    these versions."""
     records = read_records(path)
     tables = {key.decode(): read_declaration(value) for name, key, value in records if name == "" and key}
     for name, _, value in records:
         if name:
             tables[name].rows.append(read_row(value))
-    assert sorted(records) == sorted(records_of(tables)), records
+    assert sorted(records) in [sorted(records_of(tables, version)) for version in versions], records
     return tables
 
 

@@ -13,8 +13,10 @@ use Rattle.sqlite_wal.specs.Recovery.{Image}
 use Rattle.cs_store.specs.declared.fault.StoreError.{StoreError}
 use Rattle.cs_store.specs.declared.fault.StoreError.TheVariants.{DamagedStore, NoMemory}
 use Rattle.cs_store.specs.Faults.{IsResource}
-use Rattle.cs_store.specs.Records.{RecordData, HoldsRecords, ListsAll, Sets, GoesOn, KeepsCrash, content, same_bytes, is_under, records_of, records_in, record_schema, empty_schema}
-use Rattle.cs_store.specs.Stored.{version, Stores}
+use Rattle.cs_store.specs.Records.{RecordData, HoldsRecords, ListsAll, Sets, GoesOn, KeepsCrash, changed, content, same_bytes, is_under, records_of, records_in, record_schema, empty_schema}
+use Rattle.cs_store.specs.declared.version.Version.{Version}
+use Rattle.cs_store.specs.declared.version.Version.TheVariants.{Current, Former}
+use Rattle.cs_store.specs.Stored.{version, IsVersion, bytes_of, stored_under, StoresIn, StoresInSome}
 use Rattle.cs_store.specs.Valid.{AreValid}
 use Rattle.sqlite_trees.specs.View.{doubt}
 use Rattle.cs_store.specs.Store.{HoldsState, HoldsTables, Adopts, OpensFiles, SetsUp, MemoryIsHonest, tables_in}
@@ -27,6 +29,13 @@ use Rattle.cs_store.proofs.StateOf.{records_first}
 use Rattle.cs_store.proofs.StoredLemmas.{stores_nothing}
 use Rattle.cs_store.proofs.ValidLemmas.{valid_stores, stores_valid}
 use Rattle.cs_store.proofs.WriteLemmas.{holds_next}
+
+-- ---- the version
+
+-- each version that is found is one that is read
+pub is_version : (v : Version) → IsVersion (bytes_of v)
+is_version Current = inl refl
+is_version Former = inr refl
 
 -- ---- no record
 
@@ -53,13 +62,30 @@ some_there rows (r ∷ listed) lists some none = absurd (let e = sym (listed_the
 -- a database without records holds no tables
 vacant_holds : (db : Database) (held : tables.State) → db.trees 0 ≡ [] → HoldsTables db held → held ≡ map.empty
 vacant_holds db held none (inl vacant) = vacant.1
-vacant_holds db held none (inr stored) = absurd (let e = sym (none_there (db.trees 0) none [] []) ∙ stored.1.each [] [] in cc)
+vacant_holds db held none (inr stored) = absurd (let e = sym (none_there (db.trees 0) none [] []) ∙ stored.1.2.each [] [] in cc)
 
 -- the version alone is written
-pub sets_version : (old new : Database) → HoldsRecords old → old.trees 0 ≡ [] → Sets old new [] [] (Some version) → HoldsState new × HoldsTables old (tables_in new)
+sets_version : (old new : Database) → HoldsRecords old → old.trees 0 ≡ [] → Sets old new [] [] (Some version) → HoldsState new × HoldsTables old (tables_in new)
 sets_version old new holds none set =
     let next = holds_next new map.empty set.holds (stores_nothing (records_in new) (records_in old) (none_there (old.trees 0) none) set.change) in
     (next.0, inl (inr (holds, none), next.1))
+
+-- valid records are those of the same tables once the version of stores is written
+renews_version : (old new : Database) → HoldsRecords old → AreValid (records_in old) → Sets old new [] [] (Some version) → HoldsState new × HoldsTables old (tables_in new)
+renews_version old new holds valid set =
+    let stored = valid_stores (old.trees 0) valid in
+    let next = holds_next new (tables_in old) set.holds (record { is_state = stored.is_state; each = λ t k. set.change t k ∙ at t k stored }) in
+    (next.0, inr (holds, (valid.written, valid.is_version, subst (StoresIn valid.written (records_in old)) (sym next.1) stored)))
+  where
+    at : (t k : List ℕ) → StoresIn valid.written (records_in old) (tables_in old) → changed (records_in old) [] [] (Some version) t k ≡ stored_under version (tables_in old) t k
+    at [] [] stored = refl
+    at [] (b ∷ k) stored = stored.each [] (b ∷ k)
+    at (b ∷ t) k stored = stored.each (b ∷ t) k
+
+-- so where there was no record, or valid ones, the tables that were held are held as a store holds them
+pub writes_version : (old new : Database) → HoldsRecords old → (old.trees 0 ≡ []) ⊎ AreValid (records_in old) → Sets old new [] [] (Some version) → HoldsState new × HoldsTables old (tables_in new)
+writes_version old new holds (inl none) set = sets_version old new holds none set
+writes_version old new holds (inr valid) set = renews_version old new holds valid set
 
 -- ---- in a transaction
 
@@ -83,20 +109,22 @@ read_then old mid new same set = record {
   held = subst (λ db. HoldsTables db (tables_in new.now)) same.0.now_is set.held;
 }
 
--- valid records are those of a state
-pub valid_holds : (old new : State) → HoldsRecords old.now → AreValid (records_in old.now) → IsTrue old.in_transaction → IsUnchanged old new → SetsUp old new
-valid_holds old new holds valid inside same =
-    let stores = valid_stores (old.now.trees 0) valid in
+-- valid records of the version of stores are those of a state
+pub valid_holds : (old new : State) → HoldsRecords old.now → AreValid (records_in old.now) → records_in old.now [] [] ≡ Some version → IsTrue old.in_transaction → IsUnchanged old new → SetsUp old new
+valid_holds old new holds valid current inside same =
+    let as_written = valid_stores (old.now.trees 0) valid in
+    let is_current : valid.written ≡ version = (let e = sym valid.version_is ∙ current in cc) in
+    let stores = subst (λ w. StoresIn w (records_in old.now) (tables_in old.now)) is_current as_written in
     record {
       on = record { was_open = same.0.was_open; is_open = same.0.is_open; now_is = refl; committed_is = same.0.committed_is; mode = same.0.mode ∙ inside };
       holds = subst HoldsState (sym same.0.now_is) (record { records = holds; stores = stores });
-      held = subst (λ db. HoldsTables old.now (tables_in db)) (sym same.0.now_is) (inr (holds, stores));
+      held = subst (λ db. HoldsTables old.now (tables_in db)) (sym same.0.now_is) (inr (holds, (version, inl refl, stores)));
     }
 
 -- ---- damage
 
 -- tables that a database with records holds are stored there
-pub stored_there : (db : Database) (held : tables.State) → db.schema ≡ record_schema → db.trees 0 ≢ [] → HoldsTables db held → HoldsRecords db × Stores (records_in db) held
+pub stored_there : (db : Database) (held : tables.State) → db.schema ≡ record_schema → db.trees 0 ≢ [] → HoldsTables db held → HoldsRecords db × StoresInSome (records_in db) held
 stored_there db held declared some (inl (inl nothing, e)) = absurd (let e : 1 ≡ 0 = ap (λ (s : Schema). length s.tables) (sym declared ∙ nothing) in omega arith)
 stored_there db held declared some (inl (inr vacant, e)) = absurd (some vacant.1)
 stored_there db held declared some (inr stored) = stored

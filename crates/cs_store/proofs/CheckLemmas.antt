@@ -18,7 +18,7 @@ use Rattle.cs_store.specs.declared.fault.StoreError.{StoreError}
 use Rattle.cs_store.specs.declared.fault.StoreError.TheVariants.{DamagedStore, NoMemory}
 use Rattle.cs_store.specs.Records.{Records, RecordData, same_bytes, record_cmp, ListsAll}
 use Rattle.cs_store.specs.Declaration.{declaration_bytes, IsDeclaration}
-use Rattle.cs_store.specs.Stored.{version}
+use Rattle.cs_store.specs.Stored.{IsVersion}
 use Rattle.cs_store.specs.Valid.{IsStoredRow, AreValid, IsTableRecord, DeclaresTable, IsGoodTable, Schemas, AreDeclared, IsRowRecord, IsGoodRow}
 use Rattle.cs_store.proofs.RowLemmas.{same_is, same_itself, ascending_from_pairs}
 use Rattle.cs_store.proofs.DeclarationLemmas.{declarations_apart}
@@ -147,8 +147,8 @@ module _ (records : Records) (listed : List RecordData) (all : ListsAll records 
             (schema, found, d.named, d.is_schema, same)
 
     -- records that were checked are valid
-    pub checked_valid : AllByRecursion (IsGoodRow schemas) listed → records [] [] ≡ Some version → AreValid records
-    checked_valid rows first = record { version_is = first; tables = tables; rows = each }
+    pub checked_valid : AllByRecursion (IsGoodRow schemas) listed → (written : List ℕ) → IsVersion written → records [] [] ≡ Some written → AreValid records
+    checked_valid rows written known first = record { written = written; is_version = known; version_is = first; tables = tables; rows = each }
       where
         tables : (name bytes : List ℕ) → name ≢ [] → records [] name ≡ Some bytes → IsName name × IsDeclaration bytes
         tables name bytes some is = let n = there_noted name bytes some is in (n.2, (n.0, n.3, n.4))
@@ -185,8 +185,8 @@ module _ (records : Records) (listed : List RecordData) (all : ListsAll records 
 
 -- where the rows are found good, the records are valid
 pub checked_all : {X : Type 0} (result : Result X StoreError) (listed : List RecordData) (schemas : Schemas) → AreDeclared listed schemas → OnOk result (AllByRecursion (IsGoodRow schemas) listed)
-    → OnOk result ((records : Records) → ListsAll records listed → records [] [] ≡ Some version → AreValid records)
-checked_all (Ok x) listed schemas declared rows = λ records all first. checked_valid records listed all schemas declared rows first
+    → OnOk result ((records : Records) → ListsAll records listed → (written : List ℕ) → IsVersion written → records [] [] ≡ Some written → AreValid records)
+checked_all (Ok x) listed schemas declared rows = λ records all written known first. checked_valid records listed all schemas declared rows written known first
 checked_all (Err e) listed schemas declared rows = tt
 
 -- where they are not, they are not valid

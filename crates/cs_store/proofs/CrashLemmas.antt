@@ -10,8 +10,8 @@ use Rattle.cs_value.specs.State as tables
 use Rattle.cs_store.specs.declared.fault.StoreError.{StoreError}
 use Rattle.cs_store.specs.Records.{IsUndone, KeepsContent, KeepsCrash}
 use Rattle.cs_store.specs.Stored.{state_of}
-use Rattle.cs_store.specs.Store.{HoldsState, IsSound, IsInside, KeepsStore, Begins, Ends, tables_in}
-use Rattle.cs_store.specs.Crash.{MayLeave, LeavesOnly, CanBegin, IsAtomic}
+use Rattle.cs_store.specs.Store.{HoldsState, HoldsTables, IsSound, IsInside, KeepsStore, Begins, Ends, tables_in}
+use Rattle.cs_store.specs.Crash.{MayLeave, LeavesOnly, LeavesTakenOver, CanBegin, IsAtomic}
 use Rattle.cs_store.specs.Laws.{was_clean, keeps_itself}
 use Rattle.cs_store.proofs.WriteLemmas.{shows_state}
 
@@ -145,6 +145,13 @@ module _ (old begun mid new : State) (last : IsTrue old.is_open → LeavesOnly (
       (unstarted_keeps (CanBegin old) old new _ survives (λ clean trees it.
       let began = begun_as (was_clean begun mid keeps.crash (was_clean mid new commits clean)) in
       record { is_open = began.shown.was_open; autocommit = began.autocommit }))
+
+-- ---- what is left of a database that is taken over, by the law of what holds it
+
+-- its last commit, or a store with the tables that it held
+pub taken_over : {S : Type 0} (g : Ghosts S) → ((s : S) (trees : Trees) → IsTrue (g.view s).is_open → g.recovers s trees → trees ≡ (g.view s).committed) → (old new : Held S)
+    → Survives (state g old) (state g new) (MayLeave (HoldsTables (state g old).now)) → LeavesTakenOver (state g old) (state g new)
+taken_over g settled old new survives is_open clean trees may = elim (survives.crash clean trees may) [ inl was ↦ inl (settled old.store trees is_open was) | inr made ↦ inr made ]
 
 -- ---- what is left of a store, by the law of what holds its database
 

@@ -1,5 +1,5 @@
 -- What a crash left of a store is taken over with its tables.
-use Rattle.std.proofs.Common.{◌≡◌, ◌⊎◌, [], inl, inr, sym, subst, ◌∙◌}
+use Rattle.std.proofs.Common.{◌≡◌, ◌⊎◌, [], inl, inr, refl, sym, subst, ◌∙◌}
 use Rattle.sqlite_schema.specs.declared.schema.Schema.{Schema}
 use Rattle.sqlite_catalog.specs.Listing.{IsSound as IsSoundIn}
 use Rattle.sqlite_catalog.proofs.ReadLemmas.{reads, read_once}
@@ -14,7 +14,7 @@ use Rattle.cs_store.specs.declared.fault.StoreError.{StoreError}
 use Rattle.cs_store.specs.declared.fault.StoreError.TheVariants.{DamagedStore}
 use Rattle.cs_store.specs.Faults.{IsResource}
 use Rattle.cs_store.specs.Records.{HoldsRecords, records_in, records_of}
-use Rattle.cs_store.specs.Stored.{Stores}
+use Rattle.cs_store.specs.Stored.{version, Stores}
 use Rattle.cs_store.specs.Store.{HoldsTables, Adopts, OpensFiles, tables_in}
 use Rattle.cs_store.specs.Crash.{MayLeave, IsLeftOf}
 use Rattle.cs_store.proofs.AdoptionLemmas.{none_there, stored_there}
@@ -35,14 +35,14 @@ left_stored held db is =
     )
 
 left_holds : (held : tables.State) (db : Database) → IsLeftOf held db → HoldsTables db held
-left_holds held db is = inr (left_stored held db is)
+left_holds held db is = let own = left_stored held db is in inr (own.0, (version, inl refl, own.1))
 
 -- and of no others
 left_once : (held other : tables.State) (db : Database) → IsLeftOf held db → HoldsTables db other → other ≡ held
 left_once held other db is there =
     let own = left_stored held db is in
     let some : ¬ (db.trees 0 ≡ []) = λ none. let e = sym (none_there (db.trees 0) none [] []) ∙ own.1.each [] [] in cc in
-    stored_once (records_in db) other held (stored_there db other own.0.schema some there).1 own.1
+    stored_once (records_in db) other held (stored_there db other own.0.schema some there).1.2 own.1
 
 -- so it is adopted with these tables
 pub left_adopts : (held : tables.State) (old new : State) → IsLeftOf held old.now → Adopts old new → tables_in new.now ≡ held

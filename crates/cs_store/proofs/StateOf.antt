@@ -15,7 +15,7 @@ use Rattle.cs_value.proofs.ByteMaps.{same_maps, tied_bytes}
 use Rattle.cs_value.proofs.KeyedRows.{length-IsKeyedRow}
 use Rattle.cs_store.specs.Records.{Records, content, same_bytes, is_under, records_of}
 use Rattle.cs_store.specs.Declaration.{declaration_bytes}
-use Rattle.cs_store.specs.Stored.{Stores, values_at, entries_under, table_in, state_of}
+use Rattle.cs_store.specs.Stored.{StoresIn, values_at, entries_under, table_in, state_of}
 use Rattle.cs_store.proofs.MemoryLemmas.{row_at_found}
 use Rattle.cs_store.proofs.RowLemmas.{same_is}
 use Rattle.cs_store.proofs.StoredReading.{values_again, schema_again, one_schema}
@@ -111,7 +111,7 @@ fitting_read schema key row is fit = ap (λ n. values_at n (row_bytes row)) (is.
 row_read : (table : TableData) (key : List ℕ) (row : List OwnedValue) → IsTable table → get table.rows key ≡ Some row → values_at (length table.schema.columns) (row_bytes row) ≡ Some row
 row_read table key row is found = fitting_read table.schema key row is.schema (is.rows key row found)
 
-module _ (rows : List Row) (state : State) (is : Stores (records_of rows) state) where
+module _ {written : List ℕ} (rows : List Row) (state : State) (is : StoresIn written (records_of rows) state) where
   -- the rows of a table are read
   rows_are : (name : List ℕ) (table : TableData) → get state name ≡ Some table → entries_under (λ key value. values_at (length table.schema.columns) value) name rows ≡ table.rows
   rows_are [] table found = absurd (let none = sym (no_nameless state is.is_state) ∙ found in cc)
@@ -147,7 +147,7 @@ one_spelled spell read None (Some y) p q same = absurd cc
 one_spelled spell read (Some x) None p q same = absurd cc
 one_spelled spell read (Some x) (Some y) p q same = sym (p x refl) ∙ ap (option_and_then read) same ∙ q y refl
 
-module _ (records : Records) (s t : State) (first : Stores records s) (second : Stores records t) where
+module _ {written other : List ℕ} (records : Records) (s t : State) (first : StoresIn written records s) (second : StoresIn other records t) where
   -- two tables with one declaration have the same rows
   same_rows : (name : List ℕ) (a b : TableData) → get s name ≡ Some a → get t name ≡ Some b → declaration_bytes a.schema ≡ declaration_bytes b.schema → a ≡ b
   same_rows [] a b in_s in_t same = absurd (let none = sym (no_nameless s first.is_state) ∙ in_s in cc)

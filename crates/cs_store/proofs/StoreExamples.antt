@@ -1,5 +1,5 @@
 -- A store of two tables, and stores that are damaged, worked as examples.
-use Rattle.std.proofs.Common.{◌≡◌, ℕ, ℤ, pos, Bool, true, false, ◌&&◌, cond, List, [], ◌∷◌, length, Some, None, get_or, unwrap_or, codes, refl, sym, ap, ◌∙◌, subst, arith}
+use Rattle.std.proofs.Common.{◌≡◌, inl, inr, ℕ, ℤ, pos, Bool, true, false, ◌&&◌, cond, List, [], ◌∷◌, length, Some, None, get_or, unwrap_or, codes, refl, sym, ap, ◌∙◌, subst, arith}
 use Rattle.std.specs.Char.{encode_utf8}
 use Rattle.std.specs.Str.{chars, is_utf8}
 use Rattle.std.specs.Option.{option_map}
@@ -21,7 +21,7 @@ use Rattle.cs_value.specs.State.{SchemaData, IsColumnName, IsSchema, TableData, 
 use Rattle.cs_value.proofs.StateLemmas.{empty_table, table_insert, empty_state, state_insert}
 use Rattle.cs_store.specs.Records.{Records, same_bytes, records_of}
 use Rattle.cs_store.specs.Declaration.{declaration_bytes}
-use Rattle.cs_store.specs.Stored.{version, stored_under, Stores, values_at, columns_at, schema_in, state_of}
+use Rattle.cs_store.specs.Stored.{version, former_version, stored_under, StoresIn, StoresInSome, Stores, values_at, columns_at, schema_in, state_of}
 use Rattle.cs_store.specs.Valid.{AreValid}
 use Rattle.cs_store.proofs.Examples.{two_columns, two_columns_is_schema}
 use Rattle.cs_store.proofs.StateOf.{records_first, fitting_read, state_is}
@@ -137,9 +137,12 @@ keyed_row key value = sql_row (pos 4) (codes "t") key value
 abbrev pub rows_with : List ℕ → List ℕ → List ℕ → List ℕ → List Row
 rows_with version declaration key value = version_row version ∷ declaration_row declaration ∷ other_row ∷ keyed_row key value ∷ []
 
--- those of the state
+-- those of the state, in a version, and in that of stores
+abbrev rows_in : List ℕ → List Row
+rows_in written = rows_with written declaration key value
+
 abbrev pub rows : List Row
-rows = rows_with (0x01 ∷ []) declaration key value
+rows = rows_in version
 
 -- a test of bytes may be turned
 turned : {X : Type 0} (s q : List ℕ) (x y : X) → cond (same_bytes s q) x y ≡ cond (same_bytes q s) x y
@@ -162,9 +165,9 @@ rows_of_tables m name =
     at false false = refl
 
 -- the declarations that stand in the rows are those of the tables
-declarations_stored : (b : ℕ) (name : List ℕ) → records_of rows [] (b ∷ name) ≡ stored_under state [] (b ∷ name)
+declarations_stored : (written : List ℕ) (b : ℕ) (name : List ℕ) → records_of (rows_in written) [] (b ∷ name) ≡ stored_under written state [] (b ∷ name)
 unfolding records_of spelling
-declarations_stored b name =
+declarations_stored written b name =
     let n = b ∷ name in
     records_first [] n (declaration_row declaration) (other_row ∷ keyed_row key value ∷ [])
     ∙ ap (cond (same_bytes (codes "t") n) (Some declaration)) (records_first [] n other_row (keyed_row key value ∷ []) ∙ turned (codes "u") n _ _)
@@ -179,9 +182,9 @@ declarations_stored b name =
     at false false = refl
 
 -- and the record of the row is its own
-row_stored : (b : ℕ) (name k : List ℕ) → records_of rows (b ∷ name) k ≡ stored_under state (b ∷ name) k
+row_stored : (written : List ℕ) (b : ℕ) (name k : List ℕ) → records_of (rows_in written) (b ∷ name) k ≡ stored_under written state (b ∷ name) k
 unfolding records_of spelling
-row_stored b name k =
+row_stored written b name k =
     let n = b ∷ name in
     records_first n k (keyed_row key value) []
     ∙ at (same_bytes (codes "t") n) (same_bytes key k)
@@ -205,28 +208,37 @@ row_stored b name k =
     into true = refl
     into false = sym (ap (option_map row_bytes) none)
 
--- the four rows store the state
-pub rows_store : Stores (records_of rows) state
+-- the four rows store the state, in the version that they have
+rows_store_in : (written : List ℕ) → StoresIn written (records_of (rows_in written)) state
 unfolding records_of
-rows_store = record { is_state = state_is_state; each = each }
+rows_store_in written = record { is_state = state_is_state; each = each }
   where
-    each : (name key : List ℕ) → records_of rows name key ≡ stored_under state name key
+    each : (name key : List ℕ) → records_of (rows_in written) name key ≡ stored_under written state name key
     each [] [] = refl
-    each [] (b ∷ name) = declarations_stored b name
-    each (b ∷ name) key = row_stored b name key
+    each [] (b ∷ name) = declarations_stored written b name
+    each (b ∷ name) key = row_stored written b name key
 
--- so they are valid
+pub rows_store : Stores (records_of rows) state
+rows_store = rows_store_in version
+
+-- so they are valid, and those of the former version, whose byte is 1, are too
 rows_are_valid : AreValid (records_of rows)
-rows_are_valid = stores_valid (records_of rows) state rows_store
+rows_are_valid = stores_valid (records_of rows) state (version, inl refl, rows_store)
 
--- and the state is read of them
+former_rows_are_valid : AreValid (records_of (rows_in (0x01 ∷ [])))
+former_rows_are_valid = stores_valid (records_of (rows_in former_version)) state (former_version, inr refl, rows_store_in former_version)
+
+-- and the state is read of them, of both the same
 pub rows_are_read : state_of rows ≡ state
 rows_are_read = state_is rows state rows_store
+
+former_rows_are_read : state_of (rows_in (0x01 ∷ [])) ≡ state
+former_rows_are_read = state_is (rows_in former_version) state (rows_store_in former_version)
 
 -- ---- damaged records: those of the state, but for one change
 
 -- what is not valid stores no state
-pub no_state : (records : Records) → ¬ (AreValid records) → (state : State) → ¬ (Stores records state)
+pub no_state : (records : Records) → ¬ (AreValid records) → (state : State) → ¬ (StoresInSome records state)
 no_state records damaged state is = damaged (stores_valid records state is)
 
 -- bytes under the empty name that are no declaration
@@ -269,7 +281,10 @@ misplaced_row key value row found reads misplaced valid =
 -- the version is 3, which is not known
 other_version_is_damage : ¬ (AreValid (records_of (rows_with (0x03 ∷ []) declaration key value)))
 unfolding records_of
-other_version_is_damage valid = absurd (omega (arith, ap (λ o. get_or (unwrap_or o []) 0 0) valid.version_is))
+other_version_is_damage valid = elim valid.is_version [
+  | inl is ↦ absurd (omega (arith, ap (λ o. get_or (unwrap_or o []) 0 0) (valid.version_is ∙ ap Some is)))
+  | inr is ↦ absurd (omega (arith, ap (λ o. get_or (unwrap_or o []) 0 0) (valid.version_is ∙ ap Some is)))
+]
 
 -- the declaration of t has a byte more behind its columns
 long_declaration_is_damage : ¬ (AreValid (records_of (rows_with version (0x02 ∷ 0x01 ∷ 0x01 ∷ 0x61 ∷ 0x00 ∷ 0x01 ∷ 0x62 ∷ 0x00 ∷ []) key value)))

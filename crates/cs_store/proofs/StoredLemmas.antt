@@ -13,7 +13,7 @@ use Rattle.cs_value.proofs.StateLemmas.{empty_table, table_insert, table_remove,
 use Rattle.cs_store.specs.Rows.{IsDeclared, Fits}
 use Rattle.cs_store.specs.Records.{Records, same_bytes, changed}
 use Rattle.cs_store.specs.Declaration.{declaration_bytes}
-use Rattle.cs_store.specs.Stored.{version, stored_under, Stores}
+use Rattle.cs_store.specs.Stored.{version, stored_under, StoresIn, Stores}
 use Rattle.cs_store.proofs.MemoryLemmas.{with_rows_found, rows_at_found, rows_at_absent}
 use Rattle.cs_store.proofs.RowLemmas.{same_is}
 
@@ -71,7 +71,7 @@ rows_change new records state (n ∷ name) key table rows here is found fit put 
         ∙ sym (ap (option_map row_bytes) (put k ∙ ap (λ c. cond c here (get table.rows k)) f))
     rows_read t k false c e f = refl
 
-    at : (t k : List ℕ) → new t k ≡ stored_under (insert state (n ∷ name) (record table { rows = rows })) t k
+    at : (t k : List ℕ) → new t k ≡ stored_under version (insert state (n ∷ name) (record table { rows = rows })) t k
     at [] [] = change [] [] ∙ is.each [] []
     at [] (b ∷ q) = change [] (b ∷ q) ∙ is.each [] (b ∷ q) ∙ sym (declarations_kept state (n ∷ name) table rows (b ∷ q) found)
     at (b ∷ q) k =
@@ -120,7 +120,7 @@ stores_table new records state (n ∷ name) schema is named fit absent change = 
     rows_read t true e = rows_at_absent state t (ap (get state) (same_is t (n ∷ name) e) ∙ absent)
     rows_read t false e = refl
 
-    at : (t k : List ℕ) → new t k ≡ stored_under (with_table state (n ∷ name) schema) t k
+    at : (t k : List ℕ) → new t k ≡ stored_under version (with_table state (n ∷ name) schema) t k
     at [] [] = change [] [] ∙ is.each [] []
     at [] (b ∷ q) =
         change [] (b ∷ q)
@@ -139,7 +139,7 @@ stores_nothing new records nothing change = record { is_state = empty_state; eac
     no_table : (name : List ℕ) → get (empty {X = TableData} {R = slice_cmp nat_cmp}) name ≡ None
     no_table = get-empty (slice_cmp nat_cmp)
 
-    at : (t k : List ℕ) → new t k ≡ stored_under empty t k
+    at : (t k : List ℕ) → new t k ≡ stored_under version empty t k
     at [] [] = change [] []
     at [] (b ∷ q) = change [] (b ∷ q) ∙ nothing [] (b ∷ q) ∙ sym (ap spelled (no_table (b ∷ q)))
     at (b ∷ q) k =
@@ -150,11 +150,11 @@ stores_nothing new records nothing change = record { is_state = empty_state; eac
 -- ---- what is read
 
 -- under the empty name stands the declaration of each table
-pub declaration_stored : (records : Records) (state : State) (name : List ℕ) → Stores records state → name ≢ [] → records [] name ≡ option_map (λ t. declaration_bytes t.schema) (get state name)
+pub declaration_stored : {written : List ℕ} (records : Records) (state : State) (name : List ℕ) → StoresIn written records state → name ≢ [] → records [] name ≡ option_map (λ t. declaration_bytes t.schema) (get state name)
 declaration_stored records state [] is some = absurd (some refl)
 declaration_stored records state (b ∷ name) is some = is.each [] (b ∷ name)
 
 -- under the name of a table stands each of its rows
-pub row_stored : (records : Records) (state : State) (name key : List ℕ) → Stores records state → name ≢ [] → records name key ≡ option_map row_bytes (row_at state name key)
+pub row_stored : {written : List ℕ} (records : Records) (state : State) (name key : List ℕ) → StoresIn written records state → name ≢ [] → records name key ≡ option_map row_bytes (row_at state name key)
 row_stored records state [] key is some = absurd (some refl)
 row_stored records state (b ∷ name) key is some = is.each (b ∷ name) key

@@ -9,7 +9,7 @@ use Rattle.cs_value.specs.Table.{IsName}
 use Rattle.cs_value.specs.State.{SchemaData, IsSchema, TableData, IsRowAt, State, IsNamedTable, IsState, row_at}
 use Rattle.cs_store.specs.Records.{Records, records_of}
 use Rattle.cs_store.specs.Declaration.{declaration_bytes, IsDeclaration}
-use Rattle.cs_store.specs.Stored.{stored_under, Stores, values_at, entries_under, table_in, state_of}
+use Rattle.cs_store.specs.Stored.{stored_under, StoresIn, StoresInSome, values_at, entries_under, table_in, state_of}
 use Rattle.cs_store.specs.Valid.{IsStoredRow, AreValid}
 use Rattle.cs_store.proofs.MemoryLemmas.{row_at_found, row_at_absent}
 use Rattle.cs_store.proofs.StateOf.{get_entries, get_unread, fitting_read}
@@ -18,7 +18,7 @@ use Rattle.cs_store.proofs.StoredReading.{schema_again, one_schema}
 
 -- ---- of a state
 
-module _ (records : Records) (state : State) (is : Stores records state) where
+module _ {written : List ℕ} (records : Records) (state : State) (is : StoresIn written records state) where
   -- under the empty name stand declarations, under names
   table_valid : (name bytes : List ℕ) → name ≢ [] → records [] name ≡ Some bytes → IsName name × IsDeclaration bytes
   table_valid name bytes some found = at (get state name) refl (sym (declaration_stored records state name is some) ∙ found)
@@ -49,9 +49,10 @@ module _ (records : Records) (state : State) (is : Stores records state) where
       at (Some table) there =
           of_table table (get table.rows key) there refl (ap (option_map row_bytes) (sym (row_at_found state name key table there)) ∙ sym (row_stored records state name key is some) ∙ found)
 
--- the records of a state are valid
-pub stores_valid : (records : Records) (state : State) → Stores records state → AreValid records
-stores_valid records state is = record { version_is = is.each [] []; tables = table_valid records state is; rows = row_valid records state is }
+-- the records of a state are valid, in each version that is read
+pub stores_valid : (records : Records) (state : State) → StoresInSome records state → AreValid records
+stores_valid records state (written, known, is) =
+    record { written = written; is_version = known; version_is = is.each [] []; tables = table_valid records state is; rows = row_valid records state is }
 
 -- ---- what is read
 
@@ -159,11 +160,11 @@ module _ (rows : List Row) (valid : AreValid (records_of rows)) where
       at (Some table) there = (table_read b name table there).each key ∙ sym (ap (option_map row_bytes) (row_at_found (state_of rows) (b ∷ name) key table there))
 
   -- each record is stored of the state that is read
-  each_stored : (name key : List ℕ) → records_of rows name key ≡ stored_under (state_of rows) name key
+  each_stored : (name key : List ℕ) → records_of rows name key ≡ stored_under valid.written (state_of rows) name key
   each_stored [] [] = valid.version_is
   each_stored [] (b ∷ name) = table_declared b name
   each_stored (b ∷ name) key = rows_stored b name key
 
--- valid rows store the state that is read of them
-pub valid_stores : (rows : List Row) → AreValid (records_of rows) → Stores (records_of rows) (state_of rows)
+-- valid rows store the state that is read of them, in their version
+pub valid_stores : (rows : List Row) (valid : AreValid (records_of rows)) → StoresIn valid.written (records_of rows) (state_of rows)
 valid_stores rows valid = record { is_state = is_state_of rows valid; each = each_stored rows valid }

@@ -7,7 +7,7 @@ use Rattle.sqlite.specs.State.{State, HasCleanDisk, Survives}
 use Rattle.cs_value.specs.State as tables
 use Rattle.cs_store.specs.Records.{KeepsCrash}
 use Rattle.cs_store.specs.Stored.{state_of}
-use Rattle.cs_store.specs.Store.{HoldsState, tables_in}
+use Rattle.cs_store.specs.Store.{HoldsState, HoldsTables, tables_in}
 
 -- with the schema of a store, which is that of its one table of records, the trees are those of a state: so they are taken
 -- over as a store, with its tables, and of these tables this holds
@@ -32,6 +32,12 @@ pub record IsAtomic (Starts : State → Type 0) (Commits : tables.State → Type
   pub survives : Survives old new (MayLeave Commits)
   pub opened : IsTrue old.is_open → LeavesOnly (λ left. (left ≡ tables_in old.committed) ⊎ Commits left) new
   pub unstarted : ¬ Starts old → KeepsCrash old new
+
+-- what a crash leaves of an open database that is to be taken over as a store: the last commit as it was, or a store of this
+-- version with the tables that the database held; so the last commit alone, where it held none
+abbrev pub LeavesTakenOver : State → State → Type 0
+LeavesTakenOver old new = IsTrue old.is_open → HasCleanDisk new → (trees : Trees) → new.may_leave trees
+    → (trees ≡ old.committed.trees) ⊎ MayLeave (HoldsTables old.now) trees
 
 -- the database is what a crash left of these tables, as an open finds it
 pub record IsLeftOf (held : tables.State) (db : Database) : Type 0 where

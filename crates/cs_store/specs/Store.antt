@@ -21,7 +21,7 @@ use Rattle.sqlite.specs.State.{State, HasCleanDisk, Shows, KeepsCommit}
 use Rattle.cs_store.specs.declared.fault.StoreError.{StoreError}
 use Rattle.cs_store.specs.Faults.{IsResource}
 use Rattle.cs_store.specs.Records.{HoldsRecords, records_in, GoesOn, KeepsContent, KeepsCrash, empty_schema}
-use Rattle.cs_store.specs.Stored.{Stores, state_of}
+use Rattle.cs_store.specs.Stored.{Stores, StoresInSome, state_of}
 
 -- the state that a database's records stand for
 abbrev pub tables_in : Database → tables.State
@@ -36,9 +36,10 @@ pub record HoldsState (db : Database) : Type 0 where
 abbrev pub IsVacant : Database → Type 0
 IsVacant db = (db.schema ≡ empty_schema) ⊎ (HoldsRecords db × (db.trees 0 ≡ []))
 
--- the tables that a database holds: none where no record is there yet, else those that its records stand for
+-- the tables that a database holds: none where no record is there yet, else those that its records stand for, in this
+-- version or in the former one
 abbrev pub HoldsTables : Database → tables.State → Type 0
-HoldsTables db held = (IsVacant db × (held ≡ map.empty)) ⊎ (HoldsRecords db × Stores (records_in db) held)
+HoldsTables db held = (IsVacant db × (held ≡ map.empty)) ⊎ (HoldsRecords db × StoresInSome (records_in db) held)
 
 -- while the connection is open, it shows a state, and a state was committed last, which it shows outside a transaction
 pub record IsStore (s : State) : Type 0 where

@@ -1,6 +1,6 @@
 -- What the records of a store are: one for the version of the format, one for each table, one for each row. This
 -- project's own.
-use Rattle.std.specs.Prelude.{◌≡◌, ℕ, zero, suc, if◌then◌else◌, List, [], ◌∷◌, length}
+use Rattle.std.specs.Prelude.{◌≡◌, ◌⊎◌, ℕ, zero, suc, if◌then◌else◌, List, [], ◌∷◌, length}
 use Rattle.std.specs.Prelude.{take, drop, Option, Some, None, option_map, Result, Ok, Err}
 use Rattle.std.specs.Option.{option_to_list}
 use Rattle.std.specs.List.{flat_map}
@@ -14,26 +14,47 @@ use Rattle.cs_value.specs.Spelling.{row_bytes}
 use Rattle.cs_value.specs.Maps.{ByBytes}
 use Rattle.cs_value.specs.Reading.{number_at, field_at}
 use Rattle.cs_value.specs.State.{SchemaData, TableData, State, IsState, row_at}
+use Rattle.cs_store.specs.declared.version.Version.{Version}
+use Rattle.cs_store.specs.declared.version.Version.TheVariants.{Current, Former}
 use Rattle.cs_store.specs.Records.{Records, content, same_bytes}
 use Rattle.cs_store.specs.Declaration.{declaration_bytes}
 
 -- ---- what is stored of a state
 
--- the version of this format
+-- the version that stores are written in, and the former one, which differs in nothing else
 abbrev pub version : List ℕ
-version = 1 ∷ []
+version = 2 ∷ []
+
+abbrev pub former_version : List ℕ
+former_version = 1 ∷ []
+
+-- a version that is read
+abbrev pub IsVersion : List ℕ → Type 0
+IsVersion bytes = (bytes ≡ version) ⊎ (bytes ≡ former_version)
+
+abbrev pub bytes_of : Version → List ℕ
+bytes_of Current = version
+bytes_of Former = former_version
 
 -- under the empty name the version, and the declaration of each table under its name; under the name of a table each
 -- of its rows, under its key
-abbrev pub stored_under : State → Records
-stored_under state [] [] = Some version
-stored_under state [] (b ∷ name) = option_map (λ t. declaration_bytes t.schema) (map.get state (b ∷ name))
-stored_under state (b ∷ name) key = option_map row_bytes (row_at state (b ∷ name) key)
+abbrev pub stored_under : List ℕ → State → Records
+stored_under written state [] [] = Some written
+stored_under written state [] (b ∷ name) = option_map (λ t. declaration_bytes t.schema) (map.get state (b ∷ name))
+stored_under written state (b ∷ name) key = option_map row_bytes (row_at state (b ∷ name) key)
 
--- the records are those of the state
-pub record Stores (records : Records) (state : State) : Type 0 where
+-- the records are those of the state, written in this version
+pub record StoresIn (written : List ℕ) (records : Records) (state : State) : Type 0 where
   pub is_state : IsState state
-  pub each : (name key : List ℕ) → records name key ≡ stored_under state name key
+  pub each : (name key : List ℕ) → records name key ≡ stored_under written state name key
+
+-- in that of stores
+abbrev pub Stores : Records → State → Type 0
+Stores = StoresIn version
+
+-- in one that is read
+abbrev pub StoresInSome : Records → State → Type 0
+StoresInSome records state = (written : List ℕ) × IsVersion written × StoresIn written records state
 
 -- ---- what state is stored: read from the rows of the table of records, where these are those of a state
 

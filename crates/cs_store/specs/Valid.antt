@@ -9,7 +9,7 @@ use Rattle.cs_value.specs.Table.{IsName}
 use Rattle.cs_value.specs.State.{SchemaData, IsSchema, IsRowAt}
 use Rattle.cs_store.specs.Records.{Records, RecordData}
 use Rattle.cs_store.specs.Declaration.{declaration_bytes, IsDeclaration}
-use Rattle.cs_store.specs.Stored.{version}
+use Rattle.cs_store.specs.Stored.{IsVersion}
 
 -- a row of a declared table, under its own key
 pub record IsStoredRow (records : Records) (name key value : List ℕ) : Type 0 where
@@ -20,10 +20,12 @@ pub record IsStoredRow (records : Records) (name key value : List ℕ) : Type 0 
   pub fits : IsRowAt schema.flags key row
   pub spelled : value ≡ row_bytes row
 
--- the version stands under two empty texts, a declaration under each other key of the empty name, and under each other
--- name the rows of a declared table
+-- a version that is read stands under two empty texts, a declaration under each other key of the empty name, and under
+-- each other name the rows of a declared table
 pub record AreValid (records : Records) : Type 0 where
-  pub version_is : records [] [] ≡ Some version
+  pub written : List ℕ
+  pub is_version : IsVersion written
+  pub version_is : records [] [] ≡ Some written
   pub tables : (name bytes : List ℕ) → name ≢ [] → records [] name ≡ Some bytes → IsName name × IsDeclaration bytes
   pub rows : (name key value : List ℕ) → name ≢ [] → records name key ≡ Some value → IsStoredRow records name key value
 

@@ -1,5 +1,5 @@
 //! How a database is taken over as a store.
-ghost use Rattle.std.specs.Prelude.{◌≡◌, ◌⊎◌, [], IfErr, OnOk, OnErr};
+ghost use Rattle.std.specs.Prelude.{◌≡◌, ◌⊎◌, [], Some, IfOk, IfErr, OnOk, OnErr};
 ghost use Rattle.cs_value.specs.State as tables;
 ghost use Rattle.sqlite.specs.State.{HasCleanDisk, KeepsCommit, IsUnchanged, Survives};
 ghost use Rattle.sqlite.specs.Effect.{IsDatabase};
@@ -8,6 +8,7 @@ ghost use Rattle.cs_store.specs.declared.fault.StoreError.TheVariants.{DamagedSt
 ghost use Rattle.cs_store.specs.Faults.{IsResource, IsReadRefusal};
 ghost use Rattle.cs_store.specs.Records.{HoldsRecords, ListsAll, KeepsContent, record_schema, empty_schema};
 ghost use Rattle.cs_store.specs.Records.{records_in, KeepsCrash};
+ghost use Rattle.cs_store.specs.Stored.{bytes_of};
 ghost use Rattle.cs_store.specs.Valid.{AreValid};
 ghost use Rattle.cs_store.specs.Crash.{MayLeave};
 ghost use Rattle.cs_store.specs.Store.{Adopts, HoldsTables, SetsUp, IsInside};
@@ -17,11 +18,9 @@ use crate::fault::StoreError;
 use crate::layout::{declares_nothing, declares_records, misdeclares_records};
 use crate::records::{Record, all_records, find_record, has_row_numbers, make_table, put_record};
 use crate::transactions;
+use crate::version::{VERSION, Version, version_of};
 use sqlite::{Alter, Connection};
 use std::alloc::Global;
-
-/// The version of the records of a store.
-const VERSION: &[u8] = &[1];
 
 /// Makes a store where the database holds none yet, and else checks the one there, in one transaction.
 /// Where it is refused, the database is as it was.
@@ -86,11 +85,11 @@ fn make_store<S: Alter>(conn: &mut Connection<S>) -> Result<(), StoreError>
     write_version(conn)
 }
 
-/// Writes the version, where there is no record yet.
+/// Writes the version of stores, where there is no record yet, or where the records are valid.
 fn write_version<S: Alter>(conn: &mut Connection<S>) -> Result<(), StoreError>
     requires inside { HasCleanDisk (state S.Store conn.old) → IsInside (state S.Store conn.old) }
-    requires empty { HasCleanDisk (state S.Store conn.old)
-        → HoldsRecords (state S.Store conn.old).now × ((state S.Store conn.old).now.trees 0 ≡ []) }
+    requires records { HasCleanDisk (state S.Store conn.old) → HoldsRecords (state S.Store conn.old).now
+        × (((state S.Store conn.old).now.trees 0 ≡ []) ⊎ AreValid (records_in (state S.Store conn.old).now)) }
     ensures set_up { HasCleanDisk (state S.Store conn.new)
         → OnOk result (SetsUp (state S.Store conn.old) (state S.Store conn.new)) }
     ensures refused { IfErr result IsResource }
@@ -138,21 +137,67 @@ fn check_numbered<S: Alter>(conn: &mut Connection<S>, alloc: Global) -> Result<(
 {
     match all_records(conn, alloc) {
         Ok(listed) if listed.is_empty() => write_version(conn),
-        Ok(listed) => check_listed(conn, alloc, &listed),
+        Ok(listed) => take_over(conn, alloc, &listed),
         Err(error) => Err(error),
     }
 }
 
-/// Checks these records, which are all that there are.
-fn check_listed<S: Alter>(
+/// Checks these records, which are all that there are, and brings them to the version of stores where they are of the
+/// former one.
+fn take_over<S: Alter>(
     conn: &mut Connection<S>,
     alloc: Global,
     listed: &[Record],
 ) -> Result<(), StoreError>
+    requires inside { HasCleanDisk (state S.Store conn.old) → IsInside (state S.Store conn.old) }
     requires records { HasCleanDisk (state S.Store conn.old) → HoldsRecords (state S.Store conn.old).now
         × ListsAll (records_in (state S.Store conn.old).now) listed.now }
-    ensures valid { HasCleanDisk (state S.Store conn.new)
-        → OnOk result (AreValid (records_in (state S.Store conn.old).now)) }
+    ensures set_up { HasCleanDisk (state S.Store conn.new)
+        → OnOk result (SetsUp (state S.Store conn.old) (state S.Store conn.new)) }
+    ensures refused { HasCleanDisk (state S.Store conn.new) → IfErr result (λ e. ((e ≡ Damaged)
+        × (¬ AreValid (records_in (state S.Store conn.old).now))) ⊎ IsResource e) }
+    ensures named { IfErr result IsReadRefusal }
+    ensures commit { HasCleanDisk (state S.Store conn.new)
+        → OnErr result (KeepsCommit (state S.Store conn.old) (state S.Store conn.new)) }
+    ensures survives { KeepsCrash (state S.Store conn.old) (state S.Store conn.new) }
+{
+    match check_listed(conn, alloc, listed) {
+        Ok(Version::Current) => Ok(()),
+        Ok(Version::Former) => write_version(conn),
+        Err(error) => Err(error),
+    }
+}
+
+/// Checks these records, which are all that there are, and answers of which version they are.
+fn check_listed<S: Alter>(
+    conn: &mut Connection<S>,
+    alloc: Global,
+    listed: &[Record],
+) -> Result<Version, StoreError>
+    requires records { HasCleanDisk (state S.Store conn.old) → HoldsRecords (state S.Store conn.old).now
+        × ListsAll (records_in (state S.Store conn.old).now) listed.now }
+    ensures valid { HasCleanDisk (state S.Store conn.new) → IfOk result (λ v.
+        AreValid (records_in (state S.Store conn.old).now)
+        × (records_in (state S.Store conn.old).now [] [] ≡ Some (bytes_of v))) }
+    ensures refused { HasCleanDisk (state S.Store conn.new) → IfErr result (λ e. ((e ≡ Damaged)
+        × (¬ AreValid (records_in (state S.Store conn.old).now))) ⊎ IsResource e) }
+    ensures named { IfErr result IsReadRefusal }
+    ensures reads { HasCleanDisk (state S.Store conn.new)
+        → OnOk result (IsUnchanged (state S.Store conn.old) (state S.Store conn.new)) }
+    ensures commit { HasCleanDisk (state S.Store conn.new)
+        → OnErr result (KeepsCommit (state S.Store conn.old) (state S.Store conn.new)) }
+    ensures survives { KeepsCrash (state S.Store conn.old) (state S.Store conn.new) }
+{
+    let version = read_version(conn)?;
+    check_records(alloc, listed)?;
+    Ok(version)
+}
+
+/// The version of the records.
+fn read_version<S: Alter>(conn: &mut Connection<S>) -> Result<Version, StoreError>
+    requires { HasCleanDisk (state S.Store conn.old) → HoldsRecords (state S.Store conn.old).now }
+    ensures read { HasCleanDisk (state S.Store conn.new) → IfOk result (λ v.
+        records_in (state S.Store conn.old).now [] [] ≡ Some (bytes_of v)) }
     ensures refused { HasCleanDisk (state S.Store conn.new) → IfErr result (λ e. ((e ≡ Damaged)
         × (¬ AreValid (records_in (state S.Store conn.old).now))) ⊎ IsResource e) }
     ensures named { IfErr result IsReadRefusal }
@@ -163,8 +208,8 @@ fn check_listed<S: Alter>(
     ensures survives { KeepsCrash (state S.Store conn.old) (state S.Store conn.new) }
 {
     match find_record(conn, "", b"") {
-        Ok(Some(version)) if version.as_slice() == VERSION => check_records(alloc, listed),
-        Ok(_) => Err(StoreError::DamagedStore),
+        Ok(Some(bytes)) => version_of(bytes.as_slice()).ok_or(StoreError::DamagedStore),
+        Ok(None) => Err(StoreError::DamagedStore),
         Err(error) => Err(error),
     }
 }

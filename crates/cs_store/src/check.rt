@@ -1,13 +1,13 @@
 //! Whether records are those of tables.
 ghost use Rattle.std.specs.Prelude.{◌≡◌, ◌⊎◌, Some, IfOk, IfErr, IfSome, OnOk, MatchOption};
-ghost use Rattle.std.specs.Prelude.{List, [], ◌∷◌, ◌++◌, string_bytes};
+ghost use Rattle.std.specs.Prelude.{ℕ, List, [], ◌∷◌, ◌++◌, string_bytes};
 ghost use Rattle.std.specs.Option.{option_copied};
 ghost use Rattle.std.specs.List.{AllByRecursion};
 ghost use Rattle.std.specs.FinMap as map;
 ghost use Rattle.cs_store.specs.declared.fault.StoreError.TheVariants.{DamagedStore as Damaged};
 ghost use Rattle.cs_store.specs.declared.fault.StoreError.TheVariants.{NoMemory as OutOfMemory};
 ghost use Rattle.cs_store.specs.Records.{Records, RecordData, ListsAll};
-ghost use Rattle.cs_store.specs.Stored.{version};
+ghost use Rattle.cs_store.specs.Stored.{IsVersion};
 ghost use Rattle.cs_store.specs.Valid.{AreValid, AreDeclared, IsTableRecord, DeclaresTable};
 ghost use Rattle.cs_store.specs.Valid.{IsGoodTable, IsGoodRow, IsRowOf};
 ghost use Rattle.cs_value.specs.Table.{IsName};
@@ -70,7 +70,7 @@ impl Schemas {
 /// tables. The version is not looked at.
 pub(crate) fn check_records(alloc: Global, listed: &[Record]) -> Result<(), StoreError>
     ensures valid { OnOk result ((records : Records) → ListsAll records listed.now
-        → records [] [] ≡ Some version → AreValid records) }
+        → (written : List ℕ) → IsVersion written → records [] [] ≡ Some written → AreValid records) }
     ensures refused { IfErr result (λ e. ((e ≡ Damaged)
         × ((records : Records) → ListsAll records listed.now → ¬ AreValid records)) ⊎ (e ≡ OutOfMemory)) }
 {

@@ -13,7 +13,7 @@
 //! carries them out over any rows, and `fault` says why a call is refused.
 //!
 //! A database is taken over as a store by `adoption`: `layout` says what it declares, and `check`
-//! whether its records are those of tables. Below a batch, `known` has the calls on tables and rows,
+//! whether its records are those of tables, in a `version` that is read. Below a batch, `known` has the calls on tables and rows,
 //! which read the schema of a table once, and `tables` what they do with records; `declaration` and
 //! `stored_row` have the bytes of schemas and rows, `records` the statements on the SQL table of
 //! records, and `transactions` those that begin and end a transaction.
@@ -37,6 +37,7 @@ mod store;
 mod stored_row;
 mod tables;
 mod transactions;
+mod version;
 
 pub use batch::SqlBatch;
 pub use edit::{Edit, Written};

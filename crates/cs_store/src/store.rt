@@ -8,7 +8,7 @@ ghost use Rattle.cs_store.specs.declared.fault.StoreError.TheVariants.{DamagedSt
 ghost use Rattle.cs_store.specs.declared.fault.StoreError.TheVariants.{BadSchema as NoSchema, TableExists as TakenName};
 ghost use Rattle.cs_store.specs.Faults.{IsResource, IsReadRefusal, IsEditRefusal};
 ghost use Rattle.cs_store.specs.Editing.{Declares, EditsInto, schema_of, edited, written_of};
-ghost use Rattle.cs_store.specs.Crash.{CanBegin, IsAtomic, IsLeftOf, LeavesOnly, MayLeave};
+ghost use Rattle.cs_store.specs.Crash.{CanBegin, IsAtomic, IsLeftOf, LeavesOnly, LeavesTakenOver, MayLeave};
 ghost use Rattle.cs_store.specs.Records.{KeepsContent, KeepsCrash};
 ghost use Rattle.cs_store.specs.Rows.{IsDeclared, Fits};
 ghost use Rattle.sqlite.specs.Effect.{IsDatabase};
@@ -105,14 +105,15 @@ impl<S: Start> Store<FileStore<FileFrom<S>>> {
 
 impl<S: Alter> Store<S> {
     /// Takes a database over as a store, in one transaction. Where the database declares nothing, or
-    /// its table of records is empty, a new store is made there; else each record is checked.
+    /// its table of records is empty, a new store is made there; else each record is checked, and records of the
+    /// former version are brought to this one, which keeps their tables.
     ///
     /// Refuses with [`DamagedStore`](StoreError::DamagedStore) where the records are not those of
     /// tables, or a table of the name `rec` was declared otherwise, and with
     /// [`StoreFault`](StoreError::StoreFault) where the database has other tables, where a transaction
-    /// is open, and where the database refuses. The connection is handed back as it was. A crash leaves what
-    /// it could leave before, or the store. What a crash left of a store is taken over with its tables, or
-    /// refused for memory or by the database.
+    /// is open, and where the database refuses. The connection is handed back as it was. A crash leaves what was
+    /// committed last, or the store with the tables that the database held. What a crash left of a store is taken over
+    /// with its tables, or refused for memory or by the database.
     pub fn adopt(
         alloc: Global,
         mut conn: Connection<S>,
@@ -130,6 +131,8 @@ impl<S: Alter> Store<S> {
         ensures survives { MatchResult result
             (λ s. Survives (state S.Store conn) (state S.Store s) (MayLeave (HoldsTables (state S.Store conn).now)))
             (λ e. Survives (state S.Store conn) (state S.Store e.1) (MayLeave (HoldsTables (state S.Store conn).now))) }
+        ensures leaves { MatchResult result (λ s. LeavesTakenOver (state S.Store conn) (state S.Store s))
+            (λ e. LeavesTakenOver (state S.Store conn) (state S.Store e.1)) }
     {
         match adoption::adopt(&mut conn, alloc) {
             Ok(()) => Ok(Store { conn, known: None }),

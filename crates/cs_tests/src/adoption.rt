@@ -1,6 +1,6 @@
 //! Databases that are taken over as stores, or handed back.
 
-use crate::stores::fill;
+use crate::stores::{fill, has};
 use cs_store::{Store, StoreError};
 use cs_value::Value;
 use sqlite::{Alter, Connection, Error, FileStore, Leftover, MemStore, Options};
@@ -97,15 +97,37 @@ const DAMAGES: &[&str] = &[
     "UPDATE rec SET rowb = X'010000000000000001023ff0000000000000' WHERE tab = 't'",
     // The version is missing.
     "DELETE FROM rec WHERE tab = '' AND keyb = X''",
+    // A row stands under the name of no table.
+    "INSERT INTO rec VALUES('w', X'010000000000000001', X'0100000000000000010301ff')",
 ];
 
-/// A store with the row (1, 'x') of t, to which that is done.
-fn damaged(rt: &(impl Abort + AllocGlobal), damage: &str) -> Connection<MemStore> {
+/// What brings the records of a store back to the former version.
+pub(crate) const AS_FORMER: &str = "UPDATE rec SET rowb = X'01' WHERE tab = '' AND keyb = X''";
+
+/// The rows of t that these stores have.
+const ROWS: &[[Value<'_>; 2]] = &[[Value::Int(1), Value::Text("x")]];
+
+/// Does something to one record of a database.
+pub(crate) fn change_record<S: Alter>(
+    rt: &(impl Abort + AllocGlobal),
+    conn: &mut Connection<S>,
+    change: &str,
+) {
+    assert!(rt; conn.execute(change, &[]) == Ok(1));
+}
+
+/// A store with the row (1, 'x') of t, as the former version had it.
+fn former(rt: &(impl Abort + AllocGlobal)) -> Connection<MemStore> {
     let mut store = Store::new_memory(rt.alloc()).expect(rt, "a store");
-    fill(rt, &mut store, &[[Value::Int(1), Value::Text("x")]]);
+    fill(rt, &mut store, ROWS);
     let mut conn = store.into_connection();
-    assert!(rt; conn.execute(damage, &[]) == Ok(1));
+    change_record(rt, &mut conn, AS_FORMER);
     conn
+}
+
+/// The store with that row.
+fn current(rt: &(impl Abort + AllocGlobal)) -> Connection<MemStore> {
+    adopted(rt, former(rt)).into_connection()
 }
 
 /// The records of a database, as a text.
@@ -115,12 +137,43 @@ fn records_of<S: Alter>(rt: &(impl Abort + AllocGlobal), conn: &mut Connection<S
     row.get(0).expect(rt, "a text")
 }
 
+/// Whether a database is refused for damage, and its records stay.
+fn is_refused(rt: &(impl Abort + AllocGlobal), mut conn: Connection<MemStore>) -> bool {
+    let records = records_of(rt, &mut conn);
+    let mut conn = handed_back(rt, conn, StoreError::DamagedStore);
+    records_of(rt, &mut conn) == records
+}
+
 #[test]
 fn refuses_damaged_stores(rt: HostRuntime) {
     for (place, damage) in DAMAGES.iter().enumerate() {
-        let mut conn = damaged(&rt, damage);
-        let records = records_of(&rt, &mut conn);
-        let mut conn = handed_back(&rt, conn, StoreError::DamagedStore);
-        assert!(rt; records_of(&rt, &mut conn) == records, "at {place}");
+        let mut conn = current(&rt);
+        change_record(&rt, &mut conn, damage);
+        assert!(rt; is_refused(&rt, conn), "at {place}");
     }
+}
+
+#[test]
+fn refuses_damaged_stores_of_the_former_version(rt: HostRuntime) {
+    for (place, damage) in DAMAGES.iter().enumerate() {
+        let mut conn = former(&rt);
+        change_record(&rt, &mut conn, damage);
+        assert!(rt; is_refused(&rt, conn), "at {place}");
+    }
+}
+
+/// The version of the records of a database, in hexadecimal digits.
+fn version_of(rt: &(impl Abort + AllocGlobal), conn: &mut Connection<MemStore>) -> String {
+    let sql = "SELECT hex(rowb) FROM rec WHERE tab = '' AND keyb = X''";
+    let row = conn.query_row(sql, &[]).expect(rt, "a row");
+    row.get(0).expect(rt, "a text")
+}
+
+#[test]
+fn brings_a_store_of_the_former_version_to_this_one(rt: HostRuntime) {
+    let mut conn = former(&rt);
+    assert!(rt; version_of(&rt, &mut conn) == "01");
+    let mut store = adopted(&rt, conn);
+    assert!(rt; has(&rt, &mut store, (&["t"], ROWS)));
+    assert!(rt; version_of(&rt, &mut store.into_connection()) == "02");
 }

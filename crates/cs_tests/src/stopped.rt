@@ -2,7 +2,7 @@
 //!
 //! The tables t and u of these tests have the columns a and b, of which a is the key.
 
-use crate::adoption::{open, opened};
+use crate::adoption::{AS_FORMER, change_record, open, opened};
 use crate::apply::INSERT_DELETE;
 use crate::fused::{copy_of, fused, new_files};
 use crate::session::{edited, number, session_alone, session_of};
@@ -48,6 +48,9 @@ const CASES: &[Case] = &[
     (Action::ApplyInSession, FIRST, SECOND),
     (Action::Undo, SECOND, FIRST),
 ];
+
+/// A store is opened, and no more.
+const OPENING: Case = (Action::Nothing, FIRST, FIRST);
 
 /// The edit by which t gets the second row in place of the first.
 const MOVE: Call = Call::Update("t", 1, &[Value::Int(2), Value::Text("q")]);
@@ -177,12 +180,17 @@ fn is_carried_out(rt: &(impl Abort + AllocGlobal), files: Files<Fuse<Memory>>, c
     is_done
 }
 
-/// How many calls the log, or else the database, has to answer so that a call is carried out. It stops behind so many, and
-/// behind each number from there on.
-fn count_calls(rt: &(impl Abort + AllocGlobal), case: Case, is_log: bool, least: u64) -> u64 {
-    let files = files_of(rt, case.1.1);
+/// How many calls the log, or else the database, has to answer so that a call is carried out on a store in files. It stops
+/// behind so many, and behind each number from there on.
+fn count_calls(
+    rt: &(impl Abort + AllocGlobal),
+    files: &Files<Memory>,
+    case: Case,
+    is_log: bool,
+    least: u64,
+) -> u64 {
     for calls in least..1000 {
-        if is_carried_out(rt, fused(rt, &files, is_log, calls), case) {
+        if is_carried_out(rt, fused(rt, files, is_log, calls), case) {
             return calls;
         }
     }
@@ -192,12 +200,32 @@ fn count_calls(rt: &(impl Abort + AllocGlobal), case: Case, is_log: bool, least:
 /// Asserts that each stop of the log, or else of the database, leaves a store: those as it is opened, and then those of each
 /// call.
 fn expect_stores(rt: &(impl Abort + AllocGlobal), is_log: bool) {
-    let opening = count_calls(rt, (Action::Nothing, FIRST, FIRST), is_log, 0);
+    let opening = count_calls(rt, &files_of(rt, FIRST.1), OPENING, is_log, 0);
     for (place, case) in CASES.iter().enumerate() {
+        let files = files_of(rt, case.1.1);
         assert!(rt;
-            count_calls(rt, *case, is_log, opening) > opening,
+            count_calls(rt, &files, *case, is_log, opening) > opening,
             "at {place}"
         );
+    }
+}
+
+/// The files of a store with the first state, as the former version had it.
+fn former_files(rt: &(impl Abort + AllocGlobal)) -> Files<Memory> {
+    match open(rt, files_of(rt, FIRST.1)) {
+        Ok(mut conn) => {
+            change_record(rt, &mut conn, AS_FORMER);
+            conn.into_store().close()
+        }
+        Err((error, _)) => panic!(rt; "no database: {error}"),
+    }
+}
+
+#[test]
+fn a_disk_that_stops_leaves_a_store_of_either_version(rt: HostRuntime) {
+    let files = former_files(&rt);
+    for is_log in [true, false] {
+        let _calls = count_calls(&rt, &files, OPENING, is_log, 0);
     }
 }
 

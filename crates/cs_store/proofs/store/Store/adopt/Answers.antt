@@ -1,5 +1,6 @@
--- `store::Store::adopt`: the clause `recovers`.
+-- `store::Store::adopt`: the clauses `recovers` and `leaves`.
 use Rattle.sqlite.specs.Held.{state}
+use Rattle.cs_store.proofs.CrashLemmas.{taken_over}
 use Rattle.cs_store.proofs.LeftLemmas.{left_adopts, left_refused}
 use Rattle.cs_store.proofs.store.Store.adopt.Goals as goal
 
@@ -8,3 +9,9 @@ returns-in-Ok-clause-recovers g c held left clean = left_adopts held (state g.S.
 
 pub returns-in-Err-clause-recovers : goal.returns-in-Err-clause-recovers
 returns-in-Err-clause-recovers g c held left clean = left_refused held (state g.S.Store c.args.conn).now c.in-Err.error left (c.in-Err.ensures.refused clean)
+
+pub returns-in-Ok-clause-leaves : goal.returns-in-Ok-clause-leaves
+returns-in-Ok-clause-leaves g c = taken_over g.S.Store g.met.S.Store.settled c.args.conn c.adopt.new.conn c.adopt.ensures.survives
+
+pub returns-in-Err-clause-leaves : goal.returns-in-Err-clause-leaves
+returns-in-Err-clause-leaves g c = taken_over g.S.Store g.met.S.Store.settled c.args.conn c.adopt.new.conn c.adopt.ensures.survives
