@@ -350,11 +350,11 @@ def opened_again(shell):
 
 
 class Run:
-    """A run on the store in a folder: the files that it finds, its words and its script, what the model has, and the versions
-    in which the store may be left."""
+    """A run on the store in a folder: the files that it finds, its words and its script, what the model has, and the
+    version of the store that it finds."""
 
-    def __init__(self, files, words, stdin, story, versions=(VERSION,)):
-        self.files, self.words, self.stdin, self.story, self.versions = files, words, stdin, story, versions
+    def __init__(self, files, words, stdin, story, version=VERSION):
+        self.files, self.words, self.stdin, self.story, self.version = files, words, stdin, story, version
         names = sorted({name for shell in story.shells for name in tables_of(shell)} - {"next"})
         quoted = [name.replace('"', '""') for name in names]
         self.behind = [f'SELECT * FROM "{name}";' for name in quoted] + GOING_ON
@@ -373,8 +373,9 @@ class Run:
     def why_not(self, files, printed, opens):
         """Why a cut may not leave these files where so much is printed, or nothing; the program opens them, or not."""
         shells = self.story.may_stand(printed)
-        tables = found_by_sqlite(files, self.versions)
-        if tables not in map(tables_of, shells):
+        tables = found_by_sqlite(files)
+        as_found = self.version != VERSION and found_by_sqlite(files, self.version) == tables_of(self.story.shells[0])
+        if tables not in map(tables_of, shells) and not as_found:
             return f"SQLite finds {tables!r:.2000}"
         if not opens:
             return ""
@@ -387,18 +388,18 @@ class Run:
         """The run of the program that opens files and goes on, for each way in which it may."""
         script = MarkedScript(self.behind)
         behind = [self.going_on(shell) for shell in self.story.may_stand(printed)]
-        return [Run(files, script.words, script.stdin, story, self.versions) for story in behind]
+        return [Run(files, script.words, script.stdin, story, self.version) for story in behind]
 
 
-def found_by_sqlite(files, versions=(VERSION,)):
-    """The tables that SQLite finds, which has to find the file whole, and its records in one of these versions. There are
-    none where it is no database yet."""
+def found_by_sqlite(files, version=VERSION):
+    """The tables that SQLite finds, which has to find the file whole, and its records in this version. There are none
+    where it is no database yet."""
     with tempfile.TemporaryDirectory() as folder:
         make_files(folder, files)
         store = os.path.join(folder, "store")
         try:
             if is_store(store):
-                return shown_store(read_store(store, versions))
+                return shown_store(read_store(store, version))
             with contextlib.closing(sqlite3.connect(store)) as base:
                 expect_whole(base)
             return {}
@@ -421,7 +422,7 @@ def apply_run(words, version=VERSION):
     story = Story(made, [" ".join([".apply a", *map("=".join, choices)])])
     if story.shells[-1].is_refused:
         story.answers = [""]
-    return Run({**found_by(words, version), file: CHANGESETS[file]}, words, b"", story, (VERSION, version))
+    return Run({**found_by(words, version), file: CHANGESETS[file]}, words, b"", story, version)
 
 
 def found_by(words, version=VERSION):

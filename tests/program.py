@@ -21,8 +21,8 @@ import time
 import unittest
 
 from stores import (
-    FORMER, RECORDS, UNDEFINED, VERSION, Table, count_changes, delete, header, insert, literal, read_changeset, read_records,
-    read_store, records_of, run_schema, run_sql, run_statements, shown, shown_rows, update, write_store,
+    FORMER, RECORDS, UNDEFINED, VERSION, Table, count_changes, delete, header, insert, literal, read_changeset,
+    read_records, read_store, records_of, run_schema, run_sql, run_statements, shown, shown_rows, update, write_store,
 )
 
 HERE = pathlib.Path(__file__).resolve().parent
@@ -662,14 +662,14 @@ ROW = ("t", KEY, KEY + b"\x03\x01x")
 # Records that are those of no tables, and what is wrong with them.
 DAMAGED = (
     ("no declaration", [VERSION, ROW]),
-    ("another version", [("", b"", b"\x03")]),
+    *((f"the version {version.hex()}", [("", b"", version)]) for version in (b"", b"\0", b"\3", b"\1\0", b"\2\0", b"\2\1")),
     ("no version", [TABLE]),
     ("a byte too many behind a declaration", [VERSION, ("", b"t", b"\x02\x01\x01a\x00\x01b\x00")]),
     ("a byte too few of a declaration", [VERSION, ("", b"t", b"\x02\x01\x01a\x00\x01")]),
     ("a long count of columns", [VERSION, ("", b"t", b"\x80\x02\x01\x01a\x00\x01b")]),
     ("no column", [VERSION, ("", b"t", b"\x00")]),
     ("no key column", [VERSION, ("", b"t", b"\x02\x00\x01a\x00\x01b")]),
-    ("another byte for a column", [VERSION, ("", b"t", b"\x02\x02\x01a\x00\x01b")]),
+    ("a byte that no column has", [VERSION, ("", b"t", b"\x02\x01\x01a\x02\x01b")]),
     ("a column twice", [VERSION, ("", b"t", b"\x02\x01\x01a\x00\x01a")]),
     ("a column without a name", [VERSION, ("", b"t", b"\x02\x01\x01a\x00\x00")]),
     ("a column's name that is not UTF-8", [VERSION, ("", b"t", b"\x02\x01\x01a\x00\x01\xff")]),
@@ -893,10 +893,10 @@ class Stores(StoreTest):
         for what, records in DAMAGED:
             for version in (VERSION, FORMER):
                 with self.case(what=what, version=version):
-                    records = [version if record == VERSION else record for record in records]
-                    run_sql(self.folder / "store", RECORDS, records=records)
+                    written = [version if record == VERSION else record for record in records]
+                    run_sql(self.folder / "store", RECORDS, records=written)
                     self.assertEqual(self.apply(INSERT), (1, "", DAMAGED_STORE))
-                    self.assertEqual(read_records(self.folder / "store"), sorted(records))
+                    self.assertEqual(read_records(self.folder / "store"), sorted(written))
 
     def test_stores_of_the_former_version(self):
         """They are opened with their tables, and are of this version from then on; what else they hold stays."""

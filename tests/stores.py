@@ -196,15 +196,15 @@ def read_declaration(data):
     return Table(tuple(columns), tuple(keys), [])
 
 
-def read_store(path, versions=(VERSION,)):
-    """The tables of a store, with their rows by the bytes of their keys. Every record has to be as it is defined in one of
-    these versions."""
+def read_store(path, version=VERSION):
+    """The tables of a store, with their rows by the bytes of their keys. Every record has to be as it is defined in this
+    version."""
     records = read_records(path)
     tables = {key.decode(): read_declaration(value) for name, key, value in records if name == "" and key}
     for name, _, value in records:
         if name:
             tables[name].rows.append(read_row(value))
-    assert sorted(records) in [sorted(records_of(tables, version)) for version in versions], records
+    assert sorted(records) == sorted(records_of(tables, version)), records
     return tables
 
 

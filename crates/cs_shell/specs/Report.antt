@@ -24,13 +24,17 @@ unfoldable pub met_text : MetData → List ℕ
 met_text met = codes "conflict " ++ decimal (kind_number met.conflict.kind) ++ codes " " ++ kind_text met.conflict.kind
     ++ codes " " ++ choice_text met.choice ++ codes " " ++ quoted 39 met.conflict.table ++ codes "\n"
 
+-- a line with a count behind a word
+abbrev pub counted_text : List ℕ → ℕ → List ℕ
+counted_text word count = word ++ decimal count ++ codes "\n"
+
 -- how many entries were ignored, where some were
 unfoldable pub ignored_text : ℕ → List ℕ
 ignored_text zero = []
-ignored_text (suc count) = codes "ignored " ++ decimal (suc count) ++ codes "\n"
+ignored_text (suc count) = counted_text (codes "ignored ") (suc count)
 
 unfoldable pub count_text : ℕ → List ℕ
-count_text count = codes "applied " ++ decimal count ++ codes "\n"
+count_text count = counted_text (codes "applied ") count
 
 -- what is told of an apply: the tables that were passed over, the conflicts with what was chosen for them, and how many
 -- entries were ignored and how many carried out

@@ -5,7 +5,7 @@ ghost use Rattle.cs_apply.specs.Report.{met_of};
 ghost use Rattle.cs_files.specs.Calls.{Writes};
 ghost use Rattle.cs_files.specs.Gathering.{Gathers};
 ghost use Rattle.cs_shell.specs.Report.{kind_number as number_of};
-ghost use Rattle.cs_shell.specs.Report.{skip_text, met_text, ignored_text, count_text, report_of};
+ghost use Rattle.cs_shell.specs.Report.{skip_text, met_text, counted_text, ignored_text, count_text, report_of};
 
 use cs_apply::{Kind, Met, Report};
 use cs_files::{Gather, OutputFault, Piece, Told, add_pieces};
@@ -108,15 +108,7 @@ fn add_ignored<W: Write>(
     if count == 0 {
         return Ok(());
     }
-    add_pieces(
-        gather,
-        out,
-        &[
-            Piece::Bytes(b"ignored "),
-            Piece::Number(count),
-            Piece::Bytes(b"\n"),
-        ],
-    )
+    add_counted(gather, out, b"ignored ", count)
 }
 
 /// Adds the line with the count of the entries that were carried out.
@@ -128,11 +120,23 @@ fn add_count<W: Write>(
 ) -> Result<(), OutputFault>
     ensures { Gathers W.contents result gather.old gather.new out.old out.new (count_text count) }
 {
+    add_counted(gather, out, b"applied ", count)
+}
+
+/// Adds a line with a count behind a word.
+fn add_counted<W: Write>(
+    gather: &mut Gather,
+    out: &mut Told<W>,
+    word: &[u8],
+    count: usize,
+) -> Result<(), OutputFault>
+    ensures { Gathers W.contents result gather.old gather.new out.old out.new (counted_text word.now count) }
+{
     add_pieces(
         gather,
         out,
         &[
-            Piece::Bytes(b"applied "),
+            Piece::Bytes(word),
             Piece::Number(count),
             Piece::Bytes(b"\n"),
         ],

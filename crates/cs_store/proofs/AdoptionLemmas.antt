@@ -16,7 +16,8 @@ use Rattle.cs_store.specs.Faults.{IsResource}
 use Rattle.cs_store.specs.Records.{RecordData, HoldsRecords, ListsAll, Sets, GoesOn, KeepsCrash, changed, content, same_bytes, is_under, records_of, records_in, record_schema, empty_schema}
 use Rattle.cs_store.specs.declared.version.Version.{Version}
 use Rattle.cs_store.specs.declared.version.Version.TheVariants.{Current, Former}
-use Rattle.cs_store.specs.Stored.{version, IsVersion, bytes_of, stored_under, StoresIn, StoresInSome}
+use Rattle.cs_store.specs.Stored.{version, IsVersion, stored_under, StoresIn, StoresInSome}
+use Rattle.cs_store.specs.Versions.{bytes_of}
 use Rattle.cs_store.specs.Valid.{AreValid}
 use Rattle.sqlite_trees.specs.View.{doubt}
 use Rattle.cs_store.specs.Store.{HoldsState, HoldsTables, Adopts, OpensFiles, SetsUp, MemoryIsHonest, tables_in}
@@ -60,7 +61,7 @@ some_there rows [] lists some none = some refl
 some_there rows (r ∷ listed) lists some none = absurd (let e = sym (listed_there (records_of rows) (r ∷ listed) lists r (inl refl)) ∙ none_there rows none r.tab r.key in cc)
 
 -- a database without records holds no tables
-vacant_holds : (db : Database) (held : tables.State) → db.trees 0 ≡ [] → HoldsTables db held → held ≡ map.empty
+pub vacant_holds : (db : Database) (held : tables.State) → db.trees 0 ≡ [] → HoldsTables db held → held ≡ map.empty
 vacant_holds db held none (inl vacant) = vacant.1
 vacant_holds db held none (inr stored) = absurd (let e = sym (none_there (db.trees 0) none [] []) ∙ stored.1.2.each [] [] in cc)
 
@@ -191,6 +192,7 @@ opens_files image found new finds opens live adopts = record {
   sound = (live adopts.was_open).0;
   found = λ trees holds. ap (λ (db : Database). db.trees) opens.clean ∙ finds.holds trees holds;
   reads = subst (λ (db : Database). AreFoundIn image db.trees) (sym opens.clean) finds.reads;
+  holds = adopts.holds;
   held = adopts.held;
   at_rest = adopts.at_rest;
 }

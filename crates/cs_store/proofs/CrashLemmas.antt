@@ -150,8 +150,11 @@ module _ (old begun mid new : State) (last : IsTrue old.is_open → LeavesOnly (
 
 -- its last commit, or a store with the tables that it held
 pub taken_over : {S : Type 0} (g : Ghosts S) → ((s : S) (trees : Trees) → IsTrue (g.view s).is_open → g.recovers s trees → trees ≡ (g.view s).committed) → (old new : Held S)
-    → Survives (state g old) (state g new) (MayLeave (HoldsTables (state g old).now)) → LeavesTakenOver (state g old) (state g new)
-taken_over g settled old new survives is_open clean trees may = elim (survives.crash clean trees may) [ inl was ↦ inl (settled old.store trees is_open was) | inr made ↦ inr made ]
+    → Survives (state g old) (state g new) (MayLeave (HoldsTables (state g old).now)) → (¬ CanBegin (state g old) → KeepsCrash (state g old) (state g new)) → LeavesTakenOver (state g old) (state g new)
+taken_over g settled old new survives unstarted = record {
+  opened = λ is_open clean trees may. elim (survives.crash clean trees may) [ inl was ↦ inl (settled old.store trees is_open was) | inr made ↦ inr made ];
+  unstarted = unstarted;
+}
 
 -- ---- what is left of a store, by the law of what holds its database
 

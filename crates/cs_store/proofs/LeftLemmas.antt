@@ -17,7 +17,7 @@ use Rattle.cs_store.specs.Records.{HoldsRecords, records_in, records_of}
 use Rattle.cs_store.specs.Stored.{version, Stores}
 use Rattle.cs_store.specs.Store.{HoldsTables, Adopts, OpensFiles, tables_in}
 use Rattle.cs_store.specs.Crash.{MayLeave, IsLeftOf}
-use Rattle.cs_store.proofs.AdoptionLemmas.{none_there, stored_there}
+use Rattle.cs_store.proofs.AdoptionLemmas.{nothing_held, vacant_holds}
 use Rattle.cs_store.proofs.StateOf.{stored_once}
 
 -- trees list one schema
@@ -37,26 +37,36 @@ left_stored held db is =
 left_holds : (held : tables.State) (db : Database) → IsLeftOf held db → HoldsTables db held
 left_holds held db is = let own = left_stored held db is in inr (own.0, (version, inl refl, own.1))
 
--- and of no others
-left_once : (held other : tables.State) (db : Database) → IsLeftOf held db → HoldsTables db other → other ≡ held
-left_once held other db is there =
-    let own = left_stored held db is in
-    let some : ¬ (db.trees 0 ≡ []) = λ none. let e = sym (none_there (db.trees 0) none [] []) ∙ own.1.each [] [] in cc in
-    stored_once (records_in db) other held (stored_there db other own.0.schema some there).1.2 own.1
+-- a database holds tables of one state alone
+holds_once : (db : Database) (one other : tables.State) → HoldsTables db one → HoldsTables db other → one ≡ other
+holds_once db one other (inl a) (inl b) = a.1 ∙ sym b.1
+holds_once db one other (inl (inl nothing, e)) (inr b) = e ∙ sym (nothing_held db other nothing (inr b))
+holds_once db one other (inl (inr vacant, e)) (inr b) = e ∙ sym (vacant_holds db other vacant.1 (inr b))
+holds_once db one other (inr a) (inl (inl nothing, e)) = nothing_held db one nothing (inr a) ∙ sym e
+holds_once db one other (inr a) (inl (inr vacant, e)) = vacant_holds db one vacant.1 (inr a) ∙ sym e
+holds_once db one other (inr a) (inr b) = stored_once (records_in db) one other a.1.2 b.1.2
 
--- so it is adopted with these tables
-pub left_adopts : (held : tables.State) (old new : State) → IsLeftOf held old.now → Adopts old new → tables_in new.now ≡ held
-left_adopts held old new is adopts = left_once held (tables_in new.now) old.now is adopts.held
+-- so it is adopted with these
+pub held_adopts : (held : tables.State) (old new : State) → HoldsTables old.now held → Adopts old new → tables_in new.now ≡ held
+held_adopts held old new is adopts = holds_once old.now (tables_in new.now) held adopts.held is
 
 -- or refused for memory or by the database
+pub held_refused : (held : tables.State) (db : Database) (e : StoreError) → HoldsTables db held
+    → ((e ≡ DamagedStore) × ((other : tables.State) → HoldsTables db other → ⊥)) ⊎ IsResource e → IsResource e
+held_refused held db e is (inl damaged) = absurd (damaged.1 held is)
+held_refused held db e is (inr resource) = resource
+
+-- as what is left is
+pub left_adopts : (held : tables.State) (old new : State) → IsLeftOf held old.now → Adopts old new → tables_in new.now ≡ held
+left_adopts held old new is = held_adopts held old new (left_holds held old.now is)
+
 pub left_refused : (held : tables.State) (db : Database) (e : StoreError) → IsLeftOf held db
     → ((e ≡ DamagedStore) × ((other : tables.State) → HoldsTables db other → ⊥)) ⊎ IsResource e → IsResource e
-left_refused held db e is (inl damaged) = absurd (damaged.1 held (left_holds held db is))
-left_refused held db e is (inr resource) = resource
+left_refused held db e is = held_refused held db e (left_holds held db is)
 
 -- and files that hold it are opened with them
 pub left_opens : (held : tables.State) (trees : Trees) (image : Image) (new : State) → HoldsDatabase image trees → MayLeave (λ left. left ≡ held) trees → OpensFiles image new
     → tables_in new.now ≡ held
 left_opens held trees image new holds left opens =
     let same = opens.found trees holds in
-    left_once held (tables_in new.now) opens.db (record { sound = opens.sound; left = subst (MayLeave (λ left. left ≡ held)) (sym same) left }) opens.held
+    holds_once opens.db (tables_in new.now) held opens.held (left_holds held opens.db (record { sound = opens.sound; left = subst (MayLeave (λ left. left ≡ held)) (sym same) left }))

@@ -33,11 +33,13 @@ pub record IsAtomic (Starts : State → Type 0) (Commits : tables.State → Type
   pub opened : IsTrue old.is_open → LeavesOnly (λ left. (left ≡ tables_in old.committed) ⊎ Commits left) new
   pub unstarted : ¬ Starts old → KeepsCrash old new
 
--- what a crash leaves of an open database that is to be taken over as a store: the last commit as it was, or a store of this
--- version with the tables that the database held; so the last commit alone, where it held none
-abbrev pub LeavesTakenOver : State → State → Type 0
-LeavesTakenOver old new = IsTrue old.is_open → HasCleanDisk new → (trees : Trees) → new.may_leave trees
-    → (trees ≡ old.committed.trees) ⊎ MayLeave (HoldsTables old.now) trees
+-- What a crash leaves of a database that is to be taken over as a store: of one that was open the last commit as it was, or
+-- a store of this version with the tables that the database held, so the last commit alone where it held none. Where no
+-- transaction can begin, it is nothing that could not be left before.
+pub record LeavesTakenOver (old new : State) : Type 0 where
+  pub opened : IsTrue old.is_open → HasCleanDisk new → (trees : Trees) → new.may_leave trees
+      → (trees ≡ old.committed.trees) ⊎ MayLeave (HoldsTables old.now) trees
+  pub unstarted : ¬ CanBegin old → KeepsCrash old new
 
 -- the database is what a crash left of these tables, as an open finds it
 pub record IsLeftOf (held : tables.State) (db : Database) : Type 0 where

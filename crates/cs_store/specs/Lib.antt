@@ -4,6 +4,7 @@ pub mod Rows
 pub mod Statements
 pub mod Declaration
 pub mod Stored
+pub mod Versions
 pub mod Valid
 pub mod Store
 pub mod Crash

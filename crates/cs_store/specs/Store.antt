@@ -129,6 +129,7 @@ pub record OpensFiles (image : Image) (new : State) : Type 0 where
   pub sound : IsDatabase db
   pub found : (trees : Trees) → HoldsDatabase image trees → db.trees ≡ trees
   pub reads : AreFoundIn image db.trees
+  pub holds : HoldsState new.now
   pub held : HoldsTables db (tables_in new.now)
   pub at_rest : IsAtRest new
 

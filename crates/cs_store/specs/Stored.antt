@@ -14,8 +14,6 @@ use Rattle.cs_value.specs.Spelling.{row_bytes}
 use Rattle.cs_value.specs.Maps.{ByBytes}
 use Rattle.cs_value.specs.Reading.{number_at, field_at}
 use Rattle.cs_value.specs.State.{SchemaData, TableData, State, IsState, row_at}
-use Rattle.cs_store.specs.declared.version.Version.{Version}
-use Rattle.cs_store.specs.declared.version.Version.TheVariants.{Current, Former}
 use Rattle.cs_store.specs.Records.{Records, content, same_bytes}
 use Rattle.cs_store.specs.Declaration.{declaration_bytes}
 
@@ -31,10 +29,6 @@ former_version = 1 ∷ []
 -- a version that is read
 abbrev pub IsVersion : List ℕ → Type 0
 IsVersion bytes = (bytes ≡ version) ⊎ (bytes ≡ former_version)
-
-abbrev pub bytes_of : Version → List ℕ
-bytes_of Current = version
-bytes_of Former = former_version
 
 -- under the empty name the version, and the declaration of each table under its name; under the name of a table each
 -- of its rows, under its key

@@ -8,9 +8,9 @@ ghost use Rattle.cs_store.specs.declared.fault.StoreError.TheVariants.{DamagedSt
 ghost use Rattle.cs_store.specs.Faults.{IsResource, IsReadRefusal};
 ghost use Rattle.cs_store.specs.Records.{HoldsRecords, ListsAll, KeepsContent, record_schema, empty_schema};
 ghost use Rattle.cs_store.specs.Records.{records_in, KeepsCrash};
-ghost use Rattle.cs_store.specs.Stored.{bytes_of};
 ghost use Rattle.cs_store.specs.Valid.{AreValid};
-ghost use Rattle.cs_store.specs.Crash.{MayLeave};
+ghost use Rattle.cs_store.specs.Versions.{bytes_of};
+ghost use Rattle.cs_store.specs.Crash.{CanBegin, MayLeave};
 ghost use Rattle.cs_store.specs.Store.{Adopts, HoldsTables, SetsUp, IsInside};
 
 use crate::check::check_records;
@@ -34,6 +34,8 @@ pub(crate) fn adopt<S: Alter>(conn: &mut Connection<S>, alloc: Global) -> Result
         → OnErr result (KeepsContent (state S.Store conn.old) (state S.Store conn.new)) }
     ensures survives { Survives (state S.Store conn.old) (state S.Store conn.new)
         (MayLeave (HoldsTables (state S.Store conn.old).now)) }
+    ensures unstarted { ¬ CanBegin (state S.Store conn.old)
+        → KeepsCrash (state S.Store conn.old) (state S.Store conn.new) }
 {
     transactions::begin(conn)?;
     match set_up(conn, alloc) {

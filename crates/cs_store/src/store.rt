@@ -76,7 +76,7 @@ impl Store<MemStore> {
 impl<S: Start> Store<FileStore<FileFrom<S>>> {
     /// Opens the store in the database file at a path. Where there is no file one is made, with sums
     /// of its pages or without. `start` stands for what the files are taken to hold. What a crash left of a
-    /// store is opened with its tables.
+    /// store is opened with its tables. A store of the former version is of this one from then on.
     ///
     /// Refused as by [`adopt`](Store::adopt), and with [`StoreFault`](StoreError::StoreFault) for a
     /// file that is no database or cannot be opened.
@@ -122,6 +122,9 @@ impl<S: Alter> Store<S> {
             → Adopts (state S.Store conn) (state S.Store s)) }
         ensures refused { IfErr result (λ e. HasCleanDisk (state S.Store e.1) → ((e.0 ≡ Damaged)
             × ((held : tables.State) → ¬ HoldsTables (state S.Store conn).now held)) ⊎ IsResource e.0) }
+        ensures found { (held : tables.State) → HoldsTables (state S.Store conn).now held → MatchResult result
+            (λ s. HasCleanDisk (state S.Store s) → tables_in (state S.Store s).now ≡ held)
+            (λ e. HasCleanDisk (state S.Store e.1) → IsResource e.0) }
         ensures recovers { (held : tables.State) → IsLeftOf held (state S.Store conn).now → MatchResult result
             (λ s. HasCleanDisk (state S.Store s) → tables_in (state S.Store s).now ≡ held)
             (λ e. HasCleanDisk (state S.Store e.1) → IsResource e.0) }

@@ -1,6 +1,7 @@
 //! The versions of the records that are read.
 ghost use Rattle.std.specs.Prelude.{◌≡◌, IfSome, None, Some, MatchOption};
-ghost use Rattle.cs_store.specs.Stored.{version as current, former_version as former, bytes_of, IsVersion};
+ghost use Rattle.cs_store.specs.Stored.{IsVersion};
+ghost use Rattle.cs_store.specs.Versions.{bytes_of};
 
 /// A version of the records.
 #[derive(Debug, Drop)]

@@ -180,8 +180,8 @@ fn is_carried_out(rt: &(impl Abort + AllocGlobal), files: Files<Fuse<Memory>>, c
     is_done
 }
 
-/// How many calls the log, or else the database, has to answer so that a call is carried out on a store in files. It stops
-/// behind so many, and behind each number from there on.
+/// How many calls the log, or else the database, has to answer so that a call is carried out on a store in files. It
+/// stops behind so many, and behind each number from there on.
 fn count_calls(
     rt: &(impl Abort + AllocGlobal),
     files: &Files<Memory>,
@@ -221,12 +221,26 @@ fn former_files(rt: &(impl Abort + AllocGlobal)) -> Files<Memory> {
     }
 }
 
+/// How many calls of the log, or else of the database, are tried as a store of the former version is opened, and how
+/// many as one of this version is.
+fn count_openings(rt: &(impl Abort + AllocGlobal), is_log: bool) -> (u64, u64) {
+    let former = count_calls(rt, &former_files(rt), OPENING, is_log, 0);
+    (
+        former,
+        count_calls(rt, &files_of(rt, FIRST.1), OPENING, is_log, 0),
+    )
+}
+
 #[test]
-fn a_disk_that_stops_leaves_a_store_of_either_version(rt: HostRuntime) {
-    let files = former_files(&rt);
-    for is_log in [true, false] {
-        let _calls = count_calls(&rt, &files, OPENING, is_log, 0);
-    }
+fn a_log_that_stops_leaves_a_store_of_either_version(rt: HostRuntime) {
+    let (former, current) = count_openings(&rt, true);
+    assert!(rt; former > current);
+}
+
+#[test]
+fn a_database_that_stops_leaves_a_store_of_either_version(rt: HostRuntime) {
+    let (former, current) = count_openings(&rt, false);
+    assert!(rt; former >= current);
 }
 
 #[test]

@@ -2,7 +2,7 @@
 use Rattle.sqlite.specs.Held.{state}
 use Rattle.cs_store.specs.Laws.{was_clean}
 use Rattle.cs_store.specs.Records.{records_in}
-use Rattle.cs_store.specs.Stored.{bytes_of}
+use Rattle.cs_store.specs.Versions.{bytes_of}
 use Rattle.cs_store.proofs.AdoptionLemmas.{is_version}
 use Rattle.cs_store.proofs.adoption.check_listed.Goals as goal
 
