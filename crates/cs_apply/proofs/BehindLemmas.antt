@@ -111,8 +111,8 @@ carries_same chooses ps a b r s t one conflicts written = record {
 }
 
 stops_as_same : (chooses : Handler) (ps : List PlacedEntry) (a : State) (r s t : Report) (e : Ending) → StopsAs chooses ps a r s e → t.conflicts ≡ s.conflicts → StopsAs chooses ps a r t e
-stops_as_same chooses ps a r s t (Aborted k) h same = (record { later = h.0.later; chosen = λ all. rw same (h.0.chosen all); listed = rw same h.0.listed }, h.1)
-stops_as_same chooses ps a r s t (Misused k) h same = (record { later = h.0.later; chosen = λ all. rw same (h.0.chosen all); listed = rw same h.0.listed }, h.1, h.2)
+stops_as_same chooses ps a r s t (Aborted k) h same = (record { choose = h.0.choose; later = h.0.later; chosen = λ all. rw same (h.0.chosen all); listed = rw same h.0.listed }, h.1)
+stops_as_same chooses ps a r s t (Misused k) h same = (record { choose = h.0.choose; later = h.0.later; chosen = λ all. rw same (h.0.chosen all); listed = rw same h.0.listed }, h.1, h.2)
 
 -- ---- before the first item
 

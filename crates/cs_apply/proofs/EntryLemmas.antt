@@ -19,13 +19,13 @@ use Rattle.cs_group.specs.declared.conflict.Kind.{Kind}
 use Rattle.cs_group.specs.declared.conflict.Kind.TheVariants.{Data, NotFound, Conflict as KeyConflict}
 use Rattle.cs_group.specs.declared.conflict.Choice.{Choice}
 use Rattle.cs_group.specs.declared.conflict.Choice.TheVariants as choice
-use Rattle.cs_group.specs.Conflicts.{conflict_kind, ends, is_carried_out}
-use Rattle.cs_group.specs.Applying.{PlacedEntry, conflict_with}
+use Rattle.cs_group.specs.Conflicts.{conflict_kind, kinds_met, ends, is_carried_out}
+use Rattle.cs_group.specs.Applying.{PlacedEntry, ConflictData, MetData, conflict_with, met_with}
 use Rattle.cs_apply.specs.declared.conflict.Conflict.{Conflict}
 use Rattle.cs_apply.specs.declared.conflict.Met.{Met}
 use Rattle.cs_apply.specs.Report.{conflict_of, met_of}
 use Rattle.cs_apply.specs.Running.{Handler, GoesOn}
-use Rattle.cs_apply.specs.Steps.{HasTable, Settles, SettlesAs, Unsettled, ending_by, settled_as}
+use Rattle.cs_apply.specs.Steps.{HasTable, Settles, SettlesAs, EndsRun, Unsettled, ending_by, settled_as}
 
 -- a row of the table fits the flags of the changes
 keyed_as : (state : State) (header : HeaderData) (key : List ℕ) (row : List OwnedValue) → HasTable state header → Fits state header.name key row → IsKeyedRow header.flags row
@@ -50,40 +50,55 @@ fits_here state header key row has values keyed own =
 
 -- ---- a conflict, and what is chosen for it
 
+-- the same choice for each kind of conflict
+abbrev always : Choice → Kind → Choice
+always c kind = c
+
 -- the conflict that is told is the one that is met
-pub conflict_is : (p : PlacedEntry) (row : Option (List OwnedValue)) (kind : Kind) (conflict : Conflict) → conflict_kind p.entry.change row ≡ Some kind
-    → conflict_of conflict ≡ record { kind = kind; table = p.table; entry = p.entry; current = row } → conflict_with p row ≡ Some (conflict_of conflict)
-conflict_is p row kind conflict e is = rw e (ap Some (sym is))
+pub conflict_is : (p : PlacedEntry) (row : Option (List OwnedValue)) (kind : Kind) (conflict : Conflict) → conflict_of conflict ≡ conflict_with p row kind → conflict_with p row conflict.kind ≡ conflict_of conflict
+conflict_is p row kind conflict is = ap (conflict_with p row) (ap (λ (k : ConflictData). k.kind) is) ∙ sym is
+
+module _ (chooses : Handler) (p : PlacedEntry) (row : Option (List OwnedValue)) (conflict : Conflict) (c : Choice) (kinds : kinds_met p.entry.change row ≡ conflict.kind ∷ [])
+    (is : conflict_with p row conflict.kind ≡ conflict_of conflict) (chosen : chooses conflict c) where
+  -- it is the only one
+  met_one : met_with p (always c) row ≡ record { conflict = conflict_of conflict; choice = c } ∷ []
+  met_one = rw (kinds, is) refl
+
+  ended_by : (conflicts : List Met) → EndsRun chooses p row conflicts conflicts conflict c
+  ended_by conflicts = record {
+    choose = always c;
+    later = [];
+    chosen = λ all. all;
+    listed = ap (λ (l : List MetData). map met_of conflicts ++ l) met_one;
+  }
+
+  -- a conflict at which the run goes on is told, and replaced where that is chosen
+  settled_with : (conflicts next : List Met) (replaced : Bool) → ends conflict.kind c ≡ false → replaced ≡ is_carried_out (conflict.kind ∷ []) (always c)
+      → next ≡ conflicts ++ record { conflict = conflict; choice = c } ∷ [] → Settles chooses p row conflicts next replaced
+  settled_with conflicts next replaced goes_on carried grown = record {
+    choose = always c;
+    goes_on = rw (kinds, goes_on) refl;
+    carried = rw kinds carried;
+    told = rw (grown, met_one) (map-append met_of conflicts (record { conflict = conflict; choice = c } ∷ []));
+    chosen = λ all. rw grown (All-append (GoesOn chooses) conflicts (record { conflict = conflict; choice = c } ∷ []) all (All-cons (GoesOn chooses) (record { conflict = conflict; choice = c }) [] (record { chosen = chosen; goes_on = goes_on }) (All-nil (GoesOn chooses))));
+  }
 
 -- the run ends in the way of the choice
-pub unsettled : (chooses : Handler) (p : PlacedEntry) (row : Option (List OwnedValue)) (conflicts : List Met) (conflict : Conflict) (c : Choice)
-    → ends (Some conflict.kind) c ≡ true → conflict_with p row ≡ Some (conflict_of conflict) → chooses conflict c → Unsettled chooses p row conflicts conflicts (ending_by conflict c)
-unsettled chooses p row conflicts conflict choice.Omit e is chosen = absurd (true≢false (sym e))
-unsettled chooses p row conflicts conflict choice.Replace e is chosen = (record { is = is; same = refl }, chosen, only conflict.kind e)
+pub unsettled : (chooses : Handler) (p : PlacedEntry) (row : Option (List OwnedValue)) (conflicts : List Met) (conflict : Conflict) (c : Choice) → ends conflict.kind c ≡ true
+    → kinds_met p.entry.change row ≡ conflict.kind ∷ [] → conflict_with p row conflict.kind ≡ conflict_of conflict → chooses conflict c → Unsettled chooses p row conflicts conflicts (ending_by conflict c)
+unsettled chooses p row conflicts conflict choice.Omit e kinds is chosen = absurd (true≢false (sym e))
+unsettled chooses p row conflicts conflict choice.Replace e kinds is chosen = (ended_by chooses p row conflict choice.Replace kinds is chosen conflicts, chosen, only conflict.kind e)
   where
-    only : (kind : Kind) → ends (Some kind) choice.Replace ≡ true → kind ≡ NotFound
+    only : (kind : Kind) → ends kind choice.Replace ≡ true → kind ≡ NotFound
     only Data e = absurd (true≢false (sym e))
     only NotFound e = refl
     only KeyConflict e = absurd (true≢false (sym e))
-unsettled chooses p row conflicts conflict choice.Abort e is chosen = (record { is = is; same = refl }, chosen)
-
--- a conflict at which the run goes on is told, and replaced where that is chosen
-settled_with : (chooses : Handler) (p : PlacedEntry) (row : Option (List OwnedValue)) (conflicts next : List Met) (conflict : Conflict) (c : Choice) (replaced : Bool)
-    → ends (Some conflict.kind) c ≡ false → conflict_kind p.entry.change row ≡ Some conflict.kind → conflict_with p row ≡ Some (conflict_of conflict) → chooses conflict c
-    → replaced ≡ is_carried_out (Some conflict.kind) c → next ≡ conflicts ++ record { conflict = conflict; choice = c } ∷ []
-    → Settles chooses p row conflicts next replaced
-settled_with chooses p row conflicts next conflict c replaced goes_on kind is chosen carried grown = record {
-  choice = c;
-  goes_on = rw kind goes_on;
-  carried = rw kind carried;
-  told = rw (grown, is) (map-append met_of conflicts (record { conflict = conflict; choice = c } ∷ []));
-  chosen = λ all. rw grown (All-append (GoesOn chooses) conflicts (record { conflict = conflict; choice = c } ∷ []) all (All-cons (GoesOn chooses) (record { conflict = conflict; choice = c }) [] (record { chosen = chosen; goes_on = goes_on }) (All-nil (GoesOn chooses))));
-}
+unsettled chooses p row conflicts conflict choice.Abort e kinds is chosen = (ended_by chooses p row conflict choice.Abort kinds is chosen conflicts, chosen)
 
 -- where no conflict is met there is nothing to tell
 pub settled_clean : (chooses : Handler) (p : PlacedEntry) (row : Option (List OwnedValue)) (conflicts : List Met) → conflict_kind p.entry.change row ≡ None → Settles chooses p row conflicts conflicts true
 settled_clean chooses p row conflicts none = record {
-  choice = choice.Omit;
+  choose = always choice.Omit;
   goes_on = rw none refl;
   carried = rw none refl;
   told = rw none (sym (append-nil (map met_of conflicts)));
@@ -91,8 +106,8 @@ settled_clean chooses p row conflicts none = record {
 }
 
 -- of a run that goes on, the entry is carried out where it is chosen to replace
-settles_as : (chooses : Handler) (p : PlacedEntry) (row : Option (List OwnedValue)) (conflicts next : List Met) (kind : Kind) (c : Choice) → ends (Some kind) c ≡ false
-    → Settles chooses p row conflicts next (is_carried_out (Some kind) c) → SettlesAs chooses p row conflicts next (settled_as c)
+settles_as : (chooses : Handler) (p : PlacedEntry) (row : Option (List OwnedValue)) (conflicts next : List Met) (kind : Kind) (c : Choice) → ends kind c ≡ false
+    → Settles chooses p row conflicts next (is_carried_out (kind ∷ []) (always c)) → SettlesAs chooses p row conflicts next (settled_as c)
 settles_as chooses p row conflicts next Data choice.Omit goes_on is = is
 settles_as chooses p row conflicts next Data choice.Replace goes_on is = is
 settles_as chooses p row conflicts next Data choice.Abort goes_on is = absurd (true≢false goes_on)
@@ -103,8 +118,9 @@ settles_as chooses p row conflicts next KeyConflict choice.Omit goes_on is = is
 settles_as chooses p row conflicts next KeyConflict choice.Replace goes_on is = is
 settles_as chooses p row conflicts next KeyConflict choice.Abort goes_on is = absurd (true≢false goes_on)
 
-pub settled : (chooses : Handler) (p : PlacedEntry) (row : Option (List OwnedValue)) (conflicts next : List Met) (conflict : Conflict) (c : Choice)
-    → ends (Some conflict.kind) c ≡ false → conflict_kind p.entry.change row ≡ Some conflict.kind → conflict_with p row ≡ Some (conflict_of conflict) → chooses conflict c
+pub settled : (chooses : Handler) (p : PlacedEntry) (row : Option (List OwnedValue)) (conflicts next : List Met) (conflict : Conflict) (c : Choice) → ends conflict.kind c ≡ false
+    → kinds_met p.entry.change row ≡ conflict.kind ∷ [] → conflict_with p row conflict.kind ≡ conflict_of conflict → chooses conflict c
     → next ≡ conflicts ++ record { conflict = conflict; choice = c } ∷ [] → SettlesAs chooses p row conflicts next (settled_as c)
-settled chooses p row conflicts next conflict c goes_on kind is chosen grown =
-    settles_as chooses p row conflicts next conflict.kind c goes_on (settled_with chooses p row conflicts next conflict c (is_carried_out (Some conflict.kind) c) goes_on kind is chosen refl grown)
+settled chooses p row conflicts next conflict c goes_on kinds is chosen grown =
+    settles_as chooses p row conflicts next conflict.kind c goes_on
+    (settled_with chooses p row conflict c kinds is chosen conflicts next (is_carried_out (conflict.kind ∷ []) (always c)) goes_on refl grown)

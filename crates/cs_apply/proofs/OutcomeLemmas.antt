@@ -1,11 +1,14 @@
 -- What a whole run comes to.
 use Rattle.std.proofs.Common.{◌≡◌, ℕ, ◌+◌, List, ◌++◌, map, filter_map, ap, subst, ◌∙◌, arith}
 use Rattle.std.specs.Prelude.{string_bytes}
+use Rattle.std.specs.List.{flat_map}
 use Rattle.std.proofs.lemmas.List.Elements.{All-nil}
 use Rattle.cs_value.specs.State.{State}
 use Rattle.cs_wire.specs.Changeset.{GroupData}
 use Rattle.cs_store.specs.declared.edit.Written.{Written}
 use Rattle.cs_store.specs.Editing.{written_of}
+use Rattle.cs_group.specs.declared.conflict.Choice.{Choice}
+use Rattle.cs_group.specs.declared.conflict.Choice.TheVariants as choice
 use Rattle.cs_group.specs.declared.conflict.Noop.{Noop}
 use Rattle.cs_group.specs.Applying.{NoneWider, heeded, ignored, met_at, written_for, skipped}
 use Rattle.cs_apply.specs.declared.conflict.Conflict.{Conflict}
@@ -31,15 +34,16 @@ module _ (chooses : Handler) (noop : Noop) (file : List ℕ) (direction : Direct
         none_wider = none_wider;
         choose = carried.choose;
         applied = carried.applied;
-        conflicts = carried.conflicts ∙ ap (λ (l : List Met). map met_of l ++ filter_map (met_at old carried.choose) (heeded noop old changeset)) empty.conflicts;
+        conflicts = carried.conflicts ∙ ap (λ (l : List Met). map met_of l ++ flat_map (met_at old carried.choose) (heeded noop old changeset)) empty.conflicts;
         chosen = carried.chosen (rw empty.conflicts (All-nil (GoesOn chooses)));
         skipped = rw (empty.skipped, same) at told;
         written = carried.written ∙ ap (λ (l : List Written). map written_of l ++ filter_map (written_for old carried.choose) (heeded noop old changeset)) empty.written;
         ignored = let told : t.ignored ≡ r.ignored + ignored noop old changeset = rw same at counted in omega (arith, told, empty.ignored);
       }
 
-  reached : (conflict : Conflict) → Stops chooses (heeded noop old changeset) old r t conflict → IsReached chooses noop old changeset conflict
-  reached conflict ended = record {
+  reached : (conflict : Conflict) (c : Choice) → Stops chooses (heeded noop old changeset) old r t conflict c → IsReached chooses noop old changeset conflict c
+  reached conflict c ended = record {
+    choose = ended.choose;
     earlier = t.conflicts.items;
     later = ended.later;
     chosen = ended.chosen (rw empty.conflicts (All-nil (GoesOn chooses)));
@@ -47,8 +51,8 @@ module _ (chooses : Handler) (noop : Noop) (file : List ℕ) (direction : Direct
   }
 
   refuses_now : (e : Ending) → StopsAs chooses (heeded noop old changeset) old r t e → Refuses chooses noop file direction old (refusal_of e)
-  refuses_now (Aborted k) h = record { changeset = changeset; read = read; none_wider = none_wider; reached = reached k h.0; chosen = h.1 }
-  refuses_now (Misused k) h = (record { changeset = changeset; read = read; none_wider = none_wider; reached = reached k h.0; chosen = h.1 }, h.2)
+  refuses_now (Aborted k) h = record { changeset = changeset; read = read; none_wider = none_wider; reached = reached k choice.Abort h.0; chosen = h.1 }
+  refuses_now (Misused k) h = (record { changeset = changeset; read = read; none_wider = none_wider; reached = reached k choice.Replace h.0; chosen = h.1 }, h.2)
 
   pub refuses_from : (e : Ending) → StopsAs chooses (heeded noop mid changeset) mid r t e → Refuses chooses noop file direction old (refusal_of e)
   refuses_from e ended = refuses_now e (subst (λ (s : State). StopsAs chooses (heeded noop s changeset) s r t e) same ended)

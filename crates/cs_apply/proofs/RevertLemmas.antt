@@ -1,16 +1,19 @@
 -- What reverting gives back.
-use Rattle.std.proofs.Common.{◌≡◌, inl, inr, ℕ, List, [], ◌∷◌, ◌++◌, length, map, All, Option, Some, None, filter_map, refl, sym, ap, subst, ◌∙◌}
+use Rattle.std.proofs.Common.{◌≡◌, inl, inr, ℕ, List, [], ◌∷◌, ◌++◌, length, map, All, Option, Some, None, refl, sym, ap, subst, ◌∙◌}
+use Rattle.std.specs.List.{AllByRecursion, flat_map}
 use Rattle.std.proofs.lemmas.List.{nil_from_length, length-map}
+use Rattle.std.proofs.lemmas.List.Elements.{recursion_from_All, All-from_recursion}
 use Rattle.cs_value.specs.State.{State}
 use Rattle.cs_wire.specs.Changeset.{GroupData}
 use Rattle.cs_wire.specs.Laws.{ChangesetFiles}
+use Rattle.cs_group.specs.declared.conflict.Kind.{Kind}
 use Rattle.cs_group.specs.declared.conflict.Choice.{Choice}
 use Rattle.cs_group.specs.declared.conflict.Choice.TheVariants as choice
 use Rattle.cs_group.specs.declared.conflict.Noop.{Noop}
 use Rattle.cs_group.specs.declared.conflict.Noop.TheVariants.{Report as Reported}
 use Rattle.cs_group.specs.Inverse.{IsInverse}
-use Rattle.cs_group.specs.Applying.{PlacedEntry, ConflictData, Choices, applicable, conflict_at, heeded, met_at, IsClean, IsApplied, AreApplied, omit_all}
-use Rattle.cs_group.proofs.ApplyLemmas.{applied_once, applied_reverts}
+use Rattle.cs_group.specs.Applying.{PlacedEntry, Choices, applicable, placed_kind, heeded, met_at, met_under, IsClean, IsApplied, AreApplied, omit_all}
+use Rattle.cs_group.proofs.ApplyLemmas.{none_met, applied_once, applied_reverts}
 use Rattle.cs_apply.proofs.HeededLemmas.{heeded_all}
 use Rattle.cs_apply.specs.declared.conflict.Conflict.{Conflict}
 use Rattle.cs_apply.specs.declared.conflict.Met.{Met}
@@ -24,24 +27,17 @@ use Rattle.cs_apply.specs.Running.{Handler, IsReadAs, GoesOn, Applies, EndsAt, R
 
 -- ---- lists
 
-none_met : (s : State) (choose : Choices) (ps : List PlacedEntry) → filter_map (conflict_at s) ps ≡ [] → filter_map (met_at s choose) ps ≡ []
-none_met s choose [] e = refl
-none_met s choose (p ∷ ps) e = at (conflict_at s p) refl (none_met s choose ps)
-  where
-    at : (o : Option ConflictData) → conflict_at s p ≡ o → (filter_map (conflict_at s) ps ≡ [] → filter_map (met_at s choose) ps ≡ []) → filter_map (met_at s choose) (p ∷ ps) ≡ []
-    at None is others = rw is (others (rw is at e))
-    at (Some k) is others = absurd (let some = rw is at e in cc)
-
 none_last : {X : Type 0} (xs ys : List X) (x : X) → xs ++ x ∷ ys ≡ [] → ⊥
 none_last [] ys x e = cc
 none_last (y ∷ xs) ys x e = cc
 
-none_met_none : (s : State) (choose : Choices) (ps : List PlacedEntry) → filter_map (met_at s choose) ps ≡ [] → filter_map (conflict_at s) ps ≡ []
-none_met_none s choose [] e = refl
-none_met_none s choose (p ∷ ps) e = at (conflict_at s p) refl (none_met_none s choose ps)
+-- where none is told none of the entries meets one
+none_met_none : (s : State) (choose : Choices) (ps : List PlacedEntry) → flat_map (met_at s choose) ps ≡ [] → AllByRecursion (λ p. placed_kind s p ≡ None) ps
+none_met_none s choose [] e = tt
+none_met_none s choose (p ∷ ps) e = at (placed_kind s p) refl (none_met_none s choose ps)
   where
-    at : (o : Option ConflictData) → conflict_at s p ≡ o → (filter_map (met_at s choose) ps ≡ [] → filter_map (conflict_at s) ps ≡ []) → filter_map (conflict_at s) (p ∷ ps) ≡ []
-    at None is others = rw is (others (rw is at e))
+    at : (o : Option Kind) → placed_kind s p ≡ o → (flat_map (met_at s choose) ps ≡ [] → AllByRecursion (λ p. placed_kind s p ≡ None) ps) → AllByRecursion (λ p. placed_kind s p ≡ None) (p ∷ ps)
+    at None is others = (is, others (rw is at e))
     at (Some k) is others = absurd (let some = rw is at e in cc)
 
 -- ---- an apply that meets no conflict and ignores nothing
@@ -51,17 +47,20 @@ pub leads_clean : (chooses : Handler) (noop : Noop) (file : List ℕ) (old new :
 leads_clean chooses noop file old new report applies no_conflict none_ignored =
     let ps = applicable old applies.changeset in
     let all : heeded noop old applies.changeset ≡ ps = heeded_all noop old ps (sym applies.ignored ∙ none_ignored) in
-    let none : filter_map (met_at old applies.choose) (heeded noop old applies.changeset) ≡ [] = sym applies.conflicts ∙ ap (map met_of) no_conflict in
+    let none : flat_map (met_at old applies.choose) (heeded noop old applies.changeset) ≡ [] = sym applies.conflicts ∙ ap (map met_of) no_conflict in
     record {
       changeset = applies.changeset;
       is_changeset = applies.read.0;
       is_file = applies.read.1;
-      clean = record { none_wider = applies.none_wider; no_conflict = none_met_none old applies.choose ps (rw all at none) };
+      clean = record { none_wider = applies.none_wider; no_conflict = All-from_recursion (λ p. placed_kind old p ≡ None) ps (none_met_none old applies.choose ps (rw all at none)) };
       choose = applies.choose;
       applied = subst (λ (qs : List PlacedEntry). AreApplied old qs applies.choose new) all applies.applied;
     }
 
 -- ---- the inverse, on what was left
+
+clean_meets_none : (s : State) (changeset : List GroupData) (choose : Choices) → IsClean s changeset → met_under Reported s changeset choose ≡ []
+clean_meets_none s changeset choose clean = none_met s choose (applicable s changeset) (recursion_from_All (λ p. placed_kind s p ≡ None) (applicable s changeset) clean.no_conflict)
 
 module _ (law : ChangesetFiles) (file : List ℕ) (before old : State) (leads : Leads file before old) (inverse : List GroupData) (read : IsReadAs file Inverse inverse) where
   undoes : IsInverse leads.changeset inverse
@@ -76,7 +75,7 @@ pub reverts_ok : (chooses : Handler) (law : ChangesetFiles) (file : List ℕ) (b
     → (report.conflicts.items ≡ []) × (new ≡ before)
 reverts_ok chooses law file before old new report leads applies =
     let given = back law file before old leads applies.changeset applies.read applies.choose in
-    let none = none_met old applies.choose (applicable old applies.changeset) given.0.no_conflict in
+    let none = clean_meets_none old applies.changeset applies.choose given.0 in
     (nil_from_length report.conflicts.items (sym (length-map report.conflicts.items met_of) ∙ ap length (applies.conflicts ∙ none)), applied_once Reported old applies.changeset applies.choose new before applies.applied given.1)
 
 no_group : GroupData
@@ -92,7 +91,7 @@ ends_weaker P Q f noop file direction old k c ended = record {
   changeset = ended.changeset;
   read = ended.read;
   none_wider = ended.none_wider;
-  reached = record { earlier = ended.reached.earlier; later = ended.reached.later; chosen = goes_weaker P Q f ended.reached.earlier ended.reached.chosen; listed = ended.reached.listed };
+  reached = record { choose = ended.reached.choose; earlier = ended.reached.earlier; later = ended.reached.later; chosen = goes_weaker P Q f ended.reached.earlier ended.reached.chosen; listed = ended.reached.listed };
   chosen = f k c ended.chosen;
 }
 
@@ -127,7 +126,7 @@ reverts_err law file before old (fault.Wider place) leads refuses =
     absurd (given.0.none_wider place no_group refuses.first.within (refuses.first.wider no_group))
 reverts_err law file before old (fault.Abort k) leads refuses =
     let given = back law file before old leads refuses.changeset refuses.read omit_all in
-    absurd (none_last _ refuses.reached.later (conflict_of k) (sym refuses.reached.listed ∙ given.0.no_conflict))
+    absurd (none_last _ refuses.reached.later (record { conflict = conflict_of k; choice = choice.Abort }) (sym refuses.reached.listed ∙ clean_meets_none old refuses.changeset refuses.reached.choose given.0))
 reverts_err law file before old (fault.Misuse k) leads refuses = absurd (let e = refuses.0.chosen in cc)
 reverts_err law file before old (fault.Store e) leads refuses = inr (ap fault.Store refuses)
 reverts_err law file before old fault.NoMemory leads refuses = inl refl

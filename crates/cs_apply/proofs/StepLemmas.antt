@@ -1,19 +1,21 @@
 -- How runs go on, one after another.
-use Rattle.std.proofs.Common.{◌≡◌, Bool, true, false, if◌then◌else◌, ◌&&◌, ◌||◌, nat_eq, List, [], ◌∷◌, ◌++◌, map, filter_map, Option, Some, None, option_map, append_assoc, refl, sym, ap, ◌∙◌, arith}
-use Rattle.std.specs.List.{AllByRecursion, cons_option}
+use Rattle.std.proofs.Common.{◌≡◌, Bool, true, false, if◌then◌else◌, ◌&&◌, ◌||◌, nat_eq, List, [], ◌∷◌, ◌++◌, map, filter_map, Option, Some, None, append_assoc, refl, sym, ap, ◌∙◌, arith}
+use Rattle.std.specs.List.{AllByRecursion, flat_map}
 use Rattle.std.specs.Cmp.Lexicographic.{pointwise, same_text, nat_list_eq_equiv}
 use Rattle.std.proofs.lemmas.Bool.{or_right}
-use Rattle.std.proofs.lemmas.List.{append-nil, map-append}
+use Rattle.std.proofs.lemmas.List.{append-nil}
 use Rattle.std.proofs.lemmas.List.Elements.{filter_map-append, recursion_from_All, All-from_recursion}
+use Rattle.std.proofs.lemmas.Grind.{flat_map-append}
 use Rattle.cs_value.specs.declared.value.OwnedValue.{OwnedValue}
 use Rattle.cs_value.specs.State.{State, WrittenData}
 use Rattle.cs_value.proofs.ListLemmas.{AllByRecursion-append, AllByRecursion-append_left, AllByRecursion-append_right, AllByRecursion-weaker}
 use Rattle.cs_store.specs.Editing.{written_of}
+use Rattle.cs_group.specs.declared.conflict.Kind.{Kind}
 use Rattle.cs_group.specs.declared.conflict.Choice.{Choice}
-use Rattle.cs_group.specs.Conflicts.{conflict_kind, is_carried_out, entry_result}
-use Rattle.cs_group.specs.Applying.{PlacedEntry, placed_key, current, IsElsewhere, ConflictData, MetData, Choices, conflict_with, conflict_at, met_at, written_for, placed_result, AreApplied, omit_all}
+use Rattle.cs_group.specs.declared.conflict.Choice.TheVariants as choice
+use Rattle.cs_group.specs.Conflicts.{kinds_met, is_carried_out, entry_result}
+use Rattle.cs_group.specs.Applying.{PlacedEntry, placed_key, current, IsElsewhere, MetData, Choices, met_with, met_at, written_for, placed_result, AreApplied, omit_all}
 use Rattle.cs_apply.specs.declared.conflict.Conflict.{Conflict}
-use Rattle.cs_apply.specs.declared.conflict.Met.{Met}
 use Rattle.cs_apply.specs.declared.report.Report.{Report}
 use Rattle.cs_apply.specs.Report.{conflict_of, met_of}
 use Rattle.cs_apply.specs.Running.{Handler}
@@ -30,6 +32,10 @@ each_both P Q R (x ∷ xs) f p q = (f x p.0 q.0, each_both P Q R xs f p.1 q.1)
 filter_map_same : {X Y : Type 0} (f g : X → Option Y) (xs : List X) → AllByRecursion (λ x. f x ≡ g x) xs → filter_map f xs ≡ filter_map g xs
 filter_map_same f g [] same = refl
 filter_map_same f g (x ∷ xs) same = let first = same.0 in let others = filter_map_same f g xs same.1 in cc (first, others)
+
+flat_map_same : {X Y : Type 0} (f g : X → List Y) (xs : List X) → AllByRecursion (λ x. f x ≡ g x) xs → flat_map f xs ≡ flat_map g xs
+flat_map_same f g [] same = refl
+flat_map_same f g (x ∷ xs) same = let first = same.0 in let others = flat_map_same f g xs same.1 in cc (first, others)
 
 -- ---- entries of other rows
 
@@ -77,11 +83,11 @@ all_among (p ∷ ps) = (rw (at_itself p) refl, AllByRecursion-weaker _ _ (λ q e
 
 -- ---- one run after another
 
-abbrev met_by : PlacedEntry → Option (List OwnedValue) → Choice → Option MetData
-met_by p row choice = option_map (λ k. record { conflict = k; choice = choice }) (conflict_with p row)
+abbrev met_by : PlacedEntry → Option (List OwnedValue) → (Kind → Choice) → List MetData
+met_by p row choose = met_with p choose row
 
-abbrev written_by : PlacedEntry → Option (List OwnedValue) → Choice → Option WrittenData
-written_by p row choice = if is_carried_out (conflict_kind p.entry.change row) choice then Some (record { table = p.table; key = placed_key p; former = row }) else None
+abbrev written_by : PlacedEntry → Option (List OwnedValue) → (Kind → Choice) → Option WrittenData
+written_by p row choose = if is_carried_out (kinds_met p.entry.change row) choose then Some (record { table = p.table; key = placed_key p; former = row }) else None
 
 -- the choices of the first run for its entries, and else those of the second
 abbrev both_choices : List PlacedEntry → Choices → Choices → Choices
@@ -102,7 +108,7 @@ module _ (ps qs : List PlacedEntry) (a b : State) (first second : Choices) (apar
   chosen_second = AllByRecursion-weaker _ (λ q. both q ≡ second q) (λ q away. rw (not_among ps q away) refl) qs apart
 
   -- what is told by row and choice is told alike
-  by_row : {Y : Type 0} (f : PlacedEntry → Option (List OwnedValue) → Choice → Option Y)
+  by_row : {Y : Type 0} (f : PlacedEntry → Option (List OwnedValue) → (Kind → Choice) → Option Y)
       → filter_map (λ p. f p (current a p) (first p)) ps ++ filter_map (λ q. f q (current b q) (second q)) qs ≡ filter_map (λ p. f p (current a p) (both p)) (ps ++ qs)
   by_row {Y} f =
       let one : filter_map (λ p. f p (current a p) (first p)) ps ≡ filter_map (λ p. f p (current a p) (both p)) ps =
@@ -112,6 +118,18 @@ module _ (ps qs : List PlacedEntry) (a b : State) (first second : Choices) (apar
       ap (λ (l : List Y). l ++ filter_map (λ q. f q (current b q) (second q)) qs) one
       ∙ ap (λ (l : List Y). filter_map (λ p. f p (current a p) (both p)) ps ++ l) two
       ∙ sym (filter_map-append (λ p. f p (current a p) (both p)) ps qs)
+
+  -- and so are conflicts, of which one entry may meet several
+  all_by_row : {Y : Type 0} (f : PlacedEntry → Option (List OwnedValue) → (Kind → Choice) → List Y)
+      → flat_map (λ p. f p (current a p) (first p)) ps ++ flat_map (λ q. f q (current b q) (second q)) qs ≡ flat_map (λ p. f p (current a p) (both p)) (ps ++ qs)
+  all_by_row {Y} f =
+      let one : flat_map (λ p. f p (current a p) (first p)) ps ≡ flat_map (λ p. f p (current a p) (both p)) ps =
+      flat_map_same _ _ ps (AllByRecursion-weaker _ _ (λ p e. ap (f p (current a p)) (sym e)) ps chosen_first) in
+      let two : flat_map (λ q. f q (current b q) (second q)) qs ≡ flat_map (λ q. f q (current a q) (both q)) qs =
+      flat_map_same _ _ qs (each_both _ _ _ qs (λ q row e. ap (λ o. f q o (second q)) row ∙ ap (f q (current a q)) (sym e)) same_rows chosen_second) in
+      ap (λ (l : List Y). l ++ flat_map (λ q. f q (current b q) (second q)) qs) one
+      ∙ ap (λ (l : List Y). flat_map (λ p. f p (current a p) (both p)) ps ++ l) two
+      ∙ sym (flat_map-append (λ p. f p (current a p) (both p)) ps qs)
 
 turned : (ps qs : List PlacedEntry) → Apart ps qs → Apart qs ps
 turned [] qs apart = tt
@@ -178,9 +196,9 @@ module _ (chooses : Handler) where
       choose = both_choices ps one.choose two.choose;
       applied = applied_then ps qs a b d one.choose two.choose apart one.applied two.applied;
       conflicts =
-          two.conflicts ∙ ap (λ (l : List MetData). l ++ filter_map (met_at b two.choose) qs) one.conflicts
-          ∙ append_assoc (map met_of r.conflicts.items) (filter_map (met_at a one.choose) ps) (filter_map (met_at b two.choose) qs)
-          ∙ ap (λ (l : List MetData). map met_of r.conflicts.items ++ l) (by_row ps qs a b one.choose two.choose apart one.applied met_by);
+          two.conflicts ∙ ap (λ (l : List MetData). l ++ flat_map (met_at b two.choose) qs) one.conflicts
+          ∙ append_assoc (map met_of r.conflicts.items) (flat_map (met_at a one.choose) ps) (flat_map (met_at b two.choose) qs)
+          ∙ ap (λ (l : List MetData). map met_of r.conflicts.items ++ l) (all_by_row ps qs a b one.choose two.choose apart one.applied met_by);
       chosen = λ all. two.chosen (one.chosen all);
       written =
           two.written ∙ ap (λ (l : List WrittenData). l ++ filter_map (written_for b two.choose) qs) one.written
@@ -190,62 +208,37 @@ module _ (chooses : Handler) where
 
 -- ---- a run that ends
 
-abbrev conflicts_of : List Met → List ConflictData
-conflicts_of ms = map (λ m. conflict_of m.conflict) ms
-
-told_conflicts : (ms : List Met) → map (λ (d : MetData). d.conflict) (map met_of ms) ≡ conflicts_of ms
-told_conflicts [] = refl
-told_conflicts (m ∷ ms) = ap (λ (l : List ConflictData). conflict_of m.conflict ∷ l) (told_conflicts ms)
-
-met_conflicts : (s : State) (choose : Choices) (ps : List PlacedEntry) → map (λ (d : MetData). d.conflict) (filter_map (met_at s choose) ps) ≡ filter_map (conflict_at s) ps
-met_conflicts s choose [] = refl
-met_conflicts s choose (p ∷ ps) = at (conflict_at s p) (met_conflicts s choose ps)
-  where
-    at : (o : Option ConflictData) → map (λ (d : MetData). d.conflict) (filter_map (met_at s choose) ps) ≡ filter_map (conflict_at s) ps
-        → map (λ (d : MetData). d.conflict) (cons_option (option_map (λ k. record { conflict = k; choice = choose p }) o) (filter_map (met_at s choose) ps)) ≡ cons_option o (filter_map (conflict_at s) ps)
-    at None others = others
-    at (Some k) others = ap (λ (l : List ConflictData). k ∷ l) others
-
 module _ (chooses : Handler) (ps : List PlacedEntry) (a : State) (r : Report) where
-  carried_conflicts : (b : State) (s : Report) → Carries chooses ps a r b s → conflicts_of s.conflicts.items ≡ conflicts_of r.conflicts.items ++ filter_map (conflict_at a) ps
-  carried_conflicts b s one =
-      sym (told_conflicts s.conflicts.items) ∙ ap (map (λ (d : MetData). d.conflict)) one.conflicts
-      ∙ map-append (λ (d : MetData). d.conflict) (map met_of r.conflicts.items) (filter_map (met_at a one.choose) ps)
-      ∙ ap (λ (l : List ConflictData). l ++ map (λ (d : MetData). d.conflict) (filter_map (met_at a one.choose) ps)) (told_conflicts r.conflicts.items)
-      ∙ ap (λ (l : List ConflictData). conflicts_of r.conflicts.items ++ l) (met_conflicts a one.choose ps)
-
   -- entries behind the end of the run
-  pub stops_more : (qs : List PlacedEntry) (t : Report) (k : Conflict) → Stops chooses ps a r t k → Stops chooses (ps ++ qs) a r t k
-  stops_more qs t k ended = record {
-    later = ended.later ++ filter_map (conflict_at a) qs;
+  pub stops_more : (qs : List PlacedEntry) (t : Report) (k : Conflict) (c : Choice) → Stops chooses ps a r t k c → Stops chooses (ps ++ qs) a r t k c
+  stops_more qs t k c ended = record {
+    choose = ended.choose;
+    later = ended.later ++ flat_map (met_at a ended.choose) qs;
     chosen = ended.chosen;
     listed =
-        ap (λ (l : List ConflictData). conflicts_of r.conflicts.items ++ l) (filter_map-append (conflict_at a) ps qs)
-        ∙ sym (append_assoc (conflicts_of r.conflicts.items) (filter_map (conflict_at a) ps) (filter_map (conflict_at a) qs))
-        ∙ ap (λ (l : List ConflictData). l ++ filter_map (conflict_at a) qs) ended.listed
-        ∙ append_assoc (conflicts_of t.conflicts.items) (conflict_of k ∷ ended.later) (filter_map (conflict_at a) qs);
+        ap (λ (l : List MetData). map met_of r.conflicts.items ++ l) (flat_map-append (met_at a ended.choose) ps qs)
+        ∙ sym (append_assoc (map met_of r.conflicts.items) (flat_map (met_at a ended.choose) ps) (flat_map (met_at a ended.choose) qs))
+        ∙ ap (λ (l : List MetData). l ++ flat_map (met_at a ended.choose) qs) ended.listed
+        ∙ append_assoc (map met_of t.conflicts.items) (record { conflict = conflict_of k; choice = c } ∷ ended.later) (flat_map (met_at a ended.choose) qs);
   }
 
   -- and entries before it
-  pub stops_then : (qs : List PlacedEntry) (b : State) (s t : Report) (k : Conflict) → Apart ps qs → Carries chooses ps a r b s → Stops chooses qs b s t k → Stops chooses (ps ++ qs) a r t k
-  stops_then qs b s t k apart one ended =
-      let same : filter_map (conflict_at b) qs ≡ filter_map (conflict_at a) qs =
-      filter_map_same _ _ qs (AllByRecursion-weaker _ _ (λ q row. ap (conflict_with q) row) qs (same_rows ps qs a b one.choose one.choose apart one.applied)) in
-      record {
-        later = ended.later;
-        chosen = λ all. ended.chosen (one.chosen all);
-        listed =
-            ap (λ (l : List ConflictData). conflicts_of r.conflicts.items ++ l) (filter_map-append (conflict_at a) ps qs)
-            ∙ sym (append_assoc (conflicts_of r.conflicts.items) (filter_map (conflict_at a) ps) (filter_map (conflict_at a) qs))
-            ∙ ap (λ (l : List ConflictData). l ++ filter_map (conflict_at a) qs) (sym (carried_conflicts b s one))
-            ∙ ap (λ (l : List ConflictData). conflicts_of s.conflicts.items ++ l) (sym same)
-            ∙ ended.listed;
-      }
+  pub stops_then : (qs : List PlacedEntry) (b : State) (s t : Report) (k : Conflict) (c : Choice) → Apart ps qs → Carries chooses ps a r b s → Stops chooses qs b s t k c → Stops chooses (ps ++ qs) a r t k c
+  stops_then qs b s t k c apart one ended = record {
+    choose = both_choices ps one.choose ended.choose;
+    later = ended.later;
+    chosen = λ all. ended.chosen (one.chosen all);
+    listed =
+        ap (λ (l : List MetData). map met_of r.conflicts.items ++ l) (sym (all_by_row ps qs a b one.choose ended.choose apart one.applied met_by))
+        ∙ sym (append_assoc (map met_of r.conflicts.items) (flat_map (met_at a one.choose) ps) (flat_map (met_at b ended.choose) qs))
+        ∙ ap (λ (l : List MetData). l ++ flat_map (met_at b ended.choose) qs) (sym one.conflicts)
+        ∙ ended.listed;
+  }
 
   pub stops_as_more : (qs : List PlacedEntry) (t : Report) (e : Ending) → StopsAs chooses ps a r t e → StopsAs chooses (ps ++ qs) a r t e
-  stops_as_more qs t (Aborted k) h = (stops_more qs t k h.0, h.1)
-  stops_as_more qs t (Misused k) h = (stops_more qs t k h.0, h.1, h.2)
+  stops_as_more qs t (Aborted k) h = (stops_more qs t k choice.Abort h.0, h.1)
+  stops_as_more qs t (Misused k) h = (stops_more qs t k choice.Replace h.0, h.1, h.2)
 
   pub stops_as_then : (qs : List PlacedEntry) (b : State) (s t : Report) (e : Ending) → Apart ps qs → Carries chooses ps a r b s → StopsAs chooses qs b s t e → StopsAs chooses (ps ++ qs) a r t e
-  stops_as_then qs b s t (Aborted k) apart one h = (stops_then qs b s t k apart one h.0, h.1)
-  stops_as_then qs b s t (Misused k) apart one h = (stops_then qs b s t k apart one h.0, h.1, h.2)
+  stops_as_then qs b s t (Aborted k) apart one h = (stops_then qs b s t k choice.Abort apart one h.0, h.1)
+  stops_as_then qs b s t (Misused k) apart one h = (stops_then qs b s t k choice.Replace apart one h.0, h.1, h.2)

@@ -1,6 +1,6 @@
 -- What a run over rows does with a file: the interface of SQLite's session extension, under "sqlite3changeset_apply". The
 -- order of refusals, and that a table may not be wider, are this project's own.
-use Rattle.std.specs.Prelude.{◌≡◌, ◌⊎◌, ◌∷◌, ◌++◌, ℕ, false, List, map, All, Some, string_bytes}
+use Rattle.std.specs.Prelude.{◌≡◌, ◌⊎◌, ◌∷◌, ◌++◌, ℕ, false, List, map, All, string_bytes}
 use Rattle.cs_value.specs.State.{State}
 use Rattle.cs_wire.specs.Changeset.{GroupData, IsChangeset, file_bytes}
 use Rattle.cs_wire.specs.ReadFaults.{ReadFails}
@@ -12,8 +12,8 @@ use Rattle.cs_group.specs.declared.conflict.Choice.TheVariants as choice
 use Rattle.cs_group.specs.declared.conflict.Noop.{Noop}
 use Rattle.cs_group.specs.Inverse.{IsInverse}
 use Rattle.cs_group.specs.Conflicts.{ends}
-use Rattle.cs_group.specs.Applying.{ConflictData, Choices, FirstWider, NoneWider, IsClean, IsApplied}
-use Rattle.cs_group.specs.Applying.{IsAppliedUnder, conflicts_under, met_under, skipped, written_under, ignored}
+use Rattle.cs_group.specs.Applying.{MetData, Choices, FirstWider, NoneWider, IsClean, IsApplied}
+use Rattle.cs_group.specs.Applying.{IsAppliedUnder, met_under, skipped, written_under, ignored}
 use Rattle.cs_apply.specs.declared.conflict.Conflict.{Conflict}
 use Rattle.cs_apply.specs.declared.conflict.Met.{Met}
 use Rattle.cs_apply.specs.declared.report.Report.{Report}
@@ -36,7 +36,7 @@ IsReadAs file Inverse changeset = (read : List GroupData)
 -- the handler chose so, and the run goes on
 pub record GoesOn (chooses : Handler) (m : Met) : Type 0 where
   pub chosen : chooses m.conflict m.choice
-  pub goes_on : ends (Some m.conflict.kind) m.choice ≡ false
+  pub goes_on : ends m.conflict.kind m.choice ≡ false
 
 -- a file is applied, with what the report tells
 pub record Applies (chooses : Handler) (noop : Noop) (file : List ℕ) (direction : Direction) (old : State)
@@ -52,12 +52,16 @@ pub record Applies (chooses : Handler) (noop : Noop) (file : List ℕ) (directio
   pub written : map written_of report.written.items ≡ written_under noop old changeset choose
   pub ignored : report.ignored ≡ ignored noop old changeset
 
--- the conflict is one of a changeset, and for each before it the handler chose to go on
-pub record IsReached (chooses : Handler) (noop : Noop) (old : State) (changeset : List GroupData) (conflict : Conflict) : Type 0 where
+-- the conflict is one that a changeset meets under some choices, of which this is the one for it; those for the conflicts
+-- before it the handler chose, and the run went on
+pub record IsReached (chooses : Handler) (noop : Noop) (old : State) (changeset : List GroupData) (conflict : Conflict)
+    (choice : Choice) : Type 0 where
+  pub choose : Choices
   pub earlier : List Met
-  pub later : List ConflictData
+  pub later : List MetData
   pub chosen : All (GoesOn chooses) earlier
-  pub listed : conflicts_under noop old changeset ≡ map (λ m. conflict_of m.conflict) earlier ++ conflict_of conflict ∷ later
+  pub listed : met_under noop old changeset choose
+      ≡ map met_of earlier ++ record { conflict = conflict_of conflict; choice = choice } ∷ later
 
 -- the run ends at a conflict, with this choice
 pub record EndsAt (chooses : Handler) (noop : Noop) (file : List ℕ) (direction : Direction) (old : State)
@@ -65,7 +69,7 @@ pub record EndsAt (chooses : Handler) (noop : Noop) (file : List ℕ) (direction
   pub changeset : List GroupData
   pub read : IsReadAs file direction changeset
   pub none_wider : NoneWider old changeset
-  pub reached : IsReached chooses noop old changeset conflict
+  pub reached : IsReached chooses noop old changeset conflict choice
   pub chosen : chooses conflict choice
 
 pub record IsWider (file : List ℕ) (direction : Direction) (old : State) (place : ℕ) : Type 0 where

@@ -1,6 +1,6 @@
 -- How a run goes on, entry by entry. No public contract names this.
 use Rattle.std.specs.Prelude.{◌≡◌, ◌⊎◌, ℕ, ◌+◌, length, Bool, true, false, List, [], ◌∷◌, ◌++◌, map, filter_map, All, Option, None, Some}
-use Rattle.std.specs.Prelude.{option_map, option_to_list}
+use Rattle.std.specs.List.{flat_map}
 use Rattle.cs_value.specs.declared.value.OwnedValue.{OwnedValue}
 use Rattle.cs_value.specs.State.{State, SchemaData, schema_at, with_row, without_row}
 use Rattle.cs_wire.specs.declared.entry.Change.{Change}
@@ -8,15 +8,15 @@ use Rattle.cs_wire.specs.Changeset.{HeaderData}
 use Rattle.cs_wire.specs.Items.{FlaggedEntry}
 use Rattle.cs_store.specs.declared.fault.StoreError.TheVariants.{DamagedStore}
 use Rattle.cs_store.specs.Editing.{written_of}
+use Rattle.cs_group.specs.declared.conflict.Kind.{Kind}
 use Rattle.cs_group.specs.declared.conflict.Kind.TheVariants.{NotFound}
 use Rattle.cs_group.specs.declared.conflict.Choice.{Choice}
 use Rattle.cs_group.specs.declared.conflict.Choice.TheVariants as choice
 use Rattle.cs_group.specs.declared.conflict.Noop.{Noop}
 use Rattle.cs_group.specs.declared.conflict.Noop.TheVariants as noop
-use Rattle.cs_group.specs.Conflicts.{conflict_kind, is_idle, ends, is_carried_out}
+use Rattle.cs_group.specs.Conflicts.{kinds_met, is_idle, is_ended, is_carried_out}
 use Rattle.cs_group.specs.Joining.{key_places}
-use Rattle.cs_group.specs.Applying.{PlacedEntry, ConflictData, Choices, AreApplied, conflict_with, conflict_at}
-use Rattle.cs_group.specs.Applying.{met_at, written_for, heeded_of, ignored_of}
+use Rattle.cs_group.specs.Applying.{PlacedEntry, MetData, Choices, AreApplied, met_with, met_at, written_for, heeded_of, ignored_of}
 use Rattle.cs_apply.specs.declared.conflict.Conflict.{Conflict}
 use Rattle.cs_apply.specs.declared.conflict.Met.{Met}
 use Rattle.cs_apply.specs.declared.ending.Ending.{Ending}
@@ -45,25 +45,27 @@ pub record Carries (chooses : Handler) (entries : List PlacedEntry) (before : St
   pub choose : Choices
   pub applied : AreApplied before entries choose after
   pub conflicts : map met_of next.conflicts.items
-      ≡ map met_of report.conflicts.items ++ filter_map (met_at before choose) entries
+      ≡ map met_of report.conflicts.items ++ flat_map (met_at before choose) entries
   pub chosen : All (GoesOn chooses) report.conflicts.items → All (GoesOn chooses) next.conflicts.items
   pub written : map written_of next.written.items
       ≡ map written_of report.written.items ++ filter_map (written_for before choose) entries
 
--- the run ends at a conflict of one of these entries, and the report has those before it
+-- the run ends at a conflict of one of these entries, for which this was chosen, and the report has those before it
 pub record Stops (chooses : Handler) (entries : List PlacedEntry) (before : State) (report next : Report)
-    (conflict : Conflict) : Type 0 where
-  pub later : List ConflictData
+    (conflict : Conflict) (choice : Choice) : Type 0 where
+  pub choose : Choices
+  pub later : List MetData
   pub chosen : All (GoesOn chooses) report.conflicts.items → All (GoesOn chooses) next.conflicts.items
-  pub listed : map (λ m. conflict_of m.conflict) report.conflicts.items ++ filter_map (conflict_at before) entries
-      ≡ map (λ m. conflict_of m.conflict) next.conflicts.items ++ conflict_of conflict ∷ later
+  pub listed : map met_of report.conflicts.items ++ flat_map (met_at before choose) entries
+      ≡ map met_of next.conflicts.items ++ record { conflict = conflict_of conflict; choice = choice } ∷ later
 
 -- it ends there in this way
 abbrev pub StopsAs : Handler → List PlacedEntry → State → Report → Report → Ending → Type 0
 StopsAs chooses entries before report next (Aborted conflict) =
-    Stops chooses entries before report next conflict × chooses conflict choice.Abort
+    Stops chooses entries before report next conflict choice.Abort × chooses conflict choice.Abort
 StopsAs chooses entries before report next (Misused conflict) =
-    Stops chooses entries before report next conflict × chooses conflict choice.Replace × (conflict.kind ≡ NotFound)
+    Stops chooses entries before report next conflict choice.Replace × chooses conflict choice.Replace
+    × (conflict.kind ≡ NotFound)
 
 -- what a run that ended so is refused with
 abbrev pub refusal_of : Ending → ApplyFault
@@ -86,14 +88,13 @@ ComesTo chooses noop p before report after next None =
 ComesTo chooses noop p before report after next (Some ending) =
     StopsAs chooses (heeded_of noop before (p ∷ [])) before report next ending × (after ≡ before)
 
--- an entry, before it is carried out: what it meets, what was chosen for that, and whether it is carried out
+-- an entry, before it is carried out: what was chosen for what it meets, and whether it is carried out
 pub record Settles (chooses : Handler) (p : PlacedEntry) (row : Option (List OwnedValue)) (conflicts next : List Met)
     (is_carried : Bool) : Type 0 where
-  pub choice : Choice
-  pub goes_on : ends (conflict_kind p.entry.change row) choice ≡ false
-  pub carried : is_carried ≡ is_carried_out (conflict_kind p.entry.change row) choice
-  pub told : map met_of next ≡ map met_of conflicts
-      ++ option_to_list (option_map (λ k. record { conflict = k; choice = choice }) (conflict_with p row))
+  pub choose : Kind → Choice
+  pub goes_on : is_ended (kinds_met p.entry.change row) choose ≡ false
+  pub carried : is_carried ≡ is_carried_out (kinds_met p.entry.change row) choose
+  pub told : map met_of next ≡ map met_of conflicts ++ met_with p choose row
   pub chosen : All (GoesOn chooses) conflicts → All (GoesOn chooses) next
 
 -- how the run ends at a conflict
@@ -102,17 +103,21 @@ ending_by conflict choice.Omit = Misused conflict
 ending_by conflict choice.Replace = Misused conflict
 ending_by conflict choice.Abort = Aborted conflict
 
--- it ends the run, and is told no more
-pub record EndsRun (p : PlacedEntry) (row : Option (List OwnedValue)) (conflicts next : List Met) (conflict : Conflict) :
-    Type 0 where
-  pub is : conflict_with p row ≡ Some (conflict_of conflict)
-  pub same : next ≡ conflicts
+-- the conflict is one that the entry meets, and ends the run; those before it are told
+pub record EndsRun (chooses : Handler) (p : PlacedEntry) (row : Option (List OwnedValue)) (conflicts next : List Met)
+    (conflict : Conflict) (choice : Choice) : Type 0 where
+  pub choose : Kind → Choice
+  pub later : List MetData
+  pub chosen : All (GoesOn chooses) conflicts → All (GoesOn chooses) next
+  pub listed : map met_of conflicts ++ met_with p choose row
+      ≡ map met_of next ++ record { conflict = conflict_of conflict; choice = choice } ∷ later
 
 abbrev pub Unsettled : Handler → PlacedEntry → Option (List OwnedValue) → List Met → List Met → Ending → Type 0
 Unsettled chooses p row conflicts next (Aborted conflict) =
-    EndsRun p row conflicts next conflict × chooses conflict choice.Abort
+    EndsRun chooses p row conflicts next conflict choice.Abort × chooses conflict choice.Abort
 Unsettled chooses p row conflicts next (Misused conflict) =
-    EndsRun p row conflicts next conflict × chooses conflict choice.Replace × (conflict.kind ≡ NotFound)
+    EndsRun chooses p row conflicts next conflict choice.Replace × chooses conflict choice.Replace
+    × (conflict.kind ≡ NotFound)
 
 -- what is done where the run goes on
 abbrev pub settled_as : Choice → Settled

@@ -133,7 +133,7 @@ fn settled_by(choice: Choice) -> Settled
 
 /// Whether a run ends at a conflict of this kind, for which this was chosen.
 fn ends_run(kind: Kind, choice: Choice) -> bool
-    ensures { result ≡ ends (Some kind) choice }
+    ensures { result ≡ ends kind choice }
 {
     match choice {
         Choice::Omit => false,

@@ -1,6 +1,6 @@
 -- What changesets do to tables, worked as examples: on the table t of columns a and b, of which a is the key.
-use Rattle.std.proofs.Common.{◌≡◌, ◌≢◌, ℕ, suc, arith, pos, Bool, true, false, true≢false, cond, List, [], ◌∷◌, map, filter_map, Option, Some, None, option_map, unwrap_or, codes, refl, sym, ap, ◌∙◌, subst}
-use Rattle.std.specs.List.{cons_option}
+use Rattle.std.proofs.Common.{◌≡◌, ◌≢◌, ℕ, suc, arith, pos, Bool, true, false, true≢false, cond, List, [], ◌∷◌, ◌++◌, map, filter_map, All, Option, Some, None, option_map, unwrap_or, codes, refl, sym, ap, ◌∙◌, subst}
+use Rattle.std.specs.List.{cons_option, flat_map}
 use Rattle.std.specs.Ordering.{nat_cmp, is_eq}
 use Rattle.std.specs.Cmp.Lexicographic.{slice_cmp, nat_list_cmp_total}
 use Rattle.std.specs.FinMap.{get, insert, empty, get-insert, get-empty}
@@ -18,14 +18,15 @@ use Rattle.cs_wire.specs.Changeset.{HeaderData, GroupData}
 use Rattle.cs_wire.proofs.Examples.{one, flags, header, direct, group, one_change, one_change_of, x, y, row, update, idle_update, update_is_changeset}
 use Rattle.cs_group.specs.declared.judging.Judgement.{Judgement}
 use Rattle.cs_group.specs.declared.judging.Judgement.TheVariants.{Skipped, Wider, Compatible}
+use Rattle.cs_group.specs.declared.conflict.Kind.{Kind}
 use Rattle.cs_group.specs.declared.conflict.Kind.TheVariants.{Data, NotFound, Conflict}
 use Rattle.cs_group.specs.declared.conflict.Choice.{Choice}
 use Rattle.cs_group.specs.declared.conflict.Choice.TheVariants.{Omit, Replace, Abort}
 use Rattle.cs_group.specs.declared.merging.Merged.TheVariants.{Keep, Becomes}
 use Rattle.cs_group.specs.Joining.{merged}
 use Rattle.cs_group.specs.Judging.{judgement, judged, is_skipped, is_compatible}
-use Rattle.cs_group.specs.Conflicts.{has_values, conflict_kind, is_idle, row_after, is_carried_out, entry_result}
-use Rattle.cs_group.specs.Applying.{PlacedEntry, placed_by, placed, placed_result, current, IsElsewhere, skipped, FirstWider, applicable, conflict_with, conflict_at, conflicts, NoneWider, IsClean, Choices, written_for, written, AreApplied, IsApplied, omit_all}
+use Rattle.cs_group.specs.Conflicts.{has_values, conflict_kind, kinds_met, is_idle, row_after, is_carried_out, entry_result}
+use Rattle.cs_group.specs.Applying.{PlacedEntry, placed_by, placed, placed_result, current, IsElsewhere, skipped, FirstWider, applicable, placed_kind, conflicts, NoneWider, IsClean, Choices, MetData, met_with, met_at, written_for, written, AreApplied, IsApplied, omit_all}
 use Rattle.cs_group.proofs.ApplyLemmas.{applied_reverts}
 use Rattle.cs_group.proofs.Examples.{update_and_back}
 
@@ -52,6 +53,10 @@ wide middle = Int (pos 1) ∷ middle ∷ Text (codes "q") ∷ []
 abbrev middle_update : Change
 middle_update = Update (Defined (Int (pos 1)) ∷ Defined x ∷ Undefined ∷ []) (Undefined ∷ Defined y ∷ Undefined ∷ [])
 
+-- the same choice for each kind of conflict
+abbrev always : Choice → Kind → Choice
+always choice kind = choice
+
 -- ---- an entry and the row with its key
 
 -- the update of 'x' to 'y' meets no conflict at (1, 'x')
@@ -59,23 +64,23 @@ update_meets_none : conflict_kind (update x y) (Some row) ≡ None
 update_meets_none = refl
 
 -- and leaves (1, 'y'), whatever the choice
-update_leaves_later : (choice : Choice) → entry_result flags (update x y) (Some row) choice ≡ Some (Some later)
-update_leaves_later choice = refl
+update_leaves_later : (choose : Kind → Choice) → entry_result flags (update x y) (Some row) choose ≡ Some (Some later)
+update_leaves_later choose = refl
 
 -- its inverse meets none at (1, 'y')
 update_back_meets_none : conflict_kind (update y x) (Some later) ≡ None
 update_back_meets_none = refl
 
 -- and gives (1, 'x') back
-update_back_leaves_row : (choice : Choice) → entry_result flags (update y x) (Some later) choice ≡ Some (Some row)
-update_back_leaves_row choice = refl
+update_back_leaves_row : (choose : Kind → Choice) → entry_result flags (update y x) (Some later) choose ≡ Some (Some row)
+update_back_leaves_row choose = refl
 
 -- the update of 'x' to 'y' meets (1, 'z'), which has another value
 update_meets_data : conflict_kind (update x y) (Some apart) ≡ Some Data
 update_meets_data = refl
 
 -- and leaves (1, 'y') in its place where that is chosen
-update_replaces : entry_result flags (update x y) (Some apart) Replace ≡ Some (Some later)
+update_replaces : entry_result flags (update x y) (Some apart) (always Replace) ≡ Some (Some later)
 update_replaces = refl
 
 -- an update of 'x' to 'x' meets none at (1, 'x')
@@ -83,8 +88,8 @@ update_of_same_meets_none : conflict_kind (update x x) (Some row) ≡ None
 update_of_same_meets_none = refl
 
 -- and leaves it
-update_of_same_leaves_row : (choice : Choice) → entry_result flags (update x x) (Some row) choice ≡ Some (Some row)
-update_of_same_leaves_row choice = refl
+update_of_same_leaves_row : (choose : Kind → Choice) → entry_result flags (update x x) (Some row) choose ≡ Some (Some row)
+update_of_same_leaves_row choose = refl
 
 -- an update that modifies nothing meets none at (1, 'x')
 idle_update_meets_none : conflict_kind idle_update (Some row) ≡ None
@@ -103,39 +108,39 @@ insert_meets_none : conflict_kind (Insert second_row) None ≡ None
 insert_meets_none = refl
 
 -- and leaves that row
-insert_leaves_row : (choice : Choice) → entry_result flags (Insert second_row) None choice ≡ Some (Some second_row)
-insert_leaves_row choice = refl
+insert_leaves_row : (choose : Kind → Choice) → entry_result flags (Insert second_row) None choose ≡ Some (Some second_row)
+insert_leaves_row choose = refl
 
 -- an insert of (1, 'x') meets (1, 'z'), which has its key
 insert_meets_conflict : conflict_kind (Insert row) (Some apart) ≡ Some Conflict
 insert_meets_conflict = refl
 
 -- passed over it leaves (1, 'z')
-insert_omitted : entry_result flags (Insert row) (Some apart) Omit ≡ Some (Some apart)
+insert_omitted : entry_result flags (Insert row) (Some apart) (always Omit) ≡ Some (Some apart)
 insert_omitted = refl
 
 -- in its place it leaves (1, 'x')
-insert_replaces : entry_result flags (Insert row) (Some apart) Replace ≡ Some (Some row)
+insert_replaces : entry_result flags (Insert row) (Some apart) (always Replace) ≡ Some (Some row)
 insert_replaces = refl
 
 -- and where all is to end it leaves nothing
-insert_aborts : entry_result flags (Insert row) (Some apart) Abort ≡ None
+insert_aborts : entry_result flags (Insert row) (Some apart) (always Abort) ≡ None
 insert_aborts = refl
 
 -- a delete of (1, 'x') at that row leaves none
-delete_leaves_none : (choice : Choice) → entry_result flags (Delete row) (Some row) choice ≡ Some None
-delete_leaves_none choice = refl
+delete_leaves_none : (choose : Kind → Choice) → entry_result flags (Delete row) (Some row) choose ≡ Some None
+delete_leaves_none choose = refl
 
 -- where no row stands it finds none
 delete_finds_none : conflict_kind (Delete row) None ≡ Some NotFound
 delete_finds_none = refl
 
 -- and there is nothing to replace
-delete_of_none_ends : entry_result flags (Delete row) None Replace ≡ None
+delete_of_none_ends : entry_result flags (Delete row) None (always Replace) ≡ None
 delete_of_none_ends = refl
 
 -- passed over it leaves none
-delete_of_none_omitted : entry_result flags (Delete row) None Omit ≡ Some None
+delete_of_none_omitted : entry_result flags (Delete row) None (always Omit) ≡ Some None
 delete_of_none_omitted = refl
 
 -- a delete of (1, 'x') meets (1, 'y'), which has another value
@@ -143,7 +148,7 @@ delete_meets_data : conflict_kind (Delete row) (Some later) ≡ Some Data
 delete_meets_data = refl
 
 -- and leaves no row where it is carried out in its place
-delete_replaces : entry_result flags (Delete row) (Some later) Replace ≡ Some None
+delete_replaces : entry_result flags (Delete row) (Some later) (always Replace) ≡ Some None
 delete_replaces = refl
 
 -- an update from NULL meets none at (1, NULL)
@@ -159,7 +164,7 @@ update_finds_none : conflict_kind (update x y) None ≡ Some NotFound
 update_finds_none = refl
 
 -- and passed over it leaves none
-update_of_none_omitted : entry_result flags (update x y) None Omit ≡ Some None
+update_of_none_omitted : entry_result flags (update x y) None (always Omit) ≡ Some None
 update_of_none_omitted = refl
 
 -- an update of the second of three columns meets (1, 'z', 'q'), which has another value there
@@ -167,7 +172,7 @@ middle_update_meets_data : conflict_kind middle_update (Some (wide (Text (codes 
 middle_update_meets_data = refl
 
 -- in its place it leaves (1, 'y', 'q'): the third column, which it does not say, stays
-middle_update_replaces : entry_result (1 ∷ 0 ∷ 0 ∷ []) middle_update (Some (wide (Text (codes "z")))) Replace ≡ Some (Some (wide y))
+middle_update_replaces : entry_result (1 ∷ 0 ∷ 0 ∷ []) middle_update (Some (wide (Text (codes "z")))) (always Replace) ≡ Some (Some (wide y))
 middle_update_replaces = refl
 
 -- ---- changes that change nothing
@@ -295,9 +300,11 @@ row_is_met : (r : List OwnedValue) (change : Change) → key_of flags change ≡
 row_is_met r change same = ap (row_at (state_of r) (codes "t")) same ∙ row_is r (codes "t") key
 
 -- so its conflicts are what that one makes
-conflicts_are : (r : List OwnedValue) (change : Change) → key_of flags change ≡ key → conflicts (state_of r) (one_change change) ≡ cons_option (conflict_with (in_t change) (Some r)) []
-conflicts_are r change same =
-    ap (filter_map (conflict_at (state_of r))) (t_is_applicable r change) ∙ ap (λ (o : Option (List OwnedValue)). cons_option (conflict_with (in_t change) o) []) (row_is_met r change same)
+conflicts_are : (r : List OwnedValue) (change : Change) (choose : Choices) → key_of flags change ≡ key
+    → conflicts (state_of r) (one_change change) choose ≡ map (λ (m : MetData). m.conflict) (met_with (in_t change) (choose (in_t change)) (Some r) ++ [])
+conflicts_are r change choose same =
+    ap (λ (ps : List PlacedEntry). map (λ (m : MetData). m.conflict) (flat_map (met_at (state_of r) choose) ps)) (t_is_applicable r change)
+    ∙ ap (λ (o : Option (List OwnedValue)). map (λ (m : MetData). m.conflict) (met_with (in_t change) (choose (in_t change)) o ++ [])) (row_is_met r change same)
 
 -- no table is wider
 none_wider : (r : List OwnedValue) (change : Change) → NoneWider (state_of r) (one_change change)
@@ -306,7 +313,13 @@ none_wider r change = one (λ g. judged (state_of r) g ≢ Wider) (group (change
 -- the update of 'x' to 'y' meets no conflict where t has (1, 'x')
 update_is_clean : IsClean (state_of row) (one_change (update x y))
 unfolding value_bytes field_bytes
-update_is_clean = record { none_wider = none_wider row (update x y); no_conflict = conflicts_are row (update x y) refl }
+update_is_clean = record {
+  none_wider = none_wider row (update x y);
+  no_conflict = subst (All MeetsNone) (sym (t_is_applicable row (update x y))) (one MeetsNone (in_t (update x y)) (ap (conflict_kind (update x y)) (row_is_met row (update x y) refl)));
+}
+  where
+    MeetsNone : PlacedEntry → Type 0
+    MeetsNone p = placed_kind (state_of row) p ≡ None
 
 -- and makes the state in which t has (1, 'y')
 update_is_applied : (choose : Choices) → IsApplied (state_of row) (one_change (update x y)) choose (state_of later)
@@ -336,12 +349,12 @@ update_tells_former : (choose : Choices) → written (state_of row) (one_change 
 unfolding value_bytes field_bytes
 update_tells_former choose =
     ap (filter_map (written_for (state_of row) choose)) (t_is_applicable row (update x y))
-    ∙ ap (λ (o : Option (List OwnedValue)). cons_option (cond (is_carried_out (conflict_kind (update x y) o) (choose (in_t (update x y)))) (Some (record { table = codes "t"; key = key; former = o })) None) []) (row_is_met row (update x y) refl)
+    ∙ ap (λ (o : Option (List OwnedValue)). cons_option (cond (is_carried_out (kinds_met (update x y) o) (choose (in_t (update x y)))) (Some (record { table = codes "t"; key = key; former = o })) None) []) (row_is_met row (update x y) refl)
 
 -- an insert of (1, 'x') where t has (1, 'z') meets that row
-insert_meets_row : conflicts (state_of apart) (one_change (Insert row)) ≡ record { kind = Conflict; table = codes "t"; entry = direct (Insert row); current = Some apart } ∷ []
+insert_meets_row : (choose : Choices) → conflicts (state_of apart) (one_change (Insert row)) choose ≡ record { kind = Conflict; table = codes "t"; entry = direct (Insert row); current = Some apart } ∷ []
 unfolding value_bytes field_bytes
-insert_meets_row = conflicts_are apart (Insert row) refl
+insert_meets_row choose = conflicts_are apart (Insert row) choose refl
 
 -- the table t of the column a alone
 abbrev header_a : HeaderData
@@ -373,8 +386,8 @@ z_is_told : skipped (state_of row) (one_change_of header_z (Insert row)) ≡ cod
 z_is_told = ap (λ (j : Judgement). map (λ g. g.header.name) (cond (is_skipped j) (group_z ∷ []) [])) z_is_skipped
 
 -- and its changes meet no conflict
-z_meets_none : conflicts (state_of row) (one_change_of header_z (Insert row)) ≡ []
-z_meets_none = ap (λ (j : Judgement). filter_map (conflict_at (state_of row)) (placed (cond (is_compatible j) (group_z ∷ []) []))) z_is_skipped
+z_meets_none : (choose : Choices) → conflicts (state_of row) (one_change_of header_z (Insert row)) choose ≡ []
+z_meets_none choose = ap (λ (j : Judgement). map (λ (m : MetData). m.conflict) (flat_map (met_at (state_of row) choose) (placed (cond (is_compatible j) (group_z ∷ []) [])))) z_is_skipped
 
 -- ---- the join of two entries of one key
 
@@ -397,5 +410,5 @@ second_meets_conflict : conflict_kind (Insert later) (row_after flags (Insert ro
 second_meets_conflict = refl
 
 -- and then leaves another row than both, the second in place of what stood there
-joined_leaves_other : entry_result flags (Insert later) (row_after flags (Insert row) None) Replace ≢ Some (row_after flags (Insert row) None)
+joined_leaves_other : entry_result flags (Insert later) (row_after flags (Insert row) None) (always Replace) ≢ Some (row_after flags (Insert row) None)
 joined_leaves_other = λ e. true≢false (sym (ap (λ (o : Option (Option (List OwnedValue))). has_values (unwrap_or (unwrap_or o None) []) (map Defined row)) e))

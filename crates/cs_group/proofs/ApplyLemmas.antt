@@ -1,7 +1,7 @@
 -- Changesets and the states that they make.
 use Rattle.std.proofs.Common.{◌≡◌, ◌≢◌, inl, inr, ◌⊎◌, ℕ, Bool, true, false, cond, if◌then◌else◌, nat_eq, List, [], ◌∷◌, ◌++◌, map, filter_map, All, Option, Some, None, option_map, refl, sym, ap, ◌∙◌}
 use Rattle.std.specs.Prelude.{unwrap_or}
-use Rattle.std.specs.List.{AllByRecursion, AllZip, cons_option}
+use Rattle.std.specs.List.{AllByRecursion, AllZip, cons_option, flat_map}
 use Rattle.std.specs.FinMap.{get, empty}
 use Rattle.std.specs.Cmp.Lexicographic.{pointwise, same_text, other_text}
 use Rattle.std.proofs.lemmas.List.Elements.{recursion_from_All, All-from_recursion}
@@ -13,10 +13,9 @@ use Rattle.cs_wire.specs.Entry.{IsEntry}
 use Rattle.cs_wire.specs.Changeset.{HeaderData, GroupData, ImageData, IsGroup}
 use Rattle.cs_wire.specs.Inverse.{IsInverseEntry, IsInverseGroup}
 use Rattle.cs_group.specs.declared.judging.Judgement.TheVariants.{Wider}
-use Rattle.cs_group.specs.declared.conflict.Kind.{Kind}
 use Rattle.cs_group.specs.Judging.{judgement, judged, is_compatible}
-use Rattle.cs_group.specs.Conflicts.{row_after, is_carried_out, ends}
-use Rattle.cs_group.specs.Applying.{PlacedEntry, placed_by, placed_in, placed, placed_key, current, IsElsewhere, compatible_groups, applicable, heeded, placed_kind, conflict_at, Choices, written_for, written_under, placed_result}
+use Rattle.cs_group.specs.Conflicts.{row_after, is_carried_out, is_ended}
+use Rattle.cs_group.specs.Applying.{PlacedEntry, placed_by, placed_in, placed, placed_key, current, IsElsewhere, compatible_groups, applicable, heeded, placed_kind, placed_kinds, Choices, met_at, written_for, written_under, placed_result}
 use Rattle.cs_group.specs.Laws.{AppliedOnce, AppliedReverts, WrittenTells}
 use Rattle.cs_group.proofs.ConflictLemmas.{undone}
 use Rattle.std.proofs.lemmas.Option.{same_Some}
@@ -83,7 +82,7 @@ module _ (old new : State) (choose : Choices) where
   -- of the keys of these entries
   told_of : (ps : List PlacedEntry) → AllByRecursion (λ (w : WrittenData). row_at old w.table w.key ≡ w.former) (filter_map (written_for old choose) ps)
   told_of [] = tt
-  told_of (p ∷ ps) = at (is_carried_out (placed_kind old p) (choose p)) (told_of ps)
+  told_of (p ∷ ps) = at (is_carried_out (placed_kinds old p) (choose p)) (told_of ps)
     where
       at : (b : Bool) → AllByRecursion (λ (w : WrittenData). row_at old w.table w.key ≡ w.former) (filter_map (written_for old choose) ps)
           → AllByRecursion (λ (w : WrittenData). row_at old w.table w.key ≡ w.former) (cons_option (if b then Some (written_at old p.table (placed_key p)) else None) (filter_map (written_for old choose) ps))
@@ -94,8 +93,8 @@ module _ (old new : State) (choose : Choices) where
   NotWritten table key w = ¬ ((w.table ≡ table) × (w.key ≡ key))
 
   -- what an entry leaves that is not carried out
-  stays : (p : PlacedEntry) → is_carried_out (placed_kind old p) (choose p) ≡ false → placed_result old choose p ≡ Some (current new p) → current new p ≡ current old p
-  stays p passed e = at (ends (placed_kind old p) (choose p)) (rw passed at e)
+  stays : (p : PlacedEntry) → is_carried_out (placed_kinds old p) (choose p) ≡ false → placed_result old choose p ≡ Some (current new p) → current new p ≡ current old p
+  stays p passed e = at (is_ended (placed_kinds old p) (choose p)) (rw passed at e)
     where
       at : (b : Bool) → (if b then None else Some (current old p)) ≡ Some (current new p) → current new p ≡ current old p
       at true e = absurd (none-some (current new p) e)
@@ -106,7 +105,7 @@ module _ (old new : State) (choose : Choices) where
       → row_at new table key ≡ row_at old table key
   other_rows table key [] results untold others = others tt
   other_rows table key (p ∷ ps) results untold others =
-      at (is_carried_out (placed_kind old p) (choose p)) refl untold (λ apart left. other_rows table key ps results.1 left (λ rest. others (apart, rest)))
+      at (is_carried_out (placed_kinds old p) (choose p)) refl untold (λ apart left. other_rows table key ps results.1 left (λ rest. others (apart, rest)))
     where
       Left : Type 0
       Left = AllByRecursion (NotWritten table key) (filter_map (written_for old choose) ps)
@@ -114,11 +113,11 @@ module _ (old new : State) (choose : Choices) where
       Same : Type 0
       Same = row_at new table key ≡ row_at old table key
 
-      found : is_carried_out (placed_kind old p) (choose p) ≡ false → IsHere table key p ⊎ IsElsewhere p table key → Left → (IsElsewhere p table key → Left → Same) → Same
+      found : is_carried_out (placed_kinds old p) (choose p) ≡ false → IsHere table key p ⊎ IsElsewhere p table key → Left → (IsElsewhere p table key → Left → Same) → Same
       found is (inl here) left next = at_place new old p table key (stays p is results.0) here.0 here.1
       found is (inr apart) left next = next apart left
 
-      at : (b : Bool) → is_carried_out (placed_kind old p) (choose p) ≡ b
+      at : (b : Bool) → is_carried_out (placed_kinds old p) (choose p) ≡ b
           → AllByRecursion (NotWritten table key) (cons_option (if b then Some (written_at old p.table (placed_key p)) else None) (filter_map (written_for old choose) ps)) → (IsElsewhere p table key → Left → Same) → Same
       at true is left next = next left.0 left.1
       at false is left next = found is (is_here table key p) left next
@@ -193,19 +192,10 @@ module _ (old new : State) (schemas : (table : List ℕ) → schema_at new table
       at true others = ((each.0, others.0), (h.0, others.1))
       at false others = others
 
--- where none of the entries meets a conflict
-pub no_conflict : (state : State) (ps : List PlacedEntry) → filter_map (conflict_at state) ps ≡ [] → AllByRecursion (λ p. placed_kind state p ≡ None) ps
-no_conflict state [] e = tt
-no_conflict state (p ∷ ps) e = at (placed_kind state p) refl (no_conflict state ps)
-  where
-    at : (o : Option Kind) → placed_kind state p ≡ o → (filter_map (conflict_at state) ps ≡ [] → AllByRecursion (λ p. placed_kind state p ≡ None) ps)
-        → AllByRecursion (λ p. placed_kind state p ≡ None) (p ∷ ps)
-    at None is others = (is, others (rw is at e))
-    at (Some kind) is others = absurd (let some = rw is at e in cc)
-
-pub none_met : (state : State) (ps : List PlacedEntry) → AllByRecursion (λ p. placed_kind state p ≡ None) ps → filter_map (conflict_at state) ps ≡ []
-none_met state [] h = refl
-none_met state (p ∷ ps) h = rw (h.0) (none_met state ps h.1)
+-- where none of the entries meets a conflict, none is told
+pub none_met : (state : State) (choose : Choices) (ps : List PlacedEntry) → AllByRecursion (λ p. placed_kind state p ≡ None) ps → flat_map (met_at state choose) ps ≡ []
+none_met state choose [] h = refl
+none_met state choose (p ∷ ps) h = rw (h.0) (none_met state choose ps h.1)
 
 -- an entry that meets no conflict leaves what it says
 pub left_row : (old new : State) (choose : Choices) (p : PlacedEntry) → placed_kind old p ≡ None → placed_result old choose p ≡ Some (current new p)
@@ -243,10 +233,10 @@ applied_reverts old changeset inverse choose again new is undoes clean applied =
     let qs = applicable new inverse in
     let groups = compatible_same old new applied.schemas changeset inverse (recursion_from_All IsGroup changeset is.each) undoes in
     let zip : AllZip Undoes ps qs = undoes_groups (compatible_groups old changeset) (compatible_groups new inverse) groups.0 groups.1 in
-    let all = undone_all old new choose again ps qs zip (no_conflict old ps clean.no_conflict) (recursion_from_All _ ps applied.results) in (
+    let all = undone_all old new choose again ps qs zip (recursion_from_All _ ps clean.no_conflict) (recursion_from_All _ ps applied.results) in (
       record {
         none_wider = All-from_recursion _ inverse (none_wider old new applied.schemas changeset inverse undoes (recursion_from_All _ changeset clean.none_wider));
-        no_conflict = none_met new qs all.0;
+        no_conflict = All-from_recursion _ qs all.0;
       },
       record {
         schemas = λ table. sym (applied.schemas table);

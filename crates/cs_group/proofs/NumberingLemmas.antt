@@ -1,7 +1,7 @@
 -- Numbered flags mark the same columns, so what is said and done under them is the same.
-use Rattle.std.proofs.Common.{◌≡◌, ◌≢◌, ℕ, zero, suc, ◌<◌, Bool, true, false, cond, List, [], ◌∷◌, ◌++◌, length, length-append, get_or, map, Option, Some, All, Any, refl, sym, ap, ◌∙◌, append_assoc, arith}
+use Rattle.std.proofs.Common.{◌≡◌, ◌≢◌, ℕ, zero, suc, ◌<◌, Bool, true, false, cond, List, [], ◌∷◌, ◌++◌, length, length-append, get_or, map, Option, Some, None, All, Any, refl, sym, ap, ◌∙◌, append_assoc, arith}
 use Rattle.std.specs.Prelude.{filter, filter_map, option_map}
-use Rattle.std.specs.List.{AllByRecursion, AllZip, cons_option}
+use Rattle.std.specs.List.{AllByRecursion, AllZip, cons_option, flat_map}
 use Rattle.std.specs.FinMap.{from_entries}
 use Rattle.std.proofs.Math.Nat.{min-le_right}
 use Rattle.std.proofs.lemmas.List.{append-nil, get_or-map, get_or_at, get_or_append_left, length-map, map-append}
@@ -18,8 +18,9 @@ use Rattle.cs_wire.specs.Changeset.{HeaderData, IsHeader, GroupData, ImageData, 
 use Rattle.cs_wire.specs.Inverse.{exchanged, IsInverseEntry}
 use Rattle.cs_group.specs.declared.judging.Judgement.TheVariants.{Wider}
 use Rattle.cs_group.specs.Judging.{judged, is_skipped, is_compatible}
+use Rattle.cs_group.specs.Conflicts.{conflict_kind}
 use Rattle.cs_group.specs.Joining.{table_name, key_places}
-use Rattle.cs_group.specs.Applying.{PlacedEntry, placed_by, placed_in, placed, placed_key, current, IsElsewhere, NoneWider, skipped, compatible_groups, applicable, conflict_with, conflict_at, conflicts, Choices, written_for, placed_result, AreApplied}
+use Rattle.cs_group.specs.Applying.{PlacedEntry, placed_by, placed_in, placed, placed_key, current, IsElsewhere, NoneWider, skipped, compatible_groups, applicable, placed_kind, conflicts, Choices, MetData, met_with, met_at, written_for, placed_result, AreApplied}
 use Rattle.cs_group.specs.Numbering.{next_number, numbered_behind, numbered_flags, numbered_header, numbered_group, numbered, InvertsNumbered, numbered_entry, as_numbered, DoesAlike}
 use Rattle.cs_group.proofs.InverseLemmas.{no_changeset}
 use Rattle.cs_group.proofs.JudgingLemmas.{judgement_same}
@@ -285,8 +286,11 @@ module _ (state : State) where
   current_stays : (p : PlacedEntry) → current state (numbered_entry p) ≡ current state p
   current_stays p = ap (row_at state p.table) (placed_key_stays p)
 
-  conflict_stays : (p : PlacedEntry) → conflict_at state (numbered_entry p) ≡ conflict_at state p
-  conflict_stays p = ap (conflict_with p) (current_stays p)
+  kind_stays : (p : PlacedEntry) → placed_kind state (numbered_entry p) ≡ placed_kind state p
+  kind_stays p = ap (conflict_kind p.entry.change) (current_stays p)
+
+  met_stays : (choose : Choices) (p : PlacedEntry) → met_at state choose (numbered_entry p) ≡ met_at state (as_numbered choose) p
+  met_stays choose p = ap (met_with p (as_numbered choose p)) (current_stays p)
 
   written_stays : (choose : Choices) (p : PlacedEntry) → written_for state choose (numbered_entry p) ≡ written_for state (as_numbered choose) p
   written_stays choose p = rw (placed_key_stays p) refl
@@ -298,6 +302,10 @@ module _ (state : State) where
 filter_map_numbered : {Y : Type 0} (h k : PlacedEntry → Option Y) → ((p : PlacedEntry) → h (numbered_entry p) ≡ k p) → (ps : List PlacedEntry) → filter_map h (map numbered_entry ps) ≡ filter_map k ps
 filter_map_numbered h k same [] = refl
 filter_map_numbered {Y} h k same (p ∷ ps) = rw (same p) (ap (cons_option (k p)) (filter_map_numbered h k same ps))
+
+flat_map_numbered : {Y : Type 0} (h k : PlacedEntry → List Y) → ((p : PlacedEntry) → h (numbered_entry p) ≡ k p) → (ps : List PlacedEntry) → flat_map h (map numbered_entry ps) ≡ flat_map k ps
+flat_map_numbered h k same [] = refl
+flat_map_numbered h k same (p ∷ ps) = rw (same p, flat_map_numbered h k same ps) refl
 
 -- and what holds of the ones holds of the others
 all_numbered : (P Q : PlacedEntry → Type 0) → ((p : PlacedEntry) → P (numbered_entry p) → Q p) → (ps : List PlacedEntry) → All P (map numbered_entry ps) → All Q ps
@@ -342,9 +350,21 @@ module _ (old new : State) (choose : Choices) (ps : List PlacedEntry) where
         is.others table key (all_unnumbered (λ p. IsElsewhere p table key) (λ p. IsElsewhere p table key) (elsewhere_back table key) ps each);
   }
 
-conflicts_stay : (state : State) (changeset : List GroupData) → conflicts state (numbered changeset) ≡ conflicts state changeset
-conflicts_stay state changeset =
-    ap (filter_map (conflict_at state)) (applicable_numbered state changeset) ∙ filter_map_numbered (conflict_at state) (conflict_at state) (conflict_stays state) (applicable state changeset)
+conflicts_stay : (state : State) (changeset : List GroupData) (choose : Choices) → conflicts state (numbered changeset) choose ≡ conflicts state changeset (as_numbered choose)
+conflicts_stay state changeset choose =
+    ap (map (λ (m : MetData). m.conflict))
+    (ap (flat_map (met_at state choose)) (applicable_numbered state changeset) ∙ flat_map_numbered (met_at state choose) (met_at state (as_numbered choose)) (met_stays state choose) (applicable state changeset))
+
+abbrev MeetsNone : State → PlacedEntry → Type 0
+MeetsNone state p = placed_kind state p ≡ None
+
+none_meets : (state : State) (changeset : List GroupData) → All (MeetsNone state) (applicable state changeset) → All (MeetsNone state) (applicable state (numbered changeset))
+none_meets state changeset each =
+    rw (applicable_numbered state changeset) (all_unnumbered (MeetsNone state) (MeetsNone state) (λ p none. kind_stays state p ∙ none) (applicable state changeset) each)
+
+meets_none : (state : State) (changeset : List GroupData) → All (MeetsNone state) (applicable state (numbered changeset)) → All (MeetsNone state) (applicable state changeset)
+meets_none state changeset each =
+    all_numbered (MeetsNone state) (MeetsNone state) (λ p none. sym (kind_stays state p) ∙ none) (applicable state changeset) (rw (applicable_numbered state changeset) at each)
 
 none_wider : (state : State) (changeset : List GroupData) → NoneWider state changeset → NoneWider state (numbered changeset)
 none_wider state changeset none = All-from_recursion _ (numbered changeset) (of changeset (recursion_from_All _ changeset none))
@@ -365,10 +385,10 @@ pub does_alike : (changeset : List GroupData) → DoesAlike changeset (numbered 
 does_alike changeset = record {
   judged = λ state. judged_each state changeset;
   skipped = λ state. skipped_stay state changeset;
-  conflicts = λ state. conflicts_stay state changeset;
+  conflicts = λ state choose. conflicts_stay state changeset choose;
   clean = λ state. (
-    λ is. record { none_wider = none_wider state changeset is.none_wider; no_conflict = conflicts_stay state changeset ∙ is.no_conflict },
-    λ is. record { none_wider = wider_none state changeset is.none_wider; no_conflict = sym (conflicts_stay state changeset) ∙ is.no_conflict },
+    λ is. record { none_wider = none_wider state changeset is.none_wider; no_conflict = none_meets state changeset is.no_conflict },
+    λ is. record { none_wider = wider_none state changeset is.none_wider; no_conflict = meets_none state changeset is.no_conflict },
   );
   written = λ state choose.
       ap (filter_map (written_for state choose)) (applicable_numbered state changeset) ∙ filter_map_numbered (written_for state choose) (written_for state (as_numbered choose)) (written_stays state choose) (applicable state changeset);

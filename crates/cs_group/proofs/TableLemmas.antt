@@ -13,7 +13,7 @@ use Rattle.cs_group.specs.Judging.{judged, is_compatible}
 use Rattle.cs_group.specs.Joining.{entry_key, table_name, with_text}
 use Rattle.cs_group.specs.JoinLaw.{LeadsFrom}
 use Rattle.cs_group.specs.Applying.{PlacedEntry, placed_by, placed_in, placed, current, IsElsewhere, compatible_groups, applicable, placed_kind, placed_result, Choices, IsClean, IsApplied}
-use Rattle.cs_group.proofs.ApplyLemmas.{no_conflict, none_met, left_row}
+use Rattle.cs_group.proofs.ApplyLemmas.{left_row}
 use Rattle.cs_group.proofs.EntryJoinLemmas.{LeftLeads}
 use Rattle.cs_group.proofs.TextLemmas.{with_text-at, with_text-new, with_text-found}
 
@@ -97,7 +97,7 @@ module _ (old new : State) (changeset : List GroupData) (is : IsChangeset change
     all_lead k d lt =
         let ps = applicable old changeset in
         let p = get_or ps k d in
-        let none : placed_kind old p ≡ None = All-from_recursion (λ p. placed_kind old p ≡ None) ps (no_conflict old ps clean.no_conflict) k d lt in
+        let none : placed_kind old p ≡ None = clean.no_conflict k d lt in
         record { no_conflict = none; leaves = sym (left_row old new choose p none (done.results k d lt)) }
 
     module _ (name : List ℕ) where
@@ -196,7 +196,7 @@ module _ (old new : State) (changeset : List GroupData) (is : IsChangeset change
         let each = recursion_from_All (EntryLeads old new) ps (all_applicable old (EntryLeads old new) changeset entries_lead) in (
           record {
             none_wider = λ k d lt. (group_leads k d lt).not_wider;
-            no_conflict = none_met old ps (none_meets ps each);
+            no_conflict = All-from_recursion _ ps (none_meets ps each);
           },
           λ any. record {
             schemas = leads.schemas;

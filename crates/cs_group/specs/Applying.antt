@@ -1,6 +1,6 @@
 -- What a changeset does to a state: the interface of SQLite's session extension, under "sqlite3changeset_apply".
 use Rattle.std.specs.Prelude.{◌≡◌, ◌≢◌, ℕ, ◌<◌, Bool, not, if◌then◌else◌, List, [], length, map, take, All, HoldsAt}
-use Rattle.std.specs.Prelude.{filter, filter_map, Option, None, Some, option_map}
+use Rattle.std.specs.Prelude.{filter, filter_map, Option, None, Some}
 use Rattle.std.specs.List.{flat_map}
 use Rattle.cs_value.specs.declared.value.OwnedValue.{OwnedValue}
 use Rattle.cs_value.specs.State.{State, WrittenData, schema_at, row_at, written_at}
@@ -14,7 +14,7 @@ use Rattle.cs_group.specs.declared.conflict.Choice.TheVariants.{Omit}
 use Rattle.cs_group.specs.declared.conflict.Noop.{Noop}
 use Rattle.cs_group.specs.declared.conflict.Noop.TheVariants.{Report, Ignore}
 use Rattle.cs_group.specs.Judging.{judged, is_skipped, is_compatible}
-use Rattle.cs_group.specs.Conflicts.{conflict_kind, is_idle, is_carried_out, entry_result}
+use Rattle.cs_group.specs.Conflicts.{conflict_kind, kinds_met, is_idle, is_carried_out, entry_result}
 
 -- ---- the entries of a changeset
 
@@ -106,47 +106,55 @@ pub record ConflictData : Type 0 where
 abbrev pub placed_kind : State → PlacedEntry → Option Kind
 placed_kind state p = conflict_kind p.entry.change (current state p)
 
-abbrev pub conflict_with : PlacedEntry → Option (List OwnedValue) → Option ConflictData
-conflict_with p row = option_map (λ kind. record { kind = kind; table = p.table; entry = p.entry; current = row })
-    (conflict_kind p.entry.change row)
+-- the conflicts that it meets, one after another
+abbrev pub placed_kinds : State → PlacedEntry → List Kind
+placed_kinds state p = kinds_met p.entry.change (current state p)
 
-abbrev pub conflict_at : State → PlacedEntry → Option ConflictData
-conflict_at state p = conflict_with p (current state p)
-
--- the conflicts that a changeset meets and of which a choice is asked, in the order of the file
-abbrev pub conflicts_under : Noop → State → List GroupData → List ConflictData
-conflicts_under noop state changeset = filter_map (conflict_at state) (heeded noop state changeset)
-
--- all conflicts that it meets
-abbrev pub conflicts : State → List GroupData → List ConflictData
-conflicts = conflicts_under Report
-
--- it meets none, and no table is wider
+-- no entry meets one, and no table is wider
 pub record IsClean (state : State) (changeset : List GroupData) : Type 0 where
   pub none_wider : NoneWider state changeset
-  pub no_conflict : conflicts state changeset ≡ []
+  pub no_conflict : All (λ p. placed_kind state p ≡ None) (applicable state changeset)
 
--- ---- the state afterwards
+-- ---- what is chosen
 
--- a choice for each entry, which matters where that meets a conflict
+-- a choice for each entry and kind of conflict, which matters where the entry meets that
 abbrev pub Choices : Type 0
-Choices = PlacedEntry → Choice
+Choices = PlacedEntry → Kind → Choice
 
 -- a conflict, and what was chosen for it
 pub record MetData : Type 0 where
   pub conflict : ConflictData
   pub choice : Choice
 
-abbrev pub met_at : State → Choices → PlacedEntry → Option MetData
-met_at state choose p = option_map (λ k. record { conflict = k; choice = choose p }) (conflict_at state p)
+-- an entry meets a conflict of this kind, at this row or none
+abbrev pub conflict_with : PlacedEntry → Option (List OwnedValue) → Kind → ConflictData
+conflict_with p row kind = record { kind = kind; table = p.table; entry = p.entry; current = row }
 
--- the conflicts with the choices, in the order of the file
+-- the conflicts that an entry meets there, with the choices
+abbrev pub met_with : PlacedEntry → (Kind → Choice) → Option (List OwnedValue) → List MetData
+met_with p choose row =
+    map (λ kind. record { conflict = conflict_with p row kind; choice = choose kind }) (kinds_met p.entry.change row)
+
+abbrev pub met_at : State → Choices → PlacedEntry → List MetData
+met_at state choose p = met_with p (choose p) (current state p)
+
+-- the conflicts that a changeset meets and of which a choice is asked, with the choices, in the order of the file
 abbrev pub met_under : Noop → State → List GroupData → Choices → List MetData
-met_under noop state changeset choose = filter_map (met_at state choose) (heeded noop state changeset)
+met_under noop state changeset choose = flat_map (met_at state choose) (heeded noop state changeset)
+
+-- the conflicts alone
+abbrev pub conflicts_under : Noop → State → List GroupData → Choices → List ConflictData
+conflicts_under noop state changeset choose = map (λ m. m.conflict) (met_under noop state changeset choose)
+
+-- those where nothing is ignored
+abbrev pub conflicts : State → List GroupData → Choices → List ConflictData
+conflicts = conflicts_under Report
+
+-- ---- the state afterwards
 
 abbrev pub written_for : State → Choices → PlacedEntry → Option WrittenData
 written_for state choose p =
-    if is_carried_out (placed_kind state p) (choose p) then Some (written_at state p.table (placed_key p)) else None
+    if is_carried_out (placed_kinds state p) (choose p) then Some (written_at state p.table (placed_key p)) else None
 
 -- the keys of the entries that are carried out, in the order of the file, with the rows that stood there
 abbrev pub written_under : Noop → State → List GroupData → Choices → List WrittenData
@@ -179,4 +187,4 @@ IsApplied = IsAppliedUnder Report
 
 -- what is chosen does not matter where no conflict is met
 abbrev pub omit_all : Choices
-omit_all p = Omit
+omit_all p kind = Omit

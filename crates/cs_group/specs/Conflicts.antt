@@ -1,8 +1,8 @@
 -- What an entry meets where it is applied, and what it leaves: the interface of SQLite's session extension, under
 -- "sqlite3changeset_apply", "constants passed to the conflict handler" and "constants returned by the conflict
 -- handler".
-use Rattle.std.specs.Prelude.{ℕ, Bool, true, false, ◌&&◌, if◌then◌else◌, List, [], ◌∷◌}
-use Rattle.std.specs.Prelude.{Option, None, Some, is_some, option_map, unwrap_or}
+use Rattle.std.specs.Prelude.{ℕ, Bool, true, false, ◌&&◌, ◌||◌, if◌then◌else◌, List, [], ◌∷◌}
+use Rattle.std.specs.Prelude.{Option, None, Some, is_some, option_map, option_to_list, unwrap_or}
 use Rattle.cs_value.specs.declared.value.OwnedValue.{OwnedValue}
 use Rattle.cs_value.specs.declared.value.OwnedField.{OwnedField}
 use Rattle.cs_value.specs.declared.value.OwnedField.TheVariants.{Undefined, Defined}
@@ -32,6 +32,10 @@ kind_between (Some image) (Some row) = if has_values row image then None else So
 -- the conflict that a change meets at the row with its key, if it meets one
 abbrev pub conflict_kind : Change → Option (List OwnedValue) → Option Kind
 conflict_kind change row = kind_between (before_image change) row
+
+-- the conflicts that it meets there, one after another
+abbrev pub kinds_met : Change → Option (List OwnedValue) → List Kind
+kinds_met change row = option_to_list (conflict_kind change row)
 
 -- a row has the values of an image of the row afterwards; where that image is absent there is no row
 abbrev pub agrees : Option (List OwnedField) → Option (List OwnedValue) → Bool
@@ -63,28 +67,36 @@ filled (Defined v ∷ image) (value ∷ row) = v ∷ filled image row
 abbrev pub row_after : List ℕ → Change → Option (List OwnedValue) → Option (List OwnedValue)
 row_after flags change row = option_map (λ image. filled image (unwrap_or row [])) (after_image flags change)
 
--- a change is carried out where it meets no conflict, and where the row in its way is to be replaced
-abbrev pub is_carried_out : Option Kind → Choice → Bool
-is_carried_out None choice = true
-is_carried_out (Some Data) Replace = true
-is_carried_out (Some Conflict) Replace = true
-is_carried_out (Some NotFound) Replace = false
-is_carried_out (Some kind) Omit = false
-is_carried_out (Some kind) Abort = false
+-- a conflict is overcome where the row in the way is to be replaced
+abbrev pub is_overcome : Kind → Choice → Bool
+is_overcome Data Replace = true
+is_overcome Conflict Replace = true
+is_overcome NotFound Replace = false
+is_overcome kind Omit = false
+is_overcome kind Abort = false
 
 -- a conflict ends all where the choice says so, and where a row that is not there is to be replaced
-abbrev pub ends : Option Kind → Choice → Bool
-ends None choice = false
-ends (Some kind) Omit = false
-ends (Some kind) Abort = true
-ends (Some Data) Replace = false
-ends (Some Conflict) Replace = false
-ends (Some NotFound) Replace = true
+abbrev pub ends : Kind → Choice → Bool
+ends kind Omit = false
+ends kind Abort = true
+ends Data Replace = false
+ends Conflict Replace = false
+ends NotFound Replace = true
 
--- what stands at the key of a change afterwards, under a choice: a row or none, if there is an afterwards
-abbrev pub entry_result : List ℕ → Change → Option (List OwnedValue) → Choice → Option (Option (List OwnedValue))
-entry_result flags change row choice =
-    let kind = conflict_kind change row in
-    if ends kind choice then None
-    else if is_carried_out kind choice then Some (row_after flags change row)
+-- a change is carried out where each of the conflicts that it meets is overcome, under a choice for each kind
+abbrev pub is_carried_out : List Kind → (Kind → Choice) → Bool
+is_carried_out [] choose = true
+is_carried_out (kind ∷ kinds) choose = is_overcome kind (choose kind) && is_carried_out kinds choose
+
+-- and all ends where one of them ends it
+abbrev pub is_ended : List Kind → (Kind → Choice) → Bool
+is_ended [] choose = false
+is_ended (kind ∷ kinds) choose = ends kind (choose kind) || is_ended kinds choose
+
+-- what stands at the key of a change afterwards, under the choices: a row or none, if there is an afterwards
+abbrev pub entry_result : List ℕ → Change → Option (List OwnedValue) → (Kind → Choice) → Option (Option (List OwnedValue))
+entry_result flags change row choose =
+    let kinds = kinds_met change row in
+    if is_ended kinds choose then None
+    else if is_carried_out kinds choose then Some (row_after flags change row)
     else Some row

@@ -50,7 +50,7 @@ as_numbered choose p = choose (numbered_entry p)
 pub record DoesAlike (changeset other : List GroupData) : Type 0 where
   pub judged : (state : State) → map (judged state) other ≡ map (judged state) changeset
   pub skipped : (state : State) → skipped state other ≡ skipped state changeset
-  pub conflicts : (state : State) → conflicts state other ≡ conflicts state changeset
+  pub conflicts : (state : State) (choose : Choices) → conflicts state other choose ≡ conflicts state changeset (as_numbered choose)
   pub clean : (state : State) → IsClean state changeset ↔ IsClean state other
   pub written : (state : State) (choose : Choices) → written state other choose ≡ written state changeset (as_numbered choose)
   pub applied : (old new : State) (choose : Choices) → IsApplied old changeset (as_numbered choose) new ↔ IsApplied old other choose new
