@@ -812,6 +812,17 @@ class Shells(StoreTest):
                 self.assertEqual(reported, STORE_FAULT)
         self.assertEqual(self.bytes_of("text"), b"this is no database" * 100)
 
+    def test_stores_of_the_former_version(self):
+        """They are opened with their tables, and are of this version from then on; what else they hold stays."""
+        tables = tables_of((1, "x"), (2, None), (3, b"\xff"))
+        for log in (False, True):
+            with self.case(log=log):
+                self.write(tables, log=log, version=FORMER)
+                self.assertEqual(self.run_shell(["SELECT * FROM t;"]), (0, "1|'x'\n2|NULL\n3|X'ff'\n", ""))
+                self.assertEqual(read_records(self.folder / "store"), sorted(records_of(tables)))
+                self.expect_applied(T + delete(3, b"\xff"), "applied 1\n")
+                self.assertEqual(self.read(), tables_of((1, "x"), (2, None)))
+
     def test_damaged_store(self):
         run_sql(self.folder / "store", RECORDS, records=[VERSION, ROW])
         self.assertEqual(self.run_shell([CREATE]), (1, "", DAMAGED_STORE))
@@ -897,17 +908,6 @@ class Stores(StoreTest):
                     run_sql(self.folder / "store", RECORDS, records=written)
                     self.assertEqual(self.apply(INSERT), (1, "", DAMAGED_STORE))
                     self.assertEqual(read_records(self.folder / "store"), sorted(written))
-
-    def test_stores_of_the_former_version(self):
-        """They are opened with their tables, and are of this version from then on; what else they hold stays."""
-        tables = tables_of((1, "x"), (2, None), (3, b"\xff"))
-        for log in (False, True):
-            with self.case(log=log):
-                self.write(tables, log=log, version=FORMER)
-                self.assertEqual(self.run_shell(["SELECT * FROM t;"]), (0, "1|'x'\n2|NULL\n3|X'ff'\n", ""))
-                self.assertEqual(read_records(self.folder / "store"), sorted(records_of(tables)))
-                self.expect_applied(T + delete(3, b"\xff"), "applied 1\n")
-                self.assertEqual(self.read(), tables_of((1, "x"), (2, None)))
 
     def test_other_databases(self):
         for text, line in (
