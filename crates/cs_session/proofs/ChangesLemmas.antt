@@ -22,7 +22,7 @@ use Rattle.cs_group.specs.Net.{net_row_change}
 use Rattle.cs_group.specs.Conflicts.{conflict_kind, row_after}
 use Rattle.cs_group.specs.Applying.{PlacedEntry, placed_by, placed, current, IsElsewhere, placed_kind, placed_result, compatible_groups, applicable, Choices, IsClean, IsApplied}
 use Rattle.cs_group.specs.Inverse.{IsInverse}
-use Rattle.cs_group.proofs.ApplyLemmas.{none_met, applied_reverts}
+use Rattle.cs_group.proofs.ApplyLemmas.{applied_reverts}
 use Rattle.cs_group.proofs.NetLemmas.{NetLeads, net_leads}
 use Rattle.cs_session.specs.FirstImages.{FirstImage, AttachedTable, Notes, IsAttachedTable, IsNotes, HasAttached, first_at, entry_since, header_of, group_of, recorded_changes, rewound_state}
 use Rattle.cs_session.proofs.FirstLemmas.{put_all_at}
@@ -285,7 +285,7 @@ module _ (state : State) (notes : Notes) (is_state : IsState state) (are_notes :
   pub changes_clean : IsClean before changes
   changes_clean = record {
     none_wider = All-from_recursion (λ (g : GroupData). judged before g ≢ Wider) changes (none_wide changes (all_compatible state before notes (tracked_has state before notes all_tracked)));
-    no_conflict = rw all_apply (none_met before (placed changes) (none_meets (placed changes) (all_lead_back state before notes all_tracked)));
+    no_conflict = rw all_apply (All-from_recursion (λ p. placed_kind before p ≡ None) (placed changes) (none_meets (placed changes) (all_lead_back state before notes all_tracked)));
   }
 
   -- and with it they become the rows that stand there
