@@ -193,11 +193,11 @@ module _ (state : State) where
       rw same (length-append (placed_in h) (placed (compatible_groups state inverse)) ∙ omega (arith, many, others) ∙ sym (length-append (placed_in g) (placed changeset)))
 
   -- where no conflict is met each entry is carried out
-  all_written : (choose : Choices) (ps : List PlacedEntry) → filter_map (met_at state choose) ps ≡ [] → length (filter_map (written_for state choose) ps) ≡ length ps
+  all_written : (choose : Choices) (ps : List PlacedEntry) → flat_map (met_at state choose) ps ≡ [] → length (filter_map (written_for state choose) ps) ≡ length ps
   all_written choose [] none = refl
   all_written choose (p ∷ ps) none = at (placed_kind state p) refl (all_written choose ps)
     where
-      at : (o : Option Kind) → placed_kind state p ≡ o → (filter_map (met_at state choose) ps ≡ [] → length (filter_map (written_for state choose) ps) ≡ length ps)
+      at : (o : Option Kind) → placed_kind state p ≡ o → (flat_map (met_at state choose) ps ≡ [] → length (filter_map (written_for state choose) ps) ≡ length ps)
           → length (filter_map (written_for state choose) (p ∷ ps)) ≡ length (p ∷ ps)
       at None is others = rw is (ap (λ n. suc n) (others (rw is at none)))
       at (Some kind) is others = absurd (let some = rw is at none in cc)
