@@ -300,7 +300,8 @@ class Maker:
         keys = self.chance.sample(columns, self.upto(min(len(columns), 3)))
         if self.is_one_in(12):
             self.pick((columns, keys)).append(self.pick(COLUMNS + (b"",)))
-        names = b", ".join(map(self.name, columns)), b", ".join(map(self.name, keys))
+        rules = (self.name(column) + (self.pick((b" NOT NULL", b" not null")) if self.is_one_in(4) else b"") for column in columns)
+        names = b", ".join(rules), b", ".join(map(self.name, keys))
         name = self.pick((b"", b"a\0b")) if self.is_one_in(40) else self.pick(NAMES)
         return b"CREATE TABLE %s(%s, PRIMARY KEY(%s));" % (self.name(name), *names)
 
@@ -367,7 +368,7 @@ class Maker:
 
     def settings(self):
         """What is chosen about conflicts."""
-        kinds = self.chance.sample((b"data", b"notfound", b"conflict"), self.chance.randrange(4))
+        kinds = self.chance.sample((b"data", b"notfound", b"conflict", b"constraint"), self.chance.randrange(5))
         settings = [b" %s=%s" % (kind, self.pick(CHOICES)) for kind in kinds]
         if self.is_one_in(3):
             settings.insert(self.chance.randrange(len(settings) + 1), b" noop=" + self.pick((b"ignore", b"ignore", b"report")))
@@ -412,5 +413,5 @@ DAMAGES = (
 BREAKS = (Maker.break_field, Maker.break_field, Maker.break_entry, Maker.break_header, Maker.break_once)
 
 RESERVED = frozenset(
-    b"create table primary key insert into values update set where and delete from select null".split()
+    b"create table primary key insert into values update set where and delete from select not null".split()
 )

@@ -11,7 +11,7 @@ from reader import DELETE, INSERT, UNDEFINED, UPDATE, inverted
 NULL = b"\x05"
 
 # The kinds of conflicts, and the numbers that are printed of them.
-NUMBERS = {b"data": 1, b"notfound": 2, b"conflict": 3}
+NUMBERS = {b"data": 1, b"notfound": 2, b"conflict": 3, b"constraint": 4}
 
 # What is chosen where nothing is said; entries that change nothing are conflicts like others.
 ABORTS = {**{kind: b"abort" for kind in NUMBERS}, b"noop": b"report"}
@@ -29,16 +29,21 @@ class Refusal(Exception):
 
 
 class Table:
-    """The columns of a table, for each whether it is of the key, and its rows by their keys."""
+    """The columns of a table, for each whether it is of the key and whether it refuses NULL, and its rows by their keys."""
 
-    def __init__(self, columns, flags):
+    def __init__(self, columns, flags, refuses=()):
         self.columns = columns
         self.flags = flags
+        self.refuses = [bool(flag or mark) for flag, mark in zip(flags, refuses or flags)]
         self.rows = {}
 
     def key(self, row):
         """The key of a row."""
         return key_of(self.flags, row)
+
+    def has_null(self, values):
+        """Whether a value is NULL in a column that refuses it."""
+        return any(mark and value == NULL for mark, value in zip(self.refuses, values))
 
 
 def key_of(flags, values):
@@ -173,19 +178,21 @@ class Applying:
         table = self.tables[name]
         key = table.key(entry[2][0])
         row = table.rows.get(key)
-        kind = conflict_of(entry, row)
+        is_refused = entry[0] != DELETE and table.has_null(entry[2][-1])
+        kind = conflict_of(entry, row) or (b"constraint" if is_refused else None)
         if kind is not None and self.choices[b"noop"] == b"ignore" and is_left(entry, row):
             self.ignored += 1
             return
-        if kind is not None:
+        while kind is not None:
             choice = self.choices[kind]
             if choice == b"abort":
                 raise Refusal(b"error 41 Abort %s %s" % (kind, quoted(name)))
-            if kind == b"notfound" and choice == b"replace":
-                raise Refusal(b"error 42 Misuse notfound " + quoted(name))
+            if kind in (b"notfound", b"constraint") and choice == b"replace":
+                raise Refusal(b"error 42 Misuse %s %s" % (kind, quoted(name)))
             self.report.append(b"conflict %d %s %s %s" % (NUMBERS[kind], kind, choice, quoted(name)))
             if choice == b"omit":
                 return
+            kind = b"constraint" if is_refused else None
         self.writes.append(put(self.tables, name, key, row_after(entry, row)))
 
 

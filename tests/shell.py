@@ -8,13 +8,13 @@ import reader
 from model import ABORTS, NULL, Applying, Refusal, Session, Table, dump_lines, joined, literals, put
 
 KEYWORDS = frozenset(
-    b"CREATE TABLE PRIMARY KEY INSERT INTO VALUES UPDATE SET WHERE AND DELETE FROM SELECT NULL".split()
+    b"CREATE TABLE PRIMARY KEY INSERT INTO VALUES UPDATE SET WHERE AND DELETE FROM SELECT NOT NULL".split()
 )
 
 BLANKS = re.compile(rb"[ \t\r]*")
 WORDS = re.compile(rb"[^ \t\r]+")
 SLOT = re.compile(rb"[A-Za-z0-9_]+")
-SETTING = re.compile(rb"((?:data|notfound|conflict)(?==(?:omit|replace|abort)$)|noop(?==(?:report|ignore)$))=([a-z]+)")
+SETTING = re.compile(rb"((?:data|notfound|conflict|constraint)(?==(?:omit|replace|abort)$)|noop(?==(?:report|ignore)$))=([a-z]+)")
 TOKEN = re.compile(
     rb"(?P<blob>[Xx]'(?:[0-9A-Fa-f]{2})*')|(?P<word>(?![Xx]')[A-Za-z_][A-Za-z0-9_]*)|(?P<sign>[(),;=*])"
     rb'|(?P<integer>-?[0-9]+)(?![A-Za-z0-9_])|"(?P<name>(?:[^"]|"")*)"(?!")|' rb"'(?P<text>(?:[^']|'')*)'(?!')"
@@ -125,18 +125,19 @@ def statement(tokens):
 
 
 def create_form(tokens):
-    """What follows CREATE: the table, its columns and those of its key."""
+    """What follows CREATE: the table, its columns, which of them refuse NULL, and those of its key."""
     tokens.fixed(b"TABLE")
     table = tokens.take("name")
     tokens.fixed(b"(")
-    columns = []
+    columns, refuses = [], []
     while not columns or not tokens.is_fixed(b"PRIMARY"):
         columns.append(tokens.take("name"))
-        tokens.fixed(b",")
+        refuses.append(tokens.is_fixed(b"NOT"))
+        tokens.fixed(*(b"NOT", b"NULL") if refuses[-1] else (), b",")
     tokens.fixed(b"PRIMARY", b"KEY", b"(")
     keys = tokens.several(lambda: tokens.take("name"), b",")
     tokens.fixed(b")", b")", b";")
-    return table, columns, keys
+    return table, columns, refuses, keys
 
 
 def insert_form(tokens):
@@ -276,7 +277,7 @@ class Shell:
         if self.session is not None:
             self.session.note(writes)
 
-    def create(self, name, columns, keys):
+    def create(self, name, columns, refuses, keys):
         """CREATE TABLE."""
         if not set(keys) <= set(columns) or len(set(keys)) < len(keys):
             raise Refusal(b"error 67 UnknownColumn")
@@ -285,7 +286,7 @@ class Shell:
             raise Refusal(b"error 32 BadSchema")
         if name in self.tables:
             raise Refusal(b"error 30 TableExists")
-        self.tables[name] = Table(columns, [int(column in keys) for column in columns])
+        self.tables[name] = Table(columns, [int(column in keys) for column in columns], refuses)
 
     def free_key(self, table, row):
         """The key of a row that is to stand in a table, where none stands there."""
@@ -293,6 +294,8 @@ class Shell:
             raise Refusal(b"error 35 RowWidth")
         if any(flag and value == NULL for flag, value in zip(table.flags, row)):
             raise Refusal(b"error 36 NullInKey")
+        if table.has_null(row):
+            raise Refusal(b"error 39 NotNull")
         return table.key(row)
 
     def insert(self, name, values):

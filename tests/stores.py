@@ -1,14 +1,14 @@
 """Changesets and stores as bytes: what the tests of the program hand it, and what they read back.
 
-A table is its columns' names, for each column whether it is of the key, and its rows, tuples of `int`, `str`, `bytes`
-and `None`. A store is a file of SQLite with the table of records (`docs/STORE.md`); it is written and read here by
+A table is its columns' names, for each column whether it is of the key, its rows, tuples of `int`, `str`, `bytes` and
+`None`, and for each column whether it refuses NULL: where that is not told, those of the key do. A store is a file of SQLite with the table of records (`docs/STORE.md`); it is written and read here by
 Python's own sqlite3. A changeset is bytes (`docs/FORMAT.md`).
 """
 import collections
 import contextlib
 import sqlite3
 
-Table = collections.namedtuple("Table", "columns keys rows")
+Table = collections.namedtuple("Table", "columns keys rows refuses", defaults=[None])
 
 RECORDS = (
     "CREATE TABLE IF NOT EXISTS rec(tab TEXT NOT NULL, keyb BLOB NOT NULL, rowb BLOB NOT NULL, "
@@ -71,8 +71,8 @@ def update(old, new):
 def declaration(table):
     """The bytes that declare a table."""
     parts = [varint(len(table.columns))]
-    for name, of_key in zip(table.columns, table.keys):
-        parts += [bytes([of_key]), varint(len(name.encode())), name.encode()]
+    for name, of_key, mark in zip(table.columns, table.keys, table.refuses or table.keys):
+        parts += [bytes([1 if of_key else 2 if mark else 0]), varint(len(name.encode())), name.encode()]
     return b"".join(parts)
 
 
@@ -185,15 +185,16 @@ def read_row(data):
 def read_declaration(data):
     """The table that these bytes declare, which has no rows."""
     count, at = take_varint(data, 0)
-    columns, keys = [], []
+    columns, keys, refuses = [], [], []
     for _ in range(count):
         size, start = take_varint(data, at + 1)
-        assert data[at] in (0, 1), data
+        assert data[at] in (0, 1, 2), data
         keys.append(data[at] == 1)
+        refuses.append(data[at] != 0)
         columns.append(data[start:start + size].decode())
         at = start + size
     assert at == len(data), data
-    return Table(tuple(columns), tuple(keys), [])
+    return Table(tuple(columns), tuple(keys), [], None if refuses == keys else tuple(refuses))
 
 
 def read_store(path, version=VERSION):

@@ -3,7 +3,7 @@ import os
 import re
 import threading
 from types import TracebackType
-from typing import Iterator, List, Mapping, NoReturn, Optional, Sequence, Tuple, Type, Union
+from typing import Collection, Iterator, List, Mapping, NoReturn, Optional, Sequence, Tuple, Type, Union
 
 from ._files import Bytes, ChangesetError, Code
 from ._lines import Report, Value, read_report, read_rows, read_text, spelled, spelled_name
@@ -38,7 +38,7 @@ class StoreError(Exception):
 
 
 class ConflictError(StoreError):
-    """An apply met a conflict that ends it, and has changed nothing. `kind` is data, notfound or conflict."""
+    """An apply met a conflict that ends it, and has changed nothing. `kind` is data, notfound, conflict or constraint."""
 
     @property
     def kind(self) -> str:
@@ -136,9 +136,14 @@ class Store:
                     _raise(int(refused["number"]), refused["name"], refused["rest"] or "")
             return printed
 
-    def create(self, table: str, columns: Sequence[str], key: Sequence[str]) -> None:
-        """Makes a table without rows: its columns, and those of its key."""
-        named = ", ".join(spelled_name(column) for column in columns)
+    def create(
+        self, table: str, columns: Sequence[str], key: Sequence[str], refuses: Collection[str] = ()
+    ) -> None:
+        """Makes a table without rows: its columns, those of its key, and those beside them that refuse None. A name among
+        these that is no column's is a ValueError."""
+        if not set(refuses) <= set(columns):
+            raise ValueError("a name that is no column's")
+        named = ", ".join(spelled_name(column) + " NOT NULL" * (column in refuses) for column in columns)
         keys = ", ".join(spelled_name(column) for column in key)
         self._ask(f"CREATE TABLE {spelled_name(table)}({named}, PRIMARY KEY({keys}));")
 
@@ -165,13 +170,14 @@ class Store:
         data: str = "abort",
         notfound: str = "abort",
         conflict: str = "abort",
+        constraint: str = "abort",
         ignore_noop: bool = False,
     ) -> Report:
-        """Applies a changeset, and tells what that did. What is done about a row that differs, is missing or is there, is
-        "omit", "replace" or "abort": that raises `ConflictError`, and changes nothing. With `ignore_noop` entries that
+        """Applies a changeset, and tells what that did. What is done about a row that differs, is missing or is there, or
+        would have None in a column that refuses it, is "omit", "replace" or "abort": that raises `ConflictError`, and changes nothing. With `ignore_noop` entries that
         would change nothing are ignored, and meet no conflict: a DELETE whose row is missing, an INSERT whose row is
         there as it says, and an UPDATE whose row has the new values."""
-        choices = {"data": data, "notfound": notfound, "conflict": conflict}
+        choices = {"data": data, "notfound": notfound, "conflict": conflict, "constraint": constraint}
         for kind, choice in choices.items():
             if choice not in _CHOICES:
                 raise ValueError(f"{kind} is one of {', '.join(_CHOICES)}, and not {choice!r}")

@@ -43,8 +43,13 @@ impl TestRows {
 
     /// Declares the table t.
     pub(crate) fn declare(&mut self, alloc: Global) -> Result<usize, StoreError> {
-        self.rows
-            .declare(alloc, "t", &column_names(alloc)?, &[true, false])?;
+        self.rows.declare(
+            alloc,
+            "t",
+            &column_names(alloc)?,
+            &[true, false],
+            &[false, false],
+        )?;
         Ok(0)
     }
 

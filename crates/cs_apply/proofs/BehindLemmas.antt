@@ -17,17 +17,18 @@ use Rattle.cs_group.specs.declared.judging.Judgement.{Judgement}
 use Rattle.cs_group.specs.declared.judging.Judgement.TheVariants.{Skipped, Wider, Compatible}
 use Rattle.cs_group.specs.declared.conflict.Noop.{Noop}
 use Rattle.cs_group.specs.Judging.{judgement, judged, is_compatible, is_skipped}
-use Rattle.cs_group.specs.Applying.{PlacedEntry, placed, placed_by, placed_in, IsElsewhere, NoneWider, FirstWider, current, applicable, heeded, heeded_of, ignored, ignored_of, skipped}
+use Rattle.cs_group.specs.Applying.{PlacedEntry, placed, placed_by, placed_in, IsElsewhere, NoneWider, FirstWider, current, refuses_at, refused_at, applicable, heeded, heeded_of, ignored, ignored_of, skipped}
 use Rattle.cs_apply.specs.declared.ending.Ending.{Ending}
-use Rattle.cs_apply.specs.declared.ending.Ending.TheVariants.{Aborted, Misused}
+use Rattle.cs_apply.specs.declared.conflict.Met.{Met}
 use Rattle.cs_apply.specs.declared.report.Report.{Report}
 use Rattle.cs_apply.specs.declared.run.Run.{Run}
 use Rattle.cs_apply.specs.Report.{met_of}
 use Rattle.cs_apply.specs.Running.{Handler}
-use Rattle.cs_apply.specs.Steps.{HasTable, Carries, ComesTo, StopsAs, header_in, placed_in_table}
+use Rattle.cs_apply.specs.Steps.{HasTable, Carries, Stops, ComesTo, last_of, header_in, placed_in_table}
 use Rattle.cs_apply.specs.Run.{IsAtStart, IsBehind, IsNewEntry, CameTo, TakesEntries, TakesTable, first_wider, group_of, last_group, wider_then}
+use Rattle.cs_group.proofs.ApplyLemmas.{refuses_same}
 use Rattle.cs_apply.proofs.RunLemmas.{applicable_more, each_map, has_table, other_tables, skipped_more, table_stays}
-use Rattle.cs_apply.proofs.StepLemmas.{Apart, carries_none, carries_then, same_rows, stops_as_more, stops_as_then}
+use Rattle.cs_apply.proofs.StepLemmas.{Apart, carries_none, carries_then, same_rows, same_rules, stops_more, stops_then}
 use Rattle.cs_apply.proofs.HeededLemmas.{heeded_before, heeded_behind, heeded_more, heeded_none, heeded_same, ignored_more, ignored_none, ignored_same}
 
 -- ---- the last of some groups
@@ -110,9 +111,8 @@ carries_same chooses ps a b r s t one conflicts written = record {
   written = ap (λ v. map written_of v.items) written ∙ one.written;
 }
 
-stops_as_same : (chooses : Handler) (ps : List PlacedEntry) (a : State) (r s t : Report) (e : Ending) → StopsAs chooses ps a r s e → t.conflicts ≡ s.conflicts → StopsAs chooses ps a r t e
-stops_as_same chooses ps a r s t (Aborted k) h same = (record { choose = h.0.choose; later = h.0.later; chosen = λ all. rw same (h.0.chosen all); listed = rw same h.0.listed }, h.1)
-stops_as_same chooses ps a r s t (Misused k) h same = (record { choose = h.0.choose; later = h.0.later; chosen = λ all. rw same (h.0.chosen all); listed = rw same h.0.listed }, h.1, h.2)
+stops_same : (chooses : Handler) (ps : List PlacedEntry) (a : State) (r s t : Report) (last : Met) → Stops chooses ps a r s last → t.conflicts ≡ s.conflicts → Stops chooses ps a r t last
+stops_same chooses ps a r s t last h same = record { choose = h.choose; later = h.later; chosen = λ all. rw same (h.chosen all); listed = rw same h.listed; ended = h.ended }
 
 -- ---- before the first item
 
@@ -173,14 +173,14 @@ module _ (s : State) (gs : List GroupData) (h : HeaderData) where
               (ap (λ (j : Judgement). skipped s gs ++ (if is_skipped j then h.name ∷ [] else [])) judged_now ∙ sym skipped_opened),
           takes.ignored ∙ came.2 ∙ ap (λ (ps : List PlacedEntry). is.start.ignored + length (ignored_of run.noop s ps)) (sym applicable_opened),
         )
-        by (Some e) came = rw applicable_opened (stops_as_same chooses (heeded run.noop s gs) s is.start run.report next.report e came takes.conflicts)
+        by (Some e) came = rw applicable_opened (stops_same chooses (heeded run.noop s gs) s is.start run.report next.report (last_of e) came takes.conflicts)
 
     pub behind_table : IsBehind chooses s opened next b
     behind_table = record {
       start = is.start;
       empty = is.empty;
       tables = takes.tables ∙ rw is.tables (omega (arith, length-append gs (group_of h [] ∷ [])));
-      opened = rw (last_is gs (group_of h [])) (takes.table, judged_now);
+      opened = rw (last_is gs (group_of h [])) (takes.table, judged_now, takes.rules ∙ refuses_same s a is.schemas h.name);
       schemas = rw takes.same is.schemas;
       wider = wider_now;
       came_to = came_now;
@@ -248,7 +248,7 @@ module _ (s : State) (closed : List GroupData) (h : HeaderData) (es : List Entry
       at false = tt
 
   module _ (chooses : Handler) (run : Run) (a : State) (is : IsBehind chooses s here run a) where
-    is_open : (rc_str_bytes run.table ≡ h.name) × (run.judgement ≡ its_judgement)
+    is_open : (rc_str_bytes run.table ≡ h.name) × (run.judgement ≡ its_judgement) × (run.refuses.items ≡ refuses_at s h.name)
     is_open = rw (last_is closed (group_of h es)) at is.opened
 
     -- it is passed over
@@ -272,17 +272,17 @@ module _ (s : State) (closed : List GroupData) (h : HeaderData) (es : List Entry
               rw (applicable_grown, none_added, append-nil (applicable s here)) came.2,
             )
         by none (Some ending) goes_on came =
-            rw (applicable_grown, heeded_more run.noop s (applicable s here) added) (stops_as_more chooses (heeded run.noop s here) s is.start (heeded_of run.noop s added) run.report ending came)
+            rw (applicable_grown, heeded_more run.noop s (applicable s here) added) (stops_more chooses (heeded run.noop s here) s is.start (heeded_of run.noop s added) run.report (last_of ending) came)
 
     -- it is carried out, or does not stand in the way, or ends the run
     pub behind_taken : (next : Run) (b : State) (seen : FlaggedEntry) → TakesEntries run → IsNewEntry closed h es e → seen.flags ≡ h.flags → seen.entry ≡ e
-        → next.table ≡ run.table → next.judgement ≡ run.judgement → next.tables ≡ run.tables → next.wider ≡ run.wider → next.noop ≡ run.noop → next.report.skipped ≡ run.report.skipped
+        → next.table ≡ run.table → next.judgement ≡ run.judgement → next.refuses ≡ run.refuses → next.tables ≡ run.tables → next.wider ≡ run.wider → next.noop ≡ run.noop → next.report.skipped ≡ run.report.skipped
         → ComesTo chooses run.noop (placed_in_table (rc_str_bytes run.table) seen) a run.report b next.report next.ended → IsBehind chooses s grown next b
-    behind_taken next b seen takes new flags entry table judged_as tables wider noop skips comes = record {
+    behind_taken next b seen takes new flags entry table judged_as rules tables wider noop skips comes = record {
       start = is.start;
       empty = is.empty;
       tables = tables ∙ is.tables ∙ sym same_count;
-      opened = rw (last_is closed (group_of h (es ++ e ∷ []))) (rw table is_open.0, judged_as ∙ is_open.1);
+      opened = rw (last_is closed (group_of h (es ++ e ∷ []))) (rw table is_open.0, judged_as ∙ is_open.1, ap (λ v. v.items) rules ∙ is_open.2);
       schemas = (by next.ended comes_here).0;
       wider = wider ∙ is.wider ∙ ap first_wider (sym same_judged);
       came_to = λ none. rw noop (by next.ended comes_here).1;
@@ -309,8 +309,11 @@ module _ (s : State) (closed : List GroupData) (h : HeaderData) (es : List Entry
         same_row : current a (placed_by h e) ≡ current s (placed_by h e)
         same_row = (same_rows (heeded run.noop s here) (placed_by h e ∷ []) s a was.0.choose was.0.choose apart was.0.applied).0
 
+        same_rule : refused_at a (placed_by h e) ≡ refused_at s (placed_by h e)
+        same_rule = same_rules (heeded run.noop s here) (placed_by h e ∷ []) s a was.0.choose was.0.choose apart was.0.applied (placed_by h e)
+
         heeded_here : heeded_of run.noop a (placed_by h e ∷ []) ≡ heeded_of run.noop s (placed_by h e ∷ [])
-        heeded_here = heeded_same s (placed_by h e) a same_row run.noop
+        heeded_here = heeded_same s (placed_by h e) a same_row same_rule run.noop
 
         heeded_grown : heeded run.noop s grown ≡ heeded run.noop s here ++ heeded_of run.noop s (placed_by h e ∷ [])
         heeded_grown = ap (heeded_of run.noop s) (applicable_grown ∙ ap (λ (l : List PlacedEntry). applicable s here ++ l) one_added) ∙ heeded_more run.noop s (applicable s here) (placed_by h e ∷ [])
@@ -319,7 +322,7 @@ module _ (s : State) (closed : List GroupData) (h : HeaderData) (es : List Entry
         ignored_grown =
             ap (λ (l : List PlacedEntry). length (ignored_of run.noop s l)) (applicable_grown ∙ ap (λ (l : List PlacedEntry). applicable s here ++ l) one_added)
             ∙ ignored_more run.noop s (applicable s here) (placed_by h e ∷ [])
-            ∙ ap (λ (n : ℕ). ignored run.noop s here + n) (sym (ignored_same s (placed_by h e) a same_row run.noop))
+            ∙ ap (λ (n : ℕ). ignored run.noop s here + n) (sym (ignored_same s (placed_by h e) a same_row same_rule run.noop))
 
         by : (o : Option Ending) → ComesTo chooses run.noop (placed_by h e) a run.report b next.report o
             → ((t : List ℕ) → schema_at b t ≡ schema_at s t) × CameTo chooses run.noop s grown is.start next.report b o
@@ -335,18 +338,25 @@ module _ (s : State) (closed : List GroupData) (h : HeaderData) (es : List Entry
         )
         by (Some ending) two = (
           λ t. ap (λ (n : State). schema_at n t) two.1 ∙ is.schemas t,
-          subst (λ (l : List PlacedEntry). StopsAs chooses l s is.start next.report ending) (sym heeded_grown)
-              (stops_as_then chooses (heeded run.noop s here) s is.start (heeded_of run.noop s (placed_by h e ∷ [])) a run.report next.report ending (heeded_behind run.noop s (heeded run.noop s here) (placed_by h e ∷ []) apart) was.0
-              (subst (λ (l : List PlacedEntry). StopsAs chooses l a run.report next.report ending) heeded_here two.0)),
+          subst (λ (l : List PlacedEntry). Stops chooses l s is.start next.report (last_of ending)) (sym heeded_grown)
+              (stops_then chooses (heeded run.noop s here) s is.start (heeded_of run.noop s (placed_by h e ∷ [])) a run.report next.report (last_of ending) (heeded_behind run.noop s (heeded run.noop s here) (placed_by h e ∷ []) apart) was.0
+              (subst (λ (l : List PlacedEntry). Stops chooses l a run.report next.report (last_of ending)) heeded_here two.0)),
         )
 
 -- the table that is open is there
 pub has_open_table : (chooses : Handler) (s : State) (gs : List GroupData) (run : Run) (a : State) (g : GroupData) (seen : FlaggedEntry) → IsBehind chooses s gs run a → last_group gs ≡ Some g → seen.flags ≡ g.header.flags
     → run.judgement ≡ Compatible → HasTable a (header_in (rc_str_bytes run.table) seen)
 has_open_table chooses s gs run a g seen is last flags compatible =
-    let opened : (rc_str_bytes run.table ≡ g.header.name) × (run.judgement ≡ judged s g) = rw last at is.opened in
+    let opened : (rc_str_bytes run.table ≡ g.header.name) × (run.judgement ≡ judged s g) × (run.refuses.items ≡ refuses_at s g.header.name) = rw last at is.opened in
     let same : header_in (rc_str_bytes run.table) seen ≡ g.header = ap₂ (λ (name flags : List ℕ). record { name = name; flags = flags }) opened.0 flags in
     rw same (table_stays s a g.header is.schemas (has_table s g (sym opened.1 ∙ compatible)))
+
+-- and its rules are known
+pub has_open_rules : (chooses : Handler) (s : State) (gs : List GroupData) (run : Run) (a : State) (g : GroupData) → IsBehind chooses s gs run a → last_group gs ≡ Some g
+    → run.refuses.items ≡ refuses_at a (rc_str_bytes run.table)
+has_open_rules chooses s gs run a g is last =
+    let opened : (rc_str_bytes run.table ≡ g.header.name) × (run.judgement ≡ judged s g) × (run.refuses.items ≡ refuses_at s g.header.name) = rw last at is.opened in
+    opened.2 ∙ sym (refuses_same s a is.schemas g.header.name) ∙ ap (refuses_at a) (sym opened.0)
 
 -- an entry leaves the schemas as they were
 pub comes_schemas : (chooses : Handler) (noop : Noop) (p : PlacedEntry) (a : State) (r : Report) (b : State) (t : Report) (o : Option Ending) → ComesTo chooses noop p a r b t o → (name : List ℕ) → schema_at b name ≡ schema_at a name

@@ -18,6 +18,7 @@ use Rattle.cs_wire.specs.Items.{FlaggedEntry, header_of}
 use Rattle.cs_wire.specs.Views.{inverse_entry}
 use Rattle.cs_wire.proofs.CursorLemmas.{last_flags-last, with_entry-last}
 use Rattle.cs_wire.proofs.InverseLemmas.{key_of-inverse}
+use Rattle.cs_group.specs.Applying.{refuses_at}
 use Rattle.cs_group.specs.declared.judging.Judgement.TheVariants.{Compatible}
 use Rattle.cs_group.specs.Inverse.{inverse_group}
 use Rattle.cs_group.proofs.InverseGroups.{groups_inverse, IsChangeset-inverse}
@@ -32,7 +33,7 @@ use Rattle.cs_apply.specs.Running.{Applies, Handler, IsNamed, IsNoReadFault, IsR
 use Rattle.cs_apply.specs.Steps.{HasTable, header_in}
 use Rattle.cs_apply.specs.Run.{IsAtStart, IsBehind, IsNewEntry, TakesTable, answer_of, directed, directed_entry, directed_group, group_of, outcome_of}
 use Rattle.cs_apply.proofs.StepLemmas.{each_both}
-use Rattle.cs_apply.proofs.BehindLemmas.{behind_start, behind_table, has_open_table, last_is, none_wider, some_wider}
+use Rattle.cs_apply.proofs.BehindLemmas.{has_open_rules, behind_start, behind_table, has_open_table, last_is, none_wider, some_wider}
 use Rattle.cs_apply.proofs.OutcomeLemmas.{applies_from, refuses_from}
 
 -- ---- groups as they are run
@@ -157,6 +158,12 @@ module _ (chooses : Handler) (d : Direction) (file : List ℕ) (place : ℕ) (ru
         let is = rw here_as_run at (so.behind h).1 in
         has_open_table chooses s as_run run a (group_of split.1.header (directed_entries d split.1.header.flags split.1.entries)) shown is (last_is (directed d split.0) (group_of split.1.header (directed_entries d split.1.header.flags split.1.entries)))
         (flags ∙ its_flags) compatible
+
+    -- and its rules are known
+    pub front_has_rules : honest → run.refuses.items ≡ refuses_at a (rc_str_bytes run.table)
+    front_has_rules h =
+        let is = rw here_as_run at (so.behind h).1 in
+        has_open_rules chooses s as_run run a (group_of split.1.header (directed_entries d split.1.header.flags split.1.entries)) is (last_is (directed d split.0) (group_of split.1.header (directed_entries d split.1.header.flags split.1.entries)))
 
     pub front_entry : (to : List ℕ) (next_place : ℕ) (next : Run) (now : Type 0) (b : State) (shown : FlaggedEntry) → shown ≡ record { flags = seen.flags; entry = directed_entry d seen.flags seen.entry }
         → Begins to next_place (with_item so.groups (item.Entry seen)) → (now → honest)

@@ -1,5 +1,5 @@
 -- Entries that are ignored, and the others.
-use Rattle.std.proofs.Common.{◌≡◌, Bool, true, false, cond, not, ◌+◌, List, [], ◌∷◌, ◌++◌, length, length-append, filter, Option, refl, ap, ◌∙◌}
+use Rattle.std.proofs.Common.{◌≡◌, Bool, true, false, cond, not, ◌+◌, List, [], ◌∷◌, ◌++◌, length, length-append, filter, Option, refl, ap, ap₂, ◌∙◌}
 use Rattle.std.specs.List.{AllByRecursion}
 use Rattle.std.proofs.lemmas.List.{nil_from_length}
 use Rattle.std.proofs.lemmas.List.Elements.{filter-append}
@@ -10,7 +10,7 @@ use Rattle.cs_group.specs.declared.conflict.Noop.{Noop}
 use Rattle.cs_group.specs.declared.conflict.Noop.TheVariants.{Report as Reported, Ignore}
 use Rattle.cs_group.specs.Conflicts.{is_idle}
 use Rattle.cs_apply.specs.Steps.{is_ignored}
-use Rattle.cs_group.specs.Applying.{PlacedEntry, placed_key, current, IsElsewhere, is_idle_at, heeded_of, ignored_of}
+use Rattle.cs_group.specs.Applying.{PlacedEntry, placed_key, current, refused_at, IsElsewhere, is_idle_at, heeded_of, ignored_of}
 use Rattle.cs_apply.proofs.StepLemmas.{Apart}
 
 -- ---- one entry behind others
@@ -36,24 +36,24 @@ ignored_none Ignore s = refl
 
 module _ (s : State) (p : PlacedEntry) where
   -- it is ignored
-  pub left_out : (noop : Noop) → is_ignored noop p.flags p.entry.change (current s p) ≡ true → (heeded_of noop s (p ∷ []) ≡ []) × (length (ignored_of noop s (p ∷ [])) ≡ 1)
+  pub left_out : (noop : Noop) → is_ignored noop (refused_at s p) p.flags p.entry.change (current s p) ≡ true → (heeded_of noop s (p ∷ []) ≡ []) × (length (ignored_of noop s (p ∷ [])) ≡ 1)
   left_out Reported e = absurd (cc)
   left_out Ignore e = (rw e refl, rw e refl)
 
   -- or it is not
-  pub left_in : (noop : Noop) → is_ignored noop p.flags p.entry.change (current s p) ≡ false → (heeded_of noop s (p ∷ []) ≡ p ∷ []) × (length (ignored_of noop s (p ∷ [])) ≡ 0)
+  pub left_in : (noop : Noop) → is_ignored noop (refused_at s p) p.flags p.entry.change (current s p) ≡ false → (heeded_of noop s (p ∷ []) ≡ p ∷ []) × (length (ignored_of noop s (p ∷ [])) ≡ 0)
   left_in Reported e = (refl, refl)
   left_in Ignore e = (rw e refl, rw e refl)
 
-  -- it is so in each state with its row
-  module _ (t : State) (same : current t p ≡ current s p) where
+  -- it is so in each state with its row and the rules of its table
+  module _ (t : State) (same : current t p ≡ current s p) (rules : refused_at t p ≡ refused_at s p) where
     pub heeded_same : (noop : Noop) → heeded_of noop t (p ∷ []) ≡ heeded_of noop s (p ∷ [])
     heeded_same Reported = refl
-    heeded_same Ignore = ap (λ (row : Option (List OwnedValue)). cond (not (is_idle p.flags p.entry.change row)) (p ∷ []) []) same
+    heeded_same Ignore = ap₂ (λ (refused : Bool) (row : Option (List OwnedValue)). cond (not (is_idle refused p.flags p.entry.change row)) (p ∷ []) []) rules same
 
     pub ignored_same : (noop : Noop) → length (ignored_of noop t (p ∷ [])) ≡ length (ignored_of noop s (p ∷ []))
     ignored_same Reported = refl
-    ignored_same Ignore = ap (λ (row : Option (List OwnedValue)). length (cond (is_idle p.flags p.entry.change row) (p ∷ []) [])) same
+    ignored_same Ignore = ap₂ (λ (refused : Bool) (row : Option (List OwnedValue)). length (cond (is_idle refused p.flags p.entry.change row) (p ∷ []) [])) rules same
 
 -- ---- what holds of each entry
 

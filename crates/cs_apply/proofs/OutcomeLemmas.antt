@@ -7,11 +7,8 @@ use Rattle.cs_value.specs.State.{State}
 use Rattle.cs_wire.specs.Changeset.{GroupData}
 use Rattle.cs_store.specs.declared.edit.Written.{Written}
 use Rattle.cs_store.specs.Editing.{written_of}
-use Rattle.cs_group.specs.declared.conflict.Choice.{Choice}
-use Rattle.cs_group.specs.declared.conflict.Choice.TheVariants as choice
 use Rattle.cs_group.specs.declared.conflict.Noop.{Noop}
 use Rattle.cs_group.specs.Applying.{NoneWider, heeded, ignored, met_at, written_for, skipped}
-use Rattle.cs_apply.specs.declared.conflict.Conflict.{Conflict}
 use Rattle.cs_apply.specs.declared.conflict.Met.{Met}
 use Rattle.cs_apply.specs.declared.report.Report.{Report}
 use Rattle.cs_apply.specs.declared.running.Direction.{Direction}
@@ -19,8 +16,8 @@ use Rattle.cs_apply.specs.declared.ending.Ending.{Ending}
 use Rattle.cs_apply.specs.declared.ending.Ending.TheVariants.{Aborted, Misused}
 use Rattle.cs_apply.specs.Report.{met_of}
 use Rattle.cs_apply.specs.Run.{IsEmpty}
-use Rattle.cs_apply.specs.Running.{Handler, IsReadAs, GoesOn, Applies, IsReached, Refuses}
-use Rattle.cs_apply.specs.Steps.{Carries, Stops, StopsAs, refusal_of}
+use Rattle.cs_apply.specs.Running.{Handler, IsReadAs, GoesOn, Applies, IsReached, EndsAt, Refuses}
+use Rattle.cs_apply.specs.Steps.{Carries, Stops, last_of, refusal_of}
 
 module _ (chooses : Handler) (noop : Noop) (file : List ℕ) (direction : Direction) (old : State) (r t : Report) (changeset : List GroupData)
     (read : IsReadAs file direction changeset) (none_wider : NoneWider old changeset) (empty : IsEmpty r) (mid : State) (same : mid ≡ old) where
@@ -41,8 +38,8 @@ module _ (chooses : Handler) (noop : Noop) (file : List ℕ) (direction : Direct
         ignored = let told : t.ignored ≡ r.ignored + ignored noop old changeset = rw same at counted in omega (arith, told, empty.ignored);
       }
 
-  reached : (conflict : Conflict) (c : Choice) → Stops chooses (heeded noop old changeset) old r t conflict c → IsReached chooses noop old changeset conflict c
-  reached conflict c ended = record {
+  reached : (last : Met) → Stops chooses (heeded noop old changeset) old r t last → IsReached chooses noop old changeset last
+  reached last ended = record {
     choose = ended.choose;
     earlier = t.conflicts.items;
     later = ended.later;
@@ -50,9 +47,12 @@ module _ (chooses : Handler) (noop : Noop) (file : List ℕ) (direction : Direct
     listed = rw empty.conflicts at ended.listed;
   }
 
-  refuses_now : (e : Ending) → StopsAs chooses (heeded noop old changeset) old r t e → Refuses chooses noop file direction old (refusal_of e)
-  refuses_now (Aborted k) h = record { changeset = changeset; read = read; none_wider = none_wider; reached = reached k choice.Abort h.0; chosen = h.1 }
-  refuses_now (Misused k) h = (record { changeset = changeset; read = read; none_wider = none_wider; reached = reached k choice.Replace h.0; chosen = h.1 }, h.2)
+  ends_at : (last : Met) → Stops chooses (heeded noop old changeset) old r t last → EndsAt chooses noop file direction old last
+  ends_at last ended = record { changeset = changeset; read = read; none_wider = none_wider; reached = reached last ended; ended = ended.ended }
 
-  pub refuses_from : (e : Ending) → StopsAs chooses (heeded noop mid changeset) mid r t e → Refuses chooses noop file direction old (refusal_of e)
-  refuses_from e ended = refuses_now e (subst (λ (s : State). StopsAs chooses (heeded noop s changeset) s r t e) same ended)
+  refuses_now : (e : Ending) → Stops chooses (heeded noop old changeset) old r t (last_of e) → Refuses chooses noop file direction old (refusal_of e)
+  refuses_now (Aborted k) h = ends_at (last_of (Aborted k)) h
+  refuses_now (Misused k) h = ends_at (last_of (Misused k)) h
+
+  pub refuses_from : (e : Ending) → Stops chooses (heeded noop mid changeset) mid r t (last_of e) → Refuses chooses noop file direction old (refusal_of e)
+  refuses_from e ended = refuses_now e (subst (λ (s : State). Stops chooses (heeded noop s changeset) s r t (last_of e)) same ended)

@@ -1,9 +1,13 @@
 -- What reverting gives back.
-use Rattle.std.proofs.Common.{◌≡◌, inl, inr, ℕ, List, [], ◌∷◌, ◌++◌, length, map, All, Option, Some, None, refl, sym, ap, subst, ◌∙◌}
+use Rattle.std.proofs.Common.{◌≡◌, inl, inr, ℕ, Bool, true, false, List, [], ◌∷◌, ◌++◌, length, map, All, Option, Some, None, refl, sym, ap, subst, ◌∙◌}
+use Rattle.std.specs.Prelude.{Result, Ok, Err, IfOk, OnOk, IsTrue}
 use Rattle.std.specs.List.{AllByRecursion, flat_map}
 use Rattle.std.proofs.lemmas.List.{nil_from_length, length-map}
 use Rattle.std.proofs.lemmas.List.Elements.{recursion_from_All, All-from_recursion}
-use Rattle.cs_value.specs.State.{State}
+use Rattle.sqlite.specs.State as store
+use Rattle.sqlite.specs.State.{HasCleanDisk}
+use Rattle.cs_value.specs.State.{State, IsState}
+use Rattle.cs_store.specs.Store.{RefusesShut, tables_in}
 use Rattle.cs_wire.specs.Changeset.{GroupData}
 use Rattle.cs_wire.specs.Laws.{ChangesetFiles}
 use Rattle.cs_group.specs.declared.conflict.Kind.{Kind}
@@ -42,9 +46,9 @@ none_met_none s choose (p ∷ ps) e = at (placed_kind s p) refl (none_met_none s
 
 -- ---- an apply that meets no conflict and ignores nothing
 
-pub leads_clean : (chooses : Handler) (noop : Noop) (file : List ℕ) (old new : State) (report : Report) → Applies chooses noop file Forward old report new → report.conflicts.items ≡ [] → report.ignored ≡ 0
+pub leads_clean : (chooses : Handler) (noop : Noop) (file : List ℕ) (old new : State) (report : Report) → IsState old → Applies chooses noop file Forward old report new → report.conflicts.items ≡ [] → report.ignored ≡ 0
     → Leads file old new
-leads_clean chooses noop file old new report applies no_conflict none_ignored =
+leads_clean chooses noop file old new report is applies no_conflict none_ignored =
     let ps = applicable old applies.changeset in
     let all : heeded noop old applies.changeset ≡ ps = heeded_all noop old ps (sym applies.ignored ∙ none_ignored) in
     let none : flat_map (met_at old applies.choose) (heeded noop old applies.changeset) ≡ [] = sym applies.conflicts ∙ ap (map met_of) no_conflict in
@@ -52,10 +56,29 @@ leads_clean chooses noop file old new report applies no_conflict none_ignored =
       changeset = applies.changeset;
       is_changeset = applies.read.0;
       is_file = applies.read.1;
+      is_state = is;
       clean = record { none_wider = applies.none_wider; no_conflict = All-from_recursion (λ p. placed_kind old p ≡ None) ps (none_met_none old applies.choose ps (rw all at none)) };
       choose = applies.choose;
       applied = subst (λ (qs : List PlacedEntry). AreApplied old qs applies.choose new) all applies.applied;
     }
+
+-- a store on which a call was done was open, so that its tables are well formed
+done_state : (old new : store.State) (r : Result Report ApplyFault) → (HasCleanDisk new → HasCleanDisk old) → RefusesShut old IsResource r
+    → (HasCleanDisk old → IsTrue old.is_open → IsState (tables_in old.now)) → HasCleanDisk new → OnOk r (IsState (tables_in old.now))
+done_state old new (Err e) was shut law clean = tt
+done_state old new (Ok report) was shut law clean = law (was clean) (at old.is_open refl)
+  where
+    at : (b : Bool) → old.is_open ≡ b → IsTrue b
+    at true is = refl
+    at false is = absurd (shut is)
+
+pub done_leads : (old new : store.State) (r : Result Report ApplyFault) → (HasCleanDisk new → HasCleanDisk old) → RefusesShut old IsResource r
+    → (HasCleanDisk old → IsTrue old.is_open → IsState (tables_in old.now)) → HasCleanDisk new → (chooses : Handler) (noop : Noop) (file : List ℕ) (last : State)
+    → IfOk r (λ report. Applies chooses noop file Forward (tables_in old.now) report last)
+    → IfOk r (λ report. report.conflicts.items ≡ [] → report.ignored ≡ 0 → Leads file (tables_in old.now) last)
+done_leads old new (Err e) was shut law clean chooses noop file last applies = tt
+done_leads old new (Ok report) was shut law clean chooses noop file last applies =
+    leads_clean chooses noop file (tables_in old.now) last report (done_state old new (Ok report) was shut law clean) applies
 
 -- ---- the inverse, on what was left
 
@@ -69,7 +92,7 @@ module _ (law : ChangesetFiles) (file : List ℕ) (before old : State) (leads : 
       subst (λ (c : List GroupData). IsInverse c inverse) one read.3
 
   back : (again : Choices) → IsClean old inverse × IsApplied old inverse again before
-  back again = applied_reverts before leads.changeset inverse leads.choose again old leads.is_changeset undoes leads.clean leads.applied
+  back again = applied_reverts before leads.changeset inverse leads.choose again old leads.is_state leads.is_changeset undoes leads.clean leads.applied
 
 pub reverts_ok : (chooses : Handler) (law : ChangesetFiles) (file : List ℕ) (before old new : State) (report : Report) → Leads file before old → Applies chooses Reported file Inverse old report new
     → (report.conflicts.items ≡ []) × (new ≡ before)
@@ -85,22 +108,22 @@ no_group = record { header = record { name = []; flags = [] }; entries = [] }
 goes_weaker : (P Q : Handler) → ((k : Conflict) (c : Choice) → P k c → Q k c) → (ms : List Met) → All (GoesOn P) ms → All (GoesOn Q) ms
 goes_weaker P Q f ms all = λ k d lt. record { chosen = f _ _ (all k d lt).chosen; goes_on = (all k d lt).goes_on }
 
-ends_weaker : (P Q : Handler) → ((k : Conflict) (c : Choice) → P k c → Q k c) → (noop : Noop) (file : List ℕ) (direction : Direction) (old : State) (k : Conflict) (c : Choice)
-    → EndsAt P noop file direction old k c → EndsAt Q noop file direction old k c
-ends_weaker P Q f noop file direction old k c ended = record {
+ends_weaker : (P Q : Handler) → ((k : Conflict) (c : Choice) → P k c → Q k c) → (noop : Noop) (file : List ℕ) (direction : Direction) (old : State) (last : Met)
+    → EndsAt P noop file direction old last → EndsAt Q noop file direction old last
+ends_weaker P Q f noop file direction old last ended = record {
   changeset = ended.changeset;
   read = ended.read;
   none_wider = ended.none_wider;
   reached = record { choose = ended.reached.choose; earlier = ended.reached.earlier; later = ended.reached.later; chosen = goes_weaker P Q f ended.reached.earlier ended.reached.chosen; listed = ended.reached.listed };
-  chosen = f k c ended.chosen;
+  ended = record { chosen = f last.conflict last.choice ended.ended.chosen; ends = ended.ended.ends };
 }
 
 pub refuses_weaker : (P Q : Handler) → ((k : Conflict) (c : Choice) → P k c → Q k c) → (noop : Noop) (file : List ℕ) (direction : Direction) (old : State) (e : ApplyFault)
     → Refuses P noop file direction old e → Refuses Q noop file direction old e
 refuses_weaker P Q f noop file direction old (fault.Read x) h = h
 refuses_weaker P Q f noop file direction old (fault.Wider place) h = h
-refuses_weaker P Q f noop file direction old (fault.Abort k) h = ends_weaker P Q f noop file direction old k choice.Abort h
-refuses_weaker P Q f noop file direction old (fault.Misuse k) h = (ends_weaker P Q f noop file direction old k choice.Replace h.0, h.1)
+refuses_weaker P Q f noop file direction old (fault.Abort k) h = ends_weaker P Q f noop file direction old (record { conflict = k; choice = choice.Abort }) h
+refuses_weaker P Q f noop file direction old (fault.Misuse k) h = ends_weaker P Q f noop file direction old (record { conflict = k; choice = choice.Replace }) h
 refuses_weaker P Q f noop file direction old (fault.Store x) h = h
 refuses_weaker P Q f noop file direction old fault.NoMemory h = h
 
@@ -127,6 +150,6 @@ reverts_err law file before old (fault.Wider place) leads refuses =
 reverts_err law file before old (fault.Abort k) leads refuses =
     let given = back law file before old leads refuses.changeset refuses.read omit_all in
     absurd (none_last _ refuses.reached.later (record { conflict = conflict_of k; choice = choice.Abort }) (sym refuses.reached.listed ∙ clean_meets_none old refuses.changeset refuses.reached.choose given.0))
-reverts_err law file before old (fault.Misuse k) leads refuses = absurd (let e = refuses.0.chosen in cc)
+reverts_err law file before old (fault.Misuse k) leads refuses = absurd (let e = refuses.ended.chosen in cc)
 reverts_err law file before old (fault.Store e) leads refuses = inr (ap fault.Store refuses)
 reverts_err law file before old fault.NoMemory leads refuses = inl refl

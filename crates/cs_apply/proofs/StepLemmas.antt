@@ -1,5 +1,5 @@
 -- How runs go on, one after another.
-use Rattle.std.proofs.Common.{◌≡◌, Bool, true, false, if◌then◌else◌, ◌&&◌, ◌||◌, nat_eq, List, [], ◌∷◌, ◌++◌, map, filter_map, Option, Some, None, append_assoc, refl, sym, ap, ◌∙◌, arith}
+use Rattle.std.proofs.Common.{◌≡◌, Bool, true, false, if◌then◌else◌, ◌&&◌, ◌||◌, nat_eq, List, [], ◌∷◌, ◌++◌, map, filter_map, Option, Some, None, append_assoc, refl, sym, ap, ap₂, ◌∙◌, arith}
 use Rattle.std.specs.List.{AllByRecursion, flat_map}
 use Rattle.std.specs.Cmp.Lexicographic.{pointwise, same_text, nat_list_eq_equiv}
 use Rattle.std.proofs.lemmas.Bool.{or_right}
@@ -12,16 +12,14 @@ use Rattle.cs_value.proofs.ListLemmas.{AllByRecursion-append, AllByRecursion-app
 use Rattle.cs_store.specs.Editing.{written_of}
 use Rattle.cs_group.specs.declared.conflict.Kind.{Kind}
 use Rattle.cs_group.specs.declared.conflict.Choice.{Choice}
-use Rattle.cs_group.specs.declared.conflict.Choice.TheVariants as choice
-use Rattle.cs_group.specs.Conflicts.{kinds_met, is_carried_out, entry_result}
-use Rattle.cs_group.specs.Applying.{PlacedEntry, placed_key, current, IsElsewhere, MetData, Choices, met_with, met_at, written_for, placed_result, AreApplied, omit_all}
-use Rattle.cs_apply.specs.declared.conflict.Conflict.{Conflict}
+use Rattle.cs_group.specs.Conflicts.{is_refused, kinds_met, is_carried_out, entry_result}
+use Rattle.cs_group.specs.Applying.{PlacedEntry, placed_key, current, refused_at, IsElsewhere, MetData, Choices, met_with, met_at, written_for, placed_result, AreApplied, omit_all}
+use Rattle.cs_group.proofs.ApplyLemmas.{refuses_same}
+use Rattle.cs_apply.specs.declared.conflict.Met.{Met}
 use Rattle.cs_apply.specs.declared.report.Report.{Report}
-use Rattle.cs_apply.specs.Report.{conflict_of, met_of}
+use Rattle.cs_apply.specs.Report.{met_of}
 use Rattle.cs_apply.specs.Running.{Handler}
-use Rattle.cs_apply.specs.declared.ending.Ending.{Ending}
-use Rattle.cs_apply.specs.declared.ending.Ending.TheVariants.{Aborted, Misused}
-use Rattle.cs_apply.specs.Steps.{Carries, Stops, StopsAs}
+use Rattle.cs_apply.specs.Steps.{Carries, Stops}
 
 -- ---- lists
 
@@ -83,11 +81,11 @@ all_among (p ∷ ps) = (rw (at_itself p) refl, AllByRecursion-weaker _ _ (λ q e
 
 -- ---- one run after another
 
-abbrev met_by : PlacedEntry → Option (List OwnedValue) → (Kind → Choice) → List MetData
-met_by p row choose = met_with p choose row
+abbrev met_by : Bool → PlacedEntry → Option (List OwnedValue) → (Kind → Choice) → List MetData
+met_by refused p row choose = met_with refused p row choose
 
-abbrev written_by : PlacedEntry → Option (List OwnedValue) → (Kind → Choice) → Option WrittenData
-written_by p row choose = if is_carried_out (kinds_met p.entry.change row) choose then Some (record { table = p.table; key = placed_key p; former = row }) else None
+abbrev written_by : Bool → PlacedEntry → Option (List OwnedValue) → (Kind → Choice) → Option WrittenData
+written_by refused p row choose = if is_carried_out (kinds_met refused p.entry.change row choose) choose then Some (record { table = p.table; key = placed_key p; former = row }) else None
 
 -- the choices of the first run for its entries, and else those of the second
 abbrev both_choices : List PlacedEntry → Choices → Choices → Choices
@@ -107,29 +105,33 @@ module _ (ps qs : List PlacedEntry) (a b : State) (first second : Choices) (apar
   chosen_second : AllByRecursion (λ q. both q ≡ second q) qs
   chosen_second = AllByRecursion-weaker _ (λ q. both q ≡ second q) (λ q away. rw (not_among ps q away) refl) qs apart
 
-  -- what is told by row and choice is told alike
-  by_row : {Y : Type 0} (f : PlacedEntry → Option (List OwnedValue) → (Kind → Choice) → Option Y)
-      → filter_map (λ p. f p (current a p) (first p)) ps ++ filter_map (λ q. f q (current b q) (second q)) qs ≡ filter_map (λ p. f p (current a p) (both p)) (ps ++ qs)
+  -- and so are the rules of its tables
+  pub same_rules : (q : PlacedEntry) → refused_at b q ≡ refused_at a q
+  same_rules q = ap (λ (rules : List Bool). is_refused rules q.flags q.entry.change) (refuses_same a b applied.schemas q.table)
+
+  -- what is told by rules, row and choice is told alike
+  by_row : {Y : Type 0} (f : Bool → PlacedEntry → Option (List OwnedValue) → (Kind → Choice) → Option Y)
+      → filter_map (λ p. f (refused_at a p) p (current a p) (first p)) ps ++ filter_map (λ q. f (refused_at b q) q (current b q) (second q)) qs ≡ filter_map (λ p. f (refused_at a p) p (current a p) (both p)) (ps ++ qs)
   by_row {Y} f =
-      let one : filter_map (λ p. f p (current a p) (first p)) ps ≡ filter_map (λ p. f p (current a p) (both p)) ps =
-      filter_map_same _ _ ps (AllByRecursion-weaker _ _ (λ p e. ap (f p (current a p)) (sym e)) ps chosen_first) in
-      let two : filter_map (λ q. f q (current b q) (second q)) qs ≡ filter_map (λ q. f q (current a q) (both q)) qs =
-      filter_map_same _ _ qs (each_both _ _ _ qs (λ q row e. ap (λ o. f q o (second q)) row ∙ ap (f q (current a q)) (sym e)) same_rows chosen_second) in
-      ap (λ (l : List Y). l ++ filter_map (λ q. f q (current b q) (second q)) qs) one
-      ∙ ap (λ (l : List Y). filter_map (λ p. f p (current a p) (both p)) ps ++ l) two
-      ∙ sym (filter_map-append (λ p. f p (current a p) (both p)) ps qs)
+      let one : filter_map (λ p. f (refused_at a p) p (current a p) (first p)) ps ≡ filter_map (λ p. f (refused_at a p) p (current a p) (both p)) ps =
+      filter_map_same _ _ ps (AllByRecursion-weaker _ _ (λ p e. ap (f (refused_at a p) p (current a p)) (sym e)) ps chosen_first) in
+      let two : filter_map (λ q. f (refused_at b q) q (current b q) (second q)) qs ≡ filter_map (λ q. f (refused_at a q) q (current a q) (both q)) qs =
+      filter_map_same _ _ qs (each_both _ _ _ qs (λ q row e. ap₂ (λ refused o. f refused q o (second q)) (same_rules q) row ∙ ap (f (refused_at a q) q (current a q)) (sym e)) same_rows chosen_second) in
+      ap (λ (l : List Y). l ++ filter_map (λ q. f (refused_at b q) q (current b q) (second q)) qs) one
+      ∙ ap (λ (l : List Y). filter_map (λ p. f (refused_at a p) p (current a p) (both p)) ps ++ l) two
+      ∙ sym (filter_map-append (λ p. f (refused_at a p) p (current a p) (both p)) ps qs)
 
   -- and so are conflicts, of which one entry may meet several
-  all_by_row : {Y : Type 0} (f : PlacedEntry → Option (List OwnedValue) → (Kind → Choice) → List Y)
-      → flat_map (λ p. f p (current a p) (first p)) ps ++ flat_map (λ q. f q (current b q) (second q)) qs ≡ flat_map (λ p. f p (current a p) (both p)) (ps ++ qs)
+  all_by_row : {Y : Type 0} (f : Bool → PlacedEntry → Option (List OwnedValue) → (Kind → Choice) → List Y)
+      → flat_map (λ p. f (refused_at a p) p (current a p) (first p)) ps ++ flat_map (λ q. f (refused_at b q) q (current b q) (second q)) qs ≡ flat_map (λ p. f (refused_at a p) p (current a p) (both p)) (ps ++ qs)
   all_by_row {Y} f =
-      let one : flat_map (λ p. f p (current a p) (first p)) ps ≡ flat_map (λ p. f p (current a p) (both p)) ps =
-      flat_map_same _ _ ps (AllByRecursion-weaker _ _ (λ p e. ap (f p (current a p)) (sym e)) ps chosen_first) in
-      let two : flat_map (λ q. f q (current b q) (second q)) qs ≡ flat_map (λ q. f q (current a q) (both q)) qs =
-      flat_map_same _ _ qs (each_both _ _ _ qs (λ q row e. ap (λ o. f q o (second q)) row ∙ ap (f q (current a q)) (sym e)) same_rows chosen_second) in
-      ap (λ (l : List Y). l ++ flat_map (λ q. f q (current b q) (second q)) qs) one
-      ∙ ap (λ (l : List Y). flat_map (λ p. f p (current a p) (both p)) ps ++ l) two
-      ∙ sym (flat_map-append (λ p. f p (current a p) (both p)) ps qs)
+      let one : flat_map (λ p. f (refused_at a p) p (current a p) (first p)) ps ≡ flat_map (λ p. f (refused_at a p) p (current a p) (both p)) ps =
+      flat_map_same _ _ ps (AllByRecursion-weaker _ _ (λ p e. ap (f (refused_at a p) p (current a p)) (sym e)) ps chosen_first) in
+      let two : flat_map (λ q. f (refused_at b q) q (current b q) (second q)) qs ≡ flat_map (λ q. f (refused_at a q) q (current a q) (both q)) qs =
+      flat_map_same _ _ qs (each_both _ _ _ qs (λ q row e. ap₂ (λ refused o. f refused q o (second q)) (same_rules q) row ∙ ap (f (refused_at a q) q (current a q)) (sym e)) same_rows chosen_second) in
+      ap (λ (l : List Y). l ++ flat_map (λ q. f (refused_at b q) q (current b q) (second q)) qs) one
+      ∙ ap (λ (l : List Y). flat_map (λ p. f (refused_at a p) p (current a p) (both p)) ps ++ l) two
+      ∙ sym (flat_map-append (λ p. f (refused_at a p) p (current a p) (both p)) ps qs)
 
 turned : (ps qs : List PlacedEntry) → Apart ps qs → Apart qs ps
 turned [] qs apart = tt
@@ -139,12 +141,13 @@ module _ (ps qs : List PlacedEntry) (a b d : State) (first second : Choices) (ap
   result_first : (p : PlacedEntry) → both_choices ps first second p ≡ first p → AllByRecursion (λ q. IsElsewhere q p.table (placed_key p)) qs
       → placed_result a first p ≡ Some (current b p) → placed_result a (both_choices ps first second) p ≡ Some (current d p)
   result_first p same away result =
-      ap (entry_result p.flags p.entry.change (current a p)) same ∙ result ∙ ap Some (sym (two.others p.table (placed_key p) (All-from_recursion _ qs away)))
+      ap (entry_result (refused_at a p) p.flags p.entry.change (current a p)) same ∙ result ∙ ap Some (sym (two.others p.table (placed_key p) (All-from_recursion _ qs away)))
 
   result_second : (q : PlacedEntry) → current b q ≡ current a q → both_choices ps first second q ≡ second q
       → placed_result b second q ≡ Some (current d q) → placed_result a (both_choices ps first second) q ≡ Some (current d q)
   result_second q row same result =
-      ap (λ (o : Option (List OwnedValue)). entry_result q.flags q.entry.change o (both_choices ps first second q)) (sym row) ∙ ap (entry_result q.flags q.entry.change (current b q)) same ∙ result
+      ap₂ (λ (refused : Bool) (o : Option (List OwnedValue)). entry_result refused q.flags q.entry.change o (both_choices ps first second q)) (sym (same_rules ps qs a b first second apart one q)) (sym row)
+      ∙ ap (entry_result (refused_at b q) q.flags q.entry.change (current b q)) same ∙ result
 
   abbrev Left : State → Choices → State → PlacedEntry → Type 0
   Left old choose new p = placed_result old choose p ≡ Some (current new p)
@@ -210,8 +213,8 @@ module _ (chooses : Handler) where
 
 module _ (chooses : Handler) (ps : List PlacedEntry) (a : State) (r : Report) where
   -- entries behind the end of the run
-  pub stops_more : (qs : List PlacedEntry) (t : Report) (k : Conflict) (c : Choice) → Stops chooses ps a r t k c → Stops chooses (ps ++ qs) a r t k c
-  stops_more qs t k c ended = record {
+  pub stops_more : (qs : List PlacedEntry) (t : Report) (last : Met) → Stops chooses ps a r t last → Stops chooses (ps ++ qs) a r t last
+  stops_more qs t last ended = record {
     choose = ended.choose;
     later = ended.later ++ flat_map (met_at a ended.choose) qs;
     chosen = ended.chosen;
@@ -219,12 +222,13 @@ module _ (chooses : Handler) (ps : List PlacedEntry) (a : State) (r : Report) wh
         ap (λ (l : List MetData). map met_of r.conflicts.items ++ l) (flat_map-append (met_at a ended.choose) ps qs)
         ∙ sym (append_assoc (map met_of r.conflicts.items) (flat_map (met_at a ended.choose) ps) (flat_map (met_at a ended.choose) qs))
         ∙ ap (λ (l : List MetData). l ++ flat_map (met_at a ended.choose) qs) ended.listed
-        ∙ append_assoc (map met_of t.conflicts.items) (record { conflict = conflict_of k; choice = c } ∷ ended.later) (flat_map (met_at a ended.choose) qs);
+        ∙ append_assoc (map met_of t.conflicts.items) (met_of last ∷ ended.later) (flat_map (met_at a ended.choose) qs);
+    ended = ended.ended;
   }
 
   -- and entries before it
-  pub stops_then : (qs : List PlacedEntry) (b : State) (s t : Report) (k : Conflict) (c : Choice) → Apart ps qs → Carries chooses ps a r b s → Stops chooses qs b s t k c → Stops chooses (ps ++ qs) a r t k c
-  stops_then qs b s t k c apart one ended = record {
+  pub stops_then : (qs : List PlacedEntry) (b : State) (s t : Report) (last : Met) → Apart ps qs → Carries chooses ps a r b s → Stops chooses qs b s t last → Stops chooses (ps ++ qs) a r t last
+  stops_then qs b s t last apart one ended = record {
     choose = both_choices ps one.choose ended.choose;
     later = ended.later;
     chosen = λ all. ended.chosen (one.chosen all);
@@ -233,12 +237,5 @@ module _ (chooses : Handler) (ps : List PlacedEntry) (a : State) (r : Report) wh
         ∙ sym (append_assoc (map met_of r.conflicts.items) (flat_map (met_at a one.choose) ps) (flat_map (met_at b ended.choose) qs))
         ∙ ap (λ (l : List MetData). l ++ flat_map (met_at b ended.choose) qs) (sym one.conflicts)
         ∙ ended.listed;
+    ended = ended.ended;
   }
-
-  pub stops_as_more : (qs : List PlacedEntry) (t : Report) (e : Ending) → StopsAs chooses ps a r t e → StopsAs chooses (ps ++ qs) a r t e
-  stops_as_more qs t (Aborted k) h = (stops_more qs t k choice.Abort h.0, h.1)
-  stops_as_more qs t (Misused k) h = (stops_more qs t k choice.Replace h.0, h.1, h.2)
-
-  pub stops_as_then : (qs : List PlacedEntry) (b : State) (s t : Report) (e : Ending) → Apart ps qs → Carries chooses ps a r b s → StopsAs chooses qs b s t e → StopsAs chooses (ps ++ qs) a r t e
-  stops_as_then qs b s t (Aborted k) apart one h = (stops_then qs b s t k choice.Abort apart one h.0, h.1)
-  stops_as_then qs b s t (Misused k) apart one h = (stops_then qs b s t k choice.Replace apart one h.0, h.1, h.2)

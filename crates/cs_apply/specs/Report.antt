@@ -19,3 +19,4 @@ abbrev pub chosen : Policy → Kind → Choice
 chosen policy kind.Data = policy.on_data
 chosen policy kind.NotFound = policy.on_notfound
 chosen policy kind.Conflict = policy.on_conflict
+chosen policy kind.Constraint = policy.on_constraint

@@ -13,7 +13,7 @@ use Rattle.cs_group.specs.declared.judging.Judgement.TheVariants as judgement
 use Rattle.cs_group.specs.Judging.{judged, is_skipped}
 use Rattle.cs_group.specs.Judging as judging
 use Rattle.cs_group.specs.declared.conflict.Noop.{Noop}
-use Rattle.cs_group.specs.Applying.{heeded, ignored, skipped}
+use Rattle.cs_group.specs.Applying.{heeded, ignored, refuses_at, skipped}
 use Rattle.cs_apply.specs.declared.ending.Ending.{Ending}
 use Rattle.cs_apply.specs.declared.fault.ApplyFault.{ApplyFault}
 use Rattle.cs_apply.specs.declared.fault.ApplyFault.TheVariants.{Wider}
@@ -22,7 +22,7 @@ use Rattle.cs_apply.specs.declared.run.Run.{Run}
 use Rattle.cs_apply.specs.declared.running.Direction.{Direction}
 use Rattle.cs_apply.specs.declared.running.Direction.TheVariants.{Forward, Inverse}
 use Rattle.cs_apply.specs.Running.{Handler}
-use Rattle.cs_apply.specs.Steps.{Carries, StopsAs, refusal_of}
+use Rattle.cs_apply.specs.Steps.{Carries, Stops, last_of, refusal_of}
 
 -- a changeset as it is run: as it is, or what undoes each of its entries
 abbrev pub directed : Direction → List GroupData → List GroupData
@@ -69,17 +69,18 @@ CameTo chooses noop before groups start report after None =
     × (map string_bytes report.skipped.items ≡ map string_bytes start.skipped.items ++ skipped before groups)
     × (report.ignored ≡ start.ignored + ignored noop before groups)
 CameTo chooses noop before groups start report after (Some ending) =
-    StopsAs chooses (heeded noop before groups) before start report ending
+    Stops chooses (heeded noop before groups) before start report (last_of ending)
 
 abbrev pub last_group : List GroupData → Option GroupData
 last_group [] = None
 last_group (group ∷ []) = Some group
 last_group (group ∷ next ∷ groups) = last_group (next ∷ groups)
 
--- the table of the last of the groups is open, and judged
+-- the table of the last of the groups is open, and judged, and which of its columns refuse NULL is known
 abbrev pub HasOpen : State → List GroupData → Run → Type 0
 HasOpen before groups run =
-    IfSome (last_group groups) (λ g. (rc_str_bytes run.table ≡ g.header.name) × (run.judgement ≡ judged before g))
+    IfSome (last_group groups) (λ g. (rc_str_bytes run.table ≡ g.header.name) × (run.judgement ≡ judged before g)
+    × (run.refuses.items ≡ refuses_at before g.header.name))
 
 -- so a run stands behind these groups: entries are judged only where no table is wider
 pub record IsBehind (chooses : Handler) (before : State) (groups : List GroupData) (run : Run) (after : State) : Type 0 where
@@ -102,6 +103,7 @@ wider_then None place judgement.Compatible = None
 pub record TakesTable (state : State) (run : Run) (header : HeaderData) (next : Run) (after : State) : Type 0 where
   pub same : after ≡ state
   pub table : rc_str_bytes next.table ≡ header.name
+  pub rules : next.refuses.items ≡ refuses_at state header.name
   pub judged : next.judgement
       ≡ judging.judgement header.flags (option_map (λ s. s.flags) (schema_at state header.name))
   pub tables : next.tables ≡ run.tables + 1

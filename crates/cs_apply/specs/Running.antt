@@ -1,12 +1,11 @@
 -- What a run over rows does with a file: the interface of SQLite's session extension, under "sqlite3changeset_apply". The
 -- order of refusals, and that a table may not be wider, are this project's own.
-use Rattle.std.specs.Prelude.{◌≡◌, ◌⊎◌, ◌∷◌, ◌++◌, ℕ, false, List, map, All, string_bytes}
-use Rattle.cs_value.specs.State.{State}
+use Rattle.std.specs.Prelude.{◌≡◌, ◌⊎◌, ◌∷◌, ◌++◌, ℕ, true, false, List, map, All, string_bytes}
+use Rattle.cs_value.specs.State.{State, IsState}
 use Rattle.cs_wire.specs.Changeset.{GroupData, IsChangeset, file_bytes}
 use Rattle.cs_wire.specs.ReadFaults.{ReadFails}
 use Rattle.cs_store.specs.declared.fault.StoreError.TheVariants.{DamagedStore, StoreFault}
 use Rattle.cs_store.specs.Editing.{written_of}
-use Rattle.cs_group.specs.declared.conflict.Kind.TheVariants.{NotFound}
 use Rattle.cs_group.specs.declared.conflict.Choice.{Choice}
 use Rattle.cs_group.specs.declared.conflict.Choice.TheVariants as choice
 use Rattle.cs_group.specs.declared.conflict.Noop.{Noop}
@@ -21,7 +20,7 @@ use Rattle.cs_apply.specs.declared.running.Direction.{Direction}
 use Rattle.cs_apply.specs.declared.running.Direction.TheVariants.{Forward, Inverse}
 use Rattle.cs_apply.specs.declared.fault.ApplyFault.{ApplyFault}
 use Rattle.cs_apply.specs.declared.fault.ApplyFault.TheVariants.{Read, Wider, Abort, Misuse, Store, NoMemory}
-use Rattle.cs_apply.specs.Report.{conflict_of, met_of}
+use Rattle.cs_apply.specs.Report.{met_of}
 
 -- what a handler may choose for a conflict
 abbrev pub Handler : Type 1
@@ -52,25 +51,27 @@ pub record Applies (chooses : Handler) (noop : Noop) (file : List ℕ) (directio
   pub written : map written_of report.written.items ≡ written_under noop old changeset choose
   pub ignored : report.ignored ≡ ignored noop old changeset
 
--- the conflict is one that a changeset meets under some choices, of which this is the one for it; those for the conflicts
--- before it the handler chose, and the run went on
-pub record IsReached (chooses : Handler) (noop : Noop) (old : State) (changeset : List GroupData) (conflict : Conflict)
-    (choice : Choice) : Type 0 where
+-- the conflict is one that a changeset meets under some choices, and this is the choice for it; for each conflict before it
+-- the handler chose what stands there, and the run went on
+pub record IsReached (chooses : Handler) (noop : Noop) (old : State) (changeset : List GroupData) (last : Met) : Type 0 where
   pub choose : Choices
   pub earlier : List Met
   pub later : List MetData
   pub chosen : All (GoesOn chooses) earlier
-  pub listed : met_under noop old changeset choose
-      ≡ map met_of earlier ++ record { conflict = conflict_of conflict; choice = choice } ∷ later
+  pub listed : met_under noop old changeset choose ≡ map met_of earlier ++ met_of last ∷ later
 
--- the run ends at a conflict, with this choice
-pub record EndsAt (chooses : Handler) (noop : Noop) (file : List ℕ) (direction : Direction) (old : State)
-    (conflict : Conflict) (choice : Choice) : Type 0 where
+-- the run ends at a conflict, by what the handler chose for it
+pub record EndsRun (chooses : Handler) (m : Met) : Type 0 where
+  pub chosen : chooses m.conflict m.choice
+  pub ends : ends m.conflict.kind m.choice ≡ true
+
+-- so it ends at a conflict of a file
+pub record EndsAt (chooses : Handler) (noop : Noop) (file : List ℕ) (direction : Direction) (old : State) (last : Met) : Type 0 where
   pub changeset : List GroupData
   pub read : IsReadAs file direction changeset
   pub none_wider : NoneWider old changeset
-  pub reached : IsReached chooses noop old changeset conflict choice
-  pub chosen : chooses conflict choice
+  pub reached : IsReached chooses noop old changeset last
+  pub ended : EndsRun chooses last
 
 pub record IsWider (file : List ℕ) (direction : Direction) (old : State) (place : ℕ) : Type 0 where
   pub changeset : List GroupData
@@ -81,9 +82,10 @@ pub record IsWider (file : List ℕ) (direction : Direction) (old : State) (plac
 abbrev pub Refuses : Handler → Noop → List ℕ → Direction → State → ApplyFault → Type 0
 Refuses chooses noop file direction old (Read fault) = ReadFails file fault.kind fault.place
 Refuses chooses noop file direction old (Wider place) = IsWider file direction old place
-Refuses chooses noop file direction old (Abort conflict) = EndsAt chooses noop file direction old conflict choice.Abort
+Refuses chooses noop file direction old (Abort conflict) =
+    EndsAt chooses noop file direction old (record { conflict = conflict; choice = choice.Abort })
 Refuses chooses noop file direction old (Misuse conflict) =
-    EndsAt chooses noop file direction old conflict choice.Replace × (conflict.kind ≡ NotFound)
+    EndsAt chooses noop file direction old (record { conflict = conflict; choice = choice.Replace })
 Refuses chooses noop file direction old (Store error) = error ≡ StoreFault
 Refuses chooses noop file direction old NoMemory = Unit {0}
 
@@ -105,11 +107,12 @@ IsNoReadFault fault = Unit {0}
 abbrev pub AlwaysAborts : Handler
 AlwaysAborts conflict chosen = chosen ≡ choice.Abort
 
--- the changeset of a file leads from a state to another without a conflict
+-- the changeset of a file leads from a state, whose tables are well formed, to another without a conflict
 pub record Leads (file : List ℕ) (before after : State) : Type 0 where
   pub changeset : List GroupData
   pub is_changeset : IsChangeset changeset
   pub is_file : file ≡ file_bytes changeset
+  pub is_state : IsState before
   pub clean : IsClean before changeset
   pub choose : Choices
   pub applied : IsApplied before changeset choose after

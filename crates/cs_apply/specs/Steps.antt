@@ -9,14 +9,13 @@ use Rattle.cs_wire.specs.Items.{FlaggedEntry}
 use Rattle.cs_store.specs.declared.fault.StoreError.TheVariants.{DamagedStore}
 use Rattle.cs_store.specs.Editing.{written_of}
 use Rattle.cs_group.specs.declared.conflict.Kind.{Kind}
-use Rattle.cs_group.specs.declared.conflict.Kind.TheVariants.{NotFound}
 use Rattle.cs_group.specs.declared.conflict.Choice.{Choice}
 use Rattle.cs_group.specs.declared.conflict.Choice.TheVariants as choice
 use Rattle.cs_group.specs.declared.conflict.Noop.{Noop}
 use Rattle.cs_group.specs.declared.conflict.Noop.TheVariants as noop
-use Rattle.cs_group.specs.Conflicts.{kinds_met, is_idle, is_ended, is_carried_out}
+use Rattle.cs_group.specs.Conflicts.{kinds_met, is_idle, is_overcome, is_carried_out}
 use Rattle.cs_group.specs.Joining.{key_places}
-use Rattle.cs_group.specs.Applying.{PlacedEntry, MetData, Choices, AreApplied, met_with, met_at, written_for, heeded_of, ignored_of}
+use Rattle.cs_group.specs.Applying.{PlacedEntry, ConflictData, MetData, Choices, AreApplied, met_with, met_at, written_for, heeded_of, ignored_of}
 use Rattle.cs_apply.specs.declared.conflict.Conflict.{Conflict}
 use Rattle.cs_apply.specs.declared.conflict.Met.{Met}
 use Rattle.cs_apply.specs.declared.ending.Ending.{Ending}
@@ -27,7 +26,7 @@ use Rattle.cs_apply.specs.declared.entry.Settled.{Settled}
 use Rattle.cs_apply.specs.declared.entry.Settled.TheVariants.{Carried, Passed, Ignored, Ended}
 use Rattle.cs_apply.specs.declared.report.Report.{Report}
 use Rattle.cs_apply.specs.Report.{conflict_of, met_of}
-use Rattle.cs_apply.specs.Running.{Handler, GoesOn, IsResource}
+use Rattle.cs_apply.specs.Running.{Handler, GoesOn, EndsRun, IsResource}
 
 -- memory was refused, the database refused, or what it holds is damaged
 abbrev pub IsStoreRefusal : ApplyFault → Type 0
@@ -50,22 +49,20 @@ pub record Carries (chooses : Handler) (entries : List PlacedEntry) (before : St
   pub written : map written_of next.written.items
       ≡ map written_of report.written.items ++ filter_map (written_for before choose) entries
 
--- the run ends at a conflict of one of these entries, for which this was chosen, and the report has those before it
-pub record Stops (chooses : Handler) (entries : List PlacedEntry) (before : State) (report next : Report)
-    (conflict : Conflict) (choice : Choice) : Type 0 where
+-- the run ends at a conflict of one of these entries, and the report has those before it
+pub record Stops (chooses : Handler) (entries : List PlacedEntry) (before : State) (report next : Report) (last : Met) :
+    Type 0 where
   pub choose : Choices
   pub later : List MetData
   pub chosen : All (GoesOn chooses) report.conflicts.items → All (GoesOn chooses) next.conflicts.items
   pub listed : map met_of report.conflicts.items ++ flat_map (met_at before choose) entries
-      ≡ map met_of next.conflicts.items ++ record { conflict = conflict_of conflict; choice = choice } ∷ later
+      ≡ map met_of next.conflicts.items ++ met_of last ∷ later
+  pub ended : EndsRun chooses last
 
--- it ends there in this way
-abbrev pub StopsAs : Handler → List PlacedEntry → State → Report → Report → Ending → Type 0
-StopsAs chooses entries before report next (Aborted conflict) =
-    Stops chooses entries before report next conflict choice.Abort × chooses conflict choice.Abort
-StopsAs chooses entries before report next (Misused conflict) =
-    Stops chooses entries before report next conflict choice.Replace × chooses conflict choice.Replace
-    × (conflict.kind ≡ NotFound)
+-- the conflict at which it ended, with what was chosen
+abbrev pub last_of : Ending → Met
+last_of (Aborted conflict) = record { conflict = conflict; choice = choice.Abort }
+last_of (Misused conflict) = record { conflict = conflict; choice = choice.Replace }
 
 -- what a run that ended so is refused with
 abbrev pub refusal_of : Ending → ApplyFault
@@ -86,16 +83,33 @@ ComesTo chooses noop p before report after next None =
     Carries chooses (heeded_of noop before (p ∷ [])) before report after next
     × (next.ignored ≡ report.ignored + length (ignored_of noop before (p ∷ [])))
 ComesTo chooses noop p before report after next (Some ending) =
-    StopsAs chooses (heeded_of noop before (p ∷ [])) before report next ending × (after ≡ before)
+    Stops chooses (heeded_of noop before (p ∷ [])) before report next (last_of ending) × (after ≡ before)
 
--- an entry, before it is carried out: what was chosen for what it meets, and whether it is carried out
-pub record Settles (chooses : Handler) (p : PlacedEntry) (row : Option (List OwnedValue)) (conflicts next : List Met)
-    (is_carried : Bool) : Type 0 where
+-- a conflict is told, with what the handler chose for it
+pub record IsTold (chooses : Handler) (conflict : ConflictData) (conflicts next : List Met) (m : Met) : Type 0 where
+  pub is : conflict_of m.conflict ≡ conflict
+  pub goes_on : GoesOn chooses m
+  pub grown : next ≡ conflicts ++ m ∷ []
+
+-- what comes of a conflict of which the handler was asked: it is overcome, or the entry is passed over, or the run ends
+abbrev pub AnswersAs : Handler → ConflictData → List Met → List Met → Settled → Type 0
+AnswersAs chooses conflict conflicts next Carried =
+    (m : Met) × IsTold chooses conflict conflicts next m × (is_overcome m.conflict.kind m.choice ≡ true)
+AnswersAs chooses conflict conflicts next Passed =
+    (m : Met) × IsTold chooses conflict conflicts next m × (is_overcome m.conflict.kind m.choice ≡ false)
+AnswersAs chooses conflict conflicts next Ignored = ⊥
+AnswersAs chooses conflict conflicts next (Ended ending) =
+    (conflict_of (last_of ending).conflict ≡ conflict) × EndsRun chooses (last_of ending) × (next ≡ conflicts)
+
+-- what is chosen for the conflicts that an entry meets at a row, in turn, and the conflicts that are told then
+pub record Settles (chooses : Handler) (refused : Bool) (p : PlacedEntry) (row : Option (List OwnedValue))
+    (conflicts next : List Met) (is_carried : Bool) : Type 0 where
   pub choose : Kind → Choice
-  pub goes_on : is_ended (kinds_met p.entry.change row) choose ≡ false
-  pub carried : is_carried ≡ is_carried_out (kinds_met p.entry.change row) choose
-  pub told : map met_of next ≡ map met_of conflicts ++ met_with p choose row
-  pub chosen : All (GoesOn chooses) conflicts → All (GoesOn chooses) next
+  pub carried : is_carried ≡ is_carried_out (kinds_met refused p.entry.change row choose) choose
+  pub told : List Met
+  pub grown : next ≡ conflicts ++ told
+  pub all_told : met_with refused p row choose ≡ map met_of told
+  pub chosen : All (GoesOn chooses) told
 
 -- how the run ends at a conflict
 abbrev pub ending_by : Conflict → Choice → Ending
@@ -103,21 +117,15 @@ ending_by conflict choice.Omit = Misused conflict
 ending_by conflict choice.Replace = Misused conflict
 ending_by conflict choice.Abort = Aborted conflict
 
--- the conflict is one that the entry meets, and ends the run; those before it are told
-pub record EndsRun (chooses : Handler) (p : PlacedEntry) (row : Option (List OwnedValue)) (conflicts next : List Met)
-    (conflict : Conflict) (choice : Choice) : Type 0 where
+-- the run ends at a conflict that the entry meets; those before it are told
+pub record EndsAtEntry (chooses : Handler) (refused : Bool) (p : PlacedEntry) (row : Option (List OwnedValue))
+    (conflicts next : List Met) (last : Met) : Type 0 where
   pub choose : Kind → Choice
-  pub later : List MetData
-  pub chosen : All (GoesOn chooses) conflicts → All (GoesOn chooses) next
-  pub listed : map met_of conflicts ++ met_with p choose row
-      ≡ map met_of next ++ record { conflict = conflict_of conflict; choice = choice } ∷ later
-
-abbrev pub Unsettled : Handler → PlacedEntry → Option (List OwnedValue) → List Met → List Met → Ending → Type 0
-Unsettled chooses p row conflicts next (Aborted conflict) =
-    EndsRun chooses p row conflicts next conflict choice.Abort × chooses conflict choice.Abort
-Unsettled chooses p row conflicts next (Misused conflict) =
-    EndsRun chooses p row conflicts next conflict choice.Replace × chooses conflict choice.Replace
-    × (conflict.kind ≡ NotFound)
+  pub told : List Met
+  pub grown : next ≡ conflicts ++ told
+  pub all_told : met_with refused p row choose ≡ map met_of told ++ met_of last ∷ []
+  pub chosen : All (GoesOn chooses) told
+  pub ended : EndsRun chooses last
 
 -- what is done where the run goes on
 abbrev pub settled_as : Choice → Settled
@@ -125,16 +133,16 @@ settled_as choice.Omit = Passed
 settled_as choice.Replace = Carried
 settled_as choice.Abort = Passed
 
-abbrev pub SettlesAs : Handler → PlacedEntry → Option (List OwnedValue) → List Met → List Met → Settled → Type 0
-SettlesAs chooses p row conflicts next Carried = Settles chooses p row conflicts next true
-SettlesAs chooses p row conflicts next Passed = Settles chooses p row conflicts next false
-SettlesAs chooses p row conflicts next Ignored = next ≡ conflicts
-SettlesAs chooses p row conflicts next (Ended ending) = Unsettled chooses p row conflicts next ending
+abbrev pub SettlesAs : Handler → Bool → PlacedEntry → Option (List OwnedValue) → List Met → List Met → Settled → Type 0
+SettlesAs chooses refused p row conflicts next Carried = Settles chooses refused p row conflicts next true
+SettlesAs chooses refused p row conflicts next Passed = Settles chooses refused p row conflicts next false
+SettlesAs chooses refused p row conflicts next Ignored = next ≡ conflicts
+SettlesAs chooses refused p row conflicts next (Ended ending) = EndsAtEntry chooses refused p row conflicts next (last_of ending)
 
 -- the entry is idle at this row, or none, and that is to be ignored
-abbrev pub is_ignored : Noop → List ℕ → Change → Option (List OwnedValue) → Bool
-is_ignored noop.Report flags change row = false
-is_ignored noop.Ignore flags change row = is_idle flags change row
+abbrev pub is_ignored : Noop → Bool → List ℕ → Change → Option (List OwnedValue) → Bool
+is_ignored noop.Report refused flags change row = false
+is_ignored noop.Ignore refused flags change row = is_idle refused flags change row
 
 -- it is ignored
 abbrev pub is_left_out : Settled → Bool

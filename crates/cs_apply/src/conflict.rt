@@ -8,7 +8,7 @@ use cs_wire::{Entry, EntryRef};
 use std::alloc::Global;
 use std::fmt;
 
-/// A conflict: an entry that does not find what it says.
+/// A conflict: an entry that does not find what it says, or leaves what its table refuses.
 #[derive(Debug, Drop)]
 pub struct Conflict {
     pub kind: Kind,
@@ -61,6 +61,7 @@ impl fmt::Display for Conflict {
             Kind::Data => "data",
             Kind::NotFound => "notfound",
             Kind::Conflict => "conflict",
+            Kind::Constraint => "constraint",
         };
         let table = self.table.as_str();
         write!(f, "a conflict of kind {kind} in table {table}")

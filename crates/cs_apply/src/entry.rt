@@ -1,21 +1,23 @@
 //! One entry of a changeset, carried out.
-ghost use Rattle.std.specs.Prelude.{◌≡◌, ◌≢◌, ◌<◌, ◌≤◌, ◌+◌, [], ◌∷◌, ◌++◌, map, Some, IfOk, IfErr, IfSome, OnOk, option_map};
+ghost use Rattle.std.specs.Prelude.{◌≡◌, ◌≢◌, ◌↔◌, ◌<◌, ◌≤◌, ◌+◌, [], ◌∷◌, ◌++◌, map, false, Some, IfOk, IfErr, IfSome, IsTrue, OnOk, option_map};
 ghost use Rattle.std.specs.Fn.{FnReturnsAt};
 ghost use Rattle.std.specs.Rc.{rc_str_bytes};
-ghost use Rattle.cs_wire.specs.Entry.{key_of};
+ghost use Rattle.cs_wire.specs.Entry.{key_of, before_image};
 ghost use Rattle.cs_store.specs.Editing.{written_of};
 ghost use Rattle.cs_store.specs.Rows.{Fits};
 ghost use Rattle.cs_group.specs.declared.conflict.Kind.TheVariants.{NotFound as NotFoundKind};
 ghost use Rattle.cs_group.specs.declared.conflict.Noop.TheVariants.{Report as Reported};
-ghost use Rattle.cs_group.specs.Conflicts.{conflict_kind as kind_of, row_after as row_of_change, ends};
+ghost use Rattle.cs_group.specs.Conflicts.{kind_between, is_refused as breaks_rule, row_after as row_of_change, ends};
+ghost use Rattle.cs_group.specs.Applying.{conflict_with, refuses_at};
+ghost use Rattle.cs_apply.specs.declared.entry.Settled.TheVariants.{Carried as CarriedOut};
 ghost use Rattle.cs_apply.specs.Running.{IsResource};
-ghost use Rattle.cs_apply.specs.Steps.{HasTable, ComesTo, IsStoreRefusal, SettlesAs, is_ignored, is_left_out, header_in, placed_in_table, settled_as, with_result};
+ghost use Rattle.cs_apply.specs.Steps.{HasTable, ComesTo, IsStoreRefusal, SettlesAs, AnswersAs, is_ignored, is_left_out, header_in, placed_in_table, settled_as, with_result};
 
 use crate::conflict::{Conflict, Met};
 use crate::ending::Ending;
 use crate::fault::ApplyFault;
 use crate::report::Report;
-use cs_group::{Choice, Kind, Noop, agrees, conflict_kind, row_after};
+use cs_group::{Choice, Kind, Noop, agrees, conflict_kind, is_refused, row_after};
 use cs_store::{Rows, Written};
 use cs_value::{Key, NoMemory, Row};
 use cs_wire::EntryRef;
@@ -35,6 +37,15 @@ pub(crate) enum Settled {
     Ended(Ending),
 }
 
+impl Settled {
+    /// Whether the entry is carried out.
+    fn is_carried(&self) -> bool
+        ensures { IsTrue result ↔ (self.now ≡ CarriedOut) }
+    {
+        matches!(self, Settled::Carried)
+    }
+}
+
 /// Carries out an entry of a table that is compatible, or does what the handler chooses where the entry
 /// meets a conflict, unless that is to be ignored. Answers how the run ends at it, if it does: the rows are as they
 /// were then.
@@ -43,6 +54,7 @@ pub(crate) fn apply_entry<B: Rows, H: Fn(&Conflict) -> Choice>(
     rows: &mut B,
     table: &RcStr,
     entry: &EntryRef<'_>,
+    refuses: &[bool],
     noop: Noop,
     handler: &H,
     report: &mut Report,
@@ -51,6 +63,7 @@ pub(crate) fn apply_entry<B: Rows, H: Fn(&Conflict) -> Choice>(
     requires count { report.old.ignored < usize.MAX }
     requires table { B.is_honest rows.old
         → HasTable (B.state rows.old) (header_in (rc_str_bytes table.now) entry.now) }
+    requires rules { B.is_honest rows.old → refuses.now ≡ refuses_at (B.state rows.old) (rc_str_bytes table.now) }
     ensures comes_to { B.is_honest rows.new → IfOk result (ComesTo (FnReturnsAt H.Fn handler.now) noop
         (placed_in_table (rc_str_bytes table.now) entry.now) (B.state rows.old) report.old (B.state rows.new) report.new) }
     ensures skipped { report.new.skipped ≡ report.old.skipped }
@@ -70,6 +83,7 @@ pub(crate) fn apply_entry<B: Rows, H: Fn(&Conflict) -> Choice>(
         name,
         entry,
         current.as_ref(),
+        is_refused(entry, refuses),
         noop,
         handler,
         conflicts,
@@ -88,30 +102,56 @@ pub(crate) fn apply_entry<B: Rows, H: Fn(&Conflict) -> Choice>(
     }
 }
 
-/// What is done about an entry. A conflict is told with what was chosen for it, unless the run ends there, or the
-/// entry is ignored.
+/// What is done about an entry, which is refused or not. A conflict is told with what was chosen for it, unless the run
+/// ends there, or the entry is ignored.
 fn settle<H: Fn(&Conflict) -> Choice>(
     alloc: Global,
     table: &str,
     entry: &EntryRef<'_>,
     current: Option<&Row>,
+    is_refused: bool,
     noop: Noop,
     handler: &H,
     conflicts: &mut Vec<Met>,
 ) -> Result<Settled, NoMemory>
     requires callable { H.IsAlwaysCallable handler.now }
     ensures ignored { IfOk result (λ settled. is_left_out settled
-        ≡ is_ignored noop entry.now.flags entry.now.entry.change (option_map (λ r. r.now) current.entry)) }
-    ensures settles { IfOk result (SettlesAs (FnReturnsAt H.Fn handler.now) (placed_in_table table.now entry.now)
-        (option_map (λ r. r.now) current.entry) conflicts.old.items conflicts.new.items) }
+        ≡ is_ignored noop is_refused entry.now.flags entry.now.entry.change (option_map (λ r. r.now) current.entry)) }
+    ensures settles { IfOk result (SettlesAs (FnReturnsAt H.Fn handler.now) is_refused
+        (placed_in_table table.now entry.now) (option_map (λ r. r.now) current.entry) conflicts.old.items
+        conflicts.new.items) }
 {
-    let kind = match conflict_kind(entry, current) {
+    let kind = match conflict_kind(entry, current, is_refused) {
         None => return Ok(Settled::Carried),
         Some(kind) => kind,
     };
     if noop == Noop::Ignore && agrees(entry, current) {
         return Ok(Settled::Ignored);
     }
+    let settled = ask(alloc, kind, table, entry, current, handler, conflicts)?;
+    if is_refused && settled.is_carried() {
+        let kind = Kind::Constraint;
+        return ask(alloc, kind, table, entry, current, handler, conflicts);
+    }
+    Ok(settled)
+}
+
+/// What is done about an entry at a conflict of a kind. The conflict is told with what was chosen for it, unless the run
+/// ends there.
+fn ask<H: Fn(&Conflict) -> Choice>(
+    alloc: Global,
+    kind: Kind,
+    table: &str,
+    entry: &EntryRef<'_>,
+    current: Option<&Row>,
+    handler: &H,
+    conflicts: &mut Vec<Met>,
+) -> Result<Settled, NoMemory>
+    requires callable { H.IsAlwaysCallable handler.now }
+    ensures { IfOk result (AnswersAs (FnReturnsAt H.Fn handler.now)
+        (conflict_with (placed_in_table table.now entry.now) (option_map (λ r. r.now) current.entry) kind)
+        conflicts.old.items conflicts.new.items) }
+{
     let conflict = Conflict::copy_of(alloc, kind, table, entry, current)?;
     let choice = handler(&conflict);
     if ends_run(kind, choice) {
@@ -137,7 +177,7 @@ fn ends_run(kind: Kind, choice: Choice) -> bool
 {
     match choice {
         Choice::Omit => false,
-        Choice::Replace => kind == Kind::NotFound,
+        Choice::Replace => kind == Kind::NotFound || kind == Kind::Constraint,
         Choice::Abort => true,
     }
 }
@@ -153,7 +193,9 @@ fn carry_out<B: Rows>(
     written: &mut Vec<Written>,
 ) -> Result<(), ApplyFault>
     requires key { key ≡ key_of entry.now.flags entry.now.entry.change }
-    requires found { kind_of entry.now.entry.change current ≢ Some NotFoundKind }
+    requires found { kind_between (before_image entry.now.entry.change) current ≢ Some NotFoundKind }
+    requires obeys { B.is_honest rows.old → breaks_rule (refuses_at (B.state rows.old) (rc_str_bytes table.now))
+        entry.now.flags entry.now.entry.change ≡ false }
     requires table { B.is_honest rows.old
         → HasTable (B.state rows.old) (header_in (rc_str_bytes table.now) entry.now) }
     requires row { B.is_honest rows.old → IfSome current (Fits (B.state rows.old) (rc_str_bytes table.now) key) }
@@ -186,7 +228,9 @@ fn write<B: Rows>(
     current: Option<&Row>,
 ) -> Result<(), ApplyFault>
     requires key { key.now ≡ key_of entry.now.flags entry.now.entry.change }
-    requires found { kind_of entry.now.entry.change (option_map (λ r. r.now) current) ≢ Some NotFoundKind }
+    requires found { kind_between (before_image entry.now.entry.change) (option_map (λ r. r.now) current) ≢ Some NotFoundKind }
+    requires obeys { B.is_honest rows.old → breaks_rule (refuses_at (B.state rows.old) table.now)
+        entry.now.flags entry.now.entry.change ≡ false }
     requires table { B.is_honest rows.old → HasTable (B.state rows.old) (header_in table.now entry.now) }
     requires row { B.is_honest rows.old → IfSome current (λ r. Fits (B.state rows.old) table.now key.now r.now) }
     ensures written { B.is_honest rows.new → OnOk result (B.state rows.new

@@ -20,7 +20,7 @@ pub enum ApplyFault {
     /// The handler chose to abort at this conflict.
     #[error("aborted at {0}")]
     Abort(Conflict),
-    /// The handler chose to replace a row that is not there.
+    /// The handler chose to replace a row that is not there, or one that its table refuses.
     #[error("no row to replace at {0}")]
     Misuse(Conflict),
     /// The store refused, for another cause than memory.

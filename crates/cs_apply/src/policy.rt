@@ -11,6 +11,7 @@ pub struct Policy {
     pub on_data: Choice,
     pub on_notfound: Choice,
     pub on_conflict: Choice,
+    pub on_constraint: Choice,
 }
 
 impl Policy {
@@ -22,6 +23,7 @@ impl Policy {
             Kind::Data => self.on_data,
             Kind::NotFound => self.on_notfound,
             Kind::Conflict => self.on_conflict,
+            Kind::Constraint => self.on_constraint,
         }
     }
 }

@@ -6,6 +6,7 @@ ghost use Rattle.cs_value.specs.State.{State, schema_at};
 ghost use Rattle.cs_wire.specs.declared.entry.Entry.{Entry as EntryData};
 ghost use Rattle.cs_wire.specs.Changeset.{GroupData, HeaderData};
 ghost use Rattle.cs_wire.specs.Items.{header_of};
+ghost use Rattle.cs_group.specs.Applying.{refuses_at};
 ghost use Rattle.cs_group.specs.declared.judging.Judgement.TheVariants.{Compatible as CompatibleTable};
 ghost use Rattle.cs_group.specs.declared.conflict.Noop.TheVariants.{Report as Reported};
 ghost use Rattle.cs_apply.specs.Running.{IsResource};
@@ -31,6 +32,8 @@ pub(crate) struct Run {
     // The name of the table that is open, which the keys that are written share, and how the table was judged.
     table: RcStr,
     judgement: Judgement,
+    // Which of its columns refuse NULL.
+    refuses: Vec<bool>,
     // How many tables there were.
     tables: usize,
     // The place of the first of them that is wider.
@@ -51,6 +54,7 @@ impl Run {
         Ok(Run {
             table: RcStr::from_str(alloc, "")?,
             judgement: Judgement::Skipped,
+            refuses: Vec::new(alloc),
             tables: 0,
             wider: None,
             ended: None,
@@ -78,7 +82,7 @@ impl Run {
         ensures was_honest { B.is_honest rows.new → B.is_honest rows.old }
         ensures kept { B.keeps rows.old rows.new }
     {
-        self.judgement = judge_table(alloc, rows, &header)?;
+        (self.judgement, self.refuses) = judge_table(alloc, rows, &header)?;
         self.table = RcStr::from_str(alloc, header.name)?;
         let place = self.tables;
         self.tables = place + 1;
@@ -113,6 +117,8 @@ impl Run {
         requires count { self.old.report.ignored < usize.MAX }
         requires table { B.is_honest rows.old → self.old.judgement ≡ CompatibleTable
             → HasTable (B.state rows.old) (header_in (rc_str_bytes self.old.table) entry) }
+        requires rules { B.is_honest rows.old
+            → self.old.refuses.items ≡ refuses_at (B.state rows.old) (rc_str_bytes self.old.table) }
         ensures behind { B.is_honest rows.new → OnOk result ((before : State) (closed : List GroupData)
             (header : HeaderData) (entries : List EntryData) → entry.entry.flags ≡ header.flags
             → IsNewEntry closed header entries entry.entry.entry
@@ -121,7 +127,8 @@ impl Run {
             (closed ++ group_of header (entries ++ entry.entry.entry ∷ []) ∷ []) self.new (B.state rows.new)) }
         ensures schemas { B.is_honest rows.new → OnOk result ((name : List ℕ)
             → schema_at (B.state rows.new) name ≡ schema_at (B.state rows.old) name) }
-        ensures table { (self.new.table ≡ self.old.table) × (self.new.judgement ≡ self.old.judgement) }
+        ensures table { (self.new.table ≡ self.old.table) × (self.new.judgement ≡ self.old.judgement)
+            × (self.new.refuses ≡ self.old.refuses) }
         ensures tables { self.new.tables ≡ self.old.tables }
         ensures ignored { self.new.report.ignored ≤ self.old.report.ignored + 1 }
         ensures reported { self.old.noop ≡ Reported → self.new.report.ignored ≡ self.old.report.ignored }
@@ -135,7 +142,10 @@ impl Run {
             return Ok(());
         }
         let report = &mut self.report;
-        self.ended = apply_entry(alloc, rows, &self.table, &entry, self.noop, handler, report)?;
+        let (table, refuses) = (&self.table, &self.refuses);
+        self.ended = apply_entry(
+            alloc, rows, table, &entry, refuses, self.noop, handler, report,
+        )?;
         Ok(())
     }
 

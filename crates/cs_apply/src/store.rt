@@ -55,6 +55,7 @@ pub fn apply<S: Alter, H: Fn(&Conflict) -> Choice>(
     ensures stands { OnErr result (IsTrue (state S.Store store.new).is_open → LeavesOnly
         (λ left. left ≡ tables_in (state S.Store store.old).committed) (state S.Store store.new)) }
 {
+    store.tables_law();
     run(alloc, store, file, Direction::Forward, noop, handler)
 }
 

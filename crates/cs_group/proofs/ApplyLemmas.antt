@@ -9,15 +9,16 @@ use Rattle.std.proofs.lemmas.Option.{none-some}
 use Rattle.cs_value.specs.State.{SchemaData, TableData, State, WrittenData, schema_at, row_at, written_at}
 use Rattle.cs_value.proofs.ByteMaps.{same_maps}
 use Rattle.cs_wire.specs.declared.entry.Entry.{Entry}
-use Rattle.cs_wire.specs.Entry.{IsEntry}
+use Rattle.cs_wire.specs.Entry.{IsEntry, before_image}
 use Rattle.cs_wire.specs.Changeset.{HeaderData, GroupData, ImageData, IsGroup}
 use Rattle.cs_wire.specs.Inverse.{IsInverseEntry, IsInverseGroup}
 use Rattle.cs_group.specs.declared.judging.Judgement.TheVariants.{Wider}
 use Rattle.cs_group.specs.Judging.{judgement, judged, is_compatible}
-use Rattle.cs_group.specs.Conflicts.{row_after, is_carried_out, is_ended}
-use Rattle.cs_group.specs.Applying.{PlacedEntry, placed_by, placed_in, placed, placed_key, current, IsElsewhere, compatible_groups, applicable, heeded, placed_kind, placed_kinds, Choices, met_at, written_for, written_under, placed_result}
+use Rattle.cs_group.specs.Conflicts.{kind_between, row_after, is_carried_out, is_ended}
+use Rattle.cs_group.specs.Applying.{PlacedEntry, placed_by, placed_in, placed, placed_key, current, refuses_at, refused_at, IsElsewhere, compatible_groups, applicable, heeded, placed_kind, placed_kinds, Choices, met_at, written_for, written_under, placed_result}
 use Rattle.cs_group.specs.Laws.{AppliedOnce, AppliedReverts, WrittenTells}
-use Rattle.cs_group.proofs.ConflictLemmas.{undone}
+use Rattle.cs_group.proofs.ConflictLemmas.{meets_none, undone}
+use Rattle.cs_group.proofs.RuleLemmas.{RowsObey, rows_obey, found_obeys}
 use Rattle.std.proofs.lemmas.Option.{same_Some}
 
 -- ---- by the place of a row
@@ -82,7 +83,7 @@ module _ (old new : State) (choose : Choices) where
   -- of the keys of these entries
   told_of : (ps : List PlacedEntry) → AllByRecursion (λ (w : WrittenData). row_at old w.table w.key ≡ w.former) (filter_map (written_for old choose) ps)
   told_of [] = tt
-  told_of (p ∷ ps) = at (is_carried_out (placed_kinds old p) (choose p)) (told_of ps)
+  told_of (p ∷ ps) = at (is_carried_out (placed_kinds old choose p) (choose p)) (told_of ps)
     where
       at : (b : Bool) → AllByRecursion (λ (w : WrittenData). row_at old w.table w.key ≡ w.former) (filter_map (written_for old choose) ps)
           → AllByRecursion (λ (w : WrittenData). row_at old w.table w.key ≡ w.former) (cons_option (if b then Some (written_at old p.table (placed_key p)) else None) (filter_map (written_for old choose) ps))
@@ -93,8 +94,8 @@ module _ (old new : State) (choose : Choices) where
   NotWritten table key w = ¬ ((w.table ≡ table) × (w.key ≡ key))
 
   -- what an entry leaves that is not carried out
-  stays : (p : PlacedEntry) → is_carried_out (placed_kinds old p) (choose p) ≡ false → placed_result old choose p ≡ Some (current new p) → current new p ≡ current old p
-  stays p passed e = at (is_ended (placed_kinds old p) (choose p)) (rw passed at e)
+  stays : (p : PlacedEntry) → is_carried_out (placed_kinds old choose p) (choose p) ≡ false → placed_result old choose p ≡ Some (current new p) → current new p ≡ current old p
+  stays p passed e = at (is_ended (placed_kinds old choose p) (choose p)) (rw passed at e)
     where
       at : (b : Bool) → (if b then None else Some (current old p)) ≡ Some (current new p) → current new p ≡ current old p
       at true e = absurd (none-some (current new p) e)
@@ -105,7 +106,7 @@ module _ (old new : State) (choose : Choices) where
       → row_at new table key ≡ row_at old table key
   other_rows table key [] results untold others = others tt
   other_rows table key (p ∷ ps) results untold others =
-      at (is_carried_out (placed_kinds old p) (choose p)) refl untold (λ apart left. other_rows table key ps results.1 left (λ rest. others (apart, rest)))
+      at (is_carried_out (placed_kinds old choose p) (choose p)) refl untold (λ apart left. other_rows table key ps results.1 left (λ rest. others (apart, rest)))
     where
       Left : Type 0
       Left = AllByRecursion (NotWritten table key) (filter_map (written_for old choose) ps)
@@ -113,11 +114,11 @@ module _ (old new : State) (choose : Choices) where
       Same : Type 0
       Same = row_at new table key ≡ row_at old table key
 
-      found : is_carried_out (placed_kinds old p) (choose p) ≡ false → IsHere table key p ⊎ IsElsewhere p table key → Left → (IsElsewhere p table key → Left → Same) → Same
+      found : is_carried_out (placed_kinds old choose p) (choose p) ≡ false → IsHere table key p ⊎ IsElsewhere p table key → Left → (IsElsewhere p table key → Left → Same) → Same
       found is (inl here) left next = at_place new old p table key (stays p is results.0) here.0 here.1
       found is (inr apart) left next = next apart left
 
-      at : (b : Bool) → is_carried_out (placed_kinds old p) (choose p) ≡ b
+      at : (b : Bool) → is_carried_out (placed_kinds old choose p) (choose p) ≡ b
           → AllByRecursion (NotWritten table key) (cons_option (if b then Some (written_at old p.table (placed_key p)) else None) (filter_map (written_for old choose) ps)) → (IsElsewhere p table key → Left → Same) → Same
       at true is left next = next left.0 left.1
       at false is left next = found is (is_here table key p) left next
@@ -202,16 +203,25 @@ pub left_row : (old new : State) (choose : Choices) (p : PlacedEntry) → placed
     → current new p ≡ row_after p.flags p.entry.change (current old p)
 left_row old new choose p none e = same_Some _ _ (sym (rw none at e))
 
-module _ (old new : State) (choose again : Choices) where
+-- what is said of columns is the same of states with the same schemas
+pub refuses_same : (old new : State) → ((table : List ℕ) → schema_at new table ≡ schema_at old table) → (table : List ℕ) → refuses_at new table ≡ refuses_at old table
+refuses_same old new schemas table = ap (λ (o : Option SchemaData). unwrap_or (option_map (λ (s : SchemaData). s.refuses) o) []) (schemas table)
+
+module _ (old new : State) (choose again : Choices) (obey : RowsObey old) (schemas : (table : List ℕ) → schema_at new table ≡ schema_at old table) where
   undone_at : (p q : PlacedEntry) → Undoes p q → placed_kind old p ≡ None → placed_result old choose p ≡ Some (current new p)
       → (placed_kind new q ≡ None) × (placed_result new again q ≡ Some (current old q)) × ((table key : List ℕ) → IsElsewhere q table key → IsElsewhere p table key)
   undone_at p q is none result =
       let left = left_row old new choose p none result in
       let key : placed_key q ≡ placed_key p = rw is.flags is.inverse.key in
       let here : (s : State) → current s q ≡ current s p = λ s. rw (is.table, key) refl in
-      let both = undone p.flags p.entry.change q.entry.change (current old p) is.fits (ap (λ (i : ImageData). i.before) is.inverse.image) (ap (λ (i : ImageData). i.after) is.inverse.image) none in
+      let after = ap (λ (i : ImageData). i.after) is.inverse.image in
+      let found = (meets_none (refused_at old p) (kind_between (before_image p.entry.change) (current old p)) none).0 in
+      let both = undone p.flags p.entry.change q.entry.change (current old p) is.fits (ap (λ (i : ImageData). i.before) is.inverse.image) after found in
       let now : current new q ≡ row_after p.flags p.entry.change (current old p) = here new ∙ left in
-      let kind : placed_kind new q ≡ None = rw now both.0 in
+      let rules : refuses_at new q.table ≡ refuses_at old p.table = rw is.table (refuses_same old new schemas p.table) in
+      let kept : refused_at new q ≡ false =
+      rw (rules, is.flags, after) (found_obeys (refuses_at old p.table) (before_image p.entry.change) (current old p) found (obey p.table (placed_key p))) in
+      let kind : placed_kind new q ≡ None = rw (kept, now, both.0) refl in
       let back : row_after q.flags q.entry.change (current new q) ≡ current old q =
       ap (λ (f : List ℕ). row_after f q.entry.change (current new q)) is.flags ∙ ap (row_after p.flags q.entry.change) now ∙ both.1 ∙ sym (here old) in
       (kind, rw kind (ap Some back), λ table name elsewhere h. elsewhere (is.table ∙ h.0, key ∙ h.1))
@@ -228,12 +238,12 @@ module _ (old new : State) (choose again : Choices) where
       ((first.0, others.0), (first.1, others.1), λ table key all. (first.2 table key all.0, others.2 table key all.1))
 
 pub applied_reverts : AppliedReverts
-applied_reverts old changeset inverse choose again new is undoes clean applied =
+applied_reverts old changeset inverse choose again new old_is is undoes clean applied =
     let ps = applicable old changeset in
     let qs = applicable new inverse in
     let groups = compatible_same old new applied.schemas changeset inverse (recursion_from_All IsGroup changeset is.each) undoes in
     let zip : AllZip Undoes ps qs = undoes_groups (compatible_groups old changeset) (compatible_groups new inverse) groups.0 groups.1 in
-    let all = undone_all old new choose again ps qs zip (recursion_from_All _ ps clean.no_conflict) (recursion_from_All _ ps applied.results) in (
+    let all = undone_all old new choose again (rows_obey old old_is) applied.schemas ps qs zip (recursion_from_All _ ps clean.no_conflict) (recursion_from_All _ ps applied.results) in (
       record {
         none_wider = All-from_recursion _ inverse (none_wider old new applied.schemas changeset inverse undoes (recursion_from_All _ changeset clean.none_wider));
         no_conflict = All-from_recursion _ qs all.0;

@@ -23,9 +23,10 @@ use Rattle.cs_wire.specs.Entry.{IsKeyedUpdate, IsChange, with_key, before_image,
 use Rattle.cs_value.specs.Spelling.{value_bytes, field_bytes}
 use Rattle.cs_value.specs.Table.{IsKeyedRow}
 use Rattle.cs_value.specs.Key.{row_key, image_key}
-use Rattle.cs_group.specs.declared.conflict.Kind.TheVariants.{Data, NotFound, Conflict}
+use Rattle.cs_group.specs.declared.conflict.Kind.{Kind}
+use Rattle.cs_group.specs.declared.conflict.Kind.TheVariants.{Data, NotFound, Conflict, Constraint}
 use Rattle.cs_group.specs.Net.{is_same}
-use Rattle.cs_group.specs.Conflicts.{has_values, value_in, filled, kind_between, conflict_kind, row_after}
+use Rattle.cs_group.specs.Conflicts.{has_values, value_in, filled, kind_between, or_constraint, row_after}
 
 -- ---- equal fields
 
@@ -99,7 +100,7 @@ filled_more (borrowed.Defined v ∷ image) [] (suc i) (Some w) lt at = absurd (o
 filled_more (borrowed.Defined v ∷ image) (value ∷ row) (suc i) None lt at = ap (λ (l : List OwnedValue). value_of v ∷ l) (filled_more image row i None (omega arith) (omega (arith, at)))
 filled_more (borrowed.Defined v ∷ image) (value ∷ row) (suc i) (Some w) lt at = ap (λ (l : List OwnedValue). value_of v ∷ l) (filled_more image row i (Some w) (omega arith) (omega (arith, at.0), at.1))
 
-and_false : (b : Bool) → (b && false) ≡ false
+pub and_false : (b : Bool) → (b && false) ≡ false
 and_false true = refl
 and_false false = refl
 
@@ -110,6 +111,14 @@ other_width [] (field ∷ image) apart = refl
 other_width (value ∷ row) [] apart = refl
 other_width (value ∷ row) (Undefined ∷ image) apart = other_width row image (λ e. apart (ap suc e))
 other_width (value ∷ row) (Defined v ∷ image) apart = rw (other_width row image (λ e. apart (ap suc e))) (and_false (is_same (Defined v) (Defined value)))
+
+-- and those that agree are as wide
+pub same_width : (row : List OwnedValue) (image : List OwnedField) → has_values row image ≡ true → length row ≡ length image
+same_width [] [] e = refl
+same_width [] (field ∷ image) e = absurd (true≢false (sym e))
+same_width (value ∷ row) [] e = absurd (true≢false (sym e))
+same_width (value ∷ row) (Undefined ∷ image) e = ap suc (same_width row image e)
+same_width (value ∷ row) (Defined v ∷ image) e = ap suc (same_width row image (and_parts (is_same (Defined v) (Defined value)) (has_values row image) e).1)
 
 and_true : (b c : Bool) → (b && c) ≡ ((b && true) && c)
 and_true true c = refl
@@ -188,8 +197,14 @@ pub no_data : (b : Bool) → (if b then None else Some Data) ≡ None → b ≡ 
 no_data true e = refl
 no_data false e = absurd (none-some Data (sym e))
 
+-- a change that meets no conflict finds what it says, and is not refused
+pub meets_none : (refused : Bool) (found : Option Kind) → or_constraint refused found ≡ None → (found ≡ None) × (refused ≡ false)
+meets_none refused (Some kind) e = absurd (none-some kind (sym e))
+meets_none true None e = absurd (none-some Constraint (sym e))
+meets_none false None e = (refl, refl)
+
 -- the images exchanged
-between : (flags : List ℕ) (change : Change) (row : Option (List OwnedValue)) → IsChange flags change → conflict_kind change row ≡ None
+pub between : (flags : List ℕ) (change : Change) (row : Option (List OwnedValue)) → IsChange flags change → kind_between (before_image change) row ≡ None
     → (kind_between (after_image flags change) (row_after flags change row) ≡ None)
     × (option_map (λ image. filled image (unwrap_or (row_after flags change row) [])) (before_image change) ≡ row)
 between flags (Insert new) None fits e = (rw (filled_row new [], has_its_values new) refl, refl)
@@ -202,8 +217,8 @@ between flags (Update old new) (Some row) fits e =
     (rw undone.0 refl, ap Some undone.1)
 
 pub undone : (flags : List ℕ) (change inverse : Change) (row : Option (List OwnedValue)) → IsChange flags change
-    → before_image inverse ≡ after_image flags change → after_image flags inverse ≡ before_image change → conflict_kind change row ≡ None
-    → (conflict_kind inverse (row_after flags change row) ≡ None) × (row_after flags inverse (row_after flags change row) ≡ row)
+    → before_image inverse ≡ after_image flags change → after_image flags inverse ≡ before_image change → kind_between (before_image change) row ≡ None
+    → (kind_between (before_image inverse) (row_after flags change row) ≡ None) × (row_after flags inverse (row_after flags change row) ≡ row)
 undone flags change inverse row fits before after e = let h = between flags change row fits e in (rw before h.0, rw after h.1)
 
 -- ---- what a change leaves fits the table, with the key of the change
@@ -226,7 +241,7 @@ update_fits (suc flag ∷ flags) (Defined v ∷ old) (Undefined ∷ new) (value 
     let others = update_fits flags old new row fits.1 keyed.1 in
     ((fits.0, others.0), ap (λ (bytes : List ℕ). value_bytes v ++ bytes) others.1)
 
-pub left_fits : (flags : List ℕ) (change : Change) (row : Option (List OwnedValue)) → IsChange flags change → IfSome row (IsKeyedRow flags) → conflict_kind change row ≢ Some NotFound
+pub left_fits : (flags : List ℕ) (change : Change) (row : Option (List OwnedValue)) → IsChange flags change → IfSome row (IsKeyedRow flags) → kind_between (before_image change) row ≢ Some NotFound
     → IfSome (row_after flags change row) (λ r. IsKeyedRow flags r × (row_key flags r ≡ key_of flags change))
 left_fits flags (Insert new) row fits keyed found = rw (filled_row new (unwrap_or row [])) (fits.1, refl)
 left_fits flags (Delete old) row fits keyed found = tt

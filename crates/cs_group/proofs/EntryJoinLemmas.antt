@@ -12,16 +12,20 @@ use Rattle.cs_value.proofs.KeyedRows.{length-IsKeyedRow}
 use Rattle.cs_wire.specs.declared.entry.Change.{Change}
 use Rattle.cs_wire.specs.declared.entry.Change.TheVariants.{Insert, Delete, Update}
 use Rattle.cs_wire.specs.declared.entry.Entry.{Entry}
-use Rattle.cs_wire.specs.Entry.{IsKeyedUpdate, IsChange, IsEntry, with_key, key_of}
+use Rattle.cs_wire.specs.Entry.{IsKeyedUpdate, IsChange, IsEntry, with_key, before_image, key_of}
 use Rattle.cs_wire.proofs.EntryLemmas.{length-IsKeyedUpdate}
 use Rattle.cs_group.specs.declared.conflict.Kind.TheVariants.{NotFound, Conflict}
 use Rattle.cs_group.specs.Net.{is_same, unless_same, by_flag, old_record, new_record, values_of, net_change}
-use Rattle.cs_group.specs.Conflicts.{has_values, filled, conflict_kind, row_after}
+use Rattle.cs_group.specs.Conflicts.{has_values, filled, kind_between, row_after}
 use Rattle.cs_group.specs.Joining.{over, laid_over, joint_image, follows, becomes, merged, left_of}
-use Rattle.cs_group.specs.JoinLaw.{LeadsFrom}
 use Rattle.cs_group.proofs.ConflictLemmas.{same_values, same_itself, filled_row, has_its_values, all_values, update_undone, no_data}
 use Rattle.cs_group.proofs.ImageLemmas.{length-with_key}
 use Rattle.cs_group.proofs.NetLemmas.{NetLeads, net_leads}
+
+-- the change finds a row, or none, as it says, and leaves this row, or none
+pub record LeadsFrom (flags : List ℕ) (change : Change) (before after : Option (List OwnedValue)) : Type 0 where
+  pub finds : kind_between (before_image change) before ≡ None
+  pub leaves : row_after flags change before ≡ after
 
 -- what is left of an entry leads from a row to another, or nothing is left and they are one
 abbrev pub LeftLeads : List ℕ → Option (List OwnedValue) → Option (List OwnedValue) → Option Entry → Type 0
@@ -267,30 +271,30 @@ ChangeLeads flags before after (Some change) = LeadsFrom flags change before aft
 -- what the net change of two rows does
 leads_between : (flags key : List ℕ) (before after : Option (List OwnedValue)) (net : Option Change) → NetLeads flags key before after net → ChangeLeads flags before after net
 leads_between flags key before after None h = h
-leads_between flags key before after (Some change) h = record { no_conflict = h.no_conflict; leaves = h.leaves }
+leads_between flags key before after (Some change) h = record { finds = h.finds; leaves = h.leaves }
 
 -- of two updates
 update_leads : (flags : List ℕ) (before after : List OwnedField) (row other : List OwnedValue) (s : Bool) → pointwise is_same before after ≡ s → RowLeads flags before after row other
     → ChangeLeads flags (Some row) (Some other) (if s then None else Some (Update (old_record flags before after) (new_record flags before after)))
 update_leads flags before after row other true e h = ap Some (same_images flags before after row other h e)
 update_leads flags before after row other false e h = record {
-  no_conflict = rw (net_finds flags before after row other h) refl;
+  finds = rw (net_finds flags before after row other h) refl;
   leaves = ap Some (net_leaves flags before after row other h);
 }
 
--- where both meet no conflict, the second follows the first, and the net change does what both do
+-- where both find what they say, the second follows the first, and the net change does what both do
 abbrev BothLead : List ℕ → Change → Change → Option (List OwnedValue) → Type 0
 BothLead flags first second before =
     (follows flags first second ≡ true) × ChangeLeads flags before (row_after flags second (row_after flags first before)) (net_change flags (joint_image flags first second))
 
 pub both_lead : (flags : List ℕ) (first second : Change) → IsChange flags first → IsChange flags second → key_of flags first ≡ key_of flags second → (before : Option (List OwnedValue))
-    → conflict_kind first before ≡ None → conflict_kind second (row_after flags first before) ≡ None → BothLead flags first second before
+    → kind_between (before_image first) before ≡ None → kind_between (before_image second) (row_after flags first before) ≡ None → BothLead flags first second before
 both_lead flags (Insert row) (Insert other) p q k before e f = absurd (none-some Conflict (sym f))
 both_lead flags (Insert row) (Delete other) p q k None e f = (refl, refl)
 both_lead flags (Insert row) (Delete other) p q k (Some stood) e f = absurd (none-some Conflict (sym e))
 both_lead flags (Insert row) (Update old new) p q k None e f =
     let values = values_of (laid_over (with_key flags old new) (map Defined row)) in
-    (refl, record { no_conflict = refl; leaves = ap Some (filled_row values [] ∙ inserted_values flags row old new p.1 q.2) })
+    (refl, record { finds = refl; leaves = ap Some (filled_row values [] ∙ inserted_values flags row old new p.1 q.2) })
 both_lead flags (Insert row) (Update old new) p q k (Some stood) e f = absurd (none-some Conflict (sym e))
 both_lead flags (Delete row) (Insert other) p q k None e f = absurd (none-some NotFound (sym e))
 both_lead flags (Delete row) (Insert other) p q k (Some stood) e f =
@@ -306,7 +310,7 @@ both_lead flags (Update old new) (Delete row) p q k (Some stood) e f =
     let mid = filled (with_key flags old new) stood in
     let found : row ≡ mid = all_values mid row (no_data (has_values mid (map Defined row)) f) in
     let whole = deleted_values flags old new row stood p.2 q.1 (no_data (has_values stood old) e) found in
-    (refl, rw whole (record { no_conflict = rw (has_its_values stood) refl; leaves = refl }))
+    (refl, rw whole (record { finds = rw (has_its_values stood) refl; leaves = refl }))
 both_lead flags (Update old new) (Update next last) p q k None e f = absurd (none-some NotFound (sym e))
 both_lead flags (Update old new) (Update next last) p q k (Some stood) e f =
     let mid = filled (with_key flags old new) stood in
@@ -328,8 +332,8 @@ pub merged_leads : (flags : List ℕ) (first second : Entry) → IsEntry flags f
     → (before mid after : Option (List OwnedValue)) → LeadsFrom flags first.change before mid
     → LeadsFrom flags second.change mid after → LeftLeads flags before after (left_of first (merged flags first second))
 merged_leads flags first second is also same before mid after one two =
-    let met : conflict_kind second.change (row_after flags first.change before) ≡ None = ap (conflict_kind second.change) one.leaves ∙ two.no_conflict in
+    let met : kind_between (before_image second.change) (row_after flags first.change before) ≡ None = ap (kind_between (before_image second.change)) one.leaves ∙ two.finds in
     let left : row_after flags second.change (row_after flags first.change before) ≡ after = ap (row_after flags second.change) one.leaves ∙ two.leaves in
-    let both = both_lead flags first.change second.change is also same before one.no_conflict met in
+    let both = both_lead flags first.change second.change is also same before one.finds met in
     let net = net_change flags (joint_image flags first.change second.change) in
     rw (both.0, ← left) (left_leads flags first (first.indirect && second.indirect) before (row_after flags second.change (row_after flags first.change before)) net both.1)

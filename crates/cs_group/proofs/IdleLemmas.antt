@@ -12,7 +12,7 @@ use Rattle.cs_value.specs.Value.{IsRow, IsRecord}
 use Rattle.cs_value.specs.Table.{IsKeyedRow}
 use Rattle.cs_value.specs.Key.{row_key, image_key}
 use Rattle.cs_value.specs.Spelling.{value_bytes, field_bytes}
-use Rattle.cs_value.specs.State.{State}
+use Rattle.cs_value.specs.State.{State, has_null, Obeys}
 use Rattle.cs_value.proofs.ListLemmas.{AllByRecursion-append, AllByRecursion-map, AllByRecursion-weaker, PairsByRecursion, recursion_from_AllPairs}
 use Rattle.cs_value.proofs.Spellings.{field_spellings}
 use Rattle.cs_wire.specs.declared.entry.Change.TheVariants.{Insert, Delete, Update}
@@ -23,24 +23,26 @@ use Rattle.cs_group.specs.declared.conflict.Kind.TheVariants.{Data}
 use Rattle.cs_group.specs.declared.conflict.Noop.TheVariants.{Report, Ignore}
 use Rattle.cs_group.specs.Judging.{judged, is_compatible}
 use Rattle.cs_group.specs.Net.{is_same}
-use Rattle.cs_group.specs.Conflicts.{has_values, is_idle}
+use Rattle.cs_group.specs.Conflicts.{has_values, is_refused, or_constraint, conflict_kind, is_idle}
 use Rattle.cs_group.specs.Applying.{PlacedEntry, placed_by, placed_in, placed, placed_key, current, IsElsewhere, compatible_groups, applicable, is_idle_at, ignored_of}
 use Rattle.cs_group.specs.Laws.{IdleCases, IgnoredStand}
-use Rattle.cs_group.proofs.ConflictLemmas.{same_itself, has_its_values, all_values}
+use Rattle.cs_group.proofs.ConflictLemmas.{same_itself, and_false, has_its_values, all_values}
+use Rattle.cs_group.proofs.RuleLemmas.{image_obeys}
 
 -- ---- which changes are idle
 
-idle_deleted : (flags : List ℕ) (old : List OwnedValue) (row : Option (List OwnedValue)) → (is_idle flags (Delete old) row ≡ true) ↔ (row ≡ None)
-idle_deleted flags old None = ((λ _. refl), (λ _. refl))
-idle_deleted flags old (Some row) = ((λ e. absurd (stands (has_values row (map Defined old)) e)), (λ e. absurd (none-some row (sym e))))
-  where
-    stands : (b : Bool) → (is_some (if b then None else Some Data) && false) ≡ true → ⊥
-    stands true e = true≢false (sym e)
-    stands false e = true≢false (sym e)
+-- none is that leaves what does not stand there
+not_idle : (b : Bool) → (b && false) ≡ true → ⊥
+not_idle b e = true≢false (sym e ∙ and_false b)
 
-idle_inserted : (flags : List ℕ) (new : List OwnedValue) (row : Option (List OwnedValue)) → (is_idle flags (Insert new) row ≡ true) ↔ (row ≡ Some new)
-idle_inserted flags new None = ((λ e. absurd (true≢false (sym e))), (λ e. absurd (none-some new e)))
-idle_inserted flags new (Some row) = ((λ e. ap Some (sym (all_values row new e))), (λ e. let same = same_Some row new e in rw same (has_its_values new)))
+idle_deleted : (refused : Bool) (flags : List ℕ) (old : List OwnedValue) (row : Option (List OwnedValue)) → (is_idle refused flags (Delete old) row ≡ true) ↔ (row ≡ None)
+idle_deleted refused flags old None = ((λ _. refl), (λ _. refl))
+idle_deleted refused flags old (Some row) =
+    ((λ e. absurd (not_idle (is_some (conflict_kind refused (Delete old) (Some row))) e)), (λ e. absurd (none-some row (sym e))))
+
+idle_inserted : (refused : Bool) (flags : List ℕ) (new : List OwnedValue) (row : Option (List OwnedValue)) → (is_idle refused flags (Insert new) row ≡ true) ↔ (row ≡ Some new)
+idle_inserted refused flags new None = ((λ e. absurd (not_idle (is_some (conflict_kind refused (Insert new) None)) e)), (λ e. absurd (none-some new e)))
+idle_inserted refused flags new (Some row) = ((λ e. ap Some (sym (all_values row new e))), (λ e. let same = same_Some row new e in rw same (has_its_values new)))
 
 -- the row with the key of an update has the values of its key columns
 has_key : (flags : List ℕ) (old new : List OwnedField) (row : List OwnedValue) → IsRecord old → IsKeyedUpdate flags old new → IsRow row → IsKeyedRow flags row
@@ -63,21 +65,27 @@ has_key (suc flag ∷ flags) (Defined v ∷ old) (Undefined ∷ new) (value ∷ 
     let here : is_same (Defined v) (Defined value) ≡ true = ap (is_same (Defined v)) both.0 ∙ same_itself (Defined v) in
     rw here (has_key flags old new row fits.1 paired.1 values.1 keyed.1 both.1)
 
-idle_updated : (flags : List ℕ) (old new : List OwnedField) (row : List OwnedValue) → IsChange flags (Update old new)
-    → IsRow row → IsKeyedRow flags row → row_key flags row ≡ image_key flags old
-    → is_idle flags (Update old new) (Some row) ≡ (not (has_values row old) && has_values row new)
-idle_updated flags old new row fits values keyed same = rw (has_key flags old new row fits.0 fits.2 values keyed same) (at (has_values row old))
+-- a row that has the values of an update that would break the rules has broken them itself
+idle_updated : (refuses : List Bool) (flags : List ℕ) (old new : List OwnedField) (row : List OwnedValue) → IsChange flags (Update old new)
+    → IsRow row → IsKeyedRow flags row → Obeys refuses row → row_key flags row ≡ image_key flags old
+    → is_idle (is_refused refuses flags (Update old new)) flags (Update old new) (Some row) ≡ (not (has_values row old) && has_values row new)
+idle_updated refuses flags old new row fits values keyed obeys same =
+    let image = with_key flags old new in
+    at (has_values row old) (has_null refuses image) (has_values row image) (λ has. image_obeys refuses row image has obeys)
+    ∙ ap (λ (b : Bool). not (has_values row old) && b) (has_key flags old new row fits.0 fits.2 values keyed same)
   where
-    at : (b : Bool) → (is_some (if b then None else Some Data) && has_values row new) ≡ (not b && has_values row new)
-    at true = refl
-    at false = refl
+    at : (b refused has : Bool) → (has ≡ true → refused ≡ false) → (is_some (or_constraint refused (if b then None else Some Data)) && has) ≡ (not b && has)
+    at false refused has kept = refl
+    at true false has kept = refl
+    at true true false kept = refl
+    at true true true kept = absurd (true≢false (kept refl))
 
 pub idle_cases : IdleCases
 idle_cases = record {
   deleted = idle_deleted;
   inserted = idle_inserted;
   updated = idle_updated;
-  missing = λ flags old new. refl;
+  missing = λ refused flags old new. refl;
 }
 
 -- ---- entries of other rows

@@ -14,7 +14,8 @@ use Rattle.cs_group.proofs.FoundLemmas.{joined_found, found_joined}
 use Rattle.cs_group.proofs.JoinLemmas.{key_of_fit, others_fit, outcomes, both_second, group_outcomes}
 use Rattle.cs_group.proofs.JudgingLemmas.{judgement_same}
 use Rattle.cs_group.proofs.KeyPlaceLemmas.{key_of_same, after_image_same}
-use Rattle.cs_group.proofs.TableLemmas.{GroupLeads, TableLeads, ChangesetLeads, applied_leads, leads_applied}
+use Rattle.cs_group.proofs.RuleLemmas.{rows_obey}
+use Rattle.cs_group.proofs.TableLemmas.{GroupLeads, TableLeads, ChangesetLeads, applied_obeys, applied_leads, leads_applied}
 use Rattle.cs_group.proofs.TextLemmas.{with_text-found, with_text-same}
 
 -- ---- the entries of one key
@@ -23,7 +24,7 @@ use Rattle.cs_group.proofs.TextLemmas.{with_text-found, with_text-same}
 led_same : (f g : List ℕ) (before after : Option (List OwnedValue)) (found : Option Entry) → key_places f ≡ key_places g → LeftLeads f before after found → LeftLeads g before after found
 led_same f g before after None e led = led
 led_same f g before after (Some entry) e led = record {
-  no_conflict = led.no_conflict;
+  finds = led.finds;
   leaves = rw (sym (after_image_same f g entry.change e)) led.leaves;
 }
 
@@ -149,7 +150,8 @@ joined_leads first second p q joinable old mid new one two = record {
 
 -- where both apply without a conflict
 pub join_applies : JoinApplies
-join_applies first second join p q is old mid new choose again clean done also next =
+join_applies first second join p q is old mid new choose again old_is clean done also next =
+    let mid_obey = applied_obeys old mid first p choose clean done (rows_obey old old_is) in
     let leads = joined_leads first second p q is.joinable old mid new
     (applied_leads old mid first p choose clean done) (applied_leads mid new second q again also next) in
-    leads_applied old new join is.is_changeset (rw (is.is_joined) leads)
+    leads_applied old new join is.is_changeset (rw (is.is_joined) leads) (applied_obeys mid new second q again also next mid_obey)

@@ -6,23 +6,23 @@ use Rattle.std.proofs.lemmas.Option.{none-some, same_Some}
 use Rattle.cs_value.specs.declared.value.OwnedValue.{OwnedValue}
 use Rattle.cs_value.specs.declared.value.OwnedField.{OwnedField}
 use Rattle.cs_value.specs.declared.value.OwnedField.TheVariants.{Undefined, Defined}
-use Rattle.cs_value.specs.State.{SchemaData, State, IsState, IsRowAt, schema_at, row_at}
+use Rattle.cs_value.specs.State.{SchemaData, State, IsState, schema_at, row_at}
 use Rattle.cs_value.proofs.StateLemmas.{row_at_fits}
 use Rattle.cs_wire.specs.declared.entry.Change.{Change}
 use Rattle.cs_wire.specs.declared.entry.Change.TheVariants.{Insert, Delete, Update}
 use Rattle.cs_wire.specs.declared.entry.Entry.{Entry}
-use Rattle.cs_wire.specs.Entry.{IsChange, with_key}
+use Rattle.cs_wire.specs.Entry.{IsChange, with_key, before_image}
 use Rattle.cs_wire.specs.Changeset.{HeaderData, GroupData, IsGroup, IsChangeset}
 use Rattle.cs_group.specs.declared.conflict.Kind.TheVariants.{NotFound, Conflict}
 use Rattle.cs_group.specs.Net.{is_same, unless_same, by_flag, by_column, old_record, new_record, net_between, net_change, net_row_change}
-use Rattle.cs_group.specs.Conflicts.{has_values, filled, conflict_kind, row_after}
+use Rattle.cs_group.specs.Conflicts.{has_values, filled, kind_between, row_after}
 use Rattle.cs_group.specs.Joining.{laid_over, joint_image, becomes, entry_key, table_name, with_text, outcome, left_of, joined_entry, joined_entries, some_group, joined_group, joined, key_places, AreJoinable}
 use Rattle.cs_group.specs.JoinLaw.{entry_in, net_entry, HasColumns, IsNetOf, JoinNets}
 use Rattle.cs_group.proofs.ConflictLemmas.{same_itself, filled_row, all_values, no_data}
 use Rattle.cs_group.proofs.EntryJoinLemmas.{ColumnLeads, RowLeads, update_row, rows_lead, inserted_values, deleted_values, both_lead}
 use Rattle.cs_group.proofs.FoundLemmas.{joined_found, found_joined}
 use Rattle.cs_group.proofs.JoinLemmas.{key_of_fit, outcomes, both_second, group_outcomes}
-use Rattle.cs_group.proofs.KeyPlaceLemmas.{key_of_same, row_at_same}
+use Rattle.cs_group.proofs.KeyPlaceLemmas.{IsRowUnder, row_under, row_under_same, key_of_same}
 use Rattle.cs_group.proofs.NetLemmas.{NetLeads, net_leads, values_are}
 use Rattle.cs_group.proofs.TextLemmas.{with_text-found, with_text-same, joined-each}
 
@@ -90,9 +90,9 @@ net_same flags before after row other h =
 
 -- ---- two changes
 
--- where both meet no conflict, their net change is that of the rows
+-- where both find what they say, their net change is that of the rows
 both_net : (flags : List ℕ) (first second : Change) → IsChange flags first → IsChange flags second → (before : Option (List OwnedValue))
-    → conflict_kind first before ≡ None → conflict_kind second (row_after flags first before) ≡ None
+    → kind_between (before_image first) before ≡ None → kind_between (before_image second) (row_after flags first before) ≡ None
     → net_change flags (joint_image flags first second) ≡ net_row_change flags before (row_after flags second (row_after flags first before))
 both_net flags (Insert row) (Insert other) p q before e f = absurd (none-some Conflict (sym f))
 both_net flags (Insert row) (Delete other) p q None e f = refl
@@ -138,14 +138,14 @@ module _ (flags key : List ℕ) (before mid after : Option (List OwnedValue)) wh
   nets_join None d c_is d_is one two = sym (ap as_entry (ap (λ (r : Option (List OwnedValue)). net_row_change flags r after) one ∙ d_is))
   nets_join (Some c) None c_is d_is one two = sym (ap as_entry (ap (net_row_change flags before) (sym two) ∙ c_is))
   nets_join (Some c) (Some d) c_is d_is one two =
-      let met : conflict_kind d (row_after flags c before) ≡ None = ap (conflict_kind d) one.leaves ∙ two.no_conflict in
+      let met : kind_between (before_image d) (row_after flags c before) ≡ None = ap (kind_between (before_image d)) one.leaves ∙ two.finds in
       let left : row_after flags d (row_after flags c before) ≡ after = ap (row_after flags d) one.leaves ∙ two.leaves in
-      let follow = (both_lead flags c d one.fits two.fits (one.same ∙ sym two.same) before one.no_conflict met).0 in
-      let net = both_net flags c d one.fits two.fits before one.no_conflict met ∙ ap (net_row_change flags before) left in
+      let follow = (both_lead flags c d one.fits two.fits (one.same ∙ sym two.same) before one.finds met).0 in
+      let net = both_net flags c d one.fits two.fits before one.finds met ∙ ap (net_row_change flags before) left in
       rw (follow, net) (left_net (record { indirect = false; change = c }) (net_row_change flags before after))
 
   -- the net changes of a row, to a second and from there to a third, make that to the third
-  entries_join : IfSome before (IsRowAt flags key) → IfSome mid (IsRowAt flags key) → IfSome after (IsRowAt flags key)
+  entries_join : IfSome before (IsRowUnder flags key) → IfSome mid (IsRowUnder flags key) → IfSome after (IsRowUnder flags key)
       → joined_found (joined_entry flags) (net_entry flags before mid) (net_entry flags mid after) ≡ net_entry flags before after
   entries_join b m a = nets_join (net_row_change flags before mid) (net_row_change flags mid after) refl refl (net_leads flags key before mid b m) (net_leads flags key mid after m a)
 
@@ -180,9 +180,9 @@ net_entry_same : (f g : List ℕ) (before after : Option (List OwnedValue)) → 
 net_entry_same f g before after e = ap as_entry (net_row_change_same f g before after e)
 
 -- and a row that stands under a key, if there is one, does so too
-rows_same : (f g key : List ℕ) (row : Option (List OwnedValue)) → key_places f ≡ key_places g → IfSome row (IsRowAt f key) → IfSome row (IsRowAt g key)
+rows_same : (f g key : List ℕ) (row : Option (List OwnedValue)) → key_places f ≡ key_places g → IfSome row (IsRowUnder f key) → IfSome row (IsRowUnder g key)
 rows_same f g key None e is = tt
-rows_same f g key (Some row) e is = row_at_same f g key row e is
+rows_same f g key (Some row) e is = row_under_same f g key row e is
 
 -- ---- two groups
 
@@ -218,7 +218,7 @@ places_of state name schema group found has named =
     let same = same_Some has.schema schema (sym has.found ∙ ap (schema_at state) named ∙ found) in
     has.same ∙ ap (λ (s : SchemaData). key_places s.flags) same
 
-module _ (flags key : List ℕ) (before mid after : Option (List OwnedValue)) (b : IfSome before (IsRowAt flags key)) (m : IfSome mid (IsRowAt flags key)) (a : IfSome after (IsRowAt flags key)) where
+module _ (flags key : List ℕ) (before mid after : Option (List OwnedValue)) (b : IfSome before (IsRowUnder flags key)) (m : IfSome mid (IsRowUnder flags key)) (a : IfSome after (IsRowUnder flags key)) where
   -- under flags with the same key places
   found_join : (f : List ℕ) → key_places f ≡ key_places flags → (first second : Option Entry) → first ≡ net_entry flags before mid → second ≡ net_entry flags mid after
       → joined_found (joined_entry f) first second ≡ net_entry flags before after
@@ -281,7 +281,9 @@ module _ (first second : List GroupData) (p : IsChangeset first) (q : IsChangese
         let in_new = others name ∙ found in
         ap (entry_in key) (joined_table name)
         ∙ tables_join schema.flags key (row_at old name key) (row_at mid name key) (row_at new name key)
-        (row_at_fits old name schema old_is found key) (row_at_fits mid name schema mid_is in_mid key) (row_at_fits new name schema new_is in_new key)
+        (row_under schema key (row_at old name key) (row_at_fits old name schema old_is found key))
+        (row_under schema key (row_at mid name key) (row_at_fits mid name schema mid_is in_mid key))
+        (row_under schema key (row_at new name key) (row_at_fits new name schema new_is in_new key))
         (with_text table_name first name) (with_text table_name second name)
         (found_places old name schema first found p one.tables) (found_places mid name schema second in_mid q two.tables)
         (one.entries name key schema found) (two.entries name key schema in_mid);

@@ -1,13 +1,15 @@
 -- Flags that mark the same columns: what fits the one fits the other, with the same key.
-use Rattle.std.proofs.Common.{◌≡◌, ℕ, zero, suc, ◌<◌, true, false, true≢false, Bool, not, List, [], ◌∷◌, length, get_or, Some, refl, sym, ap, ◌∙◌, arith}
+use Rattle.std.proofs.Common.{◌≡◌, ℕ, zero, suc, ◌<◌, true, false, true≢false, Bool, not, List, [], ◌∷◌, length, get_or, Option, None, Some, refl, sym, ap, ◌∙◌, arith}
+use Rattle.std.specs.Prelude.{IfSome}
 use Rattle.std.specs.List.{flat_map}
 use Rattle.std.proofs.Math.Bool.{beq}
 use Rattle.cs_value.specs.declared.value.OwnedValue.{OwnedValue}
 use Rattle.cs_value.specs.declared.value.OwnedField.{OwnedField}
 use Rattle.cs_value.specs.Spelling.{value_bytes, field_bytes}
 use Rattle.cs_value.specs.Table.{IsKeyedRow}
-use Rattle.cs_value.specs.Key.{key_columns}
-use Rattle.cs_value.specs.State.{IsRowAt}
+use Rattle.cs_value.specs.Value.{IsRow}
+use Rattle.cs_value.specs.Key.{key_columns, row_key}
+use Rattle.cs_value.specs.State.{SchemaData, IsRowAt}
 use Rattle.cs_wire.specs.declared.entry.Change.{Change}
 use Rattle.cs_wire.specs.declared.entry.Change.TheVariants.{Insert, Delete, Update}
 use Rattle.cs_wire.specs.Entry.{IsKeyedUpdate, IsChange, with_key, after_image, key_of}
@@ -72,9 +74,20 @@ after_image_same f g (Insert row) e = refl
 after_image_same f g (Delete row) e = refl
 after_image_same f g (Update old new) e = ap (λ (l : List OwnedField). Some l) (with_key_same f g old new e)
 
--- a row that stands under a key
-pub row_at_same : (f g key : List ℕ) (row : List OwnedValue) → key_places f ≡ key_places g → IsRowAt f key row → IsRowAt g key row
-row_at_same f g key row e is = record {
+-- a row that changes under these flags can be of, and its key
+pub record IsRowUnder (flags key : List ℕ) (row : List OwnedValue) : Type 0 where
+  pub values : IsRow row
+  pub keyed : IsKeyedRow flags row
+  pub own : key ≡ row_key flags row
+
+-- a row that stands in a table is one
+pub row_under : (schema : SchemaData) (key : List ℕ) (row : Option (List OwnedValue)) → IfSome row (IsRowAt schema key) → IfSome row (IsRowUnder schema.flags key)
+row_under schema key None is = tt
+row_under schema key (Some row) is = record { values = is.values; keyed = is.keyed; own = is.own }
+
+-- and is one under flags with the same key places
+pub row_under_same : (f g key : List ℕ) (row : List OwnedValue) → key_places f ≡ key_places g → IsRowUnder f key row → IsRowUnder g key row
+row_under_same f g key row e is = record {
   values = is.values;
   keyed = row_fits f g row e is.keyed;
   own = is.own ∙ key_of_same f g (Insert row) e;

@@ -18,6 +18,7 @@ pub mod InverseLengths
 pub mod InverseGroups
 pub mod Examples
 pub mod ConflictLemmas
+pub mod RuleLemmas
 pub mod NetLemmas
 pub mod ApplyLemmas
 pub mod JudgingLemmas

@@ -8,16 +8,16 @@ use Rattle.cs_value.specs.declared.value.OwnedField.{OwnedField}
 use Rattle.cs_value.specs.declared.value.OwnedField.TheVariants.{Undefined, Defined}
 use Rattle.cs_value.specs.Value.{IsRow}
 use Rattle.cs_value.specs.Key.{key_columns}
-use Rattle.cs_value.specs.State.{IsRowAt}
 use Rattle.cs_value.proofs.KeyedRows.{length-IsKeyedRow}
 use Rattle.cs_value.proofs.Spellings.{row_bytes_same}
 use Rattle.cs_value.proofs.RowImages.{IsRecord-map}
 use Rattle.cs_wire.specs.declared.entry.Change.{Change}
 use Rattle.cs_wire.specs.declared.entry.Change.TheVariants.{Update}
-use Rattle.cs_wire.specs.Entry.{IsChange, with_key, key_of}
+use Rattle.cs_wire.specs.Entry.{IsChange, with_key, before_image, key_of}
 use Rattle.cs_group.specs.Net.{is_same, values_of, old_record, new_record, net_row_change}
-use Rattle.cs_group.specs.Conflicts.{has_values, filled, conflict_kind, row_after}
+use Rattle.cs_group.specs.Conflicts.{has_values, filled, kind_between, row_after}
 use Rattle.cs_group.proofs.ConflictLemmas.{same_values, same_itself, filled_row, has_its_values}
+use Rattle.cs_group.proofs.KeyPlaceLemmas.{IsRowUnder}
 use Rattle.cs_group.proofs.MergeLemmas.{update_is, update_key, rows_paired, row_image_key}
 
 -- ---- the update from a row to a row
@@ -82,11 +82,11 @@ values_are (v ∷ row) = ap (λ (l : List OwnedValue). v ∷ l) (values_are row)
 
 -- ---- the net change
 
--- a change of the row with this key meets no conflict at the row, or none, before, and leaves the row, or none, after
+-- a change of the row with this key finds the row, or none, before, and leaves the row, or none, after
 pub record LeadsTo (flags key : List ℕ) (before after : Option (List OwnedValue)) (change : Change) : Type 0 where
   pub fits : IsChange flags change
   pub same : key_of flags change ≡ key
-  pub no_conflict : conflict_kind change before ≡ None
+  pub finds : kind_between (before_image change) before ≡ None
   pub leaves : row_after flags change before ≡ after
 
 -- there is one exactly where the two differ, and it does
@@ -109,13 +109,13 @@ key_width (zero ∷ flags) (v ∷ before) (w ∷ after) m n = key_width flags be
 key_width (suc flag ∷ flags) (v ∷ before) (w ∷ after) m n = ap suc (key_width flags before after (omega arith) (omega arith))
 
 -- rows of one key have one value in each column of the key
-keys_same : (flags key : List ℕ) (before after : List OwnedValue) → IsRowAt flags key before → IsRowAt flags key after
+keys_same : (flags key : List ℕ) (before after : List OwnedValue) → IsRowUnder flags key before → IsRowUnder flags key after
     → key_columns flags before ≡ key_columns flags after
 keys_same flags key before after b a =
     row_bytes_same (key_columns flags before) (key_columns flags after) (key_row flags before b.values) (key_row flags after a.values)
     (key_width flags before after (length-IsKeyedRow flags before b.keyed) (length-IsKeyedRow flags after a.keyed)) (sym b.own ∙ a.own)
 
-update_leads : (flags key : List ℕ) (before after : List OwnedValue) → IsRowAt flags key before → IsRowAt flags key after
+update_leads : (flags key : List ℕ) (before after : List OwnedValue) → IsRowUnder flags key before → IsRowUnder flags key after
     → LeadsTo flags key (Some before) (Some after) (Update (old_record flags (map Defined before) (map Defined after)) (new_record flags (map Defined before) (map Defined after)))
 update_leads flags key before after b a =
     let m = length-IsKeyedRow flags before b.keyed in
@@ -124,29 +124,29 @@ update_leads flags key before after b a =
     record {
       fits = update_is flags (map Defined before) (map Defined after) (IsRecord-map before b.values) (IsRecord-map after a.values) paired;
       same = update_key flags (map Defined before) (map Defined after) paired ∙ row_image_key flags before ∙ sym b.own;
-      no_conflict = rw (has_old flags before after m n) refl;
+      finds = rw (has_old flags before after m n) refl;
       leaves = ap Some (fills_after flags before after m n (keys_same flags key before after b a));
     }
 
 update_or_same : (flags key : List ℕ) (before after : List OwnedValue) (s : Bool) → pointwise is_same (map Defined before) (map Defined after) ≡ s
-    → IsRowAt flags key before → IsRowAt flags key after
+    → IsRowUnder flags key before → IsRowUnder flags key after
     → NetLeads flags key (Some before) (Some after) (if s then None else Some (Update (old_record flags (map Defined before) (map Defined after)) (new_record flags (map Defined before) (map Defined after))))
 update_or_same flags key before after true s b a = ap Some (same_rows before after s)
 update_or_same flags key before after false s b a = update_leads flags key before after b a
 
-pub net_leads : (flags key : List ℕ) (before after : Option (List OwnedValue)) → IfSome before (IsRowAt flags key) → IfSome after (IsRowAt flags key)
+pub net_leads : (flags key : List ℕ) (before after : Option (List OwnedValue)) → IfSome before (IsRowUnder flags key) → IfSome after (IsRowUnder flags key)
     → NetLeads flags key before after (net_row_change flags before after)
 net_leads flags key None None b a = refl
 net_leads flags key None (Some after) b a = rw (values_are after) (record {
   fits = (a.values, a.keyed);
   same = sym a.own;
-  no_conflict = refl;
+  finds = refl;
   leaves = ap Some (filled_row after []);
 })
 net_leads flags key (Some before) None b a = rw (values_are before) (record {
   fits = (b.values, b.keyed);
   same = sym b.own;
-  no_conflict = rw (has_its_values before) refl;
+  finds = rw (has_its_values before) refl;
   leaves = refl;
 })
 net_leads flags key (Some before) (Some after) b a = update_or_same flags key before after _ refl b a

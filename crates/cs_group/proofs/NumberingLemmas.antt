@@ -1,5 +1,5 @@
 -- Numbered flags mark the same columns, so what is said and done under them is the same.
-use Rattle.std.proofs.Common.{◌≡◌, ◌≢◌, ℕ, zero, suc, ◌<◌, Bool, true, false, cond, List, [], ◌∷◌, ◌++◌, length, length-append, get_or, map, Option, Some, None, All, Any, refl, sym, ap, ◌∙◌, append_assoc, arith}
+use Rattle.std.proofs.Common.{◌≡◌, ◌≢◌, ℕ, zero, suc, ◌<◌, Bool, true, false, cond, not, List, [], ◌∷◌, ◌++◌, length, length-append, get_or, map, Option, Some, None, All, Any, refl, sym, ap, ◌∙◌, append_assoc, arith}
 use Rattle.std.specs.Prelude.{filter, filter_map, option_map}
 use Rattle.std.specs.List.{AllByRecursion, AllZip, cons_option, flat_map}
 use Rattle.std.specs.FinMap.{from_entries}
@@ -13,14 +13,15 @@ use Rattle.cs_value.specs.Varint.{varint}
 use Rattle.cs_value.specs.Table.{IsFlags}
 use Rattle.cs_value.specs.State.{SchemaData, State, schema_at, row_at}
 use Rattle.cs_wire.specs.declared.entry.Entry.{Entry}
-use Rattle.cs_wire.specs.Entry.{IsEntry, key_of}
+use Rattle.cs_wire.specs.Entry.{IsEntry, key_of, after_image}
 use Rattle.cs_wire.specs.Changeset.{HeaderData, IsHeader, GroupData, ImageData, IsNewName, IsGroup, IsChangeset, flags_bytes, header_bytes, entries_bytes, group_bytes, file_bytes, image_of, group_images, images}
 use Rattle.cs_wire.specs.Inverse.{exchanged, IsInverseEntry}
+use Rattle.cs_group.specs.declared.conflict.Noop.{Noop}
+use Rattle.cs_group.specs.declared.conflict.Noop.TheVariants.{Report, Ignore}
 use Rattle.cs_group.specs.declared.judging.Judgement.TheVariants.{Wider}
 use Rattle.cs_group.specs.Judging.{judged, is_skipped, is_compatible}
-use Rattle.cs_group.specs.Conflicts.{conflict_kind}
 use Rattle.cs_group.specs.Joining.{table_name, key_places}
-use Rattle.cs_group.specs.Applying.{PlacedEntry, placed_by, placed_in, placed, placed_key, current, IsElsewhere, NoneWider, skipped, compatible_groups, applicable, placed_kind, conflicts, Choices, MetData, met_with, met_at, written_for, placed_result, AreApplied}
+use Rattle.cs_group.specs.Applying.{PlacedEntry, placed_by, placed_in, placed, placed_key, current, refused_at, IsElsewhere, NoneWider, skipped, compatible_groups, applicable, is_idle_at, heeded_of, heeded, placed_kind, Choices, met_at, met_under, written_for, placed_result, AreApplied}
 use Rattle.cs_group.specs.Numbering.{next_number, numbered_behind, numbered_flags, numbered_header, numbered_group, numbered, InvertsNumbered, numbered_entry, as_numbered, DoesAlike}
 use Rattle.cs_group.proofs.InverseLemmas.{no_changeset}
 use Rattle.cs_group.proofs.JudgingLemmas.{judgement_same}
@@ -286,17 +287,26 @@ module _ (state : State) where
   current_stays : (p : PlacedEntry) → current state (numbered_entry p) ≡ current state p
   current_stays p = ap (row_at state p.table) (placed_key_stays p)
 
+  after_stays : (p : PlacedEntry) → after_image (numbered_flags p.flags) p.entry.change ≡ after_image p.flags p.entry.change
+  after_stays p = sym (after_image_same p.flags (numbered_flags p.flags) p.entry.change (places_stay p.flags))
+
+  refused_stays : (p : PlacedEntry) → refused_at state (numbered_entry p) ≡ refused_at state p
+  refused_stays p = rw (after_stays p) refl
+
   kind_stays : (p : PlacedEntry) → placed_kind state (numbered_entry p) ≡ placed_kind state p
-  kind_stays p = ap (conflict_kind p.entry.change) (current_stays p)
+  kind_stays p = rw (refused_stays p, current_stays p) refl
+
+  idle_stays : (p : PlacedEntry) → is_idle_at state (numbered_entry p) ≡ is_idle_at state p
+  idle_stays p = rw (after_stays p, current_stays p) refl
 
   met_stays : (choose : Choices) (p : PlacedEntry) → met_at state choose (numbered_entry p) ≡ met_at state (as_numbered choose) p
-  met_stays choose p = ap (met_with p (as_numbered choose p)) (current_stays p)
+  met_stays choose p = rw (refused_stays p, current_stays p) refl
 
   written_stays : (choose : Choices) (p : PlacedEntry) → written_for state choose (numbered_entry p) ≡ written_for state (as_numbered choose) p
-  written_stays choose p = rw (placed_key_stays p) refl
+  written_stays choose p = rw (refused_stays p, placed_key_stays p) refl
 
   result_stays : (choose : Choices) (p : PlacedEntry) → placed_result state choose (numbered_entry p) ≡ placed_result state (as_numbered choose) p
-  result_stays choose p = rw (placed_key_stays p, ← after_image_same p.flags (numbered_flags p.flags) p.entry.change (places_stay p.flags)) refl
+  result_stays choose p = rw (placed_key_stays p, after_stays p) refl
 
 -- what is taken of numbered entries is what is taken of the entries
 filter_map_numbered : {Y : Type 0} (h k : PlacedEntry → Option Y) → ((p : PlacedEntry) → h (numbered_entry p) ≡ k p) → (ps : List PlacedEntry) → filter_map h (map numbered_entry ps) ≡ filter_map k ps
@@ -350,10 +360,24 @@ module _ (old new : State) (choose : Choices) (ps : List PlacedEntry) where
         is.others table key (all_unnumbered (λ p. IsElsewhere p table key) (λ p. IsElsewhere p table key) (elsewhere_back table key) ps each);
   }
 
-conflicts_stay : (state : State) (changeset : List GroupData) (choose : Choices) → conflicts state (numbered changeset) choose ≡ conflicts state changeset (as_numbered choose)
-conflicts_stay state changeset choose =
-    ap (map (λ (m : MetData). m.conflict))
-    (ap (flat_map (met_at state choose)) (applicable_numbered state changeset) ∙ flat_map_numbered (met_at state choose) (met_at state (as_numbered choose)) (met_stays state choose) (applicable state changeset))
+-- the entries of which a choice is asked
+heeded_of_numbered : (noop : Noop) (state : State) (ps : List PlacedEntry) → heeded_of noop state (map numbered_entry ps) ≡ map numbered_entry (heeded_of noop state ps)
+heeded_of_numbered Report state ps = refl
+heeded_of_numbered Ignore state [] = refl
+heeded_of_numbered Ignore state (p ∷ ps) = rw (idle_stays state p, heeded_of_numbered Ignore state ps) (at (not (is_idle_at state p)))
+  where
+    others : List PlacedEntry
+    others = heeded_of Ignore state ps
+
+    at : (b : Bool) → cond b (numbered_entry p ∷ map numbered_entry others) (map numbered_entry others) ≡ map numbered_entry (cond b (p ∷ others) others)
+    at true = refl
+    at false = refl
+
+met_stay : (noop : Noop) (state : State) (changeset : List GroupData) (choose : Choices) → met_under noop state (numbered changeset) choose ≡ met_under noop state changeset (as_numbered choose)
+met_stay noop state changeset choose =
+    ap (λ (ps : List PlacedEntry). flat_map (met_at state choose) (heeded_of noop state ps)) (applicable_numbered state changeset)
+    ∙ ap (flat_map (met_at state choose)) (heeded_of_numbered noop state (applicable state changeset))
+    ∙ flat_map_numbered (met_at state choose) (met_at state (as_numbered choose)) (met_stays state choose) (heeded noop state changeset)
 
 abbrev MeetsNone : State → PlacedEntry → Type 0
 MeetsNone state p = placed_kind state p ≡ None
@@ -385,7 +409,7 @@ pub does_alike : (changeset : List GroupData) → DoesAlike changeset (numbered 
 does_alike changeset = record {
   judged = λ state. judged_each state changeset;
   skipped = λ state. skipped_stay state changeset;
-  conflicts = λ state choose. conflicts_stay state changeset choose;
+  met = λ noop state choose. met_stay noop state changeset choose;
   clean = λ state. (
     λ is. record { none_wider = none_wider state changeset is.none_wider; no_conflict = none_meets state changeset is.no_conflict },
     λ is. record { none_wider = wider_none state changeset is.none_wider; no_conflict = meets_none state changeset is.no_conflict },

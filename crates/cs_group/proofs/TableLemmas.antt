@@ -2,19 +2,23 @@
 use Rattle.std.proofs.Common.{◌≡◌, ◌≢◌, ℕ, Bool, true, false, true≢false, cond, List, [], ◌∷◌, ◌++◌, get_or, map, All, Option, Some, None, refl, sym, ap, ◌∙◌, subst}
 use Rattle.std.specs.Prelude.{IfSome}
 use Rattle.std.specs.List.{AllByRecursion}
+use Rattle.std.proofs.lemmas.Option.{none-some}
 use Rattle.std.proofs.lemmas.List.Elements.{recursion_from_All, All-from_recursion}
-use Rattle.cs_value.specs.State.{State, schema_at, row_at}
+use Rattle.cs_value.specs.State.{State, Obeys, schema_at, row_at}
 use Rattle.cs_value.proofs.ListLemmas.{AllByRecursion-append, AllByRecursion-map}
 use Rattle.cs_wire.specs.declared.entry.Entry.{Entry}
-use Rattle.cs_wire.specs.Entry.{key_of}
+use Rattle.cs_wire.specs.Entry.{IsEntry, before_image, after_image, key_of}
 use Rattle.cs_wire.specs.Changeset.{HeaderData, GroupData, IsChangeset}
+use Rattle.cs_group.specs.declared.conflict.Kind.TheVariants.{NotFound}
 use Rattle.cs_group.specs.declared.judging.Judgement.TheVariants.{Wider}
 use Rattle.cs_group.specs.Judging.{judged, is_compatible}
+use Rattle.cs_group.specs.Conflicts.{kind_between, row_after}
 use Rattle.cs_group.specs.Joining.{entry_key, table_name, with_text}
-use Rattle.cs_group.specs.JoinLaw.{LeadsFrom}
-use Rattle.cs_group.specs.Applying.{PlacedEntry, placed_by, placed_in, placed, current, IsElsewhere, compatible_groups, applicable, placed_kind, placed_result, Choices, IsClean, IsApplied}
-use Rattle.cs_group.proofs.ApplyLemmas.{left_row}
-use Rattle.cs_group.proofs.EntryJoinLemmas.{LeftLeads}
+use Rattle.cs_group.specs.Applying.{PlacedEntry, placed_by, placed_in, placed, placed_key, current, refuses_at, refused_at, IsElsewhere, compatible_groups, applicable, placed_kind, placed_result, Choices, IsClean, IsApplied}
+use Rattle.cs_group.proofs.ApplyLemmas.{by_place, left_row, refuses_same}
+use Rattle.cs_group.proofs.ConflictLemmas.{meets_none, between}
+use Rattle.cs_group.proofs.EntryJoinLemmas.{LeadsFrom, LeftLeads}
+use Rattle.cs_group.proofs.RuleLemmas.{RowsObey, found_obeys, found_kept, left_obeys}
 use Rattle.cs_group.proofs.TextLemmas.{with_text-at, with_text-new, with_text-found}
 
 -- a group does this to the rows of its table
@@ -79,6 +83,11 @@ abbrev pub EntryLeads : State → State → PlacedEntry → Type 0
 EntryLeads old new p = LeadsFrom p.flags p.entry.change (current old p) (current new p)
 
 module _ (old new : State) (changeset : List GroupData) (is : IsChangeset changeset) where
+  -- each entry that is applied fits the columns of its table
+  entries_fit : All (λ p. IsEntry p.flags p.entry) (applicable old changeset)
+  entries_fit = all_applicable old (λ p. IsEntry p.flags p.entry) changeset (λ k d lt compatible.
+      let group = get_or changeset k d in recursion_from_All (IsEntry group.header.flags) group.entries (is.each k d lt).each)
+
   module _ (name key : List ℕ) where
     -- no entry is of the row
     abbrev IsAbsent : Option GroupData → Type 0
@@ -98,7 +107,24 @@ module _ (old new : State) (changeset : List GroupData) (is : IsChangeset change
         let ps = applicable old changeset in
         let p = get_or ps k d in
         let none : placed_kind old p ≡ None = clean.no_conflict k d lt in
-        record { no_conflict = none; leaves = sym (left_row old new choose p none (done.results k d lt)) }
+        record { finds = (meets_none (refused_at old p) (kind_between (before_image p.entry.change) (current old p)) none).0; leaves = sym (left_row old new choose p none (done.results k d lt)) }
+
+    -- and its rows obey the rules of their tables, where those of the state before do
+    pub applied_obeys : RowsObey old → RowsObey new
+    applied_obeys obey table key =
+        let ps = applicable old changeset in
+        let Kept = λ (p : PlacedEntry). IfSome (current new p) (Obeys (refuses_at old p.table)) in
+        let each : All Kept ps =
+        λ k d lt.
+        let p = get_or ps k d in
+        let none : placed_kind old p ≡ None = clean.no_conflict k d lt in
+        let met = meets_none (refused_at old p) (kind_between (before_image p.entry.change) (current old p)) none in
+        rw (left_row old new choose p none (done.results k d lt))
+        (left_obeys (refuses_at old p.table) p.flags p.entry.change (current old p) (entries_fit k d lt) (λ e. none-some NotFound (sym met.0 ∙ e)) met.1
+        (found_kept (refuses_at old p.table) p.flags p.entry.change (current old p) (entries_fit k d lt) met.0 (obey p.table (placed_key p)))) in
+        rw (refuses_same old new done.schemas table)
+        (by_place table key Kept ps (recursion_from_All Kept ps each) (λ p kept here. rw (here.0, here.1) at kept)
+        (λ apart. rw (done.others table key (All-from_recursion (λ p. IsElsewhere p table key) ps apart)) (obey table key)))
 
     module _ (name : List ℕ) where
       -- at each key of a table whose group is applied
@@ -139,7 +165,7 @@ module _ (old new : State) (changeset : List GroupData) (is : IsChangeset change
 
   -- ---- what leads from a state to another is applied without a conflict
 
-  module _ (leads : ChangesetLeads old new changeset) where
+  module _ (leads : ChangesetLeads old new changeset) (obey : RowsObey new) where
     group_leads : All (λ g. GroupLeads old new g.header.name g) changeset
     group_leads k d lt =
         let group = get_or changeset k d in
@@ -155,13 +181,20 @@ module _ (old new : State) (changeset : List GroupData) (is : IsChangeset change
         (with_text-at (entry_key flags) group.entries key j e (is.each k d lt).once j_lt refl)
         ((group_leads k d lt).applied compatible key))
 
-    none_meets : (ps : List PlacedEntry) → AllByRecursion (EntryLeads old new) ps → AllByRecursion (λ p. placed_kind old p ≡ None) ps
-    none_meets [] each = tt
-    none_meets (p ∷ ps) each = (each.0.no_conflict, none_meets ps each.1)
+    -- an entry that leaves a row that obeys the rules is not refused
+    none_meets : All (λ p. placed_kind old p ≡ None) (applicable old changeset)
+    none_meets k d lt =
+        let p = get_or (applicable old changeset) k d in
+        let led = all_applicable old (EntryLeads old new) changeset entries_lead k d lt in
+        let left = row_after p.flags p.entry.change (current old p) in
+        let found = between p.flags p.entry.change (current old p) (entries_fit k d lt) led.finds in
+        let rules = sym (refuses_same old new leads.schemas p.table) in
+        let obeys : IfSome left (Obeys (refuses_at old p.table)) = rw (led.leaves, rules) (obey p.table (placed_key p)) in
+        let kept : refused_at old p ≡ false = found_obeys (refuses_at old p.table) (after_image p.flags p.entry.change) left found.0 obeys in
+        rw (kept, led.finds) refl
 
-    results : (choose : Choices) (ps : List PlacedEntry) → AllByRecursion (EntryLeads old new) ps → AllByRecursion (λ p. placed_result old choose p ≡ Some (current new p)) ps
-    results choose [] each = tt
-    results choose (p ∷ ps) each = (rw (each.0.no_conflict) (ap Some each.0.leaves), results choose ps each.1)
+    results : (choose : Choices) → All (λ p. placed_result old choose p ≡ Some (current new p)) (applicable old changeset)
+    results choose k d lt = rw (none_meets k d lt) (ap Some (all_applicable old (EntryLeads old new) changeset entries_lead k d lt).leaves)
 
     -- a row that no entry is of stays
     module _ (name key : List ℕ) where
@@ -191,16 +224,7 @@ module _ (old new : State) (changeset : List GroupData) (is : IsChangeset change
           (leads.tables name)
 
     pub leads_applied : IsClean old changeset × ((any : Choices) → IsApplied old changeset any new)
-    leads_applied =
-        let ps = applicable old changeset in
-        let each = recursion_from_All (EntryLeads old new) ps (all_applicable old (EntryLeads old new) changeset entries_lead) in (
-          record {
-            none_wider = λ k d lt. (group_leads k d lt).not_wider;
-            no_conflict = All-from_recursion _ ps (none_meets ps each);
-          },
-          λ any. record {
-            schemas = leads.schemas;
-            results = All-from_recursion (λ p. placed_result old any p ≡ Some (current new p)) ps (results any ps each);
-            others = stays;
-          },
-        )
+    leads_applied = (
+      record { none_wider = λ k d lt. (group_leads k d lt).not_wider; no_conflict = none_meets },
+      λ any. record { schemas = leads.schemas; results = results any; others = stays },
+    )

@@ -1,6 +1,6 @@
 -- What a changeset does to a state: the interface of SQLite's session extension, under "sqlite3changeset_apply".
 use Rattle.std.specs.Prelude.{◌≡◌, ◌≢◌, ℕ, ◌<◌, Bool, not, if◌then◌else◌, List, [], length, map, take, All, HoldsAt}
-use Rattle.std.specs.Prelude.{filter, filter_map, Option, None, Some}
+use Rattle.std.specs.Prelude.{filter, filter_map, Option, None, Some, option_map, unwrap_or}
 use Rattle.std.specs.List.{flat_map}
 use Rattle.cs_value.specs.declared.value.OwnedValue.{OwnedValue}
 use Rattle.cs_value.specs.State.{State, WrittenData, schema_at, row_at, written_at}
@@ -14,7 +14,7 @@ use Rattle.cs_group.specs.declared.conflict.Choice.TheVariants.{Omit}
 use Rattle.cs_group.specs.declared.conflict.Noop.{Noop}
 use Rattle.cs_group.specs.declared.conflict.Noop.TheVariants.{Report, Ignore}
 use Rattle.cs_group.specs.Judging.{judged, is_skipped, is_compatible}
-use Rattle.cs_group.specs.Conflicts.{conflict_kind, kinds_met, is_idle, is_carried_out, entry_result}
+use Rattle.cs_group.specs.Conflicts.{is_refused, conflict_kind, kinds_met, is_idle, is_carried_out, entry_result}
 
 -- ---- the entries of a changeset
 
@@ -41,6 +41,14 @@ placed_key p = key_of p.flags p.entry.change
 -- the row that stands there
 abbrev pub current : State → PlacedEntry → Option (List OwnedValue)
 current state p = row_at state p.table (placed_key p)
+
+-- the columns of its table that refuse NULL
+abbrev pub refuses_at : State → List ℕ → List Bool
+refuses_at state table = unwrap_or (option_map (λ s. s.refuses) (schema_at state table)) []
+
+-- the entry leaves NULL in one of them
+abbrev pub refused_at : State → PlacedEntry → Bool
+refused_at state p = is_refused (refuses_at state p.table) p.flags p.entry.change
 
 -- the entry is of another row than that of this table with this key
 abbrev pub IsElsewhere : PlacedEntry → List ℕ → List ℕ → Type 0
@@ -73,7 +81,7 @@ applicable state changeset = placed (compatible_groups state changeset)
 
 -- the row of the entry already agrees with what it leaves, and it meets a conflict there
 abbrev pub is_idle_at : State → PlacedEntry → Bool
-is_idle_at state p = is_idle p.flags p.entry.change (current state p)
+is_idle_at state p = is_idle (refused_at state p) p.flags p.entry.change (current state p)
 
 -- those of the entries that are idle, where these are to be ignored: for them nothing is asked, nothing is written, and
 -- nothing is told but their number
@@ -104,13 +112,9 @@ pub record ConflictData : Type 0 where
 
 -- what is met by an entry, if it meets a conflict
 abbrev pub placed_kind : State → PlacedEntry → Option Kind
-placed_kind state p = conflict_kind p.entry.change (current state p)
+placed_kind state p = conflict_kind (refused_at state p) p.entry.change (current state p)
 
--- the conflicts that it meets, one after another
-abbrev pub placed_kinds : State → PlacedEntry → List Kind
-placed_kinds state p = kinds_met p.entry.change (current state p)
-
--- no entry meets one, and no table is wider
+-- no table is wider, and no entry of a compatible one meets a conflict
 pub record IsClean (state : State) (changeset : List GroupData) : Type 0 where
   pub none_wider : NoneWider state changeset
   pub no_conflict : All (λ p. placed_kind state p ≡ None) (applicable state changeset)
@@ -121,40 +125,37 @@ pub record IsClean (state : State) (changeset : List GroupData) : Type 0 where
 abbrev pub Choices : Type 0
 Choices = PlacedEntry → Kind → Choice
 
+-- the kinds of the conflicts that an entry meets, one after another
+abbrev pub placed_kinds : State → Choices → PlacedEntry → List Kind
+placed_kinds state choose p = kinds_met (refused_at state p) p.entry.change (current state p) (choose p)
+
 -- a conflict, and what was chosen for it
 pub record MetData : Type 0 where
   pub conflict : ConflictData
   pub choice : Choice
 
--- an entry meets a conflict of this kind, at this row or none
+-- the conflict of this kind that an entry meets, at this row or none
 abbrev pub conflict_with : PlacedEntry → Option (List OwnedValue) → Kind → ConflictData
 conflict_with p row kind = record { kind = kind; table = p.table; entry = p.entry; current = row }
 
 -- the conflicts that an entry meets there, with the choices
-abbrev pub met_with : PlacedEntry → (Kind → Choice) → Option (List OwnedValue) → List MetData
-met_with p choose row =
-    map (λ kind. record { conflict = conflict_with p row kind; choice = choose kind }) (kinds_met p.entry.change row)
+abbrev pub met_with : Bool → PlacedEntry → Option (List OwnedValue) → (Kind → Choice) → List MetData
+met_with refused p row choose =
+    map (λ kind. record { conflict = conflict_with p row kind; choice = choose kind })
+    (kinds_met refused p.entry.change row choose)
 
 abbrev pub met_at : State → Choices → PlacedEntry → List MetData
-met_at state choose p = met_with p (choose p) (current state p)
+met_at state choose p = met_with (refused_at state p) p (current state p) (choose p)
 
 -- the conflicts that a changeset meets and of which a choice is asked, with the choices, in the order of the file
 abbrev pub met_under : Noop → State → List GroupData → Choices → List MetData
 met_under noop state changeset choose = flat_map (met_at state choose) (heeded noop state changeset)
 
--- the conflicts alone
-abbrev pub conflicts_under : Noop → State → List GroupData → Choices → List ConflictData
-conflicts_under noop state changeset choose = map (λ m. m.conflict) (met_under noop state changeset choose)
-
--- those where nothing is ignored
-abbrev pub conflicts : State → List GroupData → Choices → List ConflictData
-conflicts = conflicts_under Report
-
 -- ---- the state afterwards
 
 abbrev pub written_for : State → Choices → PlacedEntry → Option WrittenData
 written_for state choose p =
-    if is_carried_out (placed_kinds state p) (choose p) then Some (written_at state p.table (placed_key p)) else None
+    if is_carried_out (placed_kinds state choose p) (choose p) then Some (written_at state p.table (placed_key p)) else None
 
 -- the keys of the entries that are carried out, in the order of the file, with the rows that stood there
 abbrev pub written_under : Noop → State → List GroupData → Choices → List WrittenData
@@ -166,7 +167,7 @@ written = written_under Report
 
 -- what an entry leaves at its key, if there is an afterwards
 abbrev pub placed_result : State → Choices → PlacedEntry → Option (Option (List OwnedValue))
-placed_result state choose p = entry_result p.flags p.entry.change (current state p) (choose p)
+placed_result state choose p = entry_result (refused_at state p) p.flags p.entry.change (current state p) (choose p)
 
 -- a state that these entries make of another: with its tables, at the key of each entry what that leaves, and elsewhere
 -- the rows that stood there

@@ -2,14 +2,15 @@
 -- "sqlite3changeset_apply", "constants passed to the conflict handler" and "constants returned by the conflict
 -- handler".
 use Rattle.std.specs.Prelude.{ℕ, Bool, true, false, ◌&&◌, ◌||◌, if◌then◌else◌, List, [], ◌∷◌}
-use Rattle.std.specs.Prelude.{Option, None, Some, is_some, option_map, option_to_list, unwrap_or}
+use Rattle.std.specs.Prelude.{Option, None, Some, is_some, option_map, unwrap_or}
 use Rattle.cs_value.specs.declared.value.OwnedValue.{OwnedValue}
 use Rattle.cs_value.specs.declared.value.OwnedField.{OwnedField}
 use Rattle.cs_value.specs.declared.value.OwnedField.TheVariants.{Undefined, Defined}
+use Rattle.cs_value.specs.State.{has_null}
 use Rattle.cs_wire.specs.declared.entry.Change.{Change}
 use Rattle.cs_wire.specs.Entry.{before_image, after_image}
 use Rattle.cs_group.specs.declared.conflict.Kind.{Kind}
-use Rattle.cs_group.specs.declared.conflict.Kind.TheVariants.{Data, NotFound, Conflict}
+use Rattle.cs_group.specs.declared.conflict.Kind.TheVariants.{Data, NotFound, Conflict, Constraint}
 use Rattle.cs_group.specs.declared.conflict.Choice.{Choice}
 use Rattle.cs_group.specs.declared.conflict.Choice.TheVariants.{Omit, Replace, Abort}
 use Rattle.cs_group.specs.Net.{is_same}
@@ -29,13 +30,19 @@ kind_between None (Some row) = Some Conflict
 kind_between (Some image) None = Some NotFound
 kind_between (Some image) (Some row) = if has_values row image then None else Some Data
 
--- the conflict that a change meets at the row with its key, if it meets one
-abbrev pub conflict_kind : Change → Option (List OwnedValue) → Option Kind
-conflict_kind change row = kind_between (before_image change) row
+-- a change leaves NULL in a column that refuses it
+abbrev pub is_refused : List Bool → List ℕ → Change → Bool
+is_refused refuses flags change = unwrap_or (option_map (has_null refuses) (after_image flags change)) false
 
--- the conflicts that it meets there, one after another
-abbrev pub kinds_met : Change → Option (List OwnedValue) → List Kind
-kinds_met change row = option_to_list (conflict_kind change row)
+-- what is met first: by the row there, and else by the rule of a column
+abbrev pub or_constraint : Bool → Option Kind → Option Kind
+or_constraint refused (Some kind) = Some kind
+or_constraint true None = Some Constraint
+or_constraint false None = None
+
+-- the conflict that a change, which is refused or not, meets at the row with its key, if it meets one
+abbrev pub conflict_kind : Bool → Change → Option (List OwnedValue) → Option Kind
+conflict_kind refused change row = or_constraint refused (kind_between (before_image change) row)
 
 -- a row has the values of an image of the row afterwards; where that image is absent there is no row
 abbrev pub agrees : Option (List OwnedField) → Option (List OwnedValue) → Bool
@@ -47,8 +54,8 @@ agrees (Some image) (Some row) = has_values row image
 -- a change is idle at a row, or none, where it meets a conflict and what stands there already agrees with what it leaves:
 -- the changes for which SQLite does not call the conflict handler under SQLITE_CHANGESETAPPLY_IGNORENOOP (its "Flags for
 -- sqlite3changeset_apply_v2")
-abbrev pub is_idle : List ℕ → Change → Option (List OwnedValue) → Bool
-is_idle flags change row = is_some (conflict_kind change row) && agrees (after_image flags change) row
+abbrev pub is_idle : Bool → List ℕ → Change → Option (List OwnedValue) → Bool
+is_idle refused flags change row = is_some (conflict_kind refused change row) && agrees (after_image flags change) row
 
 -- the value of a field, and where it is undefined the one that stands in its column
 abbrev pub value_in : OwnedField → Option OwnedValue → Option OwnedValue
@@ -72,31 +79,45 @@ abbrev pub is_overcome : Kind → Choice → Bool
 is_overcome Data Replace = true
 is_overcome Conflict Replace = true
 is_overcome NotFound Replace = false
+is_overcome Constraint Replace = false
 is_overcome kind Omit = false
 is_overcome kind Abort = false
 
--- a conflict ends all where the choice says so, and where a row that is not there is to be replaced
+-- a conflict ends all where the choice says so, and where a row that is not there, or one that breaks a rule, is to be
+-- replaced
 abbrev pub ends : Kind → Choice → Bool
 ends kind Omit = false
 ends kind Abort = true
 ends Data Replace = false
 ends Conflict Replace = false
 ends NotFound Replace = true
+ends Constraint Replace = true
+
+-- behind a conflict that is overcome the rule of a column is met, where the change is refused
+abbrev pub kinds_from : Bool → (Kind → Choice) → Option Kind → List Kind
+kinds_from refused choose None = []
+kinds_from refused choose (Some kind) =
+    kind ∷ (if refused && is_overcome kind (choose kind) then Constraint ∷ [] else [])
+
+-- the conflicts that a change meets at a row, one after another, under a choice for each kind
+abbrev pub kinds_met : Bool → Change → Option (List OwnedValue) → (Kind → Choice) → List Kind
+kinds_met refused change row choose = kinds_from refused choose (conflict_kind refused change row)
 
 -- a change is carried out where each of the conflicts that it meets is overcome, under a choice for each kind
 abbrev pub is_carried_out : List Kind → (Kind → Choice) → Bool
 is_carried_out [] choose = true
 is_carried_out (kind ∷ kinds) choose = is_overcome kind (choose kind) && is_carried_out kinds choose
 
--- and all ends where one of them ends it
+-- all ends where one of these ends it
 abbrev pub is_ended : List Kind → (Kind → Choice) → Bool
 is_ended [] choose = false
 is_ended (kind ∷ kinds) choose = ends kind (choose kind) || is_ended kinds choose
 
 -- what stands at the key of a change afterwards, under the choices: a row or none, if there is an afterwards
-abbrev pub entry_result : List ℕ → Change → Option (List OwnedValue) → (Kind → Choice) → Option (Option (List OwnedValue))
-entry_result flags change row choose =
-    let kinds = kinds_met change row in
+abbrev pub entry_result : Bool → List ℕ → Change → Option (List OwnedValue) → (Kind → Choice)
+    → Option (Option (List OwnedValue))
+entry_result refused flags change row choose =
+    let kinds = kinds_met refused change row choose in
     if is_ended kinds choose then None
     else if is_carried_out kinds choose then Some (row_after flags change row)
     else Some row

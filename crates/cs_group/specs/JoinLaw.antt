@@ -2,25 +2,18 @@
 use Rattle.std.specs.Prelude.{◌≡◌, ℕ, false, List, [], All, Option, Some, None, option_map}
 use Rattle.cs_value.specs.declared.value.OwnedValue.{OwnedValue}
 use Rattle.cs_value.specs.State.{SchemaData, State, IsState, schema_at, row_at}
-use Rattle.cs_wire.specs.declared.entry.Change.{Change}
 use Rattle.cs_wire.specs.declared.entry.Entry.{Entry}
 use Rattle.cs_wire.specs.Changeset.{GroupData, IsChangeset}
 use Rattle.cs_group.specs.Inverse.{IsInverse}
 use Rattle.cs_group.specs.Joining.{entry_key, table_name, with_text, key_places, IsJoined}
 use Rattle.cs_group.specs.Net.{net_row_change}
-use Rattle.cs_group.specs.Conflicts.{conflict_kind, row_after}
 use Rattle.cs_group.specs.Applying.{Choices, IsClean, IsApplied}
-
--- the change meets no conflict at a row, or none, and leaves this row, or none
-pub record LeadsFrom (flags : List ℕ) (change : Change) (before after : Option (List OwnedValue)) : Type 0 where
-  pub no_conflict : conflict_kind change before ≡ None
-  pub leaves : row_after flags change before ≡ after
 
 -- of each state where the first applies without a conflict, and the second to what the first makes of it, the join makes
 -- what both make, without a conflict
 abbrev pub DoesBoth : List GroupData → List GroupData → List GroupData → Type 0
 DoesBoth first second join = (old mid new : State) (choose again : Choices)
-    → IsClean old first → IsApplied old first choose mid → IsClean mid second → IsApplied mid second again new
+    → IsState old → IsClean old first → IsApplied old first choose mid → IsClean mid second → IsApplied mid second again new
     → IsClean old join × ((any : Choices) → IsApplied old join any new)
 
 abbrev pub JoinApplies : Type 0

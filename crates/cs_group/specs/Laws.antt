@@ -1,9 +1,9 @@
 -- What holds of all states and changesets.
-use Rattle.std.specs.Prelude.{◌≡◌, ◌↔◌, ◌&&◌, ℕ, true, false, not, List, All, Option, None, Some}
+use Rattle.std.specs.Prelude.{◌≡◌, ◌↔◌, ◌&&◌, ℕ, Bool, true, false, not, List, All, Option, None, Some}
 use Rattle.cs_value.specs.declared.value.OwnedValue.{OwnedValue}
 use Rattle.cs_value.specs.declared.value.OwnedField.{OwnedField}
 use Rattle.cs_value.specs.Key.{row_key, image_key}
-use Rattle.cs_value.specs.State.{State, WrittenData, row_at}
+use Rattle.cs_value.specs.State.{State, IsState, Obeys, WrittenData, row_at}
 use Rattle.cs_value.specs.Table.{IsKeyedRow}
 use Rattle.cs_value.specs.Value.{IsRow}
 use Rattle.cs_wire.specs.declared.entry.Change.TheVariants.{Insert, Delete, Update}
@@ -11,7 +11,7 @@ use Rattle.cs_wire.specs.Entry.{IsChange}
 use Rattle.cs_wire.specs.Changeset.{GroupData, IsChangeset}
 use Rattle.cs_group.specs.Inverse.{IsInverse}
 use Rattle.cs_group.specs.declared.conflict.Noop.{Noop}
-use Rattle.cs_group.specs.Conflicts.{has_values, is_idle}
+use Rattle.cs_group.specs.Conflicts.{has_values, is_refused, is_idle}
 use Rattle.cs_group.specs.Applying.{Choices, IsClean, IsApplied, IsAppliedUnder, applicable, current, ignored_of, written_under}
 
 -- a changeset with these choices makes one state alone
@@ -22,7 +22,7 @@ AppliedOnce = (noop : Noop) (old : State) (changeset : List GroupData) (choose :
 -- after a changeset that met no conflict its inverse meets none, and gives the state back
 abbrev pub AppliedReverts : Type 0
 AppliedReverts = (old : State) (changeset inverse : List GroupData) (choose again : Choices) (new : State)
-    → IsChangeset changeset → IsInverse changeset inverse → IsClean old changeset
+    → IsState old → IsChangeset changeset → IsInverse changeset inverse → IsClean old changeset
     → IsApplied old changeset choose new → IsClean new inverse × IsApplied new inverse again old
 
 -- a row that was written stood there before as it was told, and each other row stood there as it does now
@@ -38,14 +38,17 @@ WrittenTells = (noop : Noop) (old : State) (changeset : List GroupData) (choose 
 -- which changes are idle: a delete where no row stands, an insert where its row stands, and an update where the row with
 -- its key has the new values in the modified columns, and not all of the old ones
 pub record IdleCases : Type 0 where
-  pub deleted : (flags : List ℕ) (old : List OwnedValue) (row : Option (List OwnedValue))
-      → (is_idle flags (Delete old) row ≡ true) ↔ (row ≡ None)
-  pub inserted : (flags : List ℕ) (new : List OwnedValue) (row : Option (List OwnedValue))
-      → (is_idle flags (Insert new) row ≡ true) ↔ (row ≡ Some new)
-  pub updated : (flags : List ℕ) (old new : List OwnedField) (row : List OwnedValue) → IsChange flags (Update old new)
-      → IsRow row → IsKeyedRow flags row → row_key flags row ≡ image_key flags old
-      → is_idle flags (Update old new) (Some row) ≡ (not (has_values row old) && has_values row new)
-  pub missing : (flags : List ℕ) (old new : List OwnedField) → is_idle flags (Update old new) None ≡ false
+  pub deleted : (refused : Bool) (flags : List ℕ) (old : List OwnedValue) (row : Option (List OwnedValue))
+      → (is_idle refused flags (Delete old) row ≡ true) ↔ (row ≡ None)
+  pub inserted : (refused : Bool) (flags : List ℕ) (new : List OwnedValue) (row : Option (List OwnedValue))
+      → (is_idle refused flags (Insert new) row ≡ true) ↔ (row ≡ Some new)
+  pub updated : (refuses : List Bool) (flags : List ℕ) (old new : List OwnedField) (row : List OwnedValue)
+      → IsChange flags (Update old new) → IsRow row → IsKeyedRow flags row → Obeys refuses row
+      → row_key flags row ≡ image_key flags old
+      → is_idle (is_refused refuses flags (Update old new)) flags (Update old new) (Some row)
+      ≡ (not (has_values row old) && has_values row new)
+  pub missing : (refused : Bool) (flags : List ℕ) (old new : List OwnedField)
+      → is_idle refused flags (Update old new) None ≡ false
 
 -- the row of an entry that is ignored stays
 abbrev pub IgnoredStand : Type 0

@@ -6,7 +6,8 @@ use Rattle.cs_value.specs.State.{State}
 use Rattle.cs_wire.specs.Changeset.{HeaderData, GroupData}
 use Rattle.cs_group.specs.Inverse.{IsInverse}
 use Rattle.cs_group.specs.Judging.{judged}
-use Rattle.cs_group.specs.Applying.{PlacedEntry, skipped, conflicts, IsClean, Choices, written, IsApplied}
+use Rattle.cs_group.specs.declared.conflict.Noop.{Noop}
+use Rattle.cs_group.specs.Applying.{PlacedEntry, skipped, met_under, IsClean, Choices, written, IsApplied}
 
 -- the number of a column of the key behind those that have numbers up to this one: one byte has no more than 255
 abbrev pub next_number : ℕ → ℕ
@@ -45,12 +46,13 @@ abbrev pub as_numbered : Choices → Choices
 as_numbered choose p = choose (numbered_entry p)
 
 -- what one changeset does to every state the other, which is the first one numbered, does to it: each table is judged
--- alike, the same ones are passed over, the same conflicts are met, and the same choices for them write the same keys and
--- make the same states
+-- alike, the same ones are passed over, and with the same choices the same conflicts are met, the same keys are written and
+-- the same states are made
 pub record DoesAlike (changeset other : List GroupData) : Type 0 where
   pub judged : (state : State) → map (judged state) other ≡ map (judged state) changeset
   pub skipped : (state : State) → skipped state other ≡ skipped state changeset
-  pub conflicts : (state : State) (choose : Choices) → conflicts state other choose ≡ conflicts state changeset (as_numbered choose)
+  pub met : (noop : Noop) (state : State) (choose : Choices)
+      → met_under noop state other choose ≡ met_under noop state changeset (as_numbered choose)
   pub clean : (state : State) → IsClean state changeset ↔ IsClean state other
   pub written : (state : State) (choose : Choices) → written state other choose ≡ written state changeset (as_numbered choose)
   pub applied : (old new : State) (choose : Choices) → IsApplied old changeset (as_numbered choose) new ↔ IsApplied old other choose new

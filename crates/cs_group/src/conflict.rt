@@ -1,15 +1,17 @@
 //! What an entry meets at the row with its key, and what it leaves there.
-ghost use Rattle.std.specs.Prelude.{◌≡◌, ◌≢◌, [], ◌∷◌, if◌then◌else◌, Some, None, IfOk, IfSome, option_map};
+ghost use Rattle.std.specs.Prelude.{◌≡◌, ◌≢◌, Bool, true, false, List, [], ◌∷◌, if◌then◌else◌, Some, None, IfOk, IfSome, option_map};
 ghost use Rattle.cs_value.specs.Value.{field_of, FieldFits};
 ghost use Rattle.cs_value.specs.Table.{IsKeyedRow};
 ghost use Rattle.cs_value.specs.Key.{row_key};
-ghost use Rattle.cs_wire.specs.Entry.{key_of, after_image};
+ghost use Rattle.cs_value.specs.State.{Obeys, has_null as null_in};
+ghost use Rattle.cs_wire.specs.Entry.{key_of, before_image, after_image};
 ghost use Rattle.cs_group.specs.declared.conflict.Kind.TheVariants.{Data as DataKind, NotFound as NotFoundKind};
-ghost use Rattle.cs_group.specs.Conflicts.{conflict_kind as kind_of, row_after as row_of_change};
+ghost use Rattle.cs_group.specs.Conflicts.{is_refused as breaks_rule, kind_between, conflict_kind as kind_of};
+ghost use Rattle.cs_group.specs.Conflicts.{row_after as row_of_change};
 ghost use Rattle.cs_group.specs.Conflicts.{has_values as values_of_image, agrees as agrees_with};
 ghost use Rattle.cs_group.specs.Conflicts.{filled, value_in as value_of_field};
 
-use cs_value::{Field, NoMemory, OwnedValue, Row};
+use cs_value::{Field, NoMemory, OwnedValue, Row, Value};
 use cs_wire::{EntryRef, Fields};
 use std::alloc::Global;
 
@@ -23,6 +25,8 @@ pub enum Kind {
     NotFound,
     /// An insert finds a row: `SQLITE_CHANGESET_CONFLICT`.
     Conflict,
+    /// An insert or an update leaves NULL in a column that refuses it: `SQLITE_CHANGESET_CONSTRAINT`.
+    Constraint,
 }
 
 /// What is done about a conflict.
@@ -46,10 +50,20 @@ pub enum Noop {
     Ignore,
 }
 
-/// The conflict that an entry meets at the row with its key, or None where there is none. It takes no
-/// memory.
-pub fn conflict_kind(entry: &EntryRef<'_>, row: Option<&Row>) -> Option<Kind>
-    ensures { result ≡ kind_of entry.now.entry.change (option_map (λ r. r.now) row.entry) }
+/// The conflict that an entry, which is refused or not, meets first at the row with its key, or None where there is none. It
+/// takes no memory.
+pub fn conflict_kind(entry: &EntryRef<'_>, row: Option<&Row>, is_refused: bool) -> Option<Kind>
+    ensures { result ≡ kind_of is_refused entry.now.entry.change (option_map (λ r. r.now) row.entry) }
+{
+    match row_conflict(entry, row) {
+        None if is_refused => Some(Kind::Constraint),
+        kind => kind,
+    }
+}
+
+/// The conflict that an entry meets with what stands at its key, a row or none.
+fn row_conflict(entry: &EntryRef<'_>, row: Option<&Row>) -> Option<Kind>
+    ensures { result ≡ kind_between (before_image entry.now.entry.change) (option_map (λ r. r.now) row.entry) }
 {
     match (entry.old_fields(), row) {
         (None, None) => None,
@@ -64,6 +78,39 @@ fn data_unless(is_same: bool) -> Option<Kind>
     ensures { result ≡ (if is_same then None else Some DataKind) }
 {
     if is_same { None } else { Some(Kind::Data) }
+}
+
+/// Whether an entry leaves NULL in a column that refuses it, of columns with these marks: such an entry is refused. It
+/// takes no memory.
+pub fn is_refused(entry: &EntryRef<'_>, refuses: &[bool]) -> bool
+    ensures { result ≡ breaks_rule refuses.now entry.now.flags entry.now.entry.change }
+{
+    match entry.fields_after() {
+        Some(fields) => has_null(fields, refuses),
+        None => false,
+    }
+}
+
+/// Whether a field is NULL in a column that refuses it.
+fn has_null(fields: Fields<'_>, refuses: &[bool]) -> bool
+    ensures { result ≡ null_in refuses.now fields.entry }
+{
+    let mut left = fields;
+    for refuses_here in refuses {
+        match left.next() {
+            Some(field) if *refuses_here && is_null(field) => return true,
+            Some(_) => {}
+            None => return false,
+        }
+    }
+    false
+}
+
+/// Whether a field is NULL.
+fn is_null(field: Field<'_>) -> bool
+    ensures { result ≡ null_in (true ∷ []) (field_of field.entry ∷ []) }
+{
+    matches!(field, Field::Defined(Value::Null))
 }
 
 /// Whether what stands at the key of an entry, a row or none, is already what the entry leaves there. An entry of
@@ -115,8 +162,12 @@ pub fn row_after(
         o ≡ row_of_change entry.now.flags entry.now.entry.change (option_map (λ r. r.now) row.entry)) }
     ensures fits { IfOk result (λ o. IfSome o (λ r.
         IfSome row.entry (λ stood. IsKeyedRow entry.now.flags stood.now)
-        → kind_of entry.now.entry.change (option_map (λ r. r.now) row.entry) ≢ Some NotFoundKind
+        → kind_between (before_image entry.now.entry.change) (option_map (λ r. r.now) row.entry) ≢ Some NotFoundKind
         → IsKeyedRow entry.now.flags r × (row_key entry.now.flags r ≡ key_of entry.now.flags entry.now.entry.change))) }
+    ensures obeys { IfOk result (λ o. IfSome o (λ r. (refuses : List Bool)
+        → IfSome row.entry (λ stood. IsKeyedRow entry.now.flags stood.now × Obeys refuses stood.now)
+        → kind_between (before_image entry.now.entry.change) (option_map (λ r. r.now) row.entry) ≢ Some NotFoundKind
+        → breaks_rule refuses entry.now.flags entry.now.entry.change ≡ false → Obeys refuses r)) }
 {
     let stood = match row {
         None => &[],

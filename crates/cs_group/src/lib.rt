@@ -37,7 +37,7 @@ mod net;
 mod numbering;
 
 pub use columns::have_same_columns;
-pub use conflict::{Choice, Kind, Noop, agrees, conflict_kind, row_after};
+pub use conflict::{Choice, Kind, Noop, agrees, conflict_kind, is_refused, row_after};
 pub use fault::{ConcatFault, SchemaFault};
 pub use inverse::{changeset_inverses_law, inverse_twice_law, invert};
 pub use joining::concat;

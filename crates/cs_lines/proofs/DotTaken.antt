@@ -135,7 +135,7 @@ apply_taken : (ws : List (List ℕ)) (c : CommandData) → apply_in ws ≡ Some 
 unfolding apply_in
 apply_taken ws c h =
     let f = then_some (slot_in ws) _ c h in
-    let m = mapped (λ s. Apply f.0.0 (unwrap_or s.on_data choice.Abort) (unwrap_or s.on_notfound choice.Abort) (unwrap_or s.on_conflict choice.Abort) (unwrap_or s.noop Report)) (settings_in no_settings f.0.1) c f.2 in
+    let m = mapped (λ s. Apply f.0.0 (unwrap_or s.on_data choice.Abort) (unwrap_or s.on_notfound choice.Abort) (unwrap_or s.on_conflict choice.Abort) (unwrap_or s.on_constraint choice.Abort) (unwrap_or s.noop Report)) (settings_in no_settings f.0.1) c f.2 in
     let j = slot_words ws f.0.1 f.0.0 f.1 in
     let r = settings_taken no_settings m.0 f.0.1 m.1 in
     subst (λ c. IsDotLine (codes ".apply" ∷ ws) c) m.2 (
@@ -146,6 +146,7 @@ apply_taken ws c h =
       chosen_of (ForKind kind.Data) choice.Abort r.settings r.apart m.0.on_data (λ c. sym (ap (λ t. at t (ForKind kind.Data c)) r.after)),
       chosen_of (ForKind kind.NotFound) choice.Abort r.settings r.apart m.0.on_notfound (λ c. sym (ap (λ t. at t (ForKind kind.NotFound c)) r.after)),
       chosen_of (ForKind kind.Conflict) choice.Abort r.settings r.apart m.0.on_conflict (λ c. sym (ap (λ t. at t (ForKind kind.Conflict c)) r.after)),
+      chosen_of (ForKind kind.Constraint) choice.Abort r.settings r.apart m.0.on_constraint (λ c. sym (ap (λ t. at t (ForKind kind.Constraint c)) r.after)),
       chosen_of ForNoop Report r.settings r.apart m.0.noop (λ n. sym (ap (λ t. at t (ForNoop n)) r.after)),
     )
 

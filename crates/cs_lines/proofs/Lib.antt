@@ -9,6 +9,7 @@ pub mod WordLemmas
 pub mod DotLemmas
 pub mod StatementLemmas
 pub mod StatementLaws
+pub mod ColumnLemmas
 pub mod StatementForms
 pub mod SettingLemmas
 pub mod AttachAgain

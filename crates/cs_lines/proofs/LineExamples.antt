@@ -1,5 +1,5 @@
 -- What lines ask for: each form, in upper case and in any, and lines that ask for nothing that there is.
-use Rattle.std.proofs.Common.{[], ◌∷◌, codes, refl}
+use Rattle.std.proofs.Common.{true, false, [], ◌∷◌, codes, refl}
 use Rattle.std.specs.Prelude.{⊤, pos, negsuc}
 use Rattle.std.proofs.lemmas.Str.{IsUtf8-from_is_utf8}
 use Rattle.cs_value.specs.declared.value.OwnedValue.TheVariants.{Int, Text, Blob, Null}
@@ -8,7 +8,7 @@ use Rattle.cs_group.specs.declared.conflict.Noop.TheVariants.{Report, Ignore}
 use Rattle.cs_lines.specs.Commands.{CommandData, Create, Insert, Update, Delete, Select, Load, Hex, Dump, Invert, Concat, Apply, Revert}
 use Rattle.cs_lines.specs.Commands.{SessionOpen, SessionAttach, SessionChangeset, SessionIsEmpty, SessionUndo, SessionClose}
 use Rattle.cs_lines.specs.Lines.{words_of, IsNothing, Spelled}
-use Rattle.cs_lines.specs.StatementReading.{create_in, insert_in, update_in, delete_in, select_in, fixed_in, name_in, value_in, turn_in, end_in, list_in, assignment_in, assignments_in, column_in, more_columns_in, columns_in, symbol_in, form_of, form_in, statement_in}
+use Rattle.cs_lines.specs.StatementReading.{create_in, insert_in, update_in, delete_in, select_in, fixed_in, name_in, value_in, turn_in, end_in, list_in, assignment_in, assignments_in, rule_in, null_in, column_in, columns_within, columns_in, symbol_in, form_of, form_in, statement_in}
 use Rattle.cs_lines.specs.DotReading.{behind_word, text_in, slot_in, no_word_in, one_slot_in, digits_in, load_in, hex_in, dump_in, revert_in, invert_in, concat_in, setting_in, settings_in, apply_in, attach_in, session_of, session_in, dot_of, dot_in}
 use Rattle.cs_lines.specs.LineReading.{line_in}
 use Rattle.cs_lines.proofs.TokenExamples.{on_literals}
@@ -16,18 +16,26 @@ use Rattle.cs_lines.proofs.LineLaws.{line_taken, refused}
 
 -- what an answer unfolds to read a literal line
 unfoldable pub on_lines : ⊤
-unfolding on_literals words_of line_in create_in insert_in update_in delete_in select_in fixed_in name_in value_in turn_in end_in list_in assignment_in assignments_in column_in more_columns_in columns_in symbol_in form_of form_in statement_in behind_word text_in slot_in no_word_in one_slot_in digits_in load_in hex_in dump_in revert_in invert_in concat_in setting_in settings_in apply_in attach_in session_of session_in dot_of dot_in
+unfolding on_literals words_of line_in create_in insert_in update_in delete_in select_in fixed_in name_in value_in turn_in end_in list_in assignment_in assignments_in rule_in null_in column_in columns_within columns_in symbol_in form_of form_in statement_in behind_word text_in slot_in no_word_in one_slot_in digits_in load_in hex_in dump_in revert_in invert_in concat_in setting_in settings_in apply_in attach_in session_of session_in dot_of dot_in
 on_lines = tt
 
 -- ---- lines that ask for something
 
-creates : Spelled (codes "CREATE TABLE t(a, b, PRIMARY KEY(a));") (Create (codes "t") (codes "a" ∷ codes "b" ∷ []) (codes "a" ∷ []))
+creates : Spelled (codes "CREATE TABLE t(a, b, PRIMARY KEY(a));") (Create (codes "t") (codes "a" ∷ codes "b" ∷ []) (false ∷ false ∷ []) (codes "a" ∷ []))
 unfolding on_lines
 creates = line_taken _ _ (IsUtf8-from_is_utf8 _ refl) refl
 
-creates_in_any_case : Spelled (codes "create Table t(a, \"b c\", Primary KEY(\"b c\", a)) ;\r") (Create (codes "t") (codes "a" ∷ codes "b c" ∷ []) (codes "b c" ∷ codes "a" ∷ []))
+creates_in_any_case : Spelled (codes "create Table t(a, \"b c\", Primary KEY(\"b c\", a)) ;\r") (Create (codes "t") (codes "a" ∷ codes "b c" ∷ []) (false ∷ false ∷ []) (codes "b c" ∷ codes "a" ∷ []))
 unfolding on_lines
 creates_in_any_case = line_taken _ _ (IsUtf8-from_is_utf8 _ refl) refl
+
+creates_with_a_rule : Spelled (codes "CREATE TABLE n(a, b NOT NULL, PRIMARY KEY(a));") (Create (codes "n") (codes "a" ∷ codes "b" ∷ []) (false ∷ true ∷ []) (codes "a" ∷ []))
+unfolding on_lines
+creates_with_a_rule = line_taken _ _ (IsUtf8-from_is_utf8 _ refl) refl
+
+creates_with_a_rule_in_any_case : Spelled (codes "create table n(a nOt Null,\"not\" NOT\tNULL , c,primary key(a));") (Create (codes "n") (codes "a" ∷ codes "not" ∷ codes "c" ∷ []) (true ∷ true ∷ false ∷ []) (codes "a" ∷ []))
+unfolding on_lines
+creates_with_a_rule_in_any_case = line_taken _ _ (IsUtf8-from_is_utf8 _ refl) refl
 
 inserts : Spelled (codes "INSERT INTO t VALUES(1,'z');") (Insert (codes "t") (Int (pos 1) ∷ Text (codes "z") ∷ []))
 unfolding on_lines
@@ -93,27 +101,35 @@ concatenates : Spelled (codes ".concat a b c") (Concat (codes "a") (codes "b") (
 unfolding on_lines
 concatenates = line_taken _ _ (IsUtf8-from_is_utf8 _ refl) refl
 
-applies : Spelled (codes ".apply a") (Apply (codes "a") Abort Abort Abort Report)
+applies : Spelled (codes ".apply a") (Apply (codes "a") Abort Abort Abort Abort Report)
 unfolding on_lines
 applies = line_taken _ _ (IsUtf8-from_is_utf8 _ refl) refl
 
-applies_with_a_choice : Spelled (codes ".apply a conflict=replace") (Apply (codes "a") Abort Abort Replace Report)
+applies_with_a_choice : Spelled (codes ".apply a conflict=replace") (Apply (codes "a") Abort Abort Replace Abort Report)
 unfolding on_lines
 applies_with_a_choice = line_taken _ _ (IsUtf8-from_is_utf8 _ refl) refl
 
-applies_with_choices_in_any_order : Spelled (codes ".apply a notfound=abort conflict=omit data=replace") (Apply (codes "a") Replace Abort Omit Report)
+applies_with_choices_in_any_order : Spelled (codes ".apply a notfound=abort conflict=omit data=replace") (Apply (codes "a") Replace Abort Omit Abort Report)
 unfolding on_lines
 applies_with_choices_in_any_order = line_taken _ _ (IsUtf8-from_is_utf8 _ refl) refl
 
-applies_and_ignores : Spelled (codes ".apply a noop=ignore") (Apply (codes "a") Abort Abort Abort Ignore)
+applies_with_a_choice_for_rules : Spelled (codes ".apply a constraint=omit") (Apply (codes "a") Abort Abort Abort Omit Report)
+unfolding on_lines
+applies_with_a_choice_for_rules = line_taken _ _ (IsUtf8-from_is_utf8 _ refl) refl
+
+applies_with_a_choice_for_each : Spelled (codes ".apply a constraint=replace conflict=replace data=omit notfound=omit") (Apply (codes "a") Omit Omit Replace Replace Report)
+unfolding on_lines
+applies_with_a_choice_for_each = line_taken _ _ (IsUtf8-from_is_utf8 _ refl) refl
+
+applies_and_ignores : Spelled (codes ".apply a noop=ignore") (Apply (codes "a") Abort Abort Abort Abort Ignore)
 unfolding on_lines
 applies_and_ignores = line_taken _ _ (IsUtf8-from_is_utf8 _ refl) refl
 
-applies_and_reports : Spelled (codes ".apply a noop=report") (Apply (codes "a") Abort Abort Abort Report)
+applies_and_reports : Spelled (codes ".apply a noop=report") (Apply (codes "a") Abort Abort Abort Abort Report)
 unfolding on_lines
 applies_and_reports = line_taken _ _ (IsUtf8-from_is_utf8 _ refl) refl
 
-applies_with_options_in_any_order : Spelled (codes ".apply a conflict=replace noop=ignore data=omit") (Apply (codes "a") Omit Abort Replace Ignore)
+applies_with_options_in_any_order : Spelled (codes ".apply a conflict=replace noop=ignore data=omit") (Apply (codes "a") Omit Abort Replace Abort Ignore)
 unfolding on_lines
 applies_with_options_in_any_order = line_taken _ _ (IsUtf8-from_is_utf8 _ refl) refl
 
@@ -183,6 +199,10 @@ choice_given_twice : (command : CommandData) → Spelled (codes ".apply a data=o
 unfolding on_lines
 choice_given_twice = refused _ (IsUtf8-from_is_utf8 _ refl) refl
 
+choice_for_rules_given_twice : (command : CommandData) → Spelled (codes ".apply a constraint=omit noop=ignore constraint=omit") command → ⊥
+unfolding on_lines
+choice_for_rules_given_twice = refused _ (IsUtf8-from_is_utf8 _ refl) refl
+
 noop_given_twice : (command : CommandData) → Spelled (codes ".apply a noop=ignore data=omit noop=report") command → ⊥
 unfolding on_lines
 noop_given_twice = refused _ (IsUtf8-from_is_utf8 _ refl) refl
@@ -210,6 +230,26 @@ no_key = refused _ (IsUtf8-from_is_utf8 _ refl) refl
 no_column : (command : CommandData) → Spelled (codes "CREATE TABLE t(PRIMARY KEY(a));") command → ⊥
 unfolding on_lines
 no_column = refused _ (IsUtf8-from_is_utf8 _ refl) refl
+
+not_without_null : (command : CommandData) → Spelled (codes "CREATE TABLE n(a, b NOT, PRIMARY KEY(a));") command → ⊥
+unfolding on_lines
+not_without_null = refused _ (IsUtf8-from_is_utf8 _ refl) refl
+
+null_without_not : (command : CommandData) → Spelled (codes "CREATE TABLE n(a, b NULL, PRIMARY KEY(a));") command → ⊥
+unfolding on_lines
+null_without_not = refused _ (IsUtf8-from_is_utf8 _ refl) refl
+
+rule_given_twice : (command : CommandData) → Spelled (codes "CREATE TABLE n(a, b NOT NULL NOT NULL, PRIMARY KEY(a));") command → ⊥
+unfolding on_lines
+rule_given_twice = refused _ (IsUtf8-from_is_utf8 _ refl) refl
+
+rule_without_a_comma : (command : CommandData) → Spelled (codes "CREATE TABLE n(a NOT NULL PRIMARY KEY(a));") command → ⊥
+unfolding on_lines
+rule_without_a_comma = refused _ (IsUtf8-from_is_utf8 _ refl) refl
+
+not_as_a_name : (command : CommandData) → Spelled (codes "SELECT * FROM Not;") command → ⊥
+unfolding on_lines
+not_as_a_name = refused _ (IsUtf8-from_is_utf8 _ refl) refl
 
 -- ---- lines that ask for nothing
 

@@ -69,7 +69,7 @@ leads_when : (s : Symbol) (tokens rest : List Token) (line : List ℕ) → is_si
 leads_when s tokens rest line no_sign is are = fixed_leads s rest line no_sign (subst (λ tokens. AreTokens line tokens) is are)
 
 pub statement_leads : (line : List ℕ) (tokens : List Token) (c : CommandData) → AreTokens line tokens → IsStatement tokens c → LeadsWord line
-statement_leads line tokens (Create name columns keys) are h = leads_when symbol.Create tokens _ line refl h.2 are
+statement_leads line tokens (Create name columns refuses keys) are h = leads_when symbol.Create tokens _ line refl h.3 are
 statement_leads line tokens (Insert table values) are h = leads_when symbol.Insert tokens _ line refl h.1 are
 statement_leads line tokens (Update table sets conditions) are h = leads_when symbol.Update tokens _ line refl h.2 are
 statement_leads line tokens (Delete table conditions) are h = leads_when symbol.Delete tokens _ line refl h.1 are
@@ -85,7 +85,7 @@ dot_words_lead line (Hex slot) h = (codes "hex", _, h.1)
 dot_words_lead line (Dump slot) h = (codes "dump", _, h.1)
 dot_words_lead line (Invert from into) h = (codes "invert", _, h.2)
 dot_words_lead line (Concat first second into) h = (codes "concat", _, h.3)
-dot_words_lead line (Apply slot on_data on_notfound on_conflict noop) h = (codes "apply", _, h.2)
+dot_words_lead line (Apply slot on_data on_notfound on_conflict on_constraint noop) h = (codes "apply", _, h.2)
 dot_words_lead line (Revert slot) h = (codes "revert", _, h.1)
 dot_words_lead line SessionOpen h = (codes "session", _, h)
 dot_words_lead line (SessionChangeset slot) h = (codes "session", _, h.1)
@@ -123,10 +123,10 @@ one_slot_read : (w : List ℕ) → IsSlot w → one_slot_in (w ∷ []) ≡ Some 
 unfolding one_slot_in no_word_in
 one_slot_read w s = rw (slot_read w [] s) refl
 
-apply_again : (line slot : List ℕ) (d n k : Choice) (noop : Noop) → IsDotLine (words_of line) (Apply slot d n k noop) → dot_in line ≡ Some (Apply slot d n k noop)
+apply_again : (line slot : List ℕ) (d n k r : Choice) (noop : Noop) → IsDotLine (words_of line) (Apply slot d n k r noop) → dot_in line ≡ Some (Apply slot d n k r noop)
 unfolding dot_of
-apply_again line slot d n k noop (s, settings, is, apart, data_is, notfound_is, conflict_is, noop_is) =
-    dot_by line _ _ _ is (rw (rest_of line _ _ is) (apply_read slot settings d n k noop (slot_read slot (map setting_text settings) s) apart data_is notfound_is conflict_is noop_is))
+apply_again line slot d n k r noop (s, settings, is, apart, data_is, notfound_is, conflict_is, constraint_is, noop_is) =
+    dot_by line _ _ _ is (rw (rest_of line _ _ is) (apply_read slot settings d n k r noop (slot_read slot (map setting_text settings) s) apart data_is notfound_is conflict_is constraint_is noop_is))
 
 dot_words_again : (line : List ℕ) (c : CommandData) → IsUtf8 line → IsDotLine (words_of line) c → dot_in line ≡ Some c
 unfolding dot_of session_of load_in digits_in text_in hex_in dump_in invert_in concat_in revert_in no_word_in
@@ -140,7 +140,7 @@ dot_words_again line (Revert slot) utf8 h = dot_by line _ _ _ h.1 (rw (rest_of l
 dot_words_again line (Invert from into) utf8 h = dot_by line _ _ _ h.2 (rw (rest_of line _ _ h.2, slot_read from (into ∷ []) h.0, one_slot_read into h.1) refl)
 dot_words_again line (Concat first second into) utf8 h =
     dot_by line _ _ _ h.3 (rw (rest_of line _ _ h.3, slot_read first (second ∷ into ∷ []) h.0, slot_read second (into ∷ []) h.1, one_slot_read into h.2) refl)
-dot_words_again line (Apply slot on_data on_notfound on_conflict noop) utf8 h = apply_again line slot on_data on_notfound on_conflict noop h
+dot_words_again line (Apply slot on_data on_notfound on_conflict on_constraint noop) utf8 h = apply_again line slot on_data on_notfound on_conflict on_constraint noop h
 dot_words_again line SessionOpen utf8 h = session_by line _ _ _ h (rw (rest_of_two line _ _ _ h) refl)
 dot_words_again line SessionIsEmpty utf8 h = session_by line _ _ _ h (rw (rest_of_two line _ _ _ h) refl)
 dot_words_again line SessionUndo utf8 h = session_by line _ _ _ h (rw (rest_of_two line _ _ _ h) refl)

@@ -30,18 +30,21 @@ abbrev pub at : Settings → Setting → Option Setting
 at s (ForKind kind.Data c) = option_map (ForKind kind.Data) s.on_data
 at s (ForKind kind.NotFound c) = option_map (ForKind kind.NotFound) s.on_notfound
 at s (ForKind kind.Conflict c) = option_map (ForKind kind.Conflict) s.on_conflict
+at s (ForKind kind.Constraint c) = option_map (ForKind kind.Constraint) s.on_constraint
 at s (ForNoop n) = option_map ForNoop s.noop
 
 abbrev pub put : Settings → Setting → Settings
 put s (ForKind kind.Data c) = record s { on_data = Some c }
 put s (ForKind kind.NotFound c) = record s { on_notfound = Some c }
 put s (ForKind kind.Conflict c) = record s { on_conflict = Some c }
+put s (ForKind kind.Constraint c) = record s { on_constraint = Some c }
 put s (ForNoop n) = record s { noop = Some n }
 
 none_at : (y : Setting) → at no_settings y ≡ None
 none_at (ForKind kind.Data c) = refl
 none_at (ForKind kind.NotFound c) = refl
 none_at (ForKind kind.Conflict c) = refl
+none_at (ForKind kind.Constraint c) = refl
 none_at (ForNoop n) = refl
 
 -- a setting is of the same option, and is what that is set to, or it changes nothing there
@@ -52,6 +55,7 @@ changes : (s : Settings) (x y : Setting) → Changes s x y
 changes s (ForKind kind.Data c) (ForKind kind.Data d) = inl (refl, refl)
 changes s (ForKind kind.NotFound c) (ForKind kind.NotFound d) = inl (refl, refl)
 changes s (ForKind kind.Conflict c) (ForKind kind.Conflict d) = inl (refl, refl)
+changes s (ForKind kind.Constraint c) (ForKind kind.Constraint d) = inl (refl, refl)
 changes s (ForNoop n) (ForNoop m) = inl (refl, refl)
 changes s (ForNoop n) (ForKind kind.Data d) = inr (other_bytes _ _ refl, refl)
 changes s _ _ = inr (other_bytes _ _ refl, refl)
@@ -92,8 +96,11 @@ word_read s (ForKind kind.NotFound choice.Omit) none = when_unset (ForKind kind.
 word_read s (ForKind kind.NotFound choice.Replace) none = when_unset (ForKind kind.NotFound) _ s.on_notfound none
 word_read s (ForKind kind.NotFound choice.Abort) none = when_unset (ForKind kind.NotFound) _ s.on_notfound none
 word_read s (ForKind kind.Conflict choice.Omit) none = when_unset (ForKind kind.Conflict) _ s.on_conflict none
+word_read s (ForKind kind.Constraint choice.Omit) none = when_unset (ForKind kind.Constraint) _ s.on_constraint none
 word_read s (ForKind kind.Conflict choice.Replace) none = when_unset (ForKind kind.Conflict) _ s.on_conflict none
+word_read s (ForKind kind.Constraint choice.Replace) none = when_unset (ForKind kind.Constraint) _ s.on_constraint none
 word_read s (ForKind kind.Conflict choice.Abort) none = when_unset (ForKind kind.Conflict) _ s.on_conflict none
+word_read s (ForKind kind.Constraint choice.Abort) none = when_unset (ForKind kind.Constraint) _ s.on_constraint none
 word_read s (ForNoop Report) none = when_unset ForNoop _ s.noop none
 word_read s (ForNoop Ignore) none = when_unset ForNoop _ s.noop none
 
@@ -145,8 +152,9 @@ setting_sets s t w h =
     sets_by (ForKind kind.Data) s t w (chosen_in kind.Data w) s.on_data _ _ (chosen_word kind.Data w) (λ c. refl) (λ c. refl)
     (λ h. sets_by (ForKind kind.NotFound) s t w (chosen_in kind.NotFound w) s.on_notfound _ _ (chosen_word kind.NotFound w) (λ c. refl) (λ c. refl)
     (λ h. sets_by (ForKind kind.Conflict) s t w (chosen_in kind.Conflict w) s.on_conflict _ _ (chosen_word kind.Conflict w) (λ c. refl) (λ c. refl)
+    (λ h. sets_by (ForKind kind.Constraint) s t w (chosen_in kind.Constraint w) s.on_constraint _ _ (chosen_word kind.Constraint w) (λ c. refl) (λ c. refl)
     (λ h. sets_by ForNoop s t w (noop_in w) s.noop _ _ (noop_word w) (λ n. refl) (λ n. refl)
-    (λ h. absurd (none_some t h)) h) h) h) h
+    (λ h. absurd (none_some t h)) h) h) h) h) h
 
 -- ---- words
 
@@ -277,11 +285,12 @@ module _ {X : Type 0} (option : X → Setting) (default : X) (xs : List Setting)
 -- ---- the command
 
 -- what `.apply` reads behind its slot
-pub apply_read : (slot : List ℕ) (xs : List Setting) (d n k : Choice) (noop : Noop) → slot_in (slot ∷ map setting_text xs) ≡ Some (slot, map setting_text xs) → AllPairs (λ x y. option_of x ≢ option_of y) xs
-    → IsChosen (ForKind kind.Data) choice.Abort xs d → IsChosen (ForKind kind.NotFound) choice.Abort xs n → IsChosen (ForKind kind.Conflict) choice.Abort xs k → IsChosen ForNoop Report xs noop
-    → apply_in (slot ∷ map setting_text xs) ≡ Some (Apply slot d n k noop)
+pub apply_read : (slot : List ℕ) (xs : List Setting) (d n k r : Choice) (noop : Noop) → slot_in (slot ∷ map setting_text xs) ≡ Some (slot, map setting_text xs) → AllPairs (λ x y. option_of x ≢ option_of y) xs
+    → IsChosen (ForKind kind.Data) choice.Abort xs d → IsChosen (ForKind kind.NotFound) choice.Abort xs n → IsChosen (ForKind kind.Conflict) choice.Abort xs k
+    → IsChosen (ForKind kind.Constraint) choice.Abort xs r → IsChosen ForNoop Report xs noop
+    → apply_in (slot ∷ map setting_text xs) ≡ Some (Apply slot d n k r noop)
 unfolding apply_in
-apply_read slot xs d n k noop read pairs data_is notfound_is conflict_is noop_is =
+apply_read slot xs d n k r noop read pairs data_is notfound_is conflict_is constraint_is noop_is =
     let are = recursion_from_AllPairs (λ x y. option_of x ≢ option_of y) xs pairs in
     let t = put_all no_settings xs in
     rw (
@@ -290,5 +299,6 @@ apply_read slot xs d n k noop read pairs data_is notfound_is conflict_is noop_is
       one_chosen (ForKind kind.Data) choice.Abort xs are (λ x y e. cc) t.on_data (λ c. refl) d data_is,
       one_chosen (ForKind kind.NotFound) choice.Abort xs are (λ x y e. cc) t.on_notfound (λ c. refl) n notfound_is,
       one_chosen (ForKind kind.Conflict) choice.Abort xs are (λ x y e. cc) t.on_conflict (λ c. refl) k conflict_is,
+      one_chosen (ForKind kind.Constraint) choice.Abort xs are (λ x y e. cc) t.on_constraint (λ c. refl) r constraint_is,
       one_chosen ForNoop Report xs are (λ x y e. cc) t.noop (λ n. refl) noop noop_is,
     ) refl

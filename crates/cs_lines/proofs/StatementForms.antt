@@ -1,83 +1,22 @@
 -- The forms of statements: what is read as one is spelled as it, and what is spelled as one is read as it.
-use Rattle.std.proofs.Common.{◌⊎◌, inl, inr, ◌≡◌, ◌≢◌, ℕ, List, [], ◌∷◌, ◌++◌, map, Option, Some, None, Bool, true, false, refl, sym, ap, subst, ◌∙◌, append_assoc}
-use Rattle.std.specs.Prelude.{if◌then◌else◌}
-use Rattle.std.specs.List.{flat_map}
+use Rattle.std.proofs.Common.{inl, inr, ◌≡◌, ◌≢◌, ℕ, List, [], ◌∷◌, ◌++◌, length, suc, map, Some, None, true, refl, sym, ap, subst, ◌∙◌, append_assoc}
 use Rattle.cs_lines.specs.declared.symbol.Symbol.{Symbol}
 use Rattle.cs_lines.specs.declared.symbol.Symbol.TheVariants as symbol
 use Rattle.cs_lines.specs.Tokens.{Token, Fixed, Name, Value}
-use Rattle.cs_lines.specs.Commands.{CommandData, Create, Insert, Update, Delete, Select, IsStatement, joined, assignment, where_tokens}
-use Rattle.cs_lines.specs.StatementReading.{Tokens, and_then, onto, name_of, name_in, value_of_token, fixed_in, is_fixed, same_symbol}
-use Rattle.cs_lines.specs.StatementReading.{names_in, values_in, assignments_in, more_columns_in, columns_in}
+use Rattle.cs_lines.specs.Commands.{columns_tokens, CommandData, Create, Insert, Update, Delete, Select, IsStatement, joined, assignment, where_tokens}
+use Rattle.cs_lines.specs.StatementReading.{Tokens, ColumnData, name_of, name_in, value_of_token, fixed_in, same_symbol}
+use Rattle.cs_lines.specs.StatementReading.{names_in, values_in, assignments_in, columns_in, names_and_rules_of}
 use Rattle.cs_lines.specs.StatementReading.{symbol_in, form_of, form_in, create_in, insert_in, update_in, delete_in, select_in, end_in, statement_in}
-use Rattle.cs_lines.proofs.StatementLaws.{some_pair, then_some, fixed_taken, name_taken, is_fixed-is, same_is, name_is, value_is, value_again, name_again, map_some-append, list_taken, assignments_taken, list_again, assignments_again}
+use Rattle.cs_lines.proofs.StatementLaws.{some_pair, then_some, if_some, fixed_taken, name_taken, same_is, name_is, value_is, value_again, name_again, map_some-append, list_taken, assignments_taken, list_again, assignments_again}
+use Rattle.cs_lines.proofs.ColumnLemmas.{tokens_of_columns, columns_taken, columns_again, names_with, rules_with}
 
 map_some-join : (xs ys : List Token) → map Some (xs ++ ys) ≡ map Some xs ++ map Some ys
 map_some-join [] ys = refl
 map_some-join (x ∷ xs) ys = ap (λ ts. Some x ∷ ts) (map_some-join xs ys)
 
-if_some : {X : Type 0} (p : Bool) (x y : Option X) (c : X) → (if p then x else y) ≡ Some c → ((p ≡ true) × (x ≡ Some c)) ⊎ ((p ≡ false) × (y ≡ Some c))
-if_some true x y c h = inl (refl, h)
-if_some false x y c h = inr (refl, h)
-
 -- the tokens are a statement's that begins with this keyword
 abbrev pub Takes : Symbol → Tokens → CommandData → Tokens → Type 0
 Takes first ts c rest = (tokens : List Token) × (Some (Fixed first) ∷ ts ≡ map Some tokens ++ rest) × IsStatement tokens c
-
--- ---- columns
-
-abbrev column_tokens : List (List ℕ) → List Token
-column_tokens columns = flat_map (λ column. Name column ∷ Fixed symbol.Comma ∷ []) columns
-
-comma_some : (q : Bool) (n : List ℕ) (read : Option (List (List ℕ) × Tokens)) (cs : List (List ℕ)) (rest : Tokens) → (if q then onto (n ∷ []) read else None) ≡ Some (cs, rest)
-    → (q ≡ true) × (ys : List (List ℕ)) × (read ≡ Some (ys, rest)) × (n ∷ ys ≡ cs)
-comma_some false n read cs rest h = absurd (cc)
-comma_some true n None cs rest h = absurd (cc)
-comma_some true n (Some r) cs rest h = let k = some_pair (n ∷ r.0, r.1) (cs, rest) h in (refl, r.0, ap (λ t. Some (r.0, t)) k.1, k.0)
-
-more_columns_on : (t u : Option Token) (ts : Tokens) (n : List ℕ) (cs ys : List (List ℕ)) (rest : Tokens) → t ≡ Some (Name n) → u ≡ Some (Fixed symbol.Comma) → n ∷ ys ≡ cs
-    → ts ≡ map Some (column_tokens ys) ++ Some (Fixed symbol.Primary) ∷ rest → t ∷ u ∷ ts ≡ map Some (column_tokens cs) ++ Some (Fixed symbol.Primary) ∷ rest
-more_columns_on t u ts n cs ys rest is_t is_u is_cs is_ts =
-    subst (λ cs. t ∷ u ∷ ts ≡ map Some (column_tokens cs) ++ Some (Fixed symbol.Primary) ∷ rest) is_cs
-    (ap (λ t. t ∷ u ∷ ts) is_t ∙ ap (λ u. Some (Name n) ∷ u ∷ ts) is_u ∙ ap (λ ts. Some (Name n) ∷ Some (Fixed symbol.Comma) ∷ ts) is_ts)
-
-more_columns_taken : (ts : Tokens) (cs : List (List ℕ)) (rest : Tokens) → more_columns_in ts ≡ Some (cs, rest) → ts ≡ map Some (column_tokens cs) ++ Some (Fixed symbol.Primary) ∷ rest
-unfolding more_columns_in
-more_columns_taken [] cs rest h = absurd (cc)
-more_columns_taken (t ∷ []) cs rest h =
-    elim (if_some (is_fixed symbol.Primary t) (Some ([], [])) None (cs, rest) h) [
-      | inl k ↦ let e = some_pair ([], []) (cs, rest) k.1 in rw (is_fixed-is symbol.Primary t k.0, ← e.0, ← e.1) refl
-      | inr k ↦ absurd (let j = k.1 in cc)
-    ]
-more_columns_taken (t ∷ u ∷ ts) cs rest h =
-    elim (if_some (is_fixed symbol.Primary t) (Some ([], u ∷ ts)) (and_then (name_of t) (λ n. if is_fixed symbol.Comma u then onto (n ∷ []) (more_columns_in ts) else None)) (cs, rest) h) [
-      | inl k ↦ let e = some_pair ([], u ∷ ts) (cs, rest) k.1 in rw (is_fixed-is symbol.Primary t k.0, ← e.0, ← e.1) refl
-      | inr k ↦
-          let n = then_some (name_of t) (λ n. if is_fixed symbol.Comma u then onto (n ∷ []) (more_columns_in ts) else None) (cs, rest) k.1 in
-          let j = comma_some (is_fixed symbol.Comma u) n.0 (more_columns_in ts) cs rest n.2 in
-          more_columns_on t u ts n.0 cs j.1 rest (name_is t n.0 n.1) (is_fixed-is symbol.Comma u j.0) j.3 (more_columns_taken ts j.1 rest j.2)
-    ]
-
-columns_taken : (ts : Tokens) (cs : List (List ℕ)) (rest : Tokens) → columns_in ts ≡ Some (cs, rest) → (cs ≢ []) × (ts ≡ map Some (column_tokens cs) ++ Some (Fixed symbol.Primary) ∷ rest)
-unfolding columns_in
-columns_taken ts cs rest h =
-    let n = then_some (name_in ts) _ (cs, rest) h in
-    let t = then_some (fixed_in symbol.Comma n.0.1) _ (cs, rest) n.2 in
-    let j = comma_some true n.0.0 (more_columns_in t.0) cs rest t.2 in (
-      λ e. let f = j.3 in cc,
-      name_taken ts n.0.1 n.0.0 n.1 ∙ ap (λ ts. Some (Name n.0.0) ∷ ts) (fixed_taken symbol.Comma n.0.1 t.0 t.1)
-          ∙ more_columns_on (Some (Name n.0.0)) (Some (Fixed symbol.Comma)) t.0 n.0.0 cs j.1 rest refl refl j.3 (more_columns_taken t.0 j.1 rest j.2),
-    )
-
-more_columns_again : (cs : List (List ℕ)) (rest : Tokens) → more_columns_in (map Some (column_tokens cs) ++ Some (Fixed symbol.Primary) ∷ rest) ≡ Some (cs, rest)
-unfolding more_columns_in
-more_columns_again [] [] = refl
-more_columns_again [] (t ∷ rest) = refl
-more_columns_again (c ∷ cs) rest = rw (more_columns_again cs rest) refl
-
-columns_again : (cs : List (List ℕ)) (rest : Tokens) → cs ≢ [] → columns_in (map Some (column_tokens cs) ++ Some (Fixed symbol.Primary) ∷ rest) ≡ Some (cs, rest)
-unfolding columns_in name_in fixed_in
-columns_again [] rest some = absurd (some refl)
-columns_again (c ∷ cs) rest some = rw (more_columns_again cs rest) refl
 
 -- ---- what is read is spelled so
 
@@ -189,6 +128,14 @@ create_spelled ts a b v w rest n columns keys is_ts is_a is_b is_v is_w =
     ∙ ap (λ w. map Some columns ++ w) is_w ∙ sym (map_some-append columns (key_tokens keys ++ closing) rest)
     ∙ ap (λ tokens. map Some tokens ++ rest) (sym (append_assoc columns (key_tokens keys) closing))))))
 
+some_names : (cs : List ColumnData) → cs ≢ [] → map (λ c. c.name) cs ≢ []
+some_names [] some = absurd (some refl)
+some_names (c ∷ cs) some = λ none. cc
+
+same_lengths : (cs : List ColumnData) → length (map (λ c. c.refuses) cs) ≡ length (map (λ c. c.name) cs)
+same_lengths [] = refl
+same_lengths (c ∷ cs) = ap suc (same_lengths cs)
+
 create_taken : (ts rest : Tokens) (c : CommandData) → create_in ts ≡ Some (c, rest) → Takes symbol.Create ts c rest
 unfolding create_in
 create_taken ts rest c h =
@@ -201,14 +148,14 @@ create_taken ts rest c h =
     let y = then_some (names_in e.0) _ _ e.2 in
     let f = then_some (fixed_in symbol.Close y.0.1) _ _ y.2 in
     let g = then_some (fixed_in symbol.Semicolon f.0) _ _ f.2 in
-    let k = some_pair (Create n.0.0 v.0.0 y.0.0, g.0) (c, rest) g.2 in
+    let k = some_pair (Create n.0.0 (names_and_rules_of v.0.0).0 (names_and_rules_of v.0.0).1 y.0.0, g.0) (c, rest) g.2 in
     let i = columns_taken b.0 v.0.0 v.0.1 v.1 in
     let j = list_taken name_of Name name_is symbol.Comma symbol.Close e.0 y.0.0 y.0.1 y.1 in
     let keys = joined (Fixed symbol.Comma) (map (λ key. Name key ∷ []) y.0.0) in (
-      create_tokens n.0.0 (column_tokens v.0.0) keys,
-      create_spelled ts a.0 n.0.1 b.0 (Some (Fixed symbol.Primary) ∷ v.0.1) rest n.0.0 (column_tokens v.0.0) keys (fixed_taken symbol.Table ts a.0 a.1) (name_taken a.0 n.0.1 n.0.0 n.1) (fixed_taken symbol.Open n.0.1 b.0 b.1) i.1
+      create_tokens n.0.0 (tokens_of_columns v.0.0) keys,
+      create_spelled ts a.0 n.0.1 b.0 (Some (Fixed symbol.Primary) ∷ v.0.1) rest n.0.0 (tokens_of_columns v.0.0) keys (fixed_taken symbol.Table ts a.0 a.1) (name_taken a.0 n.0.1 n.0.0 n.1) (fixed_taken symbol.Open n.0.1 b.0 b.1) i.1
           (keys_spelled v.0.1 d.0 e.0 y.0.1 f.0 g.0 rest keys (fixed_taken symbol.Key v.0.1 d.0 d.1) (fixed_taken symbol.Open d.0 e.0 e.1) j.1 (fixed_taken symbol.Close y.0.1 f.0 f.1) (fixed_taken symbol.Semicolon f.0 g.0 g.1) k.1),
-      subst (λ c. IsStatement (create_tokens n.0.0 (column_tokens v.0.0) keys) c) k.0 (i.0, j.0, refl),
+      subst (λ c. IsStatement (create_tokens n.0.0 (tokens_of_columns v.0.0) keys) c) k.0 (some_names v.0.0 i.0, j.0, same_lengths v.0.0, refl),
     )
 
 takes_as : (first s : Symbol) (ts : Tokens) (c : CommandData) (rest : Tokens) → same_symbol first s ≡ true → Takes s ts c rest → Takes first ts c rest
@@ -266,13 +213,15 @@ statement_taken ts c h =
 
 pub statement_again : (tokens : List Token) (c : CommandData) → IsStatement tokens c → statement_in (map Some tokens) ≡ Some c
 unfolding statement_in form_in form_of symbol_in create_in insert_in update_in delete_in select_in fixed_in name_in end_in
-statement_again tokens (Create name columns keys) h =
+statement_again tokens (Create name columns refuses keys) h =
     let keys_are = joined (Fixed symbol.Comma) (map (λ key. Name key ∷ []) keys) in
     rw (
-      h.2,
-      append_assoc (column_tokens columns) (key_tokens keys_are) closing,
-      map_some-join (column_tokens columns) (key_tokens keys_are ++ closing),
-      columns_again columns _ h.0,
+      h.3,
+      append_assoc (columns_tokens columns refuses) (key_tokens keys_are) closing,
+      map_some-join (columns_tokens columns refuses) (key_tokens keys_are ++ closing),
+      columns_again columns refuses _ h.0 h.2,
+      names_with columns refuses h.2,
+      rules_with columns refuses h.2,
       map_some-join keys_are closing,
       list_again name_of Name name_again symbol.Comma symbol.Close refl refl keys _ h.1,
     ) refl

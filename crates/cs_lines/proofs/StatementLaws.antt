@@ -1,5 +1,5 @@
 -- What the readers of lists of tokens accept: the tokens of a statement, and these alone.
-use Rattle.std.proofs.Common.{◌≡◌, ◌≢◌, ℕ, List, [], ◌∷◌, ◌++◌, map, Option, Some, None, option_map, Bool, true, false, refl, sym, ap, subst, ◌∙◌, get_or}
+use Rattle.std.proofs.Common.{◌⊎◌, inl, inr, ◌≡◌, ◌≢◌, ℕ, List, [], ◌∷◌, ◌++◌, map, Option, Some, None, option_map, Bool, true, false, refl, sym, ap, subst, ◌∙◌, get_or}
 use Rattle.std.specs.Prelude.{if◌then◌else◌}
 use Rattle.std.proofs.lemmas.Bool.{eqb-true}
 use Rattle.cs_value.specs.declared.value.OwnedValue.{OwnedValue}
@@ -13,7 +13,7 @@ use Rattle.cs_lines.specs.StatementReading.{list_in, assignment_of_tokens, assig
 -- ---- tokens that are read, and what they are
 
 abbrev symbols : List Symbol
-symbols = symbol.Create ∷ symbol.Table ∷ symbol.Primary ∷ symbol.Key ∷ symbol.Insert ∷ symbol.Into ∷ symbol.Values ∷ symbol.Update ∷ symbol.Set ∷ symbol.Where ∷ symbol.And ∷ symbol.Delete ∷ symbol.From ∷ symbol.Select ∷ symbol.Open ∷ symbol.Close ∷ symbol.Comma ∷ symbol.Semicolon ∷ symbol.Equals ∷ symbol.Star ∷ []
+symbols = symbol.Create ∷ symbol.Table ∷ symbol.Primary ∷ symbol.Key ∷ symbol.Insert ∷ symbol.Into ∷ symbol.Values ∷ symbol.Update ∷ symbol.Set ∷ symbol.Where ∷ symbol.And ∷ symbol.Delete ∷ symbol.From ∷ symbol.Select ∷ symbol.Not ∷ symbol.Open ∷ symbol.Close ∷ symbol.Comma ∷ symbol.Semicolon ∷ symbol.Equals ∷ symbol.Star ∷ []
 
 abbrev symbol_at : ℕ → Symbol
 symbol_at n = get_or symbols n symbol.Create
@@ -33,6 +33,7 @@ at_place symbol.And = refl
 at_place symbol.Delete = refl
 at_place symbol.From = refl
 at_place symbol.Select = refl
+at_place symbol.Not = refl
 at_place symbol.Open = refl
 at_place symbol.Close = refl
 at_place symbol.Comma = refl
@@ -57,7 +58,7 @@ then_some (Some x) next y h = (x, refl, h)
 pub some_pair : {X Y : Type 0} (a b : X × Y) → Some a ≡ Some b → (a.0 ≡ b.0) × (a.1 ≡ b.1)
 some_pair a b h = let e : a ≡ b = cc in (ap (λ r. r.0) e, ap (λ r. r.1) e)
 
-taken : (q : Bool) (ts ts' : Tokens) → (if q then Some ts else None) ≡ Some ts' → (q ≡ true) × (ts ≡ ts')
+pub taken : (q : Bool) (ts ts' : Tokens) → (if q then Some ts else None) ≡ Some ts' → (q ≡ true) × (ts ≡ ts')
 taken true ts ts' h = (refl, cc)
 taken false ts ts' h = absurd (cc)
 
@@ -82,9 +83,14 @@ value_taken (Some (Fixed s) ∷ ts) ts' v h = absurd (cc)
 value_taken (Some (Name m) ∷ ts) ts' v h = absurd (cc)
 value_taken (Some (Value w) ∷ ts) ts' v h = let k = some_pair (w, ts) (v, ts') h in ap (λ m. Some (Value m) ∷ ts) k.0 ∙ ap (λ ts. Some (Value v) ∷ ts) k.1
 
+-- where a test chooses between two readers, one of them accepts
+pub if_some : {X : Type 0} (p : Bool) (x y : Option X) (c : X) → (if p then x else y) ≡ Some c → ((p ≡ true) × (x ≡ Some c)) ⊎ ((p ≡ false) × (y ≡ Some c))
+if_some true x y c h = inl (refl, h)
+if_some false x y c h = inr (refl, h)
+
 -- ---- loops
 
-some_of : {X : Type 0} (items : List X) (rest : Tokens) (read : Option (List X × Tokens)) (xs : List X) → onto items read ≡ Some (xs, rest) → (ys : List X) × (read ≡ Some (ys, rest)) × (items ++ ys ≡ xs)
+pub some_of : {X : Type 0} (items : List X) (rest : Tokens) (read : Option (List X × Tokens)) (xs : List X) → onto items read ≡ Some (xs, rest) → (ys : List X) × (read ≡ Some (ys, rest)) × (items ++ ys ≡ xs)
 some_of items rest None xs h = absurd (cc)
 some_of items rest (Some r) xs h = let k = some_pair (items ++ r.0, r.1) (xs, rest) h in (r.0, ap (λ t. Some (r.0, t)) k.1, k.0)
 

@@ -7,16 +7,16 @@ use Rattle.cs_lines.specs.declared.symbol.Symbol.TheVariants as symbol
 use Rattle.cs_lines.specs.Tokens.{Token, Fixed, Name, Value}
 use Rattle.cs_lines.specs.Commands.{AssignmentData}
 use Rattle.cs_lines.specs.StatementReading.{Tokens, and_then, onto, going, first_in, turn_of, turn_in, name_of, name_in, value_of_token, value_in, fixed_in, is_fixed}
-use Rattle.cs_lines.specs.StatementReading.{list_in, assignment_of_tokens, assignment_in, assignments_in, column_in, more_columns_in, columns_behind, columns_in}
+use Rattle.cs_lines.specs.StatementReading.{list_in, assignment_of_tokens, assignment_in, assignments_in}
 use Rattle.cs_lines.specs.StatementReading.{same_symbol, symbol_in, form_of, form_in, create_in, insert_in, update_in, delete_in, select_in}
 
 -- ---- loops over items
 
-onto-nil : {X : Type 0} (read : Option (List X × Tokens)) → onto [] read ≡ read
+pub onto-nil : {X : Type 0} (read : Option (List X × Tokens)) → onto [] read ≡ read
 onto-nil None = refl
 onto-nil (Some r) = refl
 
-onto-onto : {X : Type 0} (items more : List X) (read : Option (List X × Tokens)) → onto items (onto more read) ≡ onto (items ++ more) read
+pub onto-onto : {X : Type 0} (items more : List X) (read : Option (List X × Tokens)) → onto items (onto more read) ≡ onto (items ++ more) read
 onto-onto items more None = refl
 onto-onto items more (Some r) = ap (λ xs. Some (xs, r.1)) (sym (append_assoc items more r.0))
 
@@ -147,52 +147,6 @@ assignments_unfold between last (t ∷ u ∷ v ∷ []) =
     read_last between last (assignment_of_tokens t u v) (assignments_in between last) ∙ item_is between last (assignments_in between last) _ _ (assignment_is t u v [])
 assignments_unfold between last (t ∷ u ∷ v ∷ w ∷ ts) =
     read_on between last (assignment_of_tokens t u v) w ts (assignments_in between last) ∙ item_is between last (assignments_in between last) _ _ (assignment_is t u v (w ∷ ts))
-
--- ---- columns
-
-column_read : (p q : Bool) (n : List ℕ) (u : Option Token) (ts : Tokens)
-    → (if p then Some ([], u ∷ ts) else if q then onto (n ∷ []) (more_columns_in ts) else None)
-    ≡ and_then {X = Option (List ℕ) × Tokens} (if p then Some (None, u ∷ ts) else option_map (λ rest. (Some n, rest)) (if q then Some ts else None)) (λ r. columns_behind r.0 r.1)
-column_read true q n u ts = refl
-column_read false true n u ts = refl
-column_read false false n u ts = refl
-
-column_alone : (p : Bool) (rest : Tokens)
-    → (if p then Some ([], rest) else None)
-    ≡ and_then {X = Option (List ℕ) × Tokens} (if p then Some (None, rest) else None) (λ r. columns_behind r.0 r.1)
-column_alone true rest = refl
-column_alone false rest = refl
-
-pub more_columns_unfold : (tokens : Tokens) → more_columns_in tokens ≡ and_then (column_in tokens) (λ r. columns_behind r.0 r.1)
-unfolding more_columns_in column_in fixed_in
-more_columns_unfold [] = refl
-more_columns_unfold (None ∷ []) = refl
-more_columns_unfold (Some (Fixed s) ∷ []) = column_alone (is_fixed symbol.Primary (Some (Fixed s))) []
-more_columns_unfold (Some (Name n) ∷ []) = refl
-more_columns_unfold (Some (Value x) ∷ []) = refl
-more_columns_unfold (None ∷ u ∷ ts) = refl
-more_columns_unfold (Some (Fixed s) ∷ u ∷ ts) = column_alone (is_fixed symbol.Primary (Some (Fixed s))) (u ∷ ts)
-more_columns_unfold (Some (Name n) ∷ u ∷ ts) = column_read false (is_fixed symbol.Comma u) n u ts
-more_columns_unfold (Some (Value x) ∷ u ∷ ts) = refl
-
--- one more column is read, or PRIMARY
-pub columns_go : (items : List (List ℕ)) (n : List ℕ) (rest t2 : Tokens) (o : Option (List ℕ)) (so_far : Option (List (List ℕ) × Tokens))
-    → so_far ≡ onto items (columns_behind (Some n) rest) → column_in rest ≡ Some (o, t2) → so_far ≡ onto (items ++ n ∷ []) (columns_behind o t2)
-columns_go items n rest t2 o so_far is is_column =
-    is ∙ ap (λ r. onto items (onto (n ∷ []) r)) (more_columns_unfold rest ∙ ap (λ c. and_then c (λ r. columns_behind r.0 r.1)) is_column)
-    ∙ onto-onto items (n ∷ []) (columns_behind o t2)
-
-pub no_column : (items : List (List ℕ)) (n : List ℕ) (rest : Tokens) (so_far : Option (List (List ℕ) × Tokens))
-    → so_far ≡ onto items (columns_behind (Some n) rest) → column_in rest ≡ None → so_far ≡ None
-no_column items n rest so_far is is_none =
-    is ∙ ap (λ r. onto items (onto (n ∷ []) r)) (more_columns_unfold rest ∙ ap (λ c. and_then c (λ r. columns_behind r.0 r.1)) is_none)
-
-pub columns_end : (items : List (List ℕ)) (rest : Tokens) (so_far : Option (List (List ℕ) × Tokens)) → so_far ≡ onto items (columns_behind None rest) → so_far ≡ Some (items, rest)
-columns_end items rest so_far is = is ∙ ap (λ xs. Some (xs, rest)) (append-nil items)
-
-pub columns_start : (line t1 t2 : Tokens) (n : List ℕ) → name_in line ≡ Some (n, t1) → fixed_in symbol.Comma t1 ≡ Some t2 → columns_in line ≡ onto [] (columns_behind (Some n) t2)
-unfolding columns_in
-columns_start line t1 t2 n is_name is_comma = rw (is_name, is_comma) (sym (onto-nil (columns_behind (Some n) t2)))
 
 -- ---- the forms of statements
 

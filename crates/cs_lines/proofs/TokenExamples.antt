@@ -5,7 +5,7 @@ use Rattle.std.specs.Str.{is_utf8, chars}
 use lib.Utf8.{encode}
 use Rattle.hex.proofs.OnLiterals.{hex_on_literals}
 use Rattle.cs_value.specs.declared.value.OwnedValue.TheVariants.{Int, Text, Blob, Null}
-use Rattle.cs_lines.specs.declared.symbol.Symbol.TheVariants.{Create, Table, Select, From, Star, Semicolon, Open, Close, Comma, Equals}
+use Rattle.cs_lines.specs.declared.symbol.Symbol.TheVariants.{Create, Table, Select, From, Not, Star, Semicolon, Open, Close, Comma, Equals}
 use Rattle.cs_lines.specs.Tokens.{Fixed, Name, Value}
 use Rattle.cs_lines.specs.Reading.{front_of, behind, piece_of, behind_piece, unquoted, keyword_of, word_of, is_integer, integer_of, token_of_piece, piece_at, name_from, text_from, blob_from, blob_of, blob_at, sign_at, token_at, next_at, tokens_within, tokens_of}
 
@@ -66,6 +66,10 @@ no_blanks = refl
 names : tokens_of (codes "\"select\" X x1 _") ≡ Some (Name (codes "select")) ∷ Some (Name (codes "X")) ∷ Some (Name (codes "x1")) ∷ Some (Name (codes "_")) ∷ []
 unfolding on_literals
 names = refl
+
+not_null : tokens_of (codes "Not nulL not_ \"not\"") ≡ Some (Fixed Not) ∷ Some (Value Null) ∷ Some (Name (codes "not_")) ∷ Some (Name (codes "not")) ∷ []
+unfolding on_literals
+not_null = refl
 
 -- the tokens in front of what is malformed
 until_malformed : tokens_of (codes "(a=-7)#,") ≡ Some (Fixed Open) ∷ Some (Name (codes "a")) ∷ Some (Fixed Equals) ∷ Some (Value (Int (negsuc 6))) ∷ Some (Fixed Close) ∷ None ∷ []

@@ -192,7 +192,7 @@ find_fails word (s ∷ symbols) more e = elim (cases_Bool (str_eq_ignore_ascii_c
 
 pub keywords_then_null : map symbol_text keywords ++ codes "NULL" ∷ []
     ≡ codes "CREATE" ∷ codes "TABLE" ∷ codes "PRIMARY" ∷ codes "KEY" ∷ codes "INSERT" ∷ codes "INTO" ∷ codes "VALUES" ∷ codes "UPDATE" ∷ codes "SET" ∷ codes "WHERE" ∷ codes "AND"
-    ∷ codes "DELETE" ∷ codes "FROM" ∷ codes "SELECT" ∷ codes "NULL" ∷ []
+    ∷ codes "DELETE" ∷ codes "FROM" ∷ codes "SELECT" ∷ codes "NOT" ∷ codes "NULL" ∷ []
 keywords_then_null = refl
 
 named_spells : (bytes rest : List ℕ) (found : Option Symbol) → IsWord bytes rest → find (λ s. str_eq_ignore_ascii_case bytes (symbol_text s)) keywords ≡ found → Spells (named bytes found) bytes rest
@@ -309,6 +309,7 @@ symbol_long symbol.And = omega arith
 symbol_long symbol.Delete = omega arith
 symbol_long symbol.From = omega arith
 symbol_long symbol.Select = omega arith
+symbol_long symbol.Not = omega arith
 symbol_long symbol.Open = omega arith
 symbol_long symbol.Close = omega arith
 symbol_long symbol.Comma = omega arith

@@ -1,8 +1,9 @@
 -- The commands that lines ask for, and the tokens and words of each. The grammar is this project's own: of SQL and of the
 -- shell of SQLite it has the few forms that tables, rows and changesets need.
-use Rattle.std.specs.Prelude.{◌≡◌, ◌≢◌, ◌⊎◌, ℕ, List, [], ◌∷◌, ◌++◌, map, true, codes, AllPairs, Contains, IsUtf8, string_bytes}
-use Rattle.std.specs.List.{flat_map, AllByRecursion}
+use Rattle.std.specs.Prelude.{◌≡◌, ◌≢◌, ◌⊎◌, ℕ, Bool, List, [], ◌∷◌, ◌++◌, length, map, true, false, codes, AllPairs, Contains, IsUtf8, string_bytes}
+use Rattle.std.specs.List.{AllByRecursion}
 use Rattle.cs_value.specs.declared.value.OwnedValue.{OwnedValue}
+use Rattle.cs_value.specs.declared.value.OwnedValue.TheVariants.{Null}
 use Rattle.cs_group.specs.declared.conflict.Kind.{Kind}
 use Rattle.cs_group.specs.declared.conflict.Kind.TheVariants as kind
 use Rattle.cs_group.specs.declared.conflict.Choice.{Choice}
@@ -15,7 +16,7 @@ use Rattle.cs_lines.specs.declared.command.Assignment.{Assignment}
 use Rattle.cs_lines.specs.declared.symbol.Symbol.TheVariants.{Create as CREATE, Table as TABLE, Primary as PRIMARY}
 use Rattle.cs_lines.specs.declared.symbol.Symbol.TheVariants.{Key as KEY, Insert as INSERT, Into as INTO, Values as VALUES}
 use Rattle.cs_lines.specs.declared.symbol.Symbol.TheVariants.{Update as UPDATE, Set as SET, Where as WHERE, And as AND}
-use Rattle.cs_lines.specs.declared.symbol.Symbol.TheVariants.{Delete as DELETE, From as FROM, Select as SELECT}
+use Rattle.cs_lines.specs.declared.symbol.Symbol.TheVariants.{Delete as DELETE, From as FROM, Select as SELECT, Not as NOT}
 use Rattle.cs_lines.specs.declared.symbol.Symbol.TheVariants.{Open, Close, Comma, Semicolon, Equals, Star}
 use Rattle.cs_lines.specs.Tokens.{Token, Fixed, Name, Value, is_word_byte}
 
@@ -26,7 +27,7 @@ pub record AssignmentData : Type 0 where
 
 -- what a line asks for; names, slots and digits are bytes
 pub data CommandData : Type 0 where
-  Create : (name : List ℕ) (columns keys : List (List ℕ)) → CommandData
+  Create : (name : List ℕ) (columns : List (List ℕ)) (refuses : List Bool) (keys : List (List ℕ)) → CommandData
   Insert : (table : List ℕ) (values : List OwnedValue) → CommandData
   Update : (table : List ℕ) (sets conditions : List AssignmentData) → CommandData
   Delete : (table : List ℕ) (conditions : List AssignmentData) → CommandData
@@ -36,7 +37,7 @@ pub data CommandData : Type 0 where
   Dump : (slot : List ℕ) → CommandData
   Invert : (from into : List ℕ) → CommandData
   Concat : (first second into : List ℕ) → CommandData
-  Apply : (slot : List ℕ) (on_data on_notfound on_conflict : Choice) (noop : Noop) → CommandData
+  Apply : (slot : List ℕ) (on_data on_notfound on_conflict on_constraint : Choice) (noop : Noop) → CommandData
   Revert : (slot : List ℕ) → CommandData
   SessionOpen : CommandData
   SessionAttach : (table : List ℕ) → CommandData
@@ -56,15 +57,26 @@ joined between (item ∷ next ∷ items) = item ++ between ∷ joined between (n
 abbrev pub assignment : AssignmentData → List Token
 assignment a = Name a.column ∷ Fixed Equals ∷ Value a.value ∷ []
 
+-- what stands behind a column: NOT NULL where it refuses NULL, and a comma
+abbrev pub rule_tokens : Bool → List Token
+rule_tokens true = Fixed NOT ∷ Value Null ∷ Fixed Comma ∷ []
+rule_tokens false = Fixed Comma ∷ []
+
+-- columns, each with whether it refuses NULL
+abbrev pub columns_tokens : List (List ℕ) → List Bool → List Token
+columns_tokens (column ∷ columns) (mark ∷ refuses) = Name column ∷ rule_tokens mark ++ columns_tokens columns refuses
+columns_tokens [] refuses = []
+columns_tokens (column ∷ columns) [] = []
+
 -- the conditions, and the end of the statement
 abbrev pub where_tokens : List AssignmentData → List Token
 where_tokens conditions = Fixed WHERE ∷ joined (Fixed AND) (map assignment conditions) ++ Fixed Semicolon ∷ []
 
 -- the tokens are the statement's: its lists have an element, and one at least
 abbrev pub IsStatement : List Token → CommandData → Type 0
-IsStatement tokens (Create name columns keys) = (columns ≢ []) × (keys ≢ [])
+IsStatement tokens (Create name columns refuses keys) = (columns ≢ []) × (keys ≢ []) × (length refuses ≡ length columns)
     × (tokens ≡ Fixed CREATE ∷ Fixed TABLE ∷ Name name ∷ Fixed Open
-    ∷ flat_map (λ column. Name column ∷ Fixed Comma ∷ []) columns
+    ∷ columns_tokens columns refuses
     ++ Fixed PRIMARY ∷ Fixed KEY ∷ Fixed Open ∷ joined (Fixed Comma) (map (λ key. Name key ∷ []) keys)
     ++ Fixed Close ∷ Fixed Close ∷ Fixed Semicolon ∷ [])
 IsStatement tokens (Insert table values) = (values ≢ [])
@@ -89,6 +101,7 @@ abbrev pub kind_text : Kind → List ℕ
 kind_text kind.Data = codes "data"
 kind_text kind.NotFound = codes "notfound"
 kind_text kind.Conflict = codes "conflict"
+kind_text kind.Constraint = codes "constraint"
 
 abbrev pub choice_text : Choice → List ℕ
 choice_text choice.Omit = codes "omit"
@@ -131,11 +144,12 @@ IsDotLine words (Dump slot) = IsSlot slot × (words ≡ codes ".dump" ∷ slot �
 IsDotLine words (Invert from into) = IsSlot from × IsSlot into × (words ≡ codes ".invert" ∷ from ∷ into ∷ [])
 IsDotLine words (Concat first second into) = IsSlot first × IsSlot second × IsSlot into
     × (words ≡ codes ".concat" ∷ first ∷ second ∷ into ∷ [])
-IsDotLine words (Apply slot on_data on_notfound on_conflict noop) = IsSlot slot × (settings : List Setting)
+IsDotLine words (Apply slot on_data on_notfound on_conflict on_constraint noop) = IsSlot slot × (settings : List Setting)
     × (words ≡ codes ".apply" ∷ slot ∷ map setting_text settings) × AllPairs (λ s t. option_of s ≢ option_of t) settings
     × IsChosen (ForKind kind.Data) choice.Abort settings on_data
     × IsChosen (ForKind kind.NotFound) choice.Abort settings on_notfound
     × IsChosen (ForKind kind.Conflict) choice.Abort settings on_conflict
+    × IsChosen (ForKind kind.Constraint) choice.Abort settings on_constraint
     × IsChosen ForNoop Report settings noop
 IsDotLine words (Revert slot) = IsSlot slot × (words ≡ codes ".revert" ∷ slot ∷ [])
 IsDotLine words SessionOpen = words ≡ codes ".session" ∷ codes "open" ∷ []
@@ -152,8 +166,8 @@ assignment_of a = record { column = string_bytes a.column; value = a.value }
 
 -- a command, with the bytes of its names
 abbrev pub command_of : Command → CommandData
-command_of (command.Create name columns keys) =
-    Create (string_bytes name) (map string_bytes columns.items) (map string_bytes keys.items)
+command_of (command.Create name columns refuses keys) =
+    Create (string_bytes name) (map string_bytes columns.items) refuses.items (map string_bytes keys.items)
 command_of (command.Insert table values) = Insert (string_bytes table) values.items
 command_of (command.Update table sets conditions) =
     Update (string_bytes table) (map assignment_of sets.items) (map assignment_of conditions.items)
@@ -165,8 +179,8 @@ command_of (command.Dump slot) = Dump (string_bytes slot)
 command_of (command.Invert from into) = Invert (string_bytes from) (string_bytes into)
 command_of (command.Concat first second into) =
     Concat (string_bytes first) (string_bytes second) (string_bytes into)
-command_of (command.Apply slot on_data on_notfound on_conflict noop) =
-    Apply (string_bytes slot) on_data on_notfound on_conflict noop
+command_of (command.Apply slot on_data on_notfound on_conflict on_constraint noop) =
+    Apply (string_bytes slot) on_data on_notfound on_conflict on_constraint noop
 command_of (command.Revert slot) = Revert (string_bytes slot)
 command_of command.SessionOpen = SessionOpen
 command_of (command.SessionAttach table) = SessionAttach (string_bytes table)

@@ -106,19 +106,20 @@ setting_in s word =
     or_else (chosen_in kind.Data word) (λ c. when_none s.on_data (record s { on_data = Some c }))
     (or_else (chosen_in kind.NotFound word) (λ c. when_none s.on_notfound (record s { on_notfound = Some c }))
     (or_else (chosen_in kind.Conflict word) (λ c. when_none s.on_conflict (record s { on_conflict = Some c }))
-    (or_else (noop_in word) (λ n. when_none s.noop (record s { noop = Some n })) None)))
+    (or_else (chosen_in kind.Constraint word) (λ c. when_none s.on_constraint (record s { on_constraint = Some c }))
+    (or_else (noop_in word) (λ n. when_none s.noop (record s { noop = Some n })) None))))
 
 unfoldable pub settings_in : Settings → Words → Option Settings
 settings_in s [] = Some s
 settings_in s (word ∷ words) = and_then (setting_in s word) (λ s. settings_in s words)
 
 abbrev pub no_settings : Settings
-no_settings = record { on_data = None; on_notfound = None; on_conflict = None; noop = None }
+no_settings = record { on_data = None; on_notfound = None; on_conflict = None; on_constraint = None; noop = None }
 
 unfoldable pub apply_in : Words → Option CommandData
 apply_in words = and_then (slot_in words) (λ t. option_map
     (λ s. Apply t.0 (unwrap_or s.on_data choice.Abort) (unwrap_or s.on_notfound choice.Abort)
-    (unwrap_or s.on_conflict choice.Abort) (unwrap_or s.noop Report))
+    (unwrap_or s.on_conflict choice.Abort) (unwrap_or s.on_constraint choice.Abort) (unwrap_or s.noop Report))
     (settings_in no_settings t.1))
 
 -- a name, and nothing else

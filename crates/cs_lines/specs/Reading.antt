@@ -95,7 +95,8 @@ token_or_refused (Some token) rest = Taken token rest
 
 abbrev pub keywords : List Symbol
 keywords = symbol.Create ∷ symbol.Table ∷ symbol.Primary ∷ symbol.Key ∷ symbol.Insert ∷ symbol.Into ∷ symbol.Values
-    ∷ symbol.Update ∷ symbol.Set ∷ symbol.Where ∷ symbol.And ∷ symbol.Delete ∷ symbol.From ∷ symbol.Select ∷ []
+    ∷ symbol.Update ∷ symbol.Set ∷ symbol.Where ∷ symbol.And ∷ symbol.Delete ∷ symbol.From ∷ symbol.Select
+    ∷ symbol.Not ∷ []
 
 unfoldable pub keyword_of : List ℕ → Option Symbol
 keyword_of word = find (λ symbol. str_eq_ignore_ascii_case word (symbol_text symbol)) keywords

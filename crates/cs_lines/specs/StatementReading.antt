@@ -1,11 +1,13 @@
 -- Statements as functions on lists of tokens, which the code computes: what contracts of this crate's own functions say.
-use Rattle.std.specs.Prelude.{◌≡◌, ℕ, ◌==◌, List, [], ◌∷◌, ◌++◌, Option, None, Some, option_map}
+use Rattle.std.specs.Prelude.{◌≡◌, ℕ, zero, suc, ◌==◌, List, [], ◌∷◌, ◌++◌, length, map, Option, None, Some, option_map, string_bytes}
 use Rattle.std.specs.Prelude.{Bool, true, false, if◌then◌else◌, Result, Ok, Err}
 use Rattle.cs_value.specs.declared.value.OwnedValue.{OwnedValue}
+use Rattle.cs_value.specs.declared.value.OwnedValue.TheVariants.{Null}
 use Rattle.cs_value.specs.declared.refusal.OrNoMemory.{OrNoMemory}
 use Rattle.cs_value.specs.declared.refusal.OrNoMemory.TheVariants as refusal
 use Rattle.cs_lines.specs.declared.symbol.Symbol.{Symbol}
 use Rattle.cs_lines.specs.declared.symbol.Symbol.TheVariants as symbol
+use Rattle.cs_lines.specs.declared.statement.NewColumn.{NewColumn}
 use Rattle.cs_lines.specs.declared.stop.Misfit.{Misfit}
 use Rattle.cs_lines.specs.Tokens.{Token, Fixed, Name, Value}
 use Rattle.cs_lines.specs.Commands.{CommandData, AssignmentData, Create, Insert, Update, Delete, Select}
@@ -45,12 +47,13 @@ symbol_place symbol.And = 10
 symbol_place symbol.Delete = 11
 symbol_place symbol.From = 12
 symbol_place symbol.Select = 13
-symbol_place symbol.Open = 14
-symbol_place symbol.Close = 15
-symbol_place symbol.Comma = 16
-symbol_place symbol.Semicolon = 17
-symbol_place symbol.Equals = 18
-symbol_place symbol.Star = 19
+symbol_place symbol.Not = 14
+symbol_place symbol.Open = 15
+symbol_place symbol.Close = 16
+symbol_place symbol.Comma = 17
+symbol_place symbol.Semicolon = 18
+symbol_place symbol.Equals = 19
+symbol_place symbol.Star = 20
 
 abbrev pub same_symbol : Symbol → Symbol → Bool
 same_symbol a b = symbol_place a == symbol_place b
@@ -143,34 +146,65 @@ assignments_in between last (t ∷ u ∷ v ∷ []) = None
 assignments_in between last (t ∷ u ∷ v ∷ w ∷ ts) = and_then (assignment_of_tokens t u v)
     (λ x. and_then (turn_of between last w) (λ more. onto (x ∷ []) (going more ts (assignments_in between last ts))))
 
--- a column and a comma, or PRIMARY
-unfoldable pub column_in : Tokens → Option (Option (List ℕ) × Tokens)
+-- a column of a new table, and whether it refuses NULL
+pub record ColumnData : Type 0 where
+  pub name : List ℕ
+  pub refuses : Bool
+
+abbrev pub column_with : List ℕ → Bool → ColumnData
+column_with name refuses = record { name = name; refuses = refuses }
+
+abbrev pub column_of : NewColumn → ColumnData
+column_of c = column_with (string_bytes c.name) c.refuses
+
+-- NULL
+abbrev pub is_null : Option Token → Bool
+is_null (Some (Value Null)) = true
+is_null (Some token) = false
+is_null None = false
+
+unfoldable pub null_in : Tokens → Option Tokens
+null_in [] = None
+null_in (t ∷ ts) = if is_null t then Some ts else None
+
+-- a comma, or NOT NULL and a comma: whether NULL is refused
+unfoldable pub rule_in : Tokens → Option (Bool × Tokens)
+rule_in [] = None
+rule_in (t ∷ ts) = if is_fixed symbol.Comma t then Some (false, ts)
+    else if is_fixed symbol.Not t then and_then (null_in ts) (λ ts. option_map (λ ts. (true, ts)) (fixed_in symbol.Comma ts))
+    else None
+
+-- a column and what is behind it, or PRIMARY
+unfoldable pub column_in : Tokens → Option (Option ColumnData × Tokens)
 column_in [] = None
 column_in (t ∷ ts) = if is_fixed symbol.Primary t then Some (None, ts)
-    else and_then (name_of t) (λ n. option_map (λ rest. (Some n, rest)) (fixed_in symbol.Comma ts))
+    else and_then (name_of t) (λ n. option_map (λ r. (Some (column_with n r.0), r.1)) (rule_in ts))
 
--- further columns, and PRIMARY
-unfoldable pub more_columns_in : Tokens → Option (List (List ℕ) × Tokens)
-more_columns_in [] = None
-more_columns_in (t ∷ []) = if is_fixed symbol.Primary t then Some ([], []) else None
-more_columns_in (t ∷ u ∷ ts) = if is_fixed symbol.Primary t then Some ([], u ∷ ts)
-    else and_then (name_of t) (λ n. if is_fixed symbol.Comma u then onto (n ∷ []) (more_columns_in ts) else None)
+-- a column that was read, and those that follow up to PRIMARY, as many as that at most; or none
+unfoldable pub columns_within : Option ColumnData → ℕ → Tokens → Option (List ColumnData × Tokens)
+columns_within None n tokens = Some ([], tokens)
+columns_within (Some column) zero tokens = None
+columns_within (Some column) (suc n) tokens =
+    onto (column ∷ []) (and_then (column_in tokens) (λ r. columns_within r.0 n r.1))
 
--- a column that was read and those that follow, or none
-abbrev pub columns_behind : Option (List ℕ) → Tokens → Option (List (List ℕ) × Tokens)
-columns_behind None tokens = Some ([], tokens)
-columns_behind (Some name) tokens = onto (name ∷ []) (more_columns_in tokens)
+abbrev pub columns_behind : Option ColumnData → Tokens → Option (List ColumnData × Tokens)
+columns_behind column tokens = columns_within column (length tokens) tokens
 
-unfoldable pub columns_in : Tokens → Option (List (List ℕ) × Tokens)
-columns_in tokens = and_then (name_in tokens) (λ n. and_then (fixed_in symbol.Comma n.1)
-    (λ t. columns_behind (Some n.0) t))
+-- columns, and PRIMARY
+unfoldable pub columns_in : Tokens → Option (List ColumnData × Tokens)
+columns_in tokens = and_then (name_in tokens) (λ n. and_then (rule_in n.1)
+    (λ r. columns_behind (Some (column_with n.0 r.0)) r.1))
+
+-- the names of columns, and whether each refuses NULL
+abbrev pub names_and_rules_of : List ColumnData → List (List ℕ) × List Bool
+names_and_rules_of columns = (map (λ c. c.name) columns, map (λ c. c.refuses) columns)
 
 unfoldable pub create_in : Tokens → Option (CommandData × Tokens)
 create_in tokens = and_then (fixed_in symbol.Table tokens) (λ t. and_then (name_in t)
     (λ n. and_then (fixed_in symbol.Open n.1) (λ t. and_then (columns_in t)
     (λ c. and_then (fixed_in symbol.Key c.1) (λ t. and_then (fixed_in symbol.Open t) (λ t. and_then (names_in t)
     (λ k. and_then (fixed_in symbol.Close k.1) (λ t. and_then (fixed_in symbol.Semicolon t)
-    (λ t. Some (Create n.0 c.0 k.0, t))))))))))
+    (λ t. Some (Create n.0 (names_and_rules_of c.0).0 (names_and_rules_of c.0).1 k.0, t))))))))))
 
 unfoldable pub insert_in : Tokens → Option (CommandData × Tokens)
 insert_in tokens = and_then (fixed_in symbol.Into tokens) (λ t. and_then (name_in t)

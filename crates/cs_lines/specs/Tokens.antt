@@ -52,6 +52,7 @@ symbol_text symbol.And = codes "AND"
 symbol_text symbol.Delete = codes "DELETE"
 symbol_text symbol.From = codes "FROM"
 symbol_text symbol.Select = codes "SELECT"
+symbol_text symbol.Not = codes "NOT"
 symbol_text symbol.Open = codes "("
 symbol_text symbol.Close = codes ")"
 symbol_text symbol.Comma = codes ","
@@ -64,7 +65,7 @@ abbrev pub is_keyword : List ℕ → Bool
 is_keyword word = list_any (str_eq_ignore_ascii_case word)
     (codes "CREATE" ∷ codes "TABLE" ∷ codes "PRIMARY" ∷ codes "KEY" ∷ codes "INSERT" ∷ codes "INTO" ∷ codes "VALUES"
     ∷ codes "UPDATE" ∷ codes "SET" ∷ codes "WHERE" ∷ codes "AND" ∷ codes "DELETE" ∷ codes "FROM" ∷ codes "SELECT"
-    ∷ codes "NULL" ∷ [])
+    ∷ codes "NOT" ∷ codes "NULL" ∷ [])
 
 pub data Token : Type 0 where
   Fixed : Symbol → Token

@@ -12,6 +12,7 @@ pub fn kind_name(kind: Kind) -> &'static str
         Kind::Data => "data",
         Kind::NotFound => "notfound",
         Kind::Conflict => "conflict",
+        Kind::Constraint => "constraint",
     }
 }
 

@@ -12,10 +12,11 @@ pub struct Assignment {
 /// What a line asks for.
 #[derive(Debug, Drop)]
 pub enum Command {
-    /// `CREATE TABLE name(columns, PRIMARY KEY(keys));`
+    /// `CREATE TABLE name(columns, PRIMARY KEY(keys));`, with `NOT NULL` behind each column that refuses NULL.
     Create {
         name: String,
         columns: Vec<String>,
+        refuses: Vec<bool>,
         keys: Vec<String>,
     },
     /// `INSERT INTO table VALUES(values);`
@@ -62,14 +63,15 @@ pub enum Command {
         second: String,
         into: String,
     },
-    /// `.apply slot data=choice notfound=choice conflict=choice noop=noop`: the slot's changeset is
-    /// applied. The options stand in any order, each once or not at all: a choice that is not given is to
-    /// abort, and a noop that is not given is to report.
+    /// `.apply slot data=choice notfound=choice conflict=choice constraint=choice noop=noop`: the slot's
+    /// changeset is applied. The options stand in any order, each once or not at all: a choice that is not
+    /// given is to abort, and a noop that is not given is to report.
     Apply {
         slot: String,
         on_data: Choice,
         on_notfound: Choice,
         on_conflict: Choice,
+        on_constraint: Choice,
         noop: Noop,
     },
     /// `.revert slot`: the slot's changeset is reverted.

@@ -21,6 +21,7 @@ struct Settings {
     on_data: Option<Choice>,
     on_notfound: Option<Choice>,
     on_conflict: Option<Choice>,
+    on_constraint: Option<Choice>,
     noop: Option<Noop>,
 }
 
@@ -140,6 +141,7 @@ fn apply(alloc: Global, line: &[u8]) -> Result<Command, Stop>
         on_data: settings.on_data.unwrap_or(Choice::Abort),
         on_notfound: settings.on_notfound.unwrap_or(Choice::Abort),
         on_conflict: settings.on_conflict.unwrap_or(Choice::Abort),
+        on_constraint: settings.on_constraint.unwrap_or(Choice::Abort),
         noop: settings.noop.unwrap_or(Noop::Report),
     })
 }
@@ -153,6 +155,7 @@ fn read_settings(line: &[u8]) -> Result<Settings, Stop>
         on_data: None,
         on_notfound: None,
         on_conflict: None,
+        on_constraint: None,
         noop: None,
     };
     let mut rest = line;
@@ -189,6 +192,12 @@ fn with_setting(settings: Settings, word: &[u8]) -> Option<Settings>
             ..settings
         });
     }
+    if let Some(choice) = chosen(word, Kind::Constraint) {
+        return settings.on_constraint.is_none().then_some(Settings {
+            on_constraint: Some(choice),
+            ..settings
+        });
+    }
     let noop = chosen_noop(word)?;
     settings.noop.is_none().then_some(Settings {
         noop: Some(noop),
@@ -204,6 +213,11 @@ fn chosen(word: &[u8], kind: Kind) -> Option<Choice>
         Kind::Data => (b"data=omit", b"data=replace", b"data=abort"),
         Kind::NotFound => (b"notfound=omit", b"notfound=replace", b"notfound=abort"),
         Kind::Conflict => (b"conflict=omit", b"conflict=replace", b"conflict=abort"),
+        Kind::Constraint => (
+            b"constraint=omit",
+            b"constraint=replace",
+            b"constraint=abort",
+        ),
     };
     if is_word(word, omit) {
         Some(Choice::Omit)

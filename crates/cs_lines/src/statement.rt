@@ -1,9 +1,10 @@
 //! Statements, read token by token.
-ghost use Rattle.std.specs.Prelude.{◌<◌, length, IfOk, string_bytes, map, option_map};
+ghost use Rattle.std.specs.Prelude.{◌<◌, length, IfOk, string_bytes, map, option_map, Some};
 ghost use Rattle.cs_lines.specs.Commands.{assignment_of, command_of};
 ghost use Rattle.cs_lines.specs.Reading.{tokens_of};
 ghost use Rattle.cs_lines.specs.StatementReading.{Reads, fixed_in, name_in, value_in, turn_in, assignment_in, column_in};
 ghost use Rattle.cs_lines.specs.StatementReading.{names_in, values_in, assignments_in, columns_in, end_in, symbol_in};
+ghost use Rattle.cs_lines.specs.StatementReading.{column_of, names_and_rules_of, rule_in, null_in};
 ghost use Rattle.cs_lines.specs.StatementReading.{create_in, insert_in, update_in, delete_in, select_in, form_in, statement_in};
 
 use crate::command::{Assignment, Command};
@@ -12,6 +13,13 @@ use crate::symbol::Symbol;
 use crate::token::{Found, Token, next_token};
 use cs_value::OwnedValue;
 use std::alloc::Global;
+
+/// A column of a new table, and whether it refuses NULL.
+#[derive(Debug, Drop)]
+struct NewColumn {
+    name: String,
+    refuses: bool,
+}
 
 /// The statement that a line is.
 #[tactic(auto, unfolding(crate::specs::StatementReading::statement_in))]
@@ -53,6 +61,7 @@ fn create(alloc: Global, line: &[u8]) -> Result<(Command, &[u8]), Stop>
     let (name, line) = name(alloc, line)?;
     let line = fixed(alloc, line, Symbol::Open)?;
     let (columns, line) = columns(alloc, line)?;
+    let (columns, refuses) = names_and_rules(alloc, columns)?;
     let line = fixed(alloc, line, Symbol::Key)?;
     let line = fixed(alloc, line, Symbol::Open)?;
     let (keys, line) = names(alloc, line)?;
@@ -62,6 +71,7 @@ fn create(alloc: Global, line: &[u8]) -> Result<(Command, &[u8]), Stop>
         Command::Create {
             name,
             columns,
+            refuses,
             keys,
         },
         line,
@@ -214,18 +224,46 @@ fn turn(alloc: Global, line: &[u8], between: Symbol, last: Symbol) -> Result<(bo
     }
 }
 
-/// A column of a table and a comma; or PRIMARY, and no column.
+/// What stands behind the name of a column: a comma, or NOT NULL and a comma. Whether the column refuses NULL.
+#[tactic(auto, unfolding(crate::specs::StatementReading::rule_in))]
+fn rule(alloc: Global, line: &[u8]) -> Result<(bool, &[u8]), Stop>
+    ensures read { Reads result (λ r. (r.0, tokens_of r.1.now)) (rule_in (tokens_of line.now)) }
+    ensures shorter { IfOk result (λ r. length r.1.now < length line.now) }
+{
+    match next_token(alloc, line)? {
+        Found::Token(Token::Fixed(found), rest) if found.is(Symbol::Comma) => Ok((false, rest)),
+        Found::Token(Token::Fixed(found), rest) if found.is(Symbol::Not) => {
+            let rest = null(alloc, rest)?;
+            Ok((true, fixed(alloc, rest, Symbol::Comma)?))
+        }
+        _ => Err(Stop::Fault(misfit_at(line))),
+    }
+}
+
+/// NULL.
+#[tactic(auto, unfolding(crate::specs::StatementReading::null_in))]
+fn null(alloc: Global, line: &[u8]) -> Result<&[u8], Stop>
+    ensures read { Reads result (λ r. tokens_of r.now) (null_in (tokens_of line.now)) }
+    ensures shorter { IfOk result (λ r. length r.now < length line.now) }
+{
+    match next_token(alloc, line)? {
+        Found::Token(Token::Value(OwnedValue::Null), rest) => Ok(rest),
+        _ => Err(Stop::Fault(misfit_at(line))),
+    }
+}
+
+/// A column of a table and what is behind it; or PRIMARY, and no column.
 #[tactic(auto, unfolding(crate::specs::StatementReading::column_in))]
-fn column(alloc: Global, line: &[u8]) -> Result<(Option<String>, &[u8]), Stop>
-    ensures read { Reads result (λ r. (option_map string_bytes r.0, tokens_of r.1.now)) (column_in (tokens_of line.now)) }
+fn column(alloc: Global, line: &[u8]) -> Result<(Option<NewColumn>, &[u8]), Stop>
+    ensures read { Reads result (λ r. (option_map column_of r.0, tokens_of r.1.now)) (column_in (tokens_of line.now)) }
     ensures shorter { IfOk result (λ r. length r.1.now < length line.now) }
 {
     match next_token(alloc, line)? {
         Found::Token(token, rest) => match token {
             Token::Fixed(found) if found.is(Symbol::Primary) => Ok((None, rest)),
             Token::Name(name) => {
-                let rest = fixed(alloc, rest, Symbol::Comma)?;
-                Ok((Some(name), rest))
+                let (refuses, rest) = rule(alloc, rest)?;
+                Ok((Some(NewColumn { name, refuses }), rest))
             }
             _ => Err(Stop::Fault(misfit_at(line))),
         },
@@ -234,18 +272,31 @@ fn column(alloc: Global, line: &[u8]) -> Result<(Option<String>, &[u8]), Stop>
 }
 
 /// The columns of a table, each with a comma behind it, and PRIMARY.
-fn columns(alloc: Global, line: &[u8]) -> Result<(Vec<String>, &[u8]), Stop>
-    ensures { Reads result (λ r. (map string_bytes r.0.items, tokens_of r.1.now)) (columns_in (tokens_of line.now)) }
+fn columns(alloc: Global, line: &[u8]) -> Result<(Vec<NewColumn>, &[u8]), Stop>
+    ensures { Reads result (λ r. (map column_of r.0.items, tokens_of r.1.now)) (columns_in (tokens_of line.now)) }
 {
-    let (first, mut rest) = name(alloc, line)?;
-    rest = fixed(alloc, rest, Symbol::Comma)?;
+    let (name, behind) = name(alloc, line)?;
+    let (refuses, mut rest) = rule(alloc, behind)?;
     let mut columns = Vec::new(alloc);
-    let mut next = Some(first);
-    while let Some(name) = next {
-        columns.push(name)?;
+    let mut next = Some(NewColumn { name, refuses });
+    while let Some(column_read) = next {
+        columns.push(column_read)?;
         (next, rest) = column(alloc, rest)?;
     }
     Ok((columns, rest))
+}
+
+/// The names of columns, and whether each refuses NULL.
+fn names_and_rules(alloc: Global, columns: Vec<NewColumn>) -> Result<(Vec<String>, Vec<bool>), Stop>
+    ensures { Reads result (λ r. (map string_bytes r.0.items, r.1.items)) (Some (names_and_rules_of (map column_of columns.items))) }
+{
+    let mut names = Vec::new(alloc);
+    let mut refuses = Vec::new(alloc);
+    for column in columns {
+        names.push(column.name)?;
+        refuses.push(column.refuses)?;
+    }
+    Ok((names, refuses))
 }
 
 /// Names with commas between them, and a closing bracket.

@@ -20,6 +20,7 @@ pub(crate) enum Symbol {
     Delete,
     From,
     Select,
+    Not,
     Open,
     Close,
     Comma,
@@ -29,7 +30,7 @@ pub(crate) enum Symbol {
 }
 
 /// The keywords.
-pub(crate) const KEYWORDS: [Symbol; 14] = [
+pub(crate) const KEYWORDS: [Symbol; 15] = [
     Symbol::Create,
     Symbol::Table,
     Symbol::Primary,
@@ -44,6 +45,7 @@ pub(crate) const KEYWORDS: [Symbol; 14] = [
     Symbol::Delete,
     Symbol::From,
     Symbol::Select,
+    Symbol::Not,
 ];
 
 impl Symbol {
@@ -66,6 +68,7 @@ impl Symbol {
             Symbol::Delete => "DELETE",
             Symbol::From => "FROM",
             Symbol::Select => "SELECT",
+            Symbol::Not => "NOT",
             Symbol::Open => "(",
             Symbol::Close => ")",
             Symbol::Comma => ",",

@@ -8,31 +8,34 @@ use Rattle.std.proofs.lemmas.List.Elements.{recursion_from_All, All-from_recursi
 use Rattle.std.specs.List.{AllByRecursion, cons_option}
 use Rattle.std.specs.Cmp.Lexicographic.{same_text, other_text, nat_list_eq_equiv}
 use Rattle.cs_value.specs.declared.value.OwnedValue.{OwnedValue}
-use Rattle.cs_value.specs.State.{SchemaData, State, IsState, IsRowAt, schema_at, row_at, rows_at}
+use Rattle.cs_value.specs.State.{SchemaData, State, IsState, IsRowAt, Obeys, schema_at, row_at, rows_at}
 use Rattle.cs_value.proofs.ListLemmas.{AllByRecursion-cons_option, PairsByRecursion, recursion_from_AllPairs, AllPairs-from_recursion}
 use Rattle.cs_value.proofs.StateLemmas.{row_at_fits}
 use Rattle.cs_wire.specs.declared.entry.Change.{Change}
 use Rattle.cs_wire.specs.declared.entry.Entry.{Entry}
-use Rattle.cs_wire.specs.Entry.{IsEntry, key_of}
+use Rattle.cs_wire.specs.Entry.{IsEntry, key_of, after_image}
 use Rattle.cs_wire.specs.Changeset.{HeaderData, GroupData, IsGroup, IsChangeset}
 use Rattle.cs_store.specs.Records.{same_bytes}
 use Rattle.cs_group.specs.declared.judging.Judgement.TheVariants.{Wider, Compatible}
 use Rattle.cs_group.specs.Judging.{leads, judgement, judged}
 use Rattle.cs_group.specs.Net.{net_row_change}
-use Rattle.cs_group.specs.Conflicts.{conflict_kind, row_after}
-use Rattle.cs_group.specs.Applying.{PlacedEntry, placed_by, placed, current, IsElsewhere, placed_kind, placed_result, compatible_groups, applicable, Choices, IsClean, IsApplied}
+use Rattle.cs_group.specs.Conflicts.{is_refused, row_after}
+use Rattle.cs_group.specs.Applying.{PlacedEntry, placed_by, placed, current, refuses_at, IsElsewhere, placed_kind, placed_result, compatible_groups, applicable, Choices, IsClean, IsApplied}
 use Rattle.cs_group.specs.Inverse.{IsInverse}
 use Rattle.cs_group.proofs.ApplyLemmas.{applied_reverts}
+use Rattle.cs_group.proofs.ConflictLemmas.{between}
+use Rattle.cs_group.proofs.KeyPlaceLemmas.{row_under}
 use Rattle.cs_group.proofs.NetLemmas.{NetLeads, net_leads}
+use Rattle.cs_group.proofs.RuleLemmas.{found_obeys}
 use Rattle.cs_session.specs.FirstImages.{FirstImage, AttachedTable, Notes, IsAttachedTable, IsNotes, HasAttached, first_at, entry_since, header_of, group_of, recorded_changes, rewound_state}
 use Rattle.cs_session.proofs.FirstLemmas.{put_all_at}
-use Rattle.cs_session.proofs.RewoundLemmas.{rewound_schemas, rewound_elsewhere, IsRewound, rewound_here}
+use Rattle.cs_session.proofs.RewoundLemmas.{rewound_schemas, rewound_is_state, rewound_elsewhere, IsRewound, rewound_here}
 
 -- ---- the entry of a key
 
 -- the first image is one of its table
 pub record IsFirst (table : AttachedTable) (first : FirstImage) : Type 0 where
-  pub fits : IfSome first.row (IsRowAt table.schema.flags first.key)
+  pub fits : IfSome first.row (IsRowAt table.schema first.key)
   pub found : first_at table.firsts first.key ≡ Some first.row
 
 -- the entry meets no conflict in the state before, and leaves what stands there now
@@ -40,8 +43,13 @@ pub record LeadsBack (state before : State) (p : PlacedEntry) : Type 0 where
   pub no_conflict : placed_kind before p ≡ None
   pub leaves : row_after p.flags p.entry.change (current before p) ≡ current state p
 
-module _ (state before : State) (table : AttachedTable)
-    (held : (key : List ℕ) → IfSome (row_at state table.name key) (IsRowAt table.schema.flags key))
+-- a row that may stand in a table obeys its rules
+row_obeys : (schema : SchemaData) (key : List ℕ) (row : Option (List OwnedValue)) → IfSome row (IsRowAt schema key) → IfSome row (Obeys schema.refuses)
+row_obeys schema key None is = tt
+row_obeys schema key (Some row) is = is.obeys
+
+module _ (state before : State) (table : AttachedTable) (has : schema_at before table.name ≡ Some table.schema)
+    (held : (key : List ℕ) → IfSome (row_at state table.name key) (IsRowAt table.schema key))
     (rows : (q : List ℕ) → row_at before table.name q ≡ unwrap_or (first_at table.firsts q) (row_at state table.name q)) where
   abbrev flags : List ℕ
   flags = table.schema.flags
@@ -62,11 +70,16 @@ module _ (state before : State) (table : AttachedTable)
   nets_change first is (Some change) leads =
       let there : row_at before table.name (key_of flags change) ≡ first.row =
       ap (row_at before table.name) leads.same ∙ rows first.key ∙ ap (λ (o : Option (Option (List OwnedValue))). unwrap_or o (row_at state table.name first.key)) is.found in
+      let left = row_after flags change first.row in
+      let found = between flags change first.row leads.fits leads.finds in
+      let rules : refuses_at before table.name ≡ table.schema.refuses = ap (λ (o : Option SchemaData). unwrap_or (option_map (λ (s : SchemaData). s.refuses) o) []) has in
+      let obeys : IfSome left (Obeys table.schema.refuses) = rw leads.leaves (row_obeys table.schema first.key (row_at state table.name first.key) (held first.key)) in
+      let kept : is_refused (refuses_at before table.name) flags change ≡ false = rw rules (found_obeys table.schema.refuses (after_image flags change) left found.0 obeys) in
       record {
         fits = leads.fits;
         same = leads.same;
         leads = record {
-          no_conflict = ap (conflict_kind change) there ∙ leads.no_conflict;
+          no_conflict = rw (kept, there, leads.finds) refl;
           leaves = ap (row_after flags change) there ∙ leads.leaves ∙ ap (row_at state table.name) (sym leads.same);
         };
       }
@@ -75,7 +88,7 @@ module _ (state before : State) (table : AttachedTable)
   nets first is =
       let now = row_at state table.name first.key in
       nets_change first is (net_row_change flags first.row now)
-      (net_leads flags first.key first.row now is.fits (held first.key))
+      (net_leads flags first.key first.row now (row_under table.schema first.key first.row is.fits) (row_under table.schema first.key now (held first.key)))
 
   -- ---- the entries of the table
 
@@ -120,7 +133,7 @@ module _ (state before : State) (table : AttachedTable)
 pub record IsTracked (state before : State) (table : AttachedTable) : Type 0 where
   pub has : schema_at before table.name ≡ Some table.schema
   pub firsts : AllByRecursion (IsFirst table) table.firsts
-  pub held : (key : List ℕ) → IfSome (row_at state table.name key) (IsRowAt table.schema.flags key)
+  pub held : (key : List ℕ) → IfSome (row_at state table.name key) (IsRowAt table.schema key)
   pub rows : (q : List ℕ) → row_at before table.name q ≡ unwrap_or (first_at table.firsts q) (row_at state table.name q)
 
 leads_itself : (flags : List ℕ) → leads flags flags ≡ true
@@ -160,7 +173,7 @@ module _ (state before : State) where
   pub all_lead_back : (notes : Notes) → AllByRecursion (IsTracked state before) notes → AllByRecursion (LeadsBack state before) (placed (recorded_changes notes state))
   all_lead_back [] tracked = tt
   all_lead_back (table ∷ notes) tracked =
-      at (filter_map (entry_since state table) table.firsts) (all_lead state before table tracked.0.held tracked.0.rows table.firsts tracked.0.firsts) (all_lead_back notes tracked.1)
+      at (filter_map (entry_since state table) table.firsts) (all_lead state before table tracked.0.has tracked.0.held tracked.0.rows table.firsts tracked.0.firsts) (all_lead_back notes tracked.1)
     where
       at : (es : List Entry) → AllByRecursion (λ e. LeadsBack state before (placed_by (header_of table) e)) es → AllByRecursion (LeadsBack state before) (placed (recorded_changes notes state))
           → AllByRecursion (LeadsBack state before) (placed (cons_option (group_of (header_of table) es) (recorded_changes notes state)))
@@ -197,7 +210,7 @@ module _ (state before : State) where
         here : table.name ≡ name → AllByRecursion (λ e. Elsewhere (placed_by (header_of table) e)) (filter_map (entry_since state table) table.firsts)
             → row_at state name q ≡ row_at before name q
         here is apart =
-            let none = no_entry state before table tracked.0.held tracked.0.rows q table.firsts tracked.0.firsts (other_key table is (filter_map (entry_since state table) table.firsts) apart) in
+            let none = no_entry state before table tracked.0.has tracked.0.held tracked.0.rows q table.firsts tracked.0.firsts (other_key table is (filter_map (entry_since state table) table.firsts) apart) in
             subst (λ (n : List ℕ). row_at state n q ≡ row_at before n q) is (sym (tracked.0.rows q ∙ none))
 
         at : (b : Bool) → same_bytes table.name name ≡ b → AllByRecursion (λ e. Elsewhere (placed_by (header_of table) e)) (filter_map (entry_since state table) table.firsts)
@@ -225,7 +238,7 @@ all_found : (firsts : List FirstImage) → PairsByRecursion (λ f g. f.key ≢ g
 all_found [] apart = tt
 all_found (first ∷ firsts) apart = (found_itself first firsts, found_behind first firsts firsts apart.0 (all_found firsts apart.1))
 
-all_first : (table : AttachedTable) (firsts : List FirstImage) → AllByRecursion (λ f. IfSome f.row (IsRowAt table.schema.flags f.key)) firsts
+all_first : (table : AttachedTable) (firsts : List FirstImage) → AllByRecursion (λ f. IfSome f.row (IsRowAt table.schema f.key)) firsts
     → AllByRecursion (λ f. first_at table.firsts f.key ≡ Some f.row) firsts → AllByRecursion (IsFirst table) firsts
 all_first table [] fits found = tt
 all_first table (first ∷ firsts) fits found = (record { fits = fits.0; found = found.0 }, all_first table firsts fits.1 found.1)
@@ -246,7 +259,7 @@ module _ (state : State) (notes : Notes) (is_state : IsState state) (are_notes :
   tracked (table ∷ ts) each there rewinds = (
     record {
       has = rewound_schemas state notes has table.name ∙ there.0;
-      firsts = all_first table table.firsts (recursion_from_All (λ (f : FirstImage). IfSome f.row (IsRowAt table.schema.flags f.key)) table.firsts each.0.rows)
+      firsts = all_first table table.firsts (recursion_from_All (λ (f : FirstImage). IfSome f.row (IsRowAt table.schema f.key)) table.firsts each.0.rows)
           (all_found table.firsts (recursion_from_AllPairs (λ (f g : FirstImage). f.key ≢ g.key) table.firsts each.0.once));
       held = row_at_fits state table.name table.schema is_state there.0;
       rows = λ q. ap (λ m. get m q) rewinds.0 ∙ put_all_at table.firsts (rows_at state table.name) q;
@@ -305,9 +318,9 @@ module _ (state : State) (notes : Notes) (is_state : IsState state) (are_notes :
   module _ (table : AttachedTable) (is : IsTracked state before table) where
     all_fit : (firsts : List FirstImage) → AllByRecursion (IsFirst table) firsts → AllByRecursion (IsEntry table.schema.flags) (filter_map (entry_since state table) firsts)
     all_fit [] first = tt
-    all_fit (f ∷ firsts) first = at (entry_since state table f) (nets state before table is.held is.rows f first.0) (all_fit firsts first.1)
+    all_fit (f ∷ firsts) first = at (entry_since state table f) (nets state before table is.has is.held is.rows f first.0) (all_fit firsts first.1)
       where
-        at : (o : Option Entry) → Nets state before table is.held is.rows f o → AllByRecursion (IsEntry table.schema.flags) (filter_map (entry_since state table) firsts)
+        at : (o : Option Entry) → Nets state before table is.has is.held is.rows f o → AllByRecursion (IsEntry table.schema.flags) (filter_map (entry_since state table) firsts)
             → AllByRecursion (IsEntry table.schema.flags) (cons_option o (filter_map (entry_since state table) firsts))
         at None net others = others
         at (Some entry) net others = (net.fits, others)
@@ -316,9 +329,9 @@ module _ (state : State) (notes : Notes) (is_state : IsState state) (are_notes :
     other_keys : (key : List ℕ) (firsts : List FirstImage) → AllByRecursion (IsFirst table) firsts → AllByRecursion (λ f. key ≢ f.key) firsts
         → AllByRecursion (λ e. key ≢ key_of table.schema.flags e.change) (filter_map (entry_since state table) firsts)
     other_keys key [] first apart = tt
-    other_keys key (f ∷ firsts) first apart = at (entry_since state table f) (nets state before table is.held is.rows f first.0) (other_keys key firsts first.1 apart.1)
+    other_keys key (f ∷ firsts) first apart = at (entry_since state table f) (nets state before table is.has is.held is.rows f first.0) (other_keys key firsts first.1 apart.1)
       where
-        at : (o : Option Entry) → Nets state before table is.held is.rows f o → AllByRecursion (λ e. key ≢ key_of table.schema.flags e.change) (filter_map (entry_since state table) firsts)
+        at : (o : Option Entry) → Nets state before table is.has is.held is.rows f o → AllByRecursion (λ e. key ≢ key_of table.schema.flags e.change) (filter_map (entry_since state table) firsts)
             → AllByRecursion (λ e. key ≢ key_of table.schema.flags e.change) (cons_option o (filter_map (entry_since state table) firsts))
         at None net others = others
         at (Some entry) net others = ((λ same. apart.0 (same ∙ net.same)), others)
@@ -327,13 +340,13 @@ module _ (state : State) (notes : Notes) (is_state : IsState state) (are_notes :
         → PairsByRecursion (Keys table) (filter_map (entry_since state table) firsts)
     keys_apart [] first apart = tt
     keys_apart (f ∷ firsts) first apart =
-        at (entry_since state table f) (nets state before table is.held is.rows f first.0) (other_keys f.key firsts first.1 apart.0) (keys_apart firsts first.1 apart.1)
+        at (entry_since state table f) (nets state before table is.has is.held is.rows f first.0) (other_keys f.key firsts first.1 apart.0) (keys_apart firsts first.1 apart.1)
       where
         moved : (key : List ℕ) (es : List Entry) → key ≡ f.key → AllByRecursion (λ e. f.key ≢ key_of table.schema.flags e.change) es
             → AllByRecursion (λ e. key ≢ key_of table.schema.flags e.change) es
         moved key es same others = subst (λ (k : List ℕ). AllByRecursion (λ e. k ≢ key_of table.schema.flags e.change) es) (sym same) others
 
-        at : (o : Option Entry) → Nets state before table is.held is.rows f o → AllByRecursion (λ e. f.key ≢ key_of table.schema.flags e.change) (filter_map (entry_since state table) firsts)
+        at : (o : Option Entry) → Nets state before table is.has is.held is.rows f o → AllByRecursion (λ e. f.key ≢ key_of table.schema.flags e.change) (filter_map (entry_since state table) firsts)
             → PairsByRecursion (Keys table) (filter_map (entry_since state table) firsts) → PairsByRecursion (Keys table) (cons_option o (filter_map (entry_since state table) firsts))
         at None net others rest = rest
         at (Some entry) net others rest = (moved (key_of table.schema.flags entry.change) (filter_map (entry_since state table) firsts) net.same others, rest)
@@ -387,6 +400,10 @@ module _ (state : State) (notes : Notes) (is_state : IsState state) (are_notes :
 
   -- ---- its inverse
 
+  -- the rows from before stand in a state
+  pub before_is : IsState before
+  before_is = rewound_is_state state is_state notes (recursion_from_All IsAttachedTable notes are_notes.each) has
+
   -- meets no conflict with the rows that stand there, and with it they become those from before
   pub inverse_rewinds : (inverse : List GroupData) (choose : Choices) → IsInverse changes inverse → IsClean state inverse × IsApplied state inverse choose before
-  inverse_rewinds inverse choose undoes = applied_reverts before changes inverse choose choose state changes_are undoes changes_clean (changes_applied choose)
+  inverse_rewinds inverse choose undoes = applied_reverts before changes inverse choose choose state before_is changes_are undoes changes_clean (changes_applied choose)

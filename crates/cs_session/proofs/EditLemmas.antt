@@ -75,7 +75,7 @@ module _ (state : State) (name : List ℕ) (found : TableData) (is : get state n
   inserts row =
       let key = row_key found.schema.flags row in
       let done = Ok (record { state = with_row state name key row; written = written_at state name key ∷ [] }) in
-      if_unless state name (row_fault found.schema.flags row) (unless (when (has_row state name key) KeyTaken) done)
+      if_unless state name (row_fault found.schema row) (unless (when (has_row state name key) KeyTaken) done)
       (if_unless state name (when (has_row state name key) KeyTaken) done (one key (Some row)))
 
   deletes : (key : List ℕ) → IfDone state name (deleted_in state name key)
@@ -95,7 +95,7 @@ module _ (state : State) (name : List ℕ) (found : TableData) (is : get state n
   updates key row =
       let next = row_key found.schema.flags row in
       let done = cond (same_bytes key next) (Ok (record { state = with_row state name key row; written = written_at state name key ∷ [] })) (moved state name key next row) in
-      if_unless state name (row_fault found.schema.flags row) (unless (when (not (has_row state name key)) NoRow) done)
+      if_unless state name (row_fault found.schema row) (unless (when (not (has_row state name key)) NoRow) done)
       (if_unless state name (when (not (has_row state name key)) NoRow) done (stays_or_moves (same_bytes key next) key next row))
 
 in_found : (state : State) (name : List ℕ) (o : Option TableData) (next : TableData → Result Edited StoreError) → ((found : TableData) → o ≡ Some found → IfDone state name (next found))

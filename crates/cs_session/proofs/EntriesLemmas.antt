@@ -7,13 +7,14 @@ use Rattle.std.specs.List.{AllByRecursion}
 use Rattle.std.proofs.lemmas.List.Elements.{All-push, All-pop, recursion_from_All, All-from_recursion, filter_map-append}
 use Rattle.std.proofs.lemmas.List.Quantifiers.{all_pairs_push}
 use Rattle.cs_value.specs.declared.value.OwnedValue.{OwnedValue}
-use Rattle.cs_value.specs.State.{State, IsRowAt}
+use Rattle.cs_value.specs.State.{SchemaData, State, IsRowAt}
 use Rattle.cs_value.proofs.KeyedRows.{length-IsKeyedRow}
 use Rattle.cs_value.proofs.ListLemmas.{AllByRecursion-append_right, PairsByRecursion, recursion_from_AllPairs, cons_option-nil}
 use Rattle.cs_wire.specs.declared.entry.Change.{Change}
 use Rattle.cs_wire.specs.declared.entry.Entry.{Entry}
 use Rattle.cs_wire.specs.Entry.{IsChange, IsEntry, key_of}
 use Rattle.cs_group.specs.Net.{net_row_change}
+use Rattle.cs_group.proofs.KeyPlaceLemmas.{row_under}
 use Rattle.cs_group.proofs.NetLemmas.{NetLeads, net_leads}
 use Rattle.cs_session.specs.declared.fault.SessionFault.{SessionFault}
 use Rattle.cs_session.specs.FirstImages.{FirstImage, AttachedTable, Notes, IsAttachedTable, HasAttached}
@@ -36,23 +37,24 @@ refuses_named state name notes table fault lacks (inr resource) = inr resource
 -- ---- the change of a key
 
 -- it has a value for each flag
-pub widths : (flags key : List ℕ) (lent : Option (Bor (List OwnedValue))) (row : Option (List OwnedValue)) → option_map (λ r. r.now) lent ≡ row
-    → IfSome row (IsRowAt flags key) → IfSome lent (λ r. length flags ≡ length r.now)
-widths flags key None row is fits = tt
-widths flags key (Some r) row is fits =
-    let fit : IsRowAt flags key r.now = rw (← is) at fits in
-    length-IsKeyedRow flags r.now fit.keyed
+pub widths : (schema : SchemaData) (key : List ℕ) (lent : Option (Bor (List OwnedValue))) (row : Option (List OwnedValue)) → option_map (λ r. r.now) lent ≡ row
+    → IfSome row (IsRowAt schema key) → IfSome lent (λ r. length schema.flags ≡ length r.now)
+widths schema key None row is fits = tt
+widths schema key (Some r) row is fits =
+    let fit : IsRowAt schema key r.now = rw (← is) at fits in
+    length-IsKeyedRow schema.flags r.now fit.keyed
 
 -- a change of the row with this key
 abbrev pub IsChangeOf : List ℕ → List ℕ → Change → Type 0
 IsChangeOf flags key change = IsChange flags change × (key_of flags change ≡ key)
 
 -- the net change of a row is one
-pub change_fits : (flags key : List ℕ) (before after : Option (List OwnedValue)) → IfSome before (IsRowAt flags key) → IfSome after (IsRowAt flags key)
-    → IfSome (net_row_change flags before after) (IsChangeOf flags key)
-change_fits flags key before after b a = at (net_row_change flags before after) (net_leads flags key before after b a)
+pub change_fits : (schema : SchemaData) (key : List ℕ) (before after : Option (List OwnedValue)) → IfSome before (IsRowAt schema key) → IfSome after (IsRowAt schema key)
+    → IfSome (net_row_change schema.flags before after) (IsChangeOf schema.flags key)
+change_fits schema key before after b a =
+    at (net_row_change schema.flags before after) (net_leads schema.flags key before after (row_under schema key before b) (row_under schema key after a))
   where
-    at : (o : Option Change) → NetLeads flags key before after o → IfSome o (IsChangeOf flags key)
+    at : (o : Option Change) → NetLeads schema.flags key before after o → IfSome o (IsChangeOf schema.flags key)
     at None leads = tt
     at (Some change) leads = (leads.fits, leads.same)
 
@@ -106,9 +108,9 @@ filter_map_then h done x = filter_map-append h done (x ∷ []) ∙ ap (λ (l : L
 -- the next of a table's first images
 module _ (table : AttachedTable) (is : IsAttachedTable table) (done rest : List FirstImage) (first : FirstImage) (all : done ++ first ∷ rest ≡ table.firsts) where
   abbrev FitsIn : FirstImage → Type 0
-  FitsIn f = IfSome f.row (IsRowAt table.schema.flags f.key)
+  FitsIn f = IfSome f.row (IsRowAt table.schema f.key)
 
-  pub next_fits : IfSome first.row (IsRowAt table.schema.flags first.key)
+  pub next_fits : IfSome first.row (IsRowAt table.schema first.key)
   next_fits = (AllByRecursion-append_right FitsIn done (first ∷ rest) (recursion_from_All FitsIn (done ++ first ∷ rest) (rw all is.rows))).0
 
   pub next_apart : All (λ f. f.key ≢ first.key) done

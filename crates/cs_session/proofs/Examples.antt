@@ -3,7 +3,7 @@
 use Rattle.std.proofs.Common.{◌≡◌, ◌≢◌, ℕ, pos, List, [], ◌∷◌, Option, Some, None, codes, refl}
 use Rattle.cs_value.specs.declared.value.OwnedValue.{OwnedValue}
 use Rattle.cs_value.specs.declared.value.OwnedValue.TheVariants.{Int}
-use Rattle.cs_value.specs.State.{SchemaData, State, WrittenData, row_at, rows_at}
+use Rattle.cs_value.specs.State.{SchemaData, State, marks, WrittenData, row_at, rows_at}
 use Rattle.cs_wire.specs.declared.entry.Change.TheVariants.{Insert, Delete}
 use Rattle.cs_wire.proofs.Examples.{flags, header, direct, x, y, row, update}
 use Rattle.cs_session.specs.FirstImages.{FirstImage, Notes, rewound, recorded, recorded_changes}
@@ -23,7 +23,7 @@ abbrev moved : List OwnedValue
 moved = Int (pos 2) ∷ x ∷ []
 
 abbrev schema : SchemaData
-schema = record { columns = codes "a" ∷ codes "b" ∷ []; flags = flags }
+schema = record { columns = codes "a" ∷ codes "b" ∷ []; flags = flags; refuses = marks flags }
 
 -- t is attached, with these first images
 abbrev with_firsts : List FirstImage → Notes

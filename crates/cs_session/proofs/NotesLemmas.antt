@@ -5,7 +5,7 @@ use Rattle.std.specs.List.{AllByRecursion}
 use Rattle.std.specs.Cmp.Lexicographic.{other_text}
 use Rattle.std.proofs.lemmas.List.Elements.{recursion_from_All, All-from_recursion}
 use Rattle.cs_value.specs.declared.value.OwnedValue.{OwnedValue}
-use Rattle.cs_value.specs.State.{State, WrittenData, IsState, IsRowAt, row_at}
+use Rattle.cs_value.specs.State.{SchemaData, State, WrittenData, IsState, IsRowAt, row_at}
 use Rattle.cs_value.proofs.ListLemmas.{AllByRecursion-map, AllByRecursion-push, AllByRecursion-weaker, PairsByRecursion, recursion_from_AllPairs, AllPairs-from_recursion}
 use Rattle.cs_value.proofs.StateLemmas.{row_at_fits}
 use Rattle.cs_store.specs.Records.{same_bytes}
@@ -47,11 +47,11 @@ noted_apart firsts (w ∷ written) apart =
 
 -- ---- rows
 
-module _ (flags : List ℕ) where
+module _ (schema : SchemaData) where
   abbrev Fits : FirstImage → Type 0
-  Fits f = IfSome f.row (IsRowAt flags f.key)
+  Fits f = IfSome f.row (IsRowAt schema f.key)
 
-  noted_fits : (firsts : List FirstImage) (written : List WrittenData) → AllByRecursion Fits firsts → AllByRecursion (λ w. IfSome w.former (IsRowAt flags w.key)) written
+  noted_fits : (firsts : List FirstImage) (written : List WrittenData) → AllByRecursion Fits firsts → AllByRecursion (λ w. IfSome w.former (IsRowAt schema w.key)) written
       → AllByRecursion Fits (noted firsts written)
   noted_fits firsts [] each fit = each
   noted_fits firsts (w ∷ written) each fit =
@@ -72,8 +72,8 @@ module _ (written : List WrittenData) where
       record {
         named = is.named;
         schema = is.schema;
-        rows = All-from_recursion (Fits table.schema.flags) (noted table.firsts writes)
-            (noted_fits table.schema.flags table.firsts writes (recursion_from_All (Fits table.schema.flags) table.firsts is.rows) formers);
+        rows = All-from_recursion (Fits table.schema) (noted table.firsts writes)
+            (noted_fits table.schema table.firsts writes (recursion_from_All (Fits table.schema) table.firsts is.rows) formers);
         once = AllPairs-from_recursion (λ (f g : FirstImage). f.key ≢ g.key) (noted table.firsts writes)
             (noted_apart table.firsts writes (recursion_from_AllPairs (λ (f g : FirstImage). f.key ≢ g.key) table.firsts is.once));
       }
@@ -98,10 +98,10 @@ module _ (written : List WrittenData) where
 
 module _ (old : State) (is_state : IsState old) where
   former_fits : (table : AttachedTable) → HasAttached old table → (writes : List WrittenData) → AllByRecursion (λ w. row_at old table.name w.key ≡ w.former) writes
-      → AllByRecursion (λ w. IfSome w.former (IsRowAt table.schema.flags w.key)) writes
+      → AllByRecursion (λ w. IfSome w.former (IsRowAt table.schema w.key)) writes
   former_fits table has =
-      AllByRecursion-weaker (λ w. row_at old table.name w.key ≡ w.former) (λ w. IfSome w.former (IsRowAt table.schema.flags w.key)) (λ w told.
-      subst (λ (o : Option (List OwnedValue)). IfSome o (IsRowAt table.schema.flags w.key)) told (row_at_fits old table.name table.schema is_state has w.key))
+      AllByRecursion-weaker (λ w. row_at old table.name w.key ≡ w.former) (λ w. IfSome w.former (IsRowAt table.schema w.key)) (λ w told.
+      subst (λ (o : Option (List OwnedValue)). IfSome o (IsRowAt table.schema w.key)) told (row_at_fits old table.name table.schema is_state has w.key))
 
   -- the rows that stood in a state could stand in its tables
   pub tells_formers : (new : State) (written : List WrittenData) → TellsFormer old new written → (notes : Notes)
@@ -112,7 +112,7 @@ module _ (old : State) (is_state : IsState old) where
       at : HasAttached old table ⊎ (writes_of table.name written ≡ []) → HasFormers written table
       at (inl there) = former_fits table there (writes_of table.name written)
           (told_of old table.name written (recursion_from_All (λ (w : WrittenData). row_at old w.table w.key ≡ w.former) written tells.told))
-      at (inr none) = subst (λ (writes : List WrittenData). AllByRecursion (λ w. IfSome w.former (IsRowAt table.schema.flags w.key)) writes) (sym none) tt
+      at (inr none) = subst (λ (writes : List WrittenData). AllByRecursion (λ w. IfSome w.former (IsRowAt table.schema w.key)) writes) (sym none) tt
 
 -- writes of one table are of no other
 pub only_writes : (name other : List ℕ) (written : List WrittenData) → AllByRecursion (λ w. w.table ≡ name) written → same_bytes name other ≡ false → writes_of other written ≡ []

@@ -32,7 +32,7 @@ use Rattle.cs_session.specs.FirstImages.{AttachedTable, Notes, IsNotes, HasAttac
 use Rattle.cs_session.specs.Changes.{HasTables, RefusesChanges}
 use Rattle.cs_session.specs.Undoing.{LeadsBackTo, Undoes}
 use Rattle.cs_session.proofs.RewoundLemmas.{rewound_here, all_rewound}
-use Rattle.cs_session.proofs.ChangesLemmas.{changes_are, changes_clean, changes_applied, all_compatible}
+use Rattle.cs_session.proofs.ChangesLemmas.{before_is, changes_are, changes_clean, changes_applied, all_compatible}
 
 -- a batch that began on a store has the tables of a state
 pub begun_state : (old begun : store.State) → KeepsCrash old begun → (HasCleanDisk begun → Begins old begun) → (HasCleanDisk old → IsTrue old.is_open → IsState (tables_in old.now))
@@ -82,6 +82,7 @@ module _ (law : ChangesetFiles) (state : State) (notes : Notes) (is_state : IsSt
     changeset = changes;
     is_changeset = changes_are state notes is_state are each;
     is_file = refl;
+    is_state = before_is state notes is_state are each;
     clean = changes_clean state notes is_state are each;
     choose = omit_all;
     applied = changes_applied state notes is_state are each omit_all;

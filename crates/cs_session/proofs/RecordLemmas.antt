@@ -1,10 +1,13 @@
 -- An apply, noted.
-use Rattle.std.proofs.Common.{◌≡◌, ◌⊎◌, inl, inr, ℕ, List, [], ◌∷◌, map, Result, Ok, Err, sym, ap, ◌∙◌, subst}
-use Rattle.std.specs.Prelude.{IfOk, OnOk}
+use Rattle.std.proofs.Common.{◌≡◌, ◌⊎◌, inl, inr, ℕ, Bool, true, false, List, [], ◌∷◌, map, Result, Ok, Err, refl, sym, ap, ◌∙◌, subst}
+use Rattle.std.specs.Prelude.{IfOk, OnOk, IsTrue}
 use Rattle.std.specs.List.{AllByRecursion}
 use Rattle.std.proofs.lemmas.List.Elements.{recursion_from_All}
+use Rattle.sqlite.specs.State as store
+use Rattle.sqlite.specs.State.{HasCleanDisk}
 use Rattle.cs_value.specs.State.{State, WrittenData, IsState}
 use Rattle.cs_store.specs.Editing.{written_of}
+use Rattle.cs_store.specs.Store.{RefusesShut, tables_in}
 use Rattle.cs_group.specs.Laws.{TellsFormer}
 use Rattle.cs_group.proofs.ApplyLemmas.{written_tells}
 use Rattle.cs_group.specs.declared.conflict.Noop.{Noop}
@@ -12,13 +15,14 @@ use Rattle.cs_apply.specs.declared.fault.ApplyFault.{ApplyFault}
 use Rattle.cs_apply.specs.declared.fault.ApplyFault.TheVariants.{Read, Wider, Abort, Misuse, Store, NoMemory}
 use Rattle.cs_apply.specs.declared.report.Report.{Report}
 use Rattle.cs_apply.specs.declared.running.Direction.TheVariants.{Forward}
-use Rattle.cs_apply.specs.Running.{Handler, Applies, Refuses}
+use Rattle.cs_apply.specs.Running.{Handler, Applies, Refuses, Leads}
+use Rattle.cs_apply.proofs.RevertLemmas.{leads_clean}
 use Rattle.cs_session.specs.declared.fault.SessionFault.{SessionFault}
 use Rattle.cs_session.specs.declared.fault.SessionFault.TheVariants.{NoMemory as OutOfMemory}
 use Rattle.cs_session.specs.Faults.{apply_fault_of}
 use Rattle.cs_session.specs.FirstImages.{Notes, HasAttached, writes_of, rewound}
 use Rattle.cs_session.specs.Noting.{AreFormers, IsDamage}
-use Rattle.cs_session.specs.Changes.{HasTables}
+use Rattle.cs_session.specs.Changes.{HasTables, IsResource}
 use Rattle.cs_session.specs.Recording.{RecordsApply, RefusesApply}
 use Rattle.cs_session.proofs.NotesLemmas.{tells_formers}
 use Rattle.cs_session.proofs.FirstLemmas.{rewound_recorded}
@@ -57,3 +61,16 @@ applied_rewound (Ok report) chooses noop file state notes new after records =
     ap (λ (ns : Notes). rewound ns new) records.noted
     ∙ rewound_recorded state new (map written_of report.written.items) (told chooses noop file state notes report new records.applied) notes
 applied_rewound (Err e) chooses noop file state notes new after records = tt
+
+-- an apply that is noted, and meets no conflict and ignores nothing, on a store that was open
+pub recorded_leads : (old new : store.State) (r : Result Report SessionFault) → (HasCleanDisk new → HasCleanDisk old) → RefusesShut old IsResource r
+    → (HasCleanDisk old → IsTrue old.is_open → IsState (tables_in old.now)) → HasCleanDisk new → (chooses : Handler) (noop : Noop) (file : List ℕ) (notes after : Notes) (last : State)
+    → IfOk r (λ report. RecordsApply chooses noop file (tables_in old.now) notes report last after)
+    → IfOk r (λ report. report.conflicts.items ≡ [] → report.ignored ≡ 0 → Leads file (tables_in old.now) last)
+recorded_leads old new (Err e) was shut law clean chooses noop file notes after last records = tt
+recorded_leads old new (Ok report) was shut law clean chooses noop file notes after last records =
+    leads_clean chooses noop file (tables_in old.now) last report (law (was clean) (at old.is_open refl)) records.applied
+  where
+    at : (b : Bool) → old.is_open ≡ b → IsTrue b
+    at true is = refl
+    at false is = absurd (shut is)

@@ -1,15 +1,19 @@
 -- A state with the first images put back.
-use Rattle.std.proofs.Common.{◌≡◌, ◌≢◌, ℕ, Bool, true, false, List, [], ◌∷◌, map, Some, refl, sym, ◌∙◌}
+use Rattle.std.proofs.Common.{◌≡◌, ◌≢◌, ℕ, Bool, true, false, List, [], ◌∷◌, map, Option, None, Some, refl, sym, subst, ◌∙◌}
+use Rattle.std.specs.Prelude.{IfSome}
 use Rattle.std.specs.List.{AllByRecursion}
+use Rattle.std.proofs.lemmas.List.Elements.{recursion_from_All}
+use Rattle.cs_value.specs.declared.value.OwnedValue.{OwnedValue}
 use Rattle.std.specs.FinMap.{get}
 use Rattle.std.specs.Ordering.{nat_cmp, is_eq}
 use Rattle.std.specs.Cmp.Lexicographic.{slice_cmp}
-use Rattle.cs_value.specs.State.{TableData, State, schema_at, rows_at, with_rows}
+use Rattle.cs_value.specs.State.{SchemaData, RowMap, TableData, State, IsTable, IsState, IsRowAt, schema_at, rows_at, with_rows}
 use Rattle.cs_value.proofs.ByteMaps.{tied_bytes}
 use Rattle.cs_value.proofs.ListLemmas.{PairsByRecursion}
-use Rattle.cs_value.proofs.StateLemmas.{table_of_schema}
+use Rattle.cs_value.proofs.StateLemmas.{table_of_schema, table_insert, table_remove, state_insert, row_at_fits}
+use Rattle.cs_store.proofs.MemoryLemmas.{with_rows_found}
 use Rattle.cs_store.proofs.WrittenRows.{same_schemas, rows_here, rows_other}
-use Rattle.cs_session.specs.FirstImages.{AttachedTable, Notes, HasAttached, rewound_rows, rewound, rewound_state}
+use Rattle.cs_session.specs.FirstImages.{FirstImage, AttachedTable, Notes, IsAttachedTable, HasAttached, put_back, put_all_back, rewound_rows, rewound, rewound_state}
 
 pub other_name : (name table : List ℕ) → ¬ (table ≡ name) → is_eq (slice_cmp nat_cmp name table) ≡ false
 other_name name table apart = at (is_eq (slice_cmp nat_cmp name table)) refl
@@ -18,6 +22,24 @@ other_name name table apart = at (is_eq (slice_cmp nat_cmp name table)) refl
     at true tied = absurd (apart (sym (tied_bytes name table tied)))
     at false tied = refl
 
+-- a table with these rows
+abbrev with_schema : RowMap → SchemaData → TableData
+with_schema rows schema = record { schema = schema; rows = rows }
+
+back_table : (schema : SchemaData) (first : FirstImage) (rows : RowMap) → IfSome first.row (IsRowAt schema first.key) → IsTable (with_schema rows schema)
+    → IsTable (with_schema (put_back first rows) schema)
+back_table schema first rows fits is = at first.row fits
+  where
+    at : (row : Option (List OwnedValue)) → IfSome row (IsRowAt schema first.key) → IsTable (with_schema (put_back (record { key = first.key; row = row }) rows) schema)
+    at None fit = table_remove (with_schema rows schema) first.key is
+    at (Some row) fit = table_insert (with_schema rows schema) first.key row is fit
+
+-- with first images that could stand in it put back, a table is one still
+all_back_table : (schema : SchemaData) (firsts : List FirstImage) (rows : RowMap) → AllByRecursion (λ f. IfSome f.row (IsRowAt schema f.key)) firsts
+    → IsTable (with_schema rows schema) → IsTable (with_schema (put_all_back firsts rows) schema)
+all_back_table schema [] rows fits is = is
+all_back_table schema (first ∷ firsts) rows fits is = back_table schema first (put_all_back firsts rows) fits.0 (all_back_table schema firsts rows fits.1 is)
+
 module _ (state : State) where
   -- the tables stay
   pub rewound_schemas : (notes : Notes) → AllByRecursion (HasAttached state) notes → (name : List ℕ) → schema_at (rewound_state notes state) name ≡ schema_at state name
@@ -25,6 +47,23 @@ module _ (state : State) where
   rewound_schemas (table ∷ notes) has name =
       let found = table_of_schema (get (rewound_state notes state) table.name) table.schema (rewound_schemas notes has.1 table.name ∙ has.0) in
       same_schemas (rewound_state notes state) table.name found.0 (rewound_rows state table) found.1 name ∙ rewound_schemas notes has.1 name
+
+  -- where the first images could stand in their tables, it is one
+  pub rewound_is_state : IsState state → (notes : Notes) → AllByRecursion IsAttachedTable notes → AllByRecursion (HasAttached state) notes → IsState (rewound_state notes state)
+  rewound_is_state is [] each has = is
+  rewound_is_state is (table ∷ notes) each has =
+      let mid = rewound_state notes state in
+      let found = table_of_schema (get mid table.name) table.schema (rewound_schemas notes has.1 table.name ∙ has.0) in
+      let rows = rewound_rows state table in
+      let fits = recursion_from_All (λ (f : FirstImage). IfSome f.row (IsRowAt table.schema f.key)) table.firsts each.0.rows in
+      let stood : IsTable (with_schema (rows_at state table.name) table.schema) = record {
+        schema = each.0.schema;
+        rows = λ key row there. subst (λ (o : Option (List OwnedValue)). IfSome o (IsRowAt table.schema key)) there (row_at_fits state table.name table.schema is has.0 key);
+      } in
+      let put : IsTable (with_schema rows table.schema) = all_back_table table.schema table.firsts (rows_at state table.name) fits stood in
+      subst IsState (sym (with_rows_found mid table.name found.0 rows found.1))
+      (state_insert mid table.name (with_schema rows found.0.schema) (rewound_is_state is notes each.1 has.1) each.0.named
+      (subst (λ (s : SchemaData). IsTable (with_schema rows s)) (sym found.2) put))
 
   -- the rows of a table that is not attached stay
   pub rewound_elsewhere : (notes : Notes) → AllByRecursion (HasAttached state) notes → (name : List ℕ) → AllByRecursion (λ t. ¬ (t.name ≡ name)) notes

@@ -124,7 +124,7 @@ module _ (xs ys : List WrittenData) where
   recorded_then (t ∷ notes) = let here = in_then t in let others = recorded_then notes in cc (here, others)
 
   abbrev FitsIn : AttachedTable → WrittenData → Type 0
-  FitsIn t v = IfSome v.former (IsRowAt t.schema.flags v.key)
+  FitsIn t v = IfSome v.former (IsRowAt t.schema v.key)
 
   formers_then : (notes : Notes) → AreFormers notes xs → AreFormers (recorded notes xs) ys → AreFormers notes (xs ++ ys)
   formers_then [] first then = tt

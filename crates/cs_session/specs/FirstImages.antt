@@ -38,7 +38,7 @@ Notes = List AttachedTable
 pub record IsAttachedTable (table : AttachedTable) : Type 0 where
   pub named : IsName table.name
   pub schema : IsSchema table.schema
-  pub rows : All (λ f. IfSome f.row (IsRowAt table.schema.flags f.key)) table.firsts
+  pub rows : All (λ f. IfSome f.row (IsRowAt table.schema f.key)) table.firsts
   pub once : AllPairs (λ f g. f.key ≢ g.key) table.firsts
 
 pub record IsNotes (notes : Notes) : Type 0 where

@@ -12,7 +12,7 @@ use Rattle.cs_session.specs.Images.{with_first}
 -- the former rows of the writes of a table could stand in it
 abbrev pub HasFormers : List WrittenData → AttachedTable → Type 0
 HasFormers written table =
-    AllByRecursion (λ w. IfSome w.former (IsRowAt table.schema.flags w.key)) (writes_of table.name written)
+    AllByRecursion (λ w. IfSome w.former (IsRowAt table.schema w.key)) (writes_of table.name written)
 
 -- in each
 abbrev pub AreFormers : Notes → List WrittenData → Type 0
@@ -28,7 +28,7 @@ IsDamage fault = fault ≡ Store DamagedStore
 
 -- a row could stand under the key in the table
 abbrev pub Fits : AttachedTable → List ℕ → Option (List OwnedValue) → Type 0
-Fits table key row = IfSome row (IsRowAt table.schema.flags key)
+Fits table key row = IfSome row (IsRowAt table.schema key)
 
 -- the table with a key that was written
 abbrev pub with_write : AttachedTable → List ℕ → Option (List OwnedValue) → AttachedTable

@@ -45,7 +45,7 @@ pub(crate) fn is_noted(
     ensures refused { IfErr result (λ e. (e ≡ OutOfMemory)
         ⊎ (IsDamage e × ¬ Fits (attached_of table.now) key.now (option_map (λ r. r.now) former.entry))) }
 {
-    check_row(alloc, table.schema.flags(), key, former)?;
+    check_row(alloc, &table.schema, key, former)?;
     Ok(table.firsts.has_key(key))
 }
 

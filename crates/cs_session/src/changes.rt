@@ -114,7 +114,7 @@ fn row_change<B: Rows>(
     key: &Key,
     former: Option<&Row>,
 ) -> Result<Option<Change>, SessionFault>
-    requires fits { IfSome (option_map (λ r. r.now) former) (IsRowAt table.now.schema.flags key.now) }
+    requires fits { IfSome (option_map (λ r. r.now) former) (IsRowAt table.now.schema key.now) }
     requires attached { B.is_honest rows.old → HasAttached (B.state rows.old) (attached_of table.now) }
     ensures made { B.is_honest rows.new → IfOk result (λ change. change ≡ change_between table.now.schema.flags
         (option_map (λ r. r.now) former.entry) (row_at (B.state rows.old) (rc_str_bytes table.now.name) key.now)) }
@@ -128,6 +128,6 @@ fn row_change<B: Rows>(
 {
     let row = rows.get(alloc, table.name.as_str(), key)?;
     let flags = table.schema.flags();
-    check_row(alloc, flags, key, row.as_ref())?;
+    check_row(alloc, &table.schema, key, row.as_ref())?;
     Ok(net_row_change(alloc, flags, former, row.as_ref())?)
 }

@@ -1,6 +1,6 @@
 //! Whether a store has the tables that are attached, and rows that can stand in them.
-ghost use Rattle.std.specs.Prelude.{◌≡◌, ◌⊎◌, map, IsTrue, ◌↔◌, OnOk, IfErr, IfSome};
-ghost use Rattle.cs_value.specs.State.{IsRowAt};
+ghost use Rattle.std.specs.Prelude.{◌≡◌, ◌⊎◌, [], ◌∷◌, false, get_or, map, IsTrue, ◌↔◌, OnOk, IfErr, IfSome};
+ghost use Rattle.cs_value.specs.State.{IsRowAt, Obeys};
 ghost use Rattle.cs_session.specs.declared.fault.SessionFault.TheVariants.{NoMemory as OutOfMemory};
 ghost use Rattle.cs_session.specs.FirstImages.{HasAttached};
 ghost use Rattle.cs_session.specs.Noting.{AreApart, IsDamage};
@@ -11,7 +11,7 @@ use crate::attached::Attached;
 use crate::fault::SessionFault;
 use crate::tables::Tables;
 use cs_store::{Rows, Schema, StoreError};
-use cs_value::{Key, Row};
+use cs_value::{Key, OwnedValue, Row};
 use std::alloc::Global;
 
 /// Refuses where one of the tables is not there as it was attached.
@@ -80,27 +80,58 @@ pub(crate) fn check_table<B: Rows>(
 fn is_same(schema: &Schema, other: &Schema) -> bool
     ensures { IsTrue result ↔ (schema.now ≡ other.now) }
 {
-    schema.columns() == other.columns() && schema.flags() == other.flags()
+    schema.columns() == other.columns()
+        && schema.flags() == other.flags()
+        && schema.refuses() == other.refuses()
 }
 
-/// Refuses a row that cannot stand under the key in a table with these flags.
+/// Refuses a row that cannot stand under the key in a table of this schema.
 pub(crate) fn check_row(
     alloc: Global,
-    flags: &[u8],
+    schema: &Schema,
     key: &Key,
     row: Option<&Row>,
 ) -> Result<(), SessionFault>
-    ensures fits { OnOk result (IfSome row.entry (λ r. IsRowAt flags.now key.now r.now)) }
+    ensures fits { OnOk result (IfSome row.entry (λ r. IsRowAt schema.now key.now r.now)) }
     ensures refused { IfErr result (λ e. (e ≡ OutOfMemory)
-        ⊎ (IsDamage e × ¬ IfSome row.entry (λ r. IsRowAt flags.now key.now r.now))) }
+        ⊎ (IsDamage e × ¬ IfSome row.entry (λ r. IsRowAt schema.now key.now r.now))) }
 {
     let row = match row {
         None => return Ok(()),
         Some(row) => row,
     };
-    if row.is_keyed(flags) && Key::of_row(alloc, flags, row)? == *key {
+    let flags = schema.flags();
+    if row.is_keyed(flags)
+        && obeys(schema.refuses(), row)
+        && Key::of_row(alloc, flags, row)? == *key
+    {
         Ok(())
     } else {
         Err(SessionFault::Store(StoreError::DamagedStore))
     }
+}
+
+/// Whether the row has NULL in no column that refuses it.
+fn obeys(refuses: &[bool], row: &Row) -> bool
+    ensures { IsTrue result ↔ Obeys refuses.now row.now }
+{
+    for (column, value) in row.values().iter().enumerate() {
+        if !may_stand(is_marked(refuses, column), value) {
+            return false;
+        }
+    }
+    true
+}
+
+fn may_stand(refuses: bool, value: &OwnedValue) -> bool
+    ensures { IsTrue result ↔ Obeys (refuses ∷ []) (value.now ∷ []) }
+{
+    !refuses || !matches!(value, OwnedValue::Null)
+}
+
+/// Whether a column is marked. One behind the last mark is not.
+fn is_marked(marks: &[bool], column: usize) -> bool
+    ensures { result ≡ get_or marks.now column false }
+{
+    column < marks.len() && marks[column]
 }

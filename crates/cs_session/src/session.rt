@@ -197,6 +197,7 @@ impl Session {
         ensures stands { OnErr result (IsTrue (state S.Store store.new).is_open → LeavesOnly
             (λ left. left ≡ tables_in (state S.Store store.old).committed) (state S.Store store.new)) }
     {
+        store.tables_law();
         apply_noted(alloc, &mut self.tables, store, file, noop, handler)
     }
 

@@ -48,10 +48,10 @@ works_beside Gives store slots before after reply stays gives = turns_still (Gav
 -- ---- statements
 
 module _ (old new : State) (slots : SlotMap) (before after : Option Notes) (reply : Reply) where
-  pub on_create : (name : List ℕ) (columns keys : List (List ℕ)) → Works old new before after (λ s. CreateGives s name columns keys) reply
-      → WorksOn old new slots slots before after (λ s. CommandGives s (Create name columns keys)) reply
-  on_create name columns keys works =
-      works_on (λ s. CommandGives s (Create name columns keys)) (λ s. CreateGives s name columns keys) old new slots before after reply works (λ t next. created name columns keys reply next)
+  pub on_create : (name : List ℕ) (columns : List (List ℕ)) (refuses : List Bool) (keys : List (List ℕ)) → Works old new before after (λ s. CreateGives s name columns refuses keys) reply
+      → WorksOn old new slots slots before after (λ s. CommandGives s (Create name columns refuses keys)) reply
+  on_create name columns refuses keys works =
+      works_on (λ s. CommandGives s (Create name columns refuses keys)) (λ s. CreateGives s name columns refuses keys) old new slots before after reply works (λ t next. created name columns refuses keys reply next)
 
   pub on_insert : (table : List ℕ) (values : List OwnedValue) → Works old new before after (λ s. EditGives s (inserted s.tables table values)) reply
       → WorksOn old new slots slots before after (λ s. CommandGives s (Insert table values)) reply
@@ -74,12 +74,12 @@ module _ (old new : State) (slots : SlotMap) (before after : Option Notes) (repl
 
   -- ---- applies
 
-  pub on_apply : (slot file : List ℕ) (on_data on_notfound on_conflict : Choice) (noop : Noop) → get slots slot ≡ Some file
-      → Works old new before after (λ s. ApplyGives s (ByKind on_data on_notfound on_conflict) noop file Forward) reply
-      → WorksOn old new slots slots before after (λ s. CommandGives s (Apply slot on_data on_notfound on_conflict noop)) reply
-  on_apply slot file on_data on_notfound on_conflict noop is works =
-      works_on (λ s. CommandGives s (Apply slot on_data on_notfound on_conflict noop)) (λ s. ApplyGives s (ByKind on_data on_notfound on_conflict) noop file Forward) old new slots before after reply works
-      (λ t next gives. applies slot on_data on_notfound on_conflict noop reply next (inr (file, is, gives)))
+  pub on_apply : (slot file : List ℕ) (on_data on_notfound on_conflict on_constraint : Choice) (noop : Noop) → get slots slot ≡ Some file
+      → Works old new before after (λ s. ApplyGives s (ByKind on_data on_notfound on_conflict on_constraint) noop file Forward) reply
+      → WorksOn old new slots slots before after (λ s. CommandGives s (Apply slot on_data on_notfound on_conflict on_constraint noop)) reply
+  on_apply slot file on_data on_notfound on_conflict on_constraint noop is works =
+      works_on (λ s. CommandGives s (Apply slot on_data on_notfound on_conflict on_constraint noop)) (λ s. ApplyGives s (ByKind on_data on_notfound on_conflict on_constraint) noop file Forward) old new slots before after reply works
+      (λ t next gives. applies slot on_data on_notfound on_conflict on_constraint noop reply next (inr (file, is, gives)))
 
   pub on_revert : (slot file : List ℕ) → get slots slot ≡ Some file → Works old new before after (λ s. RevertGives s file s.session) reply
       → WorksOn old new slots slots before after (λ s. CommandGives s (Revert slot)) reply
@@ -106,11 +106,11 @@ module _ (old new : State) (slots : SlotMap) (before after : Option Notes) (repl
       )) works
 
 module _ (store : State) (slots : SlotMap) (session : Option Notes) where
-  pub on_apply_empty : (slot : List ℕ) (on_data on_notfound on_conflict : Choice) (noop : Noop) → get slots slot ≡ None
-      → WorksOn store store slots slots session session (λ s. CommandGives s (Apply slot on_data on_notfound on_conflict noop)) (Refused EmptySlot)
-  on_apply_empty slot on_data on_notfound on_conflict noop none =
-      works_beside (λ s. CommandGives s (Apply slot on_data on_notfound on_conflict noop)) store slots session session (Refused EmptySlot) (λ t here. here)
-      (λ t. inl (applies slot on_data on_notfound on_conflict noop (Refused EmptySlot) _ (inl (none, refl, refl))))
+  pub on_apply_empty : (slot : List ℕ) (on_data on_notfound on_conflict on_constraint : Choice) (noop : Noop) → get slots slot ≡ None
+      → WorksOn store store slots slots session session (λ s. CommandGives s (Apply slot on_data on_notfound on_conflict on_constraint noop)) (Refused EmptySlot)
+  on_apply_empty slot on_data on_notfound on_conflict on_constraint noop none =
+      works_beside (λ s. CommandGives s (Apply slot on_data on_notfound on_conflict on_constraint noop)) store slots session session (Refused EmptySlot) (λ t here. here)
+      (λ t. inl (applies slot on_data on_notfound on_conflict on_constraint noop (Refused EmptySlot) _ (inl (none, refl, refl))))
 
   pub on_revert_empty : (slot : List ℕ) → get slots slot ≡ None → WorksOn store store slots slots session session (λ s. CommandGives s (Revert slot)) (Refused EmptySlot)
   on_revert_empty slot none =

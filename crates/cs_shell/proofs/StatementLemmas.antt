@@ -14,7 +14,7 @@ use Rattle.cs_value.specs.State.{SchemaData, TableData, State, schema_at, rows_a
 use Rattle.cs_store.specs.declared.fault.StoreError.{StoreError}
 use Rattle.cs_store.specs.declared.fault.StoreError.TheVariants.{NoTable, NoRow}
 use Rattle.cs_store.specs.Faults as faults
-use Rattle.cs_store.specs.Editing.{Declares, schema_of, updated, deleted}
+use Rattle.cs_store.specs.Editing.{either, Declares, schema_of, updated, deleted}
 use Rattle.cs_store.specs.Store.{KeepsStore, tables_in}
 use Rattle.cs_session.specs.FirstImages.{Notes}
 use Rattle.cs_lines.specs.Commands.{AssignmentData}
@@ -35,39 +35,39 @@ use Rattle.cs_shell.proofs.TurnLemmas.{or_store, no_memory, unable_as, resource_
 
 -- ---- CREATE TABLE
 
-pub create_unknown : (state : ShellState) (name : List ℕ) (columns keys : List (List ℕ)) (e : OrNoMemory NoColumn) → Refuses (λ _. ¬ AreColumns columns keys) e
-    → OrUnable (λ old. CreateGives old name columns keys) state (Refused (of_column e)) state
-create_unknown state name columns keys (tool.Fault f) why = inl (unknown_key why)
-create_unknown state name columns keys tool.NoMemory why = no_memory (λ old. CreateGives old name columns keys) state
+pub create_unknown : (state : ShellState) (name : List ℕ) (columns : List (List ℕ)) (refuses : List Bool) (keys : List (List ℕ)) (e : OrNoMemory NoColumn) → Refuses (λ _. ¬ AreColumns columns keys) e
+    → OrUnable (λ old. CreateGives old name columns refuses keys) state (Refused (of_column e)) state
+create_unknown state name columns refuses keys (tool.Fault f) why = inl (unknown_key why)
+create_unknown state name columns refuses keys tool.NoMemory why = no_memory (λ old. CreateGives old name columns refuses keys) state
 
 -- the schema that is declared is that of the columns and of their marks
-schema_is : (columns : List (String Global)) (keys : List (List ℕ)) (marks : List Bool) → marks ≡ marks_of (map string_bytes columns) keys
-    → schema_of columns marks ≡ declared_schema (map string_bytes columns) keys
-schema_is columns keys marks same = λ i. record { columns = map string_bytes columns; flags = map (λ k. if k then 1 else 0) (same i) }
+schema_is : (columns : List (String Global)) (refuses : List Bool) (keys : List (List ℕ)) (marks : List Bool) → marks ≡ marks_of (map string_bytes columns) keys
+    → schema_of columns marks refuses ≡ declared_schema (map string_bytes columns) refuses keys
+schema_is columns refuses keys marks same = λ i. record { columns = map string_bytes columns; flags = map (λ k. if k then 1 else 0) (same i); refuses = either (same i) refuses }
 
-pub create_refused : (state : ShellState) (name : List ℕ) (columns : List (String Global)) (keys : List (List ℕ)) (marks : List Bool) (e : StoreError)
+pub create_refused : (state : ShellState) (name : List ℕ) (columns : List (String Global)) (refuses : List Bool) (keys : List (List ℕ)) (marks : List Bool) (e : StoreError)
     → marks ≡ marks_of (map string_bytes columns) keys → AreColumns (map string_bytes columns) keys
-    → Declares state.tables name (schema_of columns marks) (Err e) ⊎ faults.IsResource e
-    → OrUnable (λ old. CreateGives old name (map string_bytes columns) keys) state (Refused (of_store e)) state
-create_refused state name columns keys marks e same are (inl why) =
-    or_store (λ old. CreateGives old name (map string_bytes columns) keys) state e (inl (not_declared e are (subst (λ (s : SchemaData). Declares state.tables name s (Err e)) (schema_is columns keys marks same) why)))
-create_refused state name columns keys marks e same are (inr resource) = or_store (λ old. CreateGives old name (map string_bytes columns) keys) state e (inr resource)
+    → Declares state.tables name (schema_of columns marks refuses) (Err e) ⊎ faults.IsResource e
+    → OrUnable (λ old. CreateGives old name (map string_bytes columns) refuses keys) state (Refused (of_store e)) state
+create_refused state name columns refuses keys marks e same are (inl why) =
+    or_store (λ old. CreateGives old name (map string_bytes columns) refuses keys) state e (inl (not_declared e are (subst (λ (s : SchemaData). Declares state.tables name s (Err e)) (schema_is columns refuses keys marks same) why)))
+create_refused state name columns refuses keys marks e same are (inr resource) = or_store (λ old. CreateGives old name (map string_bytes columns) refuses keys) state e (inr resource)
 
 -- where the store is shut no more is refused than what makes no table
-pub create_shut : (state : ShellState) (name : List ℕ) (columns : List (String Global)) (keys : List (List ℕ)) (marks : List Bool) (e : StoreError)
+pub create_shut : (state : ShellState) (name : List ℕ) (columns : List (String Global)) (refuses : List Bool) (keys : List (List ℕ)) (marks : List Bool) (e : StoreError)
     → marks ≡ marks_of (map string_bytes columns) keys → AreColumns (map string_bytes columns) keys
-    → ((t : State) → Declares t name (schema_of columns marks) (Err e) ⊎ faults.IsResource e)
-    → OrUnable (λ old. CreateGives old name (map string_bytes columns) keys) state (Refused (of_store e)) state
-create_shut state name columns keys marks e same are why = create_refused state name columns keys marks e same are (why state.tables)
+    → ((t : State) → Declares t name (schema_of columns marks refuses) (Err e) ⊎ faults.IsResource e)
+    → OrUnable (λ old. CreateGives old name (map string_bytes columns) refuses keys) state (Refused (of_store e)) state
+create_shut state name columns refuses keys marks e same are why = create_refused state name columns refuses keys marks e same are (why state.tables)
 
-pub create_declares : (old new : State) (name : List ℕ) (columns : List (String Global)) (keys : List (List ℕ)) (marks : List Bool) (session : Option Notes)
-    → marks ≡ marks_of (map string_bytes columns) keys → AreColumns (map string_bytes columns) keys → Declares old name (schema_of columns marks) (Ok new)
+pub create_declares : (old new : State) (name : List ℕ) (columns : List (String Global)) (refuses : List Bool) (keys : List (List ℕ)) (marks : List Bool) (session : Option Notes)
+    → marks ≡ marks_of (map string_bytes columns) keys → AreColumns (map string_bytes columns) keys → Declares old name (schema_of columns marks refuses) (Ok new)
     → IsHere old session → IsHere new session
-    × ((slots : SlotMap) → OrUnable (λ s. CreateGives s name (map string_bytes columns) keys) (seen old slots session) Silent (seen new slots session))
-create_declares old new name columns keys marks session same are done here =
-    let is = subst (λ (s : SchemaData). Declares old name s (Ok new)) (schema_is columns keys marks same) done in
-    let stays = declares_seen old new name (declared_schema (map string_bytes columns) keys) session is here in
-    (stays.0, λ slots. inl (subst (λ (s : ShellState). CreateGives (seen old slots session) name (map string_bytes columns) keys Silent s) (sym (stays.1 slots)) (declared new are is)))
+    × ((slots : SlotMap) → OrUnable (λ s. CreateGives s name (map string_bytes columns) refuses keys) (seen old slots session) Silent (seen new slots session))
+create_declares old new name columns refuses keys marks session same are done here =
+    let is = subst (λ (s : SchemaData). Declares old name s (Ok new)) (schema_is columns refuses keys marks same) done in
+    let stays = declares_seen old new name (declared_schema (map string_bytes columns) refuses keys) session is here in
+    (stays.0, λ slots. inl (subst (λ (s : ShellState). CreateGives (seen old slots session) name (map string_bytes columns) refuses keys Silent s) (sym (stays.1 slots)) (declared new are is)))
 
 -- ---- SELECT
 

@@ -218,6 +218,7 @@ of_store_cases store.KeyTaken = inl refl
 of_store_cases store.NoRow = inl refl
 of_store_cases store.RowWidth = inl refl
 of_store_cases store.NullInKey = inl refl
+of_store_cases store.NotNull = inl refl
 of_store_cases store.DamagedStore = inl refl
 of_store_cases store.StoreFault = inl refl
 

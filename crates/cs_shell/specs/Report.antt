@@ -9,11 +9,13 @@ use Rattle.cs_apply.specs.Report.{met_of}
 use Rattle.cs_value.specs.Quoting.{quoted}
 use Rattle.cs_lines.specs.Commands.{kind_text, choice_text}
 
--- the numbers are SQLite's: SQLITE_CHANGESET_DATA, SQLITE_CHANGESET_NOTFOUND and SQLITE_CHANGESET_CONFLICT
+-- the numbers are SQLite's: SQLITE_CHANGESET_DATA, SQLITE_CHANGESET_NOTFOUND, SQLITE_CHANGESET_CONFLICT and
+-- SQLITE_CHANGESET_CONSTRAINT
 abbrev pub kind_number : Kind → ℕ
 kind_number kind.Data = 1
 kind_number kind.NotFound = 2
 kind_number kind.Conflict = 3
+kind_number kind.Constraint = 4
 
 -- a table that was passed over; 17 is SQLite's SQLITE_SCHEMA
 unfoldable pub skip_text : List ℕ → List ℕ

@@ -1,7 +1,7 @@
 -- What lines are answered, and what they leave. The lines and the printed texts are this project's own; what a line asks
 -- for is what SQLite's session extension and this project's stores have.
 use Rattle.std.specs.Prelude.{◌≡◌, ◌≢◌, ◌⊎◌, ℕ, ◌+◌, ◌≤◌, List, [], ◌∷◌, ◌++◌, length, map, if◌then◌else◌, All, Any, codes}
-use Rattle.std.specs.Prelude.{Option, None, Some, Result, Ok, Err, IsUtf8}
+use Rattle.std.specs.Prelude.{Bool, Option, None, Some, Result, Ok, Err, IsUtf8}
 use Rattle.std.specs.FinMap as map
 use Rattle.std.specs.FinMap.{get, insert}
 use Rattle.hex.specs.Hex.{encode_lower, decode_of}
@@ -16,7 +16,7 @@ use Rattle.cs_group.specs.declared.conflict.Noop.{Noop}
 use Rattle.cs_group.specs.declared.conflict.Noop.TheVariants as noop
 use Rattle.cs_store.specs.declared.fault.StoreError.{StoreError}
 use Rattle.cs_store.specs.declared.fault.StoreError.TheVariants.{NoTable, NullInKey, NoRow, StoreFault}
-use Rattle.cs_store.specs.Editing.{Edited, Declares, inserted, updated, deleted, written_of}
+use Rattle.cs_store.specs.Editing.{either, Edited, Declares, inserted, updated, deleted, written_of}
 use Rattle.cs_apply.specs.declared.report.Report.{Report}
 use Rattle.cs_apply.specs.declared.running.Direction.{Direction}
 use Rattle.cs_apply.specs.declared.running.Direction.TheVariants.{Forward, Inverse}
@@ -79,21 +79,23 @@ pub data SlotsGive : SlotMap → CommandData → Reply → SlotMap → Type 0 wh
 -- ---- tables
 
 -- what a CREATE TABLE declares
-abbrev pub declared_schema : List (List ℕ) → List (List ℕ) → SchemaData
-declared_schema columns keys = record {
+abbrev pub declared_schema : List (List ℕ) → List Bool → List (List ℕ) → SchemaData
+declared_schema columns refuses keys = record {
   columns = columns;
   flags = map (λ k. if k then 1 else 0) (marks_of columns keys);
+  refuses = either (marks_of columns keys) refuses;
 }
 
 -- the columns of the key are told first
-pub data CreateGives (old : ShellState) (name : List ℕ) (columns keys : List (List ℕ)) : Reply → ShellState → Type 0 where
-  unknown_key : (AreColumns columns keys → ⊥) → CreateGives old name columns keys (Refused UnknownColumn) old
+pub data CreateGives (old : ShellState) (name : List ℕ) (columns : List (List ℕ)) (refuses : List Bool) (keys : List (List ℕ)) :
+    Reply → ShellState → Type 0 where
+  unknown_key : (AreColumns columns keys → ⊥) → CreateGives old name columns refuses keys (Refused UnknownColumn) old
   declared : (tables : State) → AreColumns columns keys
-      → Declares old.tables name (declared_schema columns keys) (Ok tables)
-      → CreateGives old name columns keys Silent (record old { tables = tables })
+      → Declares old.tables name (declared_schema columns refuses keys) (Ok tables)
+      → CreateGives old name columns refuses keys Silent (record old { tables = tables })
   not_declared : (error : StoreError) → AreColumns columns keys
-      → Declares old.tables name (declared_schema columns keys) (Err error)
-      → CreateGives old name columns keys (Refused (refusal.Store error)) old
+      → Declares old.tables name (declared_schema columns refuses keys) (Err error)
+      → CreateGives old name columns refuses keys (Refused (refusal.Store error)) old
 
 -- an edit of rows is carried out, and noted where a session is open, or it is refused
 abbrev pub EditGives : ShellState → Result Edited StoreError → Reply → ShellState → Type 0
@@ -155,9 +157,14 @@ pub data ApplyGives (old : ShellState) (chooses : Handler) (noop : Noop) (file :
       → ApplyGives old chooses noop file direction (Refused (of_apply fault)) old
 
 -- the handler that goes by the kind of a conflict
-abbrev pub ByKind : Choice → Choice → Choice → Handler
-ByKind on_data on_notfound on_conflict conflict choice =
-    choice ≡ chosen (record { on_data = on_data; on_notfound = on_notfound; on_conflict = on_conflict }) conflict.kind
+abbrev pub ByKind : Choice → Choice → Choice → Choice → Handler
+ByKind on_data on_notfound on_conflict on_constraint conflict choice =
+    choice ≡ chosen (record {
+      on_data = on_data;
+      on_notfound = on_notfound;
+      on_conflict = on_conflict;
+      on_constraint = on_constraint;
+    }) conflict.kind
 
 -- while a session is open, the inverse is written, and that is applied
 pub data RevertGives (old : ShellState) (file : List ℕ) : Option SessionTables → Reply → ShellState → Type 0 where
@@ -233,8 +240,8 @@ IsResource why = (why ≡ NoMemory) ⊎ (why ≡ refusal.Store StoreFault)
 
 -- the reply to a command, and what it leaves; any may be refused for memory or by the database, and then changes nothing
 pub data CommandGives (old : ShellState) : CommandData → Reply → ShellState → Type 0 where
-  created : (name : List ℕ) (columns keys : List (List ℕ)) (reply : Reply) (new : ShellState)
-      → CreateGives old name columns keys reply new → CommandGives old (Create name columns keys) reply new
+  created : (name : List ℕ) (columns : List (List ℕ)) (refuses : List Bool) (keys : List (List ℕ)) (reply : Reply) (new : ShellState)
+      → CreateGives old name columns refuses keys reply new → CommandGives old (Create name columns refuses keys) reply new
   inserts : (table : List ℕ) (values : List OwnedValue) (reply : Reply) (new : ShellState)
       → EditGives old (inserted old.tables table values) reply new → CommandGives old (Insert table values) reply new
   updates : (table : List ℕ) (sets conditions : List AssignmentData) (reply : Reply) (new : ShellState)
@@ -245,9 +252,9 @@ pub data CommandGives (old : ShellState) : CommandData → Reply → ShellState 
       → CommandGives old (Select table) reply new
   on_slots : (command : CommandData) (reply : Reply) (slots : SlotMap) → SlotsGive old.slots command reply slots
       → CommandGives old command reply (record { tables = old.tables; slots = slots; session = old.session })
-  applies : (slot : List ℕ) (on_data on_notfound on_conflict : Choice) (noop : Noop) (reply : Reply) (new : ShellState)
-      → WithSlot old slot (λ file. ApplyGives old (ByKind on_data on_notfound on_conflict) noop file Forward) reply new
-      → CommandGives old (Apply slot on_data on_notfound on_conflict noop) reply new
+  applies : (slot : List ℕ) (on_data on_notfound on_conflict on_constraint : Choice) (noop : Noop) (reply : Reply) (new : ShellState)
+      → WithSlot old slot (λ file. ApplyGives old (ByKind on_data on_notfound on_conflict on_constraint) noop file Forward) reply new
+      → CommandGives old (Apply slot on_data on_notfound on_conflict on_constraint noop) reply new
   reverts : (slot : List ℕ) (reply : Reply) (new : ShellState)
       → WithSlot old slot (λ file. RevertGives old file old.session) reply new
       → CommandGives old (Revert slot) reply new

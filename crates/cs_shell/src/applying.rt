@@ -25,8 +25,8 @@ fn apply_noted<S: Alter>(
     noop: Noop,
 ) -> Result<Reply, Refusal>
     ensures { Works (state S.Store store.old) (state S.Store store.new) (Some session.old) (Some session.new)
-        (λ old. ApplyGives old (ByKind policy.now.on_data policy.now.on_notfound policy.now.on_conflict)
-        noop file.now Forward) (answer_of result) }
+        (λ old. ApplyGives old (ByKind policy.now.on_data policy.now.on_notfound policy.now.on_conflict
+        policy.now.on_constraint) noop file.now Forward) (answer_of result) }
 {
     let handler = |conflict: &Conflict| policy.choose(conflict);
     let report = session.apply_recorded(alloc, store, file, noop, &handler)?;
@@ -42,8 +42,8 @@ pub(crate) fn apply_unnoted<S: Alter>(
     noop: Noop,
 ) -> Result<Reply, Refusal>
     ensures { Works (state S.Store store.old) (state S.Store store.new) None None
-        (λ old. ApplyGives old (ByKind policy.now.on_data policy.now.on_notfound policy.now.on_conflict)
-        noop file.now Forward) (answer_of result) }
+        (λ old. ApplyGives old (ByKind policy.now.on_data policy.now.on_notfound policy.now.on_conflict
+        policy.now.on_constraint) noop file.now Forward) (answer_of result) }
 {
     let handler = |conflict: &Conflict| policy.choose(conflict);
     let report = apply(alloc, store, file, noop, &handler)?;
@@ -60,8 +60,8 @@ pub(crate) fn apply_file<S: Alter>(
     noop: Noop,
 ) -> Result<Reply, Refusal>
     ensures { Works (state S.Store store.old) (state S.Store store.new) session.old session.new
-        (λ old. ApplyGives old (ByKind policy.now.on_data policy.now.on_notfound policy.now.on_conflict)
-        noop file.now Forward) (answer_of result) }
+        (λ old. ApplyGives old (ByKind policy.now.on_data policy.now.on_notfound policy.now.on_conflict
+        policy.now.on_constraint) noop file.now Forward) (answer_of result) }
 {
     match session {
         Some(session) => apply_noted(alloc, store, session, file, policy, noop),

@@ -20,6 +20,7 @@ fn kind_number(kind: Kind) -> usize
         Kind::Data => 1,
         Kind::NotFound => 2,
         Kind::Conflict => 3,
+        Kind::Constraint => 4,
     }
 }
 

@@ -75,8 +75,9 @@ fn run_command<S: Alter>(
         Command::Create {
             name,
             columns,
+            refuses,
             keys,
-        } => { statements::create(alloc, store, name.as_str(), &columns, &keys) }
+        } => { statements::create(alloc, store, name.as_str(), &columns, &refuses, &keys) }
         Command::Insert { table, values } => statements::insert(
             alloc, store, session, table, values,
         ),
@@ -113,12 +114,14 @@ fn run_command<S: Alter>(
             on_data,
             on_notfound,
             on_conflict,
+            on_constraint,
             noop,
         } => {
             let policy = Policy {
                 on_data,
                 on_notfound,
                 on_conflict,
+                on_constraint,
             };
             applying::apply_file(
                 alloc,

@@ -31,14 +31,15 @@ pub(crate) fn create<S: Alter>(
     store: &mut Store<S>,
     name: &str,
     columns: &[String],
+    refuses: &[bool],
     keys: &[String],
 ) -> Result<Reply, Refusal>
     ensures { (session : Option Notes) → Works (state S.Store store.old) (state S.Store store.new) session session
-        (λ old. CreateGives old name.now (map string_bytes columns.now) (map string_bytes keys.now))
+        (λ old. CreateGives old name.now (map string_bytes columns.now) refuses.now (map string_bytes keys.now))
         (answer_of result) }
 {
     let marks = key_marks(alloc, columns, keys)?;
-    store.declare(alloc, name, columns, &marks)?;
+    store.declare(alloc, name, columns, &marks, refuses)?;
     Ok(Reply::Silent)
 }
 

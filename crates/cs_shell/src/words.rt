@@ -24,7 +24,7 @@ use std::rt::HostRuntime;
 
 /// What words that fit no command are answered.
 const USAGE: &str = "\
-Usage: changeset [--data C] [--notfound C] [--conflict C] [--ignore-noop] FILE COMMAND ...
+Usage: changeset [--data C] [--notfound C] [--conflict C] [--constraint C] [--ignore-noop] FILE COMMAND ...
 COMMANDs:
   apply STORE        Apply the changeset to the store STORE
   concat FILE2 OUT   Concatenate FILE and FILE2 into OUT
@@ -176,11 +176,11 @@ fn run_action<R: Read, W: Write, E: Write>(
 /// memory, as [`run_script`] does, unless there is no memory for the store; with `FILE shell`
 /// on the store in FILE, which is made where it is missing. `FILE apply STORE`
 /// applies FILE to the store in the file STORE, and prints the report, as `report_text` does: `--data C`,
-/// `--notfound C` and `--conflict C` say what is done about conflicts of each kind, where C is `omit`, `replace`
-/// or `abort`, which is the default; with `--ignore-noop` an entry that would change nothing is ignored. `FILE
-/// invert OUT` writes the inverse of FILE into OUT, `FILE concat FILE2 OUT` the join of FILE and FILE2, and `FILE
-/// dump` and `FILE sql` print FILE. A file may have 1073741824 bytes; OUT is replaced once all of its bytes are
-/// there, and may be one of the others. With `--help` the usage text is printed.
+/// `--notfound C`, `--conflict C` and `--constraint C` say what is done about conflicts of each kind, where C is
+/// `omit`, `replace` or `abort`, which is the default; with `--ignore-noop` an entry that would change nothing is
+/// ignored. `FILE invert OUT` writes the inverse of FILE into OUT, `FILE concat FILE2 OUT` the join of FILE and
+/// FILE2, and `FILE dump` and `FILE sql` print FILE. A file may have 1073741824 bytes; OUT is replaced once all of
+/// its bytes are there, and may be one of the others. With `--help` the usage text is printed.
 ///
 /// A refusal of a command, or the usage text for words that fit no command, stands on `err`, and then OUT, where
 /// it is a plain file or none, is as it was. Lines of a script that are refused stand on `out`. A

@@ -1,17 +1,20 @@
--- The definitions of statements, on a table of two columns, `a` and `b`, of which the first is the key.
+-- The definitions of statements, on a table of two columns, `a` and `b`, of which the first is the key, and the second
+-- refuses NULL.
 use Rattle.std.proofs.Common.{◌≡◌, zero, suc, true, false, [], ◌∷◌, Some, None, true≢false, codes, refl, ap, ◌∙◌, arith, pos}
 use Rattle.std.specs.List.{Any}
 use Rattle.std.proofs.lemmas.List.Elements.{All-from_recursion}
 use Rattle.cs_value.specs.declared.value.OwnedValue.TheVariants.{Int, Text, Null}
 use Rattle.cs_value.specs.Key.{row_key}
 use Rattle.cs_value.specs.State.{SchemaData}
+use Rattle.cs_store.specs.declared.fault.StoreError.TheVariants.{NullInKey, NotNull}
 use Rattle.cs_store.specs.Records.{same_bytes}
+use Rattle.cs_store.specs.Editing.{row_fault}
 use Rattle.cs_lines.specs.Commands.{AssignmentData}
 use Rattle.cs_statements.specs.Columns.{AreColumns, NamesKey, marks_of, columns_of, key_names}
 use Rattle.cs_statements.specs.Rows.{named_key, with_assigned}
 
 abbrev table : SchemaData
-table = record { columns = codes "a" ∷ codes "b" ∷ []; flags = 1 ∷ 0 ∷ [] }
+table = record { columns = codes "a" ∷ codes "b" ∷ []; flags = 1 ∷ 0 ∷ []; refuses = true ∷ true ∷ [] }
 
 -- a=1
 abbrev key_is_one : AssignmentData
@@ -28,6 +31,10 @@ other_is_one = record { column = codes "b"; value = Int (pos 1) }
 -- b='y'
 abbrev other_is_y : AssignmentData
 other_is_y = record { column = codes "b"; value = Text (codes "y") }
+
+-- b=NULL
+abbrev other_is_null : AssignmentData
+other_is_null = record { column = codes "b"; value = Null }
 
 -- columns
 
@@ -89,3 +96,13 @@ null_is_no_key = refl
 -- SET b='y' makes (1, 'y') of (1, 'x')
 y_is_assigned : with_assigned (other_is_y ∷ []) table.columns (Int (pos 1) ∷ Text (codes "x") ∷ []) ≡ Int (pos 1) ∷ Text (codes "y") ∷ []
 y_is_assigned = refl
+
+-- which may stand in the table; with NULL in b it may not, and NULL in the key is told first
+y_may_stand : row_fault table (with_assigned (other_is_y ∷ []) table.columns (Int (pos 1) ∷ Text (codes "x") ∷ [])) ≡ None
+y_may_stand = refl
+
+null_may_not : row_fault table (with_assigned (other_is_null ∷ []) table.columns (Int (pos 1) ∷ Text (codes "x") ∷ [])) ≡ Some NotNull
+null_may_not = refl
+
+null_in_key_first : row_fault table (with_assigned (other_is_null ∷ key_is_null ∷ []) table.columns (Int (pos 1) ∷ Text (codes "x") ∷ [])) ≡ Some NullInKey
+null_in_key_first = refl

@@ -14,10 +14,7 @@ use Rattle.cs_store.specs.declared.fault.StoreError.{StoreError}
 use Rattle.cs_store.specs.declared.fault.StoreError.TheVariants.{DamagedStore, NoMemory}
 use Rattle.cs_store.specs.Faults.{IsResource}
 use Rattle.cs_store.specs.Records.{RecordData, HoldsRecords, ListsAll, Sets, GoesOn, KeepsCrash, changed, content, same_bytes, is_under, records_of, records_in, record_schema, empty_schema}
-use Rattle.cs_store.specs.declared.version.Version.{Version}
-use Rattle.cs_store.specs.declared.version.Version.TheVariants.{Current, Former}
-use Rattle.cs_store.specs.Stored.{version, IsVersion, stored_under, StoresIn, StoresInSome}
-use Rattle.cs_store.specs.Versions.{bytes_of}
+use Rattle.cs_store.specs.Stored.{version, stored_under, StoresIn, StoresInSome}
 use Rattle.cs_store.specs.Valid.{AreValid}
 use Rattle.sqlite_trees.specs.View.{doubt}
 use Rattle.cs_store.specs.Store.{HoldsState, HoldsTables, Adopts, OpensFiles, SetsUp, MemoryIsHonest, tables_in}
@@ -27,16 +24,9 @@ use Rattle.cs_store.proofs.CheckLemmas.{listed_there}
 use Rattle.cs_store.proofs.CrashLemmas.{crash_then, may_leave}
 use Rattle.cs_store.proofs.RowLemmas.{same_itself}
 use Rattle.cs_store.proofs.StateOf.{records_first}
-use Rattle.cs_store.proofs.StoredLemmas.{stores_nothing}
+use Rattle.cs_store.proofs.StoredLemmas.{not_former, stores_nothing}
 use Rattle.cs_store.proofs.ValidLemmas.{valid_stores, stores_valid}
 use Rattle.cs_store.proofs.WriteLemmas.{holds_next}
-
--- ---- the version
-
--- each version that is found is one that is read
-pub is_version : (v : Version) → IsVersion (bytes_of v)
-is_version Current = inl refl
-is_version Former = inr refl
 
 -- ---- no record
 
@@ -75,7 +65,7 @@ sets_version old new holds none set =
 renews_version : (old new : Database) → HoldsRecords old → AreValid (records_in old) → Sets old new [] [] (Some version) → HoldsState new × HoldsTables old (tables_in new)
 renews_version old new holds valid set =
     let stored = valid_stores (old.trees 0) valid in
-    let next = holds_next new (tables_in old) set.holds (record { is_state = stored.is_state; each = λ t k. set.change t k ∙ at t k stored }) in
+    let next = holds_next new (tables_in old) set.holds (record { is_state = stored.is_state; each = λ t k. set.change t k ∙ at t k stored; former = λ old. absurd (not_former old) }) in
     (next.0, inr (holds, (valid.written, valid.is_version, subst (StoresIn valid.written (records_in old)) (sym next.1) stored)))
   where
     at : (t k : List ℕ) → StoresIn valid.written (records_in old) (tables_in old) → changed (records_in old) [] [] (Some version) t k ≡ stored_under version (tables_in old) t k

@@ -17,24 +17,32 @@ use Rattle.cs_value.proofs.ByteMaps.{tied_bytes}
 use Rattle.cs_store.specs.declared.fault.StoreError.{StoreError}
 use Rattle.cs_store.specs.declared.fault.StoreError.TheVariants.{DamagedStore, NoMemory}
 use Rattle.cs_store.specs.Records.{Records, RecordData, same_bytes, record_cmp, ListsAll}
-use Rattle.cs_store.specs.Declaration.{declaration_bytes, IsDeclaration}
-use Rattle.cs_store.specs.Stored.{IsVersion}
-use Rattle.cs_store.specs.Valid.{IsStoredRow, AreValid, IsTableRecord, DeclaresTable, IsGoodTable, Schemas, AreDeclared, IsRowRecord, IsGoodRow}
+use Rattle.cs_store.specs.declared.version.Version.{Version}
+use Rattle.cs_store.specs.declared.version.Version.TheVariants.{Current, Former}
+use Rattle.cs_store.specs.Declaration.{declaration_bytes, IsFormer}
+use Rattle.cs_store.specs.Stored.{former_version, IsVersion}
+use Rattle.cs_store.specs.Versions.{bytes_of}
+use Rattle.cs_store.specs.Valid.{IsDeclarationIn, IsStoredRow, AreValid, IsTableRecord, DeclaresTable, IsGoodTable, Schemas, AreDeclared, IsRowRecord, IsGoodRow}
 use Rattle.cs_store.proofs.RowLemmas.{same_is, same_itself, ascending_from_pairs}
 use Rattle.cs_store.proofs.DeclarationLemmas.{declarations_apart}
+
+-- each version that is found is one that is read
+pub is_version : (v : Version) → IsVersion (bytes_of v)
+is_version Current = inl refl
+is_version Former = inr refl
 
 -- ---- the tables that are declared
 
 -- no record declares no table
-pub declared_none : (schemas : Schemas) → schemas ≡ map.empty → AreDeclared [] schemas
-declared_none schemas none = record {
+pub declared_none : (written : List ℕ) (schemas : Schemas) → schemas ≡ map.empty → AreDeclared written [] schemas
+declared_none written schemas none = record {
   found = λ name schema found. absurd (let e = sym (map.get-empty (slice_cmp nat_cmp) name) ∙ ap (λ m. map.get m name) (sym none) ∙ found in cc);
   each = λ r has. absurd has;
 }
 
 -- a record more that is no declaration
-pub declared_other : (xs : List RecordData) (r : RecordData) (schemas : Schemas) → AreDeclared xs schemas → (IsTableRecord r → ⊥) → AreDeclared (xs ++ r ∷ []) schemas
-declared_other xs r schemas so other = record {
+pub declared_other : (written : List ℕ) (xs : List RecordData) (r : RecordData) (schemas : Schemas) → AreDeclared written xs schemas → (IsTableRecord r → ⊥) → AreDeclared written (xs ++ r ∷ []) schemas
+declared_other written xs r schemas so other = record {
   found = λ name schema found. let at = so.found name schema found in (at.0, has_left xs (r ∷ []) at.0 at.1, at.2);
   each = λ s has is. elim (has_either xs (r ∷ []) s has) [
     | inl before ↦ so.each s before is
@@ -43,19 +51,19 @@ declared_other xs r schemas so other = record {
 }
 
 -- and one that is
-pub declared_table : (xs : List RecordData) (r : RecordData) (schemas : Schemas) (name : List ℕ) (schema : SchemaData) → AreDeclared xs schemas → DeclaresTable r name schema
-    → AreDeclared (xs ++ r ∷ []) (map.insert schemas name schema)
-declared_table xs r schemas name schema so here = record { found = found; each = each }
+pub declared_table : (written : List ℕ) (xs : List RecordData) (r : RecordData) (schemas : Schemas) (name : List ℕ) (schema : SchemaData) → AreDeclared written xs schemas → DeclaresTable written r name schema
+    → AreDeclared written (xs ++ r ∷ []) (map.insert schemas name schema)
+declared_table written xs r schemas name schema so here = record { found = found; each = each }
   where
     got : (q : List ℕ) → map.get (map.insert schemas name schema) q ≡ cond (is_eq (slice_cmp nat_cmp q name)) (Some schema) (map.get schemas q)
     got q = map.get-insert nat_list_cmp_total schemas name schema q
 
-    found : (q : List ℕ) (s : SchemaData) → map.get (map.insert schemas name schema) q ≡ Some s → (r2 : RecordData) × Has (xs ++ r ∷ []) r2 × DeclaresTable r2 q s
+    found : (q : List ℕ) (s : SchemaData) → map.get (map.insert schemas name schema) q ≡ Some s → (r2 : RecordData) × Has (xs ++ r ∷ []) r2 × DeclaresTable written r2 q s
     found q s is = elim (cases_Bool (is_eq (slice_cmp nat_cmp q name))) [
       | inl tied ↦
           let own : q ≡ name = tied_bytes q name tied in
           let same : schema ≡ s = (let e = ap (λ b. cond b (Some schema) (map.get schemas q)) (sym tied) ∙ sym (got q) ∙ is in cc) in
-          (r, has_last (xs ++ r ∷ []) xs r refl, subst (λ (n : List ℕ). DeclaresTable r n s) (sym own) (subst (DeclaresTable r name) same here))
+          (r, has_last (xs ++ r ∷ []) xs r refl, subst (λ (n : List ℕ). DeclaresTable written r n s) (sym own) (subst (DeclaresTable written r name) same here))
       | inr apart ↦
           let at = so.found q s (ap (λ b. cond b (Some schema) (map.get schemas q)) (sym apart) ∙ sym (got q) ∙ is) in
           (at.0, has_left xs (r ∷ []) at.0 at.1, at.2)
@@ -125,7 +133,7 @@ module _ (records : Records) (listed : List RecordData) (all : ListsAll records 
 
   -- ---- what is checked is valid
 
-  module _ (schemas : Schemas) (declared : AreDeclared listed schemas) where
+  module _ (written : List ℕ) (schemas : Schemas) (declared : AreDeclared written listed schemas) where
     -- a schema that was noted is declared there
     noted_there : (name : List ℕ) (schema : SchemaData) → map.get schemas name ≡ Some schema → records [] name ≡ Some (declaration_bytes schema)
     noted_there name schema is =
@@ -134,24 +142,26 @@ module _ (records : Records) (listed : List RecordData) (all : ListsAll records 
         ap (λ (t : List ℕ). records t name) (sym at.2.is_table.0) ∙ ap (records at.0.tab) (sym at.2.own) ∙ there ∙ ap Some at.2.spelled
 
     -- a declaration that is there was noted
-    there_noted : (name bytes : List ℕ) → name ≢ [] → records [] name ≡ Some bytes → (schema : SchemaData) × (map.get schemas name ≡ Some schema) × IsName name × IsSchema schema × (bytes ≡ declaration_bytes schema)
+    there_noted : (name bytes : List ℕ) → name ≢ [] → records [] name ≡ Some bytes
+        → (schema : SchemaData) × (map.get schemas name ≡ Some schema) × IsName name × IsSchema schema × (bytes ≡ declaration_bytes schema) × (written ≡ former_version → IsFormer schema)
     there_noted name bytes some is =
         let r = there_listed [] name bytes is in
         at (map.get schemas name) refl (subst (λ (k : List ℕ). IsSome (map.get schemas k)) r.3 (declared.each r.0 r.1 (r.2, λ e. some (sym r.3 ∙ e))))
       where
-        at : (o : Option SchemaData) → map.get schemas name ≡ o → IsSome o → (schema : SchemaData) × (map.get schemas name ≡ Some schema) × IsName name × IsSchema schema × (bytes ≡ declaration_bytes schema)
+        at : (o : Option SchemaData) → map.get schemas name ≡ o → IsSome o
+            → (schema : SchemaData) × (map.get schemas name ≡ Some schema) × IsName name × IsSchema schema × (bytes ≡ declaration_bytes schema) × (written ≡ former_version → IsFormer schema)
         at None none h = absurd (cc)
         at (Some schema) found h =
             let d = (declared.found name schema found).2 in
             let same : bytes ≡ declaration_bytes schema = (let e = sym is ∙ noted_there name schema found in cc) in
-            (schema, found, d.named, d.is_schema, same)
+            (schema, found, d.named, d.is_schema, same, d.former)
 
     -- records that were checked are valid
-    pub checked_valid : AllByRecursion (IsGoodRow schemas) listed → (written : List ℕ) → IsVersion written → records [] [] ≡ Some written → AreValid records
-    checked_valid rows written known first = record { written = written; is_version = known; version_is = first; tables = tables; rows = each }
+    pub checked_valid : AllByRecursion (IsGoodRow schemas) listed → IsVersion written → records [] [] ≡ Some written → AreValid records
+    checked_valid rows known first = record { written = written; is_version = known; version_is = first; tables = tables; rows = each }
       where
-        tables : (name bytes : List ℕ) → name ≢ [] → records [] name ≡ Some bytes → IsName name × IsDeclaration bytes
-        tables name bytes some is = let n = there_noted name bytes some is in (n.2, (n.0, n.3, n.4))
+        tables : (name bytes : List ℕ) → name ≢ [] → records [] name ≡ Some bytes → IsName name × IsDeclarationIn written bytes
+        tables name bytes some is = let n = there_noted name bytes some is in (n.2, (n.0, n.3, n.4, n.5))
 
         each : (name key value : List ℕ) → name ≢ [] → records name key ≡ Some value → IsStoredRow records name key value
         each name key value some is =
@@ -163,7 +173,7 @@ module _ (records : Records) (listed : List RecordData) (all : ListsAll records 
               is_schema = (declared.found name good.0 found).2.is_schema;
               declared = noted_there name good.0 found;
               row = good.2.row;
-              fits = subst (λ (k : List ℕ). IsRowAt good.0.flags k good.2.row) r.3 good.2.fits;
+              fits = subst (λ (k : List ℕ). IsRowAt good.0 k good.2.row) r.3 good.2.fits;
               spelled = sym r.4 ∙ good.2.spelled;
             }
 
@@ -175,24 +185,27 @@ module _ (records : Records) (listed : List RecordData) (all : ListsAll records 
         of_row r is some =
             let n = there_noted r.tab (declaration_bytes is.schema) some is.declared in
             let same : n.0 ≡ is.schema = declarations_apart n.0 is.schema n.3 is.is_schema (sym n.4) in
-            (n.0, n.1, record { row = is.row; fits = subst (λ (s : SchemaData). IsRowAt s.flags r.key is.row) (sym same) is.fits; spelled = is.spelled })
+            (n.0, n.1, record { row = is.row; fits = subst (λ (s : SchemaData). IsRowAt s r.key is.row) (sym same) is.fits; spelled = is.spelled })
 
   -- and that of declarations
-  pub valid_tables : AreValid records → AllByRecursion IsGoodTable listed
-  valid_tables valid = all_from IsGoodTable listed (λ r has is. valid.tables r.key r.value is.1 (ap (λ (t : List ℕ). records t r.key) (sym is.0) ∙ listed_there r has))
+  pub valid_tables : (written : List ℕ) → records [] [] ≡ Some written → AreValid records → AllByRecursion (IsGoodTable written) listed
+  valid_tables written first valid =
+      let own : valid.written ≡ written = (let e = sym valid.version_is ∙ first in cc) in
+      all_from (IsGoodTable written) listed (λ r has is.
+      subst (λ (w : List ℕ). IsName r.key × IsDeclarationIn w r.value) own (valid.tables r.key r.value is.1 (ap (λ (t : List ℕ). records t r.key) (sym is.0) ∙ listed_there r has)))
 
 -- ---- what a check answers
 
 -- where the rows are found good, the records are valid
-pub checked_all : {X : Type 0} (result : Result X StoreError) (listed : List RecordData) (schemas : Schemas) → AreDeclared listed schemas → OnOk result (AllByRecursion (IsGoodRow schemas) listed)
-    → OnOk result ((records : Records) → ListsAll records listed → (written : List ℕ) → IsVersion written → records [] [] ≡ Some written → AreValid records)
-checked_all (Ok x) listed schemas declared rows = λ records all written known first. checked_valid records listed all schemas declared rows written known first
-checked_all (Err e) listed schemas declared rows = tt
+pub checked_all : {X : Type 0} (result : Result X StoreError) (v : Version) (listed : List RecordData) (schemas : Schemas) → AreDeclared (bytes_of v) listed schemas → OnOk result (AllByRecursion (IsGoodRow schemas) listed)
+    → OnOk result ((records : Records) → ListsAll records listed → records [] [] ≡ Some (bytes_of v) → AreValid records)
+checked_all (Ok x) v listed schemas declared rows = λ records all first. checked_valid records listed all (bytes_of v) schemas declared rows (is_version v) first
+checked_all (Err e) v listed schemas declared rows = tt
 
 -- where they are not, they are not valid
-pub refused_rows : {X : Type 0} (result : Result X StoreError) (listed : List RecordData) (schemas : Schemas) → AreDeclared listed schemas
+pub refused_rows : {X : Type 0} (result : Result X StoreError) (written : List ℕ) (listed : List RecordData) (schemas : Schemas) → AreDeclared written listed schemas
     → IfErr result (λ e. ((e ≡ DamagedStore) × (AllByRecursion (IsGoodRow schemas) listed → ⊥)) ⊎ (e ≡ NoMemory))
-    → IfErr result (λ e. ((e ≡ DamagedStore) × ((records : Records) → ListsAll records listed → AreValid records → ⊥)) ⊎ (e ≡ NoMemory))
-refused_rows (Ok x) listed schemas declared h = tt
-refused_rows (Err e) listed schemas declared (inl damaged) = inl (damaged.0, λ records all valid. damaged.1 (valid_rows records listed all schemas declared valid))
-refused_rows (Err e) listed schemas declared (inr memory) = inr memory
+    → IfErr result (λ e. ((e ≡ DamagedStore) × ((records : Records) → ListsAll records listed → records [] [] ≡ Some written → AreValid records → ⊥)) ⊎ (e ≡ NoMemory))
+refused_rows (Ok x) written listed schemas declared h = tt
+refused_rows (Err e) written listed schemas declared (inl damaged) = inl (damaged.0, λ records all first valid. damaged.1 (valid_rows records listed all written schemas declared valid))
+refused_rows (Err e) written listed schemas declared (inr memory) = inr memory

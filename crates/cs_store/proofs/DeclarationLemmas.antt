@@ -1,6 +1,6 @@
 -- The bytes of declarations: what begins with a column, and that no two schemas have the same.
-use Rattle.std.proofs.Common.{◌≡◌, ◌≢◌, ℕ, ◌+◌, ◌<◌, ◌≤◌, List, [], ◌∷◌, ◌++◌, length, get_or, take, drop, refl, sym, ap, subst, ◌∙◌, append_assoc, arith, length-append, Result, Ok, Err}
-use Rattle.std.specs.Prelude.{IfOk}
+use Rattle.std.proofs.Common.{◌≡◌, ◌≢◌, ℕ, ◌+◌, ◌<◌, ◌≤◌, ◌⊎◌, inl, inr, List, [], ◌∷◌, ◌++◌, length, get_or, take, drop, refl, sym, ap, subst, ◌∙◌, append_assoc, arith, length-append, Result, Ok, Err}
+use Rattle.std.specs.Prelude.{IfOk, IfErr}
 use Rattle.std.specs.Str.{IsUtf8}
 use Rattle.std.specs.List.{AllByRecursion}
 use Rattle.std.proofs.lemmas.List.{append-nil, take_more, length-take-le}
@@ -11,7 +11,9 @@ use Rattle.cs_value.specs.Spelling.{counted}
 use Rattle.cs_value.proofs.ListLemmas.{AllByRecursion-push, same_from_append}
 use Rattle.cs_value.proofs.Spellings.{varint_spellings}
 use Rattle.cs_store.specs.declared.fault.StoreError.{StoreError}
-use Rattle.cs_store.specs.Declaration.{columns_bytes, declaration_bytes, BeginsWithColumn, AreColumns}
+use Rattle.cs_store.specs.declared.fault.StoreError.TheVariants.{DamagedStore, NoMemory}
+use Rattle.cs_store.specs.Declaration.{column_codes, columns_bytes, declaration_bytes, IsDeclaration, ColumnsData, schema_of_columns, BeginsWithColumn, AreColumns}
+use Rattle.cs_store.proofs.CodeLemmas.{codes_again, columns_of, columns_length, made_again}
 
 -- bytes that begin with two counted texts begin with one
 pub counted_same : (s t x y : List ℕ) → length s ≤ MAX_CONTENT_LEN → length t ≤ MAX_CONTENT_LEN → counted s ++ x ≡ counted t ++ y → (s ≡ t) × (x ≡ y)
@@ -48,7 +50,7 @@ column_same f g n m x y short_n short_m e =
 pub no_column : (bytes name rest : List ℕ) → 1 ≤ length bytes → length name ≤ MAX_CONTENT_LEN → drop 1 bytes ≡ counted name ++ rest → ¬ (IsUtf8 name) → ¬ (BeginsWithColumn bytes)
 no_column [] name rest some short e no_text h = absurd (omega arith)
 no_column (b ∷ bytes) name rest some short e no_text h =
-    let both = column_same b h.flag name h.name rest h.rest short h.short (ap (λ (l : List ℕ). b ∷ l) (sym e) ∙ h.spelled) in
+    let both = column_same b h.code name h.name rest h.rest short h.short (ap (λ (l : List ℕ). b ∷ l) (sym e) ∙ h.spelled) in
     no_text (subst IsUtf8 (sym both.1) h.text)
 
 -- and bytes that begin with two lists of as many columns begin with one
@@ -73,7 +75,7 @@ next_column [] gs (n ∷ ns) ms left a b lt short_n short_m e = absurd (omega ar
 next_column (f ∷ fs) gs [] ms left a b lt short_n short_m e = absurd (omega arith)
 next_column fs gs ns [] left a b lt short_n short_m e = absurd (omega arith)
 next_column fs [] ns (m ∷ ms) left a b lt short_n short_m e = absurd (omega arith)
-next_column [] (g ∷ gs) [] (m ∷ ms) left a b lt short_n short_m e = record { flag = g; name = m; rest = columns_bytes gs ms; text = short_m.0.0; short = short_m.0.1; spelled = e }
+next_column [] (g ∷ gs) [] (m ∷ ms) left a b lt short_n short_m e = record { code = g; name = m; rest = columns_bytes gs ms; text = short_m.0.0; short = short_m.0.1; spelled = e }
 next_column (f ∷ fs) (g ∷ gs) (n ∷ ns) (m ∷ ms) left a b lt short_n short_m e =
     let first = column_same f g n m (columns_bytes fs ns ++ left) (columns_bytes gs ms) short_n.0.1 short_m.0.1 (ap (λ (l : List ℕ). f ∷ l) (sym (append_assoc (counted n) (columns_bytes fs ns) left)) ∙ e) in
     next_column fs gs ns ms left (omega arith) (omega arith) (omega arith) short_n.1 short_m.1 first.2
@@ -86,80 +88,99 @@ columns_bytes-push (g ∷ fs) [] f n e = absurd (omega arith)
 columns_bytes-push (g ∷ fs) (m ∷ ns) f n e = ap (λ (l : List ℕ). g ∷ l) (ap (λ (l : List ℕ). counted m ++ l) (columns_bytes-push fs ns f n (omega arith)) ∙ sym (append_assoc (counted m) (columns_bytes fs ns) (f ∷ counted n)))
 
 -- the first columns, and one more
-pub columns_bytes-more : (flags : List ℕ) (names : List (List ℕ)) (i flag : ℕ) (name : List ℕ) → i < length flags → i < length names → flag ≡ get_or flags i 0 → get_or names i [] ≡ name
-    → columns_bytes (take (i + 1) flags) (take (i + 1) names) ≡ columns_bytes (take i flags) (take i names) ++ flag ∷ counted name
-columns_bytes-more flags names i flag name in_flags in_names flag_is name_is =
-    let same : length (take i flags) ≡ length (take i names) = omega (arith, length-take-le i flags, length-take-le i names) in
-    rw (take_more flags i 0 in_flags, take_more names i [] in_names, ← flag_is, name_is) (columns_bytes-push (take i flags) (take i names) flag name same)
+pub columns_bytes-more : (codes : List ℕ) (names : List (List ℕ)) (i code : ℕ) (name : List ℕ) → i < length codes → i < length names → code ≡ get_or codes i 0 → get_or names i [] ≡ name
+    → columns_bytes (take (i + 1) codes) (take (i + 1) names) ≡ columns_bytes (take i codes) (take i names) ++ code ∷ counted name
+columns_bytes-more codes names i code name in_codes in_names code_is name_is =
+    let same : length (take i codes) ≡ length (take i names) = omega (arith, length-take-le i codes, length-take-le i names) in
+    rw (take_more codes i 0 in_codes, take_more names i [] in_names, ← code_is, name_is) (columns_bytes-push (take i codes) (take i names) code name same)
 
 -- names of columns are short texts
 pub short_names : (names : List (List ℕ)) → AllByRecursion IsColumnName names → AllByRecursion IsShortText names
 short_names [] h = tt
 short_names (n ∷ names) h = ((h.0.text, h.0.short), short_names names h.1)
 
-pub schema_columns : (schema : SchemaData) → IsSchema schema → AreColumns (length schema.columns) schema
-schema_columns schema h = record { names = refl; flags = sym h.as_many; short = short_names schema.columns h.named }
+pub schema_columns : (schema : SchemaData) → IsSchema schema → AreColumns (length schema.columns) (columns_of schema)
+schema_columns schema h = record { names = refl; bytes = columns_length schema h; short = short_names schema.columns h.named }
 
 -- two lists of columns that bytes are are one
-pub same_columns : (count : ℕ) (s t : SchemaData) → AreColumns count s → AreColumns count t → columns_bytes s.flags s.columns ≡ columns_bytes t.flags t.columns → s ≡ t
-same_columns count s t are_s are_t e =
-    let both = columns_same s.flags t.flags s.columns t.columns [] [] (are_s.flags ∙ sym are_s.names) (are_t.flags ∙ sym are_t.names) (are_s.names ∙ sym are_t.names) are_s.short are_t.short (ap (λ (l : List ℕ). l ++ []) e) in
-    λ i. record { columns = both.1 i; flags = both.0 i }
+pub same_columns : (count : ℕ) (c d : ColumnsData) → AreColumns count c → AreColumns count d → columns_bytes c.bytes c.names ≡ columns_bytes d.bytes d.names → c ≡ d
+same_columns count c d are_c are_d e =
+    let both = columns_same c.bytes d.bytes c.names d.names [] [] (are_c.bytes ∙ sym are_c.names) (are_d.bytes ∙ sym are_d.names) (are_c.names ∙ sym are_d.names) are_c.short are_d.short (ap (λ (l : List ℕ). l ++ []) e) in
+    λ i. record { names = both.1 i; bytes = both.0 i }
 
 -- the columns that were read, and the bytes behind them
-pub record ColumnsSoFar (bytes : List ℕ) (i : ℕ) (flags : List ℕ) (names : List (List ℕ)) (rest : List ℕ) : Type 0 where
-  pub are_columns : AreColumns i (record { columns = names; flags = flags })
-  pub begins : bytes ≡ columns_bytes flags names ++ rest
+pub record ColumnsSoFar (bytes : List ℕ) (i : ℕ) (codes : List ℕ) (names : List (List ℕ)) (rest : List ℕ) : Type 0 where
+  pub are_columns : AreColumns i (record { names = names; bytes = codes })
+  pub begins : bytes ≡ columns_bytes codes names ++ rest
 
-module _ (bytes : List ℕ) (i : ℕ) (flags : List ℕ) (names : List (List ℕ)) (rest : List ℕ) (so : ColumnsSoFar bytes i flags names rest) where
-  pub ColumnsSoFar-more : (flag : ℕ) (name behind : List ℕ) → IsUtf8 name → length name ≤ MAX_CONTENT_LEN → rest ≡ flag ∷ counted name ++ behind → ColumnsSoFar bytes (i + 1) (flags ++ flag ∷ []) (names ++ name ∷ []) behind
-  ColumnsSoFar-more flag name behind text short e = record {
+module _ (bytes : List ℕ) (i : ℕ) (codes : List ℕ) (names : List (List ℕ)) (rest : List ℕ) (so : ColumnsSoFar bytes i codes names rest) where
+  pub ColumnsSoFar-more : (code : ℕ) (name behind : List ℕ) → IsUtf8 name → length name ≤ MAX_CONTENT_LEN → rest ≡ code ∷ counted name ++ behind → ColumnsSoFar bytes (i + 1) (codes ++ code ∷ []) (names ++ name ∷ []) behind
+  ColumnsSoFar-more code name behind text short e = record {
     are_columns = record {
       names = omega (arith, length-append names (name ∷ []), so.are_columns.names);
-      flags = omega (arith, length-append flags (flag ∷ []), so.are_columns.flags);
+      bytes = omega (arith, length-append codes (code ∷ []), so.are_columns.bytes);
       short = AllByRecursion-push IsShortText names name so.are_columns.short (text, short);
     };
     begins =
-        so.begins ∙ ap (λ (l : List ℕ). columns_bytes flags names ++ l) e ∙ sym (append_assoc (columns_bytes flags names) (flag ∷ counted name) behind)
-        ∙ ap (λ (l : List ℕ). l ++ behind) (sym (columns_bytes-push flags names flag name (so.are_columns.flags ∙ sym so.are_columns.names)));
+        so.begins ∙ ap (λ (l : List ℕ). columns_bytes codes names ++ l) e ∙ sym (append_assoc (columns_bytes codes names) (code ∷ counted name) behind)
+        ∙ ap (λ (l : List ℕ). l ++ behind) (sym (columns_bytes-push codes names code name (so.are_columns.bytes ∙ sym so.are_columns.names)));
   }
 
   -- where a column is left, bytes of so many columns have it
-  pub has_column : (count : ℕ) (s : SchemaData) → i < count → AreColumns count s → bytes ≡ columns_bytes s.flags s.columns → BeginsWithColumn rest
-  has_column count s lt are e =
-      next_column flags s.flags names s.columns rest (so.are_columns.flags ∙ sym so.are_columns.names) (are.flags ∙ sym are.names) (omega (arith, so.are_columns.names, are.names)) so.are_columns.short are.short (sym so.begins ∙ e)
+  pub has_column : (count : ℕ) (c : ColumnsData) → i < count → AreColumns count c → bytes ≡ columns_bytes c.bytes c.names → BeginsWithColumn rest
+  has_column count c lt are e =
+      next_column codes c.bytes names c.names rest (so.are_columns.bytes ∙ sym so.are_columns.names) (are.bytes ∙ sym are.names) (omega (arith, so.are_columns.names, are.names)) so.are_columns.short are.short (sym so.begins ∙ e)
 
   -- where none is left, no byte is left either
-  pub no_rest : (count : ℕ) (s : SchemaData) → i ≡ count → AreColumns count s → bytes ≡ columns_bytes s.flags s.columns → rest ≡ []
-  no_rest count s done are e =
-      let all = columns_same flags s.flags names s.columns rest [] (so.are_columns.flags ∙ sym so.are_columns.names) (are.flags ∙ sym are.names) (so.are_columns.names ∙ done ∙ sym are.names) so.are_columns.short are.short (sym so.begins ∙ e ∙ sym (append-nil (columns_bytes s.flags s.columns))) in
+  pub no_rest : (count : ℕ) (c : ColumnsData) → i ≡ count → AreColumns count c → bytes ≡ columns_bytes c.bytes c.names → rest ≡ []
+  no_rest count c done are e =
+      let all = columns_same codes c.bytes names c.names rest [] (so.are_columns.bytes ∙ sym so.are_columns.names) (are.bytes ∙ sym are.names) (so.are_columns.names ∙ done ∙ sym are.names) so.are_columns.short are.short (sym so.begins ∙ e ∙ sym (append-nil (columns_bytes c.bytes c.names))) in
       all.2
 
 -- what follows the count of a declaration is its columns
-pub declared_columns : (bytes left : List ℕ) (count : ℕ) (s : SchemaData) → count ≤ MAX_CONTENT_LEN → bytes ≡ varint count ++ left → IsSchema s → bytes ≡ declaration_bytes s → AreColumns count s × (left ≡ columns_bytes s.flags s.columns)
+pub declared_columns : (bytes left : List ℕ) (count : ℕ) (s : SchemaData) → count ≤ MAX_CONTENT_LEN → bytes ≡ varint count ++ left → IsSchema s → bytes ≡ declaration_bytes s
+    → AreColumns count (columns_of s) × (left ≡ columns_bytes (column_codes s.flags s.refuses) s.columns)
 unfolding declaration_bytes
 declared_columns bytes left count s small begins is e =
-    let both = varint_spellings count (length s.columns) left (columns_bytes s.flags s.columns) small (omega (arith, is.as_many, is.flags.few)) (sym begins ∙ e) in
-    (subst (λ (n : ℕ). AreColumns n s) (sym both.0) (schema_columns s is), both.1)
+    let both = varint_spellings count (length s.columns) left (columns_bytes (column_codes s.flags s.refuses) s.columns) small (omega (arith, is.as_many, is.flags.few)) (sym begins ∙ e) in
+    (subst (λ (n : ℕ). AreColumns n (columns_of s)) (sym both.0) (schema_columns s is), both.1)
 
 -- a declaration begins with its count
-pub declared_count : (bytes : List ℕ) (s : SchemaData) → IsSchema s → bytes ≡ declaration_bytes s → (length s.columns ≤ MAX_CONTENT_LEN) × (bytes ≡ varint (length s.columns) ++ columns_bytes s.flags s.columns)
+pub declared_count : (bytes : List ℕ) (s : SchemaData) → IsSchema s → bytes ≡ declaration_bytes s
+    → (length s.columns ≤ MAX_CONTENT_LEN) × (bytes ≡ varint (length s.columns) ++ columns_bytes (column_codes s.flags s.refuses) s.columns)
 unfolding declaration_bytes
 declared_count bytes s is e = (omega (arith, is.as_many, is.flags.few), e)
 
--- and a count and as many columns are one
-pub declaration_is : (bytes rest : List ℕ) (count : ℕ) (s : SchemaData) → bytes ≡ varint count ++ rest → AreColumns count s → rest ≡ columns_bytes s.flags s.columns → bytes ≡ declaration_bytes s
+-- columns that were read of the bytes of a declaration make its schema
+pub declared_made : (count : ℕ) (c : ColumnsData) (s : SchemaData) → AreColumns count c → AreColumns count (columns_of s) → columns_bytes c.bytes c.names ≡ columns_bytes (column_codes s.flags s.refuses) s.columns → IsSchema s
+    → IsSchema (schema_of_columns c)
+declared_made count c s are_c are_s e is =
+    subst IsSchema (sym (made_again s is) ∙ ap schema_of_columns (sym (same_columns count c (columns_of s) are_c are_s e))) is
+
+-- and a count and as many columns are a declaration, where they make a schema
+pub declaration_is : (bytes rest : List ℕ) (count : ℕ) (c : ColumnsData) → bytes ≡ varint count ++ rest → AreColumns count c → rest ≡ columns_bytes c.bytes c.names → IsSchema (schema_of_columns c)
+    → bytes ≡ declaration_bytes (schema_of_columns c)
 unfolding declaration_bytes
-declaration_is bytes rest count s begins are e = begins ∙ ap (λ (l : List ℕ). varint count ++ l) e ∙ ap (λ (n : ℕ). varint n ++ columns_bytes s.flags s.columns) (sym are.names)
+declaration_is bytes rest count c begins are e is =
+    begins ∙ ap (λ (l : List ℕ). varint count ++ l) e ∙ ap (λ (n : ℕ). varint n ++ columns_bytes c.bytes c.names) (sym are.names)
+    ∙ ap (λ (codes : List ℕ). varint (length c.names) ++ columns_bytes codes c.names) (sym (codes_again c.bytes is.bits))
 
 -- schemas whose declarations are equal are equal
 pub declarations_apart : (s t : SchemaData) → IsSchema s → IsSchema t → declaration_bytes s ≡ declaration_bytes t → s ≡ t
 unfolding declaration_bytes
 declarations_apart s t is_s is_t e =
-    let r = declared_columns (declaration_bytes s) (columns_bytes s.flags s.columns) (length s.columns) t (omega (arith, is_s.as_many, is_s.flags.few)) refl is_t e in
-    same_columns (length s.columns) s t (schema_columns s is_s) r.0 r.1
+    let r = declared_columns (declaration_bytes s) (columns_bytes (column_codes s.flags s.refuses) s.columns) (length s.columns) t (omega (arith, is_s.as_many, is_s.flags.few)) refl is_t e in
+    sym (made_again s is_s) ∙ ap schema_of_columns (same_columns (length s.columns) (columns_of s) (columns_of t) (schema_columns s is_s) r.0 r.1) ∙ made_again t is_t
 
 -- what a check of these columns answers is the schema that is declared
-pub found_declared : (bytes : List ℕ) (t : SchemaData) (result : Result SchemaData StoreError) → IfOk result (λ s. s ≡ t) → IfOk result IsSchema → bytes ≡ declaration_bytes t → IfOk result (λ s. IsSchema s × (bytes ≡ declaration_bytes s))
-found_declared bytes t (Ok s) same is e = (is, e ∙ ap declaration_bytes (sym same))
+pub found_declared : (bytes : List ℕ) (t : SchemaData) (result : Result SchemaData StoreError) → IfOk result (λ s. s ≡ t) → IfOk result IsSchema → (IsSchema t → bytes ≡ declaration_bytes t)
+    → IfOk result (λ s. IsSchema s × (bytes ≡ declaration_bytes s))
+found_declared bytes t (Ok s) same is e = (is, e (subst IsSchema same is) ∙ ap declaration_bytes (sym same))
 found_declared bytes t (Err _) same is e = tt
+
+-- and where it refuses columns that a declaration would make a schema of, the bytes are none
+pub refused_declared : (bytes : List ℕ) (result : Result SchemaData StoreError) (Made : Type 0) → (IsDeclaration bytes → Made) → IfErr result (λ e. ((e ≡ DamagedStore) × (Made → ⊥)) ⊎ (e ≡ NoMemory))
+    → IfErr result (λ e. ((e ≡ DamagedStore) × (IsDeclaration bytes → ⊥)) ⊎ (e ≡ NoMemory))
+refused_declared bytes (Ok s) Made makes h = tt
+refused_declared bytes (Err e) Made makes (inl damaged) = inl (damaged.0, λ declared. damaged.1 (makes declared))
+refused_declared bytes (Err e) Made makes (inr memory) = inr memory

@@ -19,9 +19,9 @@ use Rattle.cs_value.proofs.ByteMaps.{same_maps}
 use Rattle.cs_store.specs.Records.{same_bytes}
 use Rattle.cs_store.specs.declared.edit.Edit.TheVariants.{Insert, Update, Delete}
 use Rattle.cs_store.specs.declared.fault.StoreError.{StoreError}
-use Rattle.cs_store.specs.declared.fault.StoreError.TheVariants.{TableExists, NoTable, BadSchema, KeyTaken, NoRow, RowWidth, NullInKey}
+use Rattle.cs_store.specs.declared.fault.StoreError.TheVariants.{TableExists, NoTable, BadSchema, KeyTaken, NoRow, RowWidth, NullInKey, NotNull}
 use Rattle.cs_store.specs.Editing.{Declares, Edited, unless, when, inserted_in, moved, updated_in, deleted_in, found_table, in_table, edited}
-use Rattle.cs_store.proofs.Examples.{two_columns, two_columns_is_schema}
+use Rattle.cs_store.proofs.Examples.{two_columns, refusing_columns, columns_are_schema}
 use Rattle.cs_store.proofs.MemoryLemmas.{with_rows_found, rows_at_found, row_at_found}
 use Rattle.cs_store.proofs.StoredLemmas.{get_put, get_taken}
 use Rattle.cs_store.proofs.StoreExamples.{one_column, one_column_is_schema, table_t, tables, row, key, held, state, t_is_name, tables_at}
@@ -42,17 +42,21 @@ new_table_is_declared = ((v_is_name, one_column_is_schema (codes "d") d_is_name)
 
 -- the name t is refused, since a table has it
 taken_name_is_refused : Declares state (codes "t") two_columns (Err TableExists)
-taken_name_is_refused = ((t_is_name, two_columns_is_schema), ap is_some (tables_at held (codes "t")))
+taken_name_is_refused = ((t_is_name, columns_are_schema false), ap is_some (tables_at held (codes "t")))
 
 -- a table without a column in its key is refused
-no_key_is_refused : Declares state (codes "v") (record { columns = codes "d" ∷ []; flags = 0 ∷ [] }) (Err BadSchema)
+no_key_is_refused : Declares state (codes "v") (record { columns = codes "d" ∷ []; flags = 0 ∷ []; refuses = false ∷ [] }) (Err BadSchema)
 no_key_is_refused declarable = no_key declarable.1.flags.some_key
   where
     no_key : Any (λ flag. 0 < flag) (0 ∷ []) → ⊥
     no_key (zero, flag, below, is, some) = absurd (omega (arith, is, some))
     no_key (suc k, flag, below, is, some) = absurd (omega (arith, below))
 
--- and so is one of the empty name
+-- and so is one with fewer marks than columns
+fewer_marks_are_refused : Declares state (codes "v") (record { columns = codes "d" ∷ []; flags = 1 ∷ []; refuses = [] }) (Err BadSchema)
+fewer_marks_are_refused declarable = declarable.1.rules
+
+-- and one of the empty name
 no_name_is_refused : Declares state [] (one_column (codes "d")) (Err BadSchema)
 no_name_is_refused declarable = absurd (omega (arith, declarable.0.some))
 
@@ -210,3 +214,28 @@ no_table_to_update table k r = no_table_is_refused table (λ name t. updated_in 
 -- nor deleted
 no_table_to_delete : (table : String Global) (k : List ℕ) → string_bytes table ≡ codes "w" → edited state (Delete table k) ≡ Err NoTable
 no_table_to_delete table k = no_table_is_refused table (λ name t. deleted_in state name k)
+
+-- ---- a column that refuses NULL
+
+-- the table n, whose column b refuses NULL, without rows
+abbrev table_n : TableData
+table_n = record { schema = refusing_columns; rows = empty }
+
+abbrev state_n : State
+state_n = insert empty (codes "n") table_n
+
+module _ (table : String Global) (is_n : string_bytes table ≡ codes "n") where
+  -- an edit of n meets its table
+  in_n : (next : List ℕ → TableData → Result Edited StoreError) → in_table state_n (string_bytes table) (next (string_bytes table)) ≡ next (codes "n") table_n
+  in_n next = ap (λ name. in_table state_n name (next name)) is_n ∙ ap (λ o. found_table o (next (codes "n"))) (get_put empty (codes "n") table_n (codes "n"))
+
+  -- (1, NULL) is not inserted
+  refused_null_is_not_inserted : edited state_n (Insert table (Int (pos 1) ∷ Null ∷ [])) ≡ Err NotNull
+  refused_null_is_not_inserted = in_n (λ name t. inserted_in state_n name t (Int (pos 1) ∷ Null ∷ []))
+
+  -- that NULL is told before that there is no row to update, and behind NULL in the key
+  refused_null_is_told_first : edited state_n (Update table second_key (Int (pos 1) ∷ Null ∷ [])) ≡ Err NotNull
+  refused_null_is_told_first = in_n (λ name t. updated_in state_n name t second_key (Int (pos 1) ∷ Null ∷ []))
+
+  null_key_is_told_before : edited state_n (Insert table (Null ∷ Null ∷ [])) ≡ Err NullInKey
+  null_key_is_told_before = in_n (λ name t. inserted_in state_n name t (Null ∷ Null ∷ []))

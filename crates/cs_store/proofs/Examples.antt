@@ -1,5 +1,5 @@
 -- Worked examples of what is stored.
-use Rattle.std.proofs.Common.{◌≡◌, ◌≢◌, ℕ, zero, suc, ◌∷◌, [], List, get_or, codes, refl, ap, arith}
+use Rattle.std.proofs.Common.{◌≡◌, ◌≢◌, ℕ, zero, suc, Bool, true, false, ◌∷◌, [], List, get_or, codes, refl, ap, arith}
 use Rattle.std.specs.Char.{encode_utf8}
 use Rattle.std.specs.Str.{chars, is_utf8}
 use Rattle.std.specs.List.{AllPairs}
@@ -9,14 +9,25 @@ use Rattle.cs_value.specs.Varint.{leading_digits, varint}
 use Rattle.cs_value.specs.Spelling.{counted}
 use Rattle.cs_store.specs.Declaration.{declaration_bytes}
 
--- the table of columns a and b with key a
-abbrev pub two_columns : SchemaData
-two_columns = record { columns = codes "a" ∷ codes "b" ∷ []; flags = 1 ∷ 0 ∷ [] }
+-- the table of columns a and b with key a, of which b refuses NULL where it is marked
+abbrev pub columns_with : Bool → SchemaData
+columns_with mark = record { columns = codes "a" ∷ codes "b" ∷ []; flags = 1 ∷ 0 ∷ []; refuses = true ∷ mark ∷ [] }
 
--- its declaration: the count of its columns, and of each its flag and its counted name
+abbrev pub two_columns : SchemaData
+two_columns = columns_with false
+
+abbrev pub refusing_columns : SchemaData
+refusing_columns = columns_with true
+
+-- its declaration: the count of its columns, and of each its byte and its counted name
 two_columns_are_declared : declaration_bytes two_columns ≡ 0x02 ∷ 0x01 ∷ 0x01 ∷ 0x61 ∷ 0x00 ∷ 0x01 ∷ 0x62 ∷ []
 unfolding leading_digits varint counted declaration_bytes
 two_columns_are_declared = refl
+
+-- the byte of b is 2 where it refuses NULL
+refusing_columns_are_declared : declaration_bytes refusing_columns ≡ 0x02 ∷ 0x01 ∷ 0x01 ∷ 0x61 ∷ 0x02 ∷ 0x01 ∷ 0x62 ∷ []
+unfolding leading_digits varint counted declaration_bytes
+refusing_columns_are_declared = refl
 
 -- a and b are names, and are two
 a_is_name : IsColumnName (codes "a")
@@ -43,10 +54,11 @@ names_are_apart (suc i) (suc zero) d lt below = absurd (omega arith)
 names_are_apart (suc i) (suc (suc j)) d lt below = absurd (omega arith)
 
 -- the table may be declared
-pub two_columns_is_schema : IsSchema two_columns
-two_columns_is_schema = record {
+pub columns_are_schema : (mark : Bool) → IsSchema (columns_with mark)
+columns_are_schema mark = record {
   flags = record { bytes = (omega arith, (omega arith, tt)); few = omega arith; some_key = (0, 1, omega arith, refl, omega arith) };
   bits = (omega arith, (omega arith, tt));
+  rules = (refl, tt);
   as_many = refl;
   named = (a_is_name, (b_is_name, tt));
   apart = names_are_apart;

@@ -1,5 +1,5 @@
 -- What a crash left of a store is taken over with its tables.
-use Rattle.std.proofs.Common.{◌≡◌, ◌⊎◌, [], inl, inr, refl, sym, subst, ◌∙◌}
+use Rattle.std.proofs.Common.{◌≡◌, ◌⊎◌, inl, inr, refl, sym, subst, ◌∙◌}
 use Rattle.sqlite_schema.specs.declared.schema.Schema.{Schema}
 use Rattle.sqlite_catalog.specs.Listing.{IsSound as IsSoundIn}
 use Rattle.sqlite_catalog.proofs.ReadLemmas.{reads, read_once}

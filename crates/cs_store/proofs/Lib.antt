@@ -2,6 +2,7 @@ pub mod AddLemmas
 pub mod AdoptionLemmas
 pub mod AnswerLemmas
 pub mod CheckLemmas
+pub mod CodeLemmas
 pub mod CrashLemmas
 pub mod DeclarationLemmas
 pub mod DeclareLemmas
@@ -23,6 +24,7 @@ pub mod QueryTexts
 pub mod ReadLemmas
 pub mod RemoveLemmas
 pub mod RowLemmas
+pub mod RuleLemmas
 pub mod SchemaLemmas
 pub mod SetLemmas
 pub mod StateOf

@@ -57,8 +57,8 @@ pub row_at_absent : (state : State) (name key : List ℕ) → get state name ≡
 row_at_absent state name key none = ap (λ rows. get rows key) (rows_at_absent state name none) ∙ get-empty (slice_cmp nat_cmp) key
 
 -- a row that fits the table of the name fits the table that is found there
-pub fits_there : (state : State) (name key : List ℕ) (row : List OwnedValue) (table : TableData) → Fits state name key row → get state name ≡ Some table → IsRowAt table.schema.flags key row
-fits_there state name key row table fits found = let same : fits.table ≡ table = let e = sym fits.found ∙ found in cc in subst (λ (t : TableData). IsRowAt t.schema.flags key row) same fits.fit
+pub fits_there : (state : State) (name key : List ℕ) (row : List OwnedValue) (table : TableData) → Fits state name key row → get state name ≡ Some table → IsRowAt table.schema key row
+fits_there state name key row table fits found = let same : fits.table ≡ table = let e = sym fits.found ∙ found in cc in subst (λ (t : TableData). IsRowAt t.schema key row) same fits.fit
 
 -- the entry that a look-up finds stands in the state
 pub stands : (es : Tables) (state : State) (name : List ℕ) (table : TableData) → seen_tables es ≡ state → Some table ≡ lookup (is_at (is_name name)) es → get state name ≡ Some table

@@ -4,8 +4,6 @@ use Rattle.std.specs.Option.{option_map}
 use Rattle.std.proofs.lemmas.Bool.{eqb-true}
 use Rattle.std.specs.FinMap as map
 use Rattle.cs_value.specs.declared.value.OwnedValue.{OwnedValue}
-use Rattle.cs_value.specs.Value.{IsRow}
-use Rattle.cs_value.specs.Table.{IsKeyedRow}
 use Rattle.cs_value.specs.Spelling.{row_bytes}
 use Rattle.cs_value.specs.State as tables
 use Rattle.cs_value.proofs.StateLemmas.{row_at_fits}
@@ -17,7 +15,7 @@ use Rattle.cs_store.specs.Faults.{IsResource}
 use Rattle.cs_store.specs.Records.{KeepsCrash, records_in}
 use Rattle.cs_store.specs.Store.{HoldsState, IsSound, Recovers, tables_in}
 use Rattle.cs_store.specs.Stored.{state_of, table_in}
-use Rattle.cs_store.specs.Rows.{Fits}
+use Rattle.cs_store.specs.Rows.{Fits, IsRowIn}
 use Rattle.cs_store.proofs.MemoryLemmas.{row_at_found, row_at_absent, rows_at_absent}
 use Rattle.cs_store.proofs.StoredLemmas.{declaration_stored, row_stored}
 use Rattle.cs_store.proofs.StateOf.{get_unread}
@@ -79,14 +77,14 @@ pub rows_fit : (state : tables.State) (name key : List ℕ) → tables.IsState s
 rows_fit state name key is None same = tt
 rows_fit state name key is (Some row) same = row_fits state name key row is (sym same)
 
--- and is a row under the flags of the table's schema
+-- and is a row of the table's schema
 pub row_is : (state : tables.State) (name key : List ℕ) (schema : tables.SchemaData) → tables.IsState state → tables.schema_at state name ≡ Some schema
-    → IfSome (tables.row_at state name key) (λ row. IsRow row × IsKeyedRow schema.flags row)
+    → IfSome (tables.row_at state name key) (IsRowIn schema)
 row_is state name key schema is has = at (tables.row_at state name key) (row_at_fits state name schema is has key)
   where
-    at : (o : Option (List OwnedValue)) → IfSome o (tables.IsRowAt schema.flags key) → IfSome o (λ row. IsRow row × IsKeyedRow schema.flags row)
+    at : (o : Option (List OwnedValue)) → IfSome o (tables.IsRowAt schema key) → IfSome o (IsRowIn schema)
     at None fit = tt
-    at (Some row) fit = (fit.values, fit.keyed)
+    at (Some row) fit = record { values = fit.values; keyed = fit.keyed; obeys = fit.obeys }
 
 -- a table that has a schema has a name
 pub declared_named : (db : Database) (name : List ℕ) (schema : tables.SchemaData) → tables.schema_at (tables_in db) name ≡ Some schema → name ≢ []

@@ -104,7 +104,7 @@ no_nameless state is = at (get state []) refl
     at (Some table) e = absurd (let named = (is [] table e).named in omega (arith, named.some))
 
 -- a row that fits a schema is read by the count of its columns
-pub fitting_read : (schema : SchemaData) (key : List ℕ) (row : List OwnedValue) → IsSchema schema → IsRowAt schema.flags key row → values_at (length schema.columns) (row_bytes row) ≡ Some row
+pub fitting_read : (schema : SchemaData) (key : List ℕ) (row : List OwnedValue) → IsSchema schema → IsRowAt schema key row → values_at (length schema.columns) (row_bytes row) ≡ Some row
 fitting_read schema key row is fit = ap (λ n. values_at n (row_bytes row)) (is.as_many ∙ length-IsKeyedRow schema.flags row fit.keyed) ∙ values_again row fit.values
 
 -- and so is a row of a table

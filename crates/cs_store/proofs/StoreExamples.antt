@@ -1,5 +1,5 @@
 -- A store of two tables, and stores that are damaged, worked as examples.
-use Rattle.std.proofs.Common.{◌≡◌, inl, inr, ℕ, ℤ, pos, Bool, true, false, ◌&&◌, cond, List, [], ◌∷◌, length, Some, None, get_or, unwrap_or, codes, refl, sym, ap, ◌∙◌, subst, arith}
+use Rattle.std.proofs.Common.{◌≡◌, inl, inr, ℕ, ℤ, pos, Bool, true, false, ◌&&◌, cond, List, [], ◌∷◌, length, Some, None, get_or, unwrap_or, true≢false, codes, refl, sym, ap, ◌∙◌, subst, arith}
 use Rattle.std.specs.Char.{encode_utf8}
 use Rattle.std.specs.Str.{chars, is_utf8}
 use Rattle.std.specs.Option.{option_map}
@@ -20,10 +20,10 @@ use Rattle.cs_value.specs.Reading.{number_from, number_at, integer_at, counted_a
 use Rattle.cs_value.specs.State.{SchemaData, IsColumnName, IsSchema, TableData, RowMap, IsRowAt, IsTable, State, IsState, rows_at}
 use Rattle.cs_value.proofs.StateLemmas.{empty_table, table_insert, empty_state, state_insert}
 use Rattle.cs_store.specs.Records.{Records, same_bytes, records_of}
-use Rattle.cs_store.specs.Declaration.{declaration_bytes}
+use Rattle.cs_store.specs.Declaration.{IsFormer, declaration_bytes}
 use Rattle.cs_store.specs.Stored.{version, former_version, stored_under, StoresIn, StoresInSome, Stores, values_at, columns_at, schema_in, state_of}
 use Rattle.cs_store.specs.Valid.{AreValid}
-use Rattle.cs_store.proofs.Examples.{two_columns, two_columns_is_schema}
+use Rattle.cs_store.proofs.Examples.{two_columns, refusing_columns, columns_are_schema}
 use Rattle.cs_store.proofs.StateOf.{records_first, fitting_read, state_is}
 use Rattle.cs_store.proofs.StoredLemmas.{get_put}
 use Rattle.cs_store.proofs.StoredReading.{schema_again}
@@ -46,7 +46,7 @@ reading = tt
 
 -- a table of one column, which is its key
 abbrev pub one_column : List ℕ → SchemaData
-one_column name = record { columns = name ∷ []; flags = 1 ∷ [] }
+one_column name = record { columns = name ∷ []; flags = 1 ∷ []; refuses = true ∷ [] }
 
 -- the table t with these rows, and the table u of column c, which is empty
 abbrev pub table_t : RowMap → TableData
@@ -82,6 +82,7 @@ pub one_column_is_schema : (name : List ℕ) → IsColumnName name → IsSchema 
 one_column_is_schema name named = record {
   flags = record { bytes = (omega arith, tt); few = omega arith; some_key = (0, 1, omega arith, refl, omega arith) };
   bits = (omega arith, tt);
+  rules = (refl, tt);
   as_many = refl;
   named = (named, tt);
   apart = λ i j d lt below. absurd (omega arith);
@@ -99,12 +100,12 @@ row_is : IsRow row
 unfolding texts
 row_is = (record { sfits = omega arith }, ((IsUtf8-from_is_utf8 (codes "x") refl, omega arith), tt))
 
-row_fits : IsRowAt two_columns.flags key row
+row_fits : IsRowAt two_columns key row
 unfolding spelling
-row_fits = record { values = row_is; keyed = (λ same. cc, tt); own = refl }
+row_fits = record { values = row_is; keyed = (λ same. cc, tt); obeys = refl; own = refl }
 
 table_t_is : IsTable (table_t held)
-table_t_is = table_insert (table_t empty) key row (empty_table two_columns two_columns_is_schema) row_fits
+table_t_is = table_insert (table_t empty) key row (empty_table two_columns (columns_are_schema false)) row_fits
 
 state_is_state : IsState state
 state_is_state = state_insert _ (codes "t") _ (state_insert empty (codes "u") table_u empty_state u_is_name (empty_table (one_column (codes "c")) (one_column_is_schema (codes "c") c_is_name))) t_is_name table_t_is
@@ -211,12 +212,20 @@ row_stored written b name k =
 -- the four rows store the state, in the version that they have
 rows_store_in : (written : List ℕ) → StoresIn written (records_of (rows_in written)) state
 unfolding records_of
-rows_store_in written = record { is_state = state_is_state; each = each }
+rows_store_in written = record { is_state = state_is_state; each = each; former = λ old. former }
   where
     each : (name key : List ℕ) → records_of (rows_in written) name key ≡ stored_under written state name key
     each [] [] = refl
     each [] (b ∷ name) = declarations_stored written b name
     each (b ∷ name) key = row_stored written b name key
+
+    former : (name : List ℕ) (table : TableData) → get state name ≡ Some table → IsFormer table.schema
+    former name table found = at (same_bytes name (codes "t")) (same_bytes name (codes "u")) (sym (tables_at held name) ∙ found)
+      where
+        at : (t u : Bool) → cond t (Some (table_t held)) (cond u (Some table_u) None) ≡ Some table → IsFormer table.schema
+        at true u is = let same : table_t held ≡ table = cc in subst (λ (t : TableData). IsFormer t.schema) same refl
+        at false true is = let same : table_u ≡ table = cc in subst (λ (t : TableData). IsFormer t.schema) same refl
+        at false false is = absurd cc
 
 pub rows_store : Stores (records_of rows) state
 rows_store = rows_store_in version
@@ -251,7 +260,7 @@ unread_declaration records b name bytes found unread valid =
 record IsReadRow (schema : SchemaData) (key value : List ℕ) : Type 0 where
   it : List OwnedValue
   reads : values_at (length schema.columns) value ≡ Some it
-  fits : IsRowAt schema.flags key it
+  fits : IsRowAt schema key it
 
 read_row : (records : Records) (b : ℕ) (name key value declaration : List ℕ) (schema : SchemaData) → records [] (b ∷ name) ≡ Some declaration → schema_in declaration ≡ Some schema
     → records (b ∷ name) key ≡ Some value → AreValid records → IsReadRow schema key value
@@ -270,13 +279,19 @@ unread_row key value found unread valid =
     let e = sym unread ∙ r.reads in cc
 
 -- and one whose bytes are those of a row that does not fit there
-misplaced_row : (key value : List ℕ) (row : List OwnedValue) → records_of (rows_with version declaration key value) (codes "t") key ≡ Some value → values_at 2 value ≡ Some row → ¬ (IsRowAt two_columns.flags key row)
+misplaced_in : (schema : SchemaData) (declaration key value : List ℕ) (row : List OwnedValue) → schema_in declaration ≡ Some schema
+    → records_of (rows_with version declaration key value) (codes "t") key ≡ Some value → values_at (length schema.columns) value ≡ Some row → ¬ (IsRowAt schema key row)
     → ¬ (AreValid (records_of (rows_with version declaration key value)))
 unfolding records_of reading
-misplaced_row key value row found reads misplaced valid =
-    let r = read_row (records_of (rows_with version declaration key value)) 0x74 [] key value declaration two_columns refl refl found valid in
+misplaced_in schema declaration key value row declared found reads misplaced valid =
+    let r = read_row (records_of (rows_with version declaration key value)) 0x74 [] key value declaration schema refl declared found valid in
     let same : r.it ≡ row = (let e = sym r.reads ∙ reads in cc) in
-    misplaced (subst (IsRowAt two_columns.flags key) same r.fits)
+    misplaced (subst (IsRowAt schema key) same r.fits)
+
+misplaced_row : (key value : List ℕ) (row : List OwnedValue) → records_of (rows_with version declaration key value) (codes "t") key ≡ Some value → values_at 2 value ≡ Some row → ¬ (IsRowAt two_columns key row)
+    → ¬ (AreValid (records_of (rows_with version declaration key value)))
+unfolding records_of reading
+misplaced_row key value row found reads misplaced = misplaced_in two_columns declaration key value row refl found reads misplaced
 
 -- the version is 3, which is not known
 other_version_is_damage : ¬ (AreValid (records_of (rows_with (0x03 ∷ []) declaration key value)))
@@ -305,6 +320,28 @@ other_key_is_damage = misplaced_row (0x01 ∷ 0 ∷ 0 ∷ 0 ∷ 0 ∷ 0 ∷ 0 �
 null_key_is_damage : ¬ (AreValid (records_of (rows_with version declaration (0x05 ∷ []) (0x05 ∷ 0x03 ∷ 0x01 ∷ 0x78 ∷ []))))
 unfolding records_of reading
 null_key_is_damage = misplaced_row (0x05 ∷ []) (0x05 ∷ 0x03 ∷ 0x01 ∷ 0x78 ∷ []) (Null ∷ Text (codes "x") ∷ []) refl refl (λ fits. fits.keyed.0 refl)
+
+-- the row (1, NULL) has NULL in column b, which refuses it
+abbrev refusing_declaration : List ℕ
+refusing_declaration = 0x02 ∷ 0x01 ∷ 0x01 ∷ 0x61 ∷ 0x02 ∷ 0x01 ∷ 0x62 ∷ []
+
+abbrev null_value : List ℕ
+null_value = 0x01 ∷ 0 ∷ 0 ∷ 0 ∷ 0 ∷ 0 ∷ 0 ∷ 0 ∷ 1 ∷ 0x05 ∷ []
+
+refused_null_is_damage : ¬ (AreValid (records_of (rows_with version refusing_declaration key null_value)))
+unfolding records_of reading
+refused_null_is_damage = misplaced_in refusing_columns refusing_declaration key null_value (Int (pos 1) ∷ Null ∷ []) refl refl refl (λ fits. true≢false fits.obeys)
+
+-- in the former version no column outside the key refuses NULL
+former_rule_is_damage : ¬ (AreValid (records_of (rows_with former_version refusing_declaration key value)))
+unfolding records_of reading
+former_rule_is_damage valid =
+    let declared = (valid.tables (codes "t") refusing_declaration (λ e. cc) refl).1 in
+    let old : valid.written ≡ former_version = (let e = valid.version_is in cc) in
+    let read : Some refusing_columns ≡ Some declared.0 = ap schema_in declared.2 ∙ schema_again declared.0 declared.1 in
+    let same : declared.0 ≡ refusing_columns = cc in
+    let marked : IsFormer refusing_columns = subst IsFormer same (declared.3 old) in
+    true≢false (ap (λ (l : List Bool). get_or l 1 true) marked)
 
 -- the row has a real, which is no value
 real_is_damage : ¬ (AreValid (records_of (rows_with version declaration key (0x02 ∷ 0 ∷ 0 ∷ 0 ∷ 0 ∷ 0 ∷ 0 ∷ 0 ∷ 0 ∷ 0x03 ∷ 0x01 ∷ 0x78 ∷ []))))

@@ -1,6 +1,6 @@
 -- Stores stay stores, whatever a call answers.
-use Rattle.std.proofs.Common.{◌≡◌, Bool, true, false, not, IsTrue, inl, inr, refl, sym, subst, ◌∙◌, true≢false}
-use Rattle.sqlite.specs.State.{State, HasCleanDisk, KeepsCommit, IsUnchanged, IsRolledBack}
+use Rattle.std.proofs.Common.{◌≡◌, Bool, true, false, not, IsTrue, Result, Ok, Err, OnOk, OnErr, inl, inr, refl, sym, subst, ◌∙◌, true≢false}
+use Rattle.sqlite.specs.State.{State, HasCleanDisk, KeepsCommit, Shows, IsUnchanged, IsRolledBack}
 use Rattle.cs_store.specs.Records.{Rests, GoesOn, IsUndone, KeepsContent, KeepsCrash}
 use Rattle.cs_store.specs.Store.{HoldsState, IsStore, Begins, KeepsStore}
 use Rattle.cs_store.specs.Laws.{was_clean}
@@ -20,6 +20,28 @@ undone_store old new undone was = record {
   now = λ k. subst HoldsState (sym (undone.undone k).0) (was.committed (undone.was_open k));
   committed = λ k. subst HoldsState (sym (undone.undone k).1) (was.committed (undone.was_open k));
 }
+
+-- a transaction that ends, or is undone
+shown_store : (old new : State) → Shows old new old.now old.now false → IsStore old → IsStore new
+shown_store old new shown was = record {
+  open_inside = λ k. shown.is_open;
+  settled = λ out k. shown.now_is ∙ sym shown.committed_is;
+  now = λ k. subst HoldsState (sym shown.now_is) (was.now shown.was_open);
+  committed = λ k. subst HoldsState (sym shown.committed_is) (was.now shown.was_open);
+}
+
+dropped_store : (old new : State) → IsUndone old new → IsStore old → IsStore new
+dropped_store old new undone was = record {
+  open_inside = λ k. absurd (true≢false (sym k ∙ undone.autocommit));
+  settled = λ out k. undone.now k ∙ sym (undone.committed k);
+  now = λ k. subst HoldsState (sym (undone.now k)) (was.committed (undone.was_open k));
+  committed = λ k. subst HoldsState (sym (undone.committed k)) (was.committed (undone.was_open k));
+}
+
+-- so a commit keeps a store one, whatever it answers
+pub ended_store : {X E : Type 0} (result : Result X E) (old new : State) → OnOk result (IsTrue old.in_transaction × Shows old new old.now old.now false) → OnErr result (IsUndone old new) → IsStore old → IsStore new
+ended_store (Ok x) old new ends undone was = shown_store old new ends.1 was
+ended_store (Err e) old new ends undone was = dropped_store old new undone was
 
 -- a call that changed nothing, or took the database back
 pub rests_store : (old new : State) → Rests old new → IsStore old → IsStore new

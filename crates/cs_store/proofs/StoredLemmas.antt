@@ -1,5 +1,5 @@
 -- What a change of the records does to the state that they store.
-use Rattle.std.proofs.Common.{◌≡◌, ◌≢◌, ℕ, ◌&&◌, List, [], ◌∷◌, Option, Some, None, Bool, true, false, cond, refl, sym, ap, ◌∙◌, subst, unwrap_or, arith}
+use Rattle.std.proofs.Common.{◌≡◌, ◌≢◌, ℕ, ◌&&◌, List, [], ◌∷◌, Option, Some, None, Bool, true, false, cond, get_or, refl, sym, ap, ◌∙◌, subst, unwrap_or, arith}
 use Rattle.std.specs.Option.{option_map, IsSome}
 use Rattle.std.specs.Ordering.{nat_cmp}
 use Rattle.std.specs.Cmp.Lexicographic.{slice_cmp, nat_list_cmp_total, texts_ties}
@@ -13,9 +13,13 @@ use Rattle.cs_value.proofs.StateLemmas.{empty_table, table_insert, table_remove,
 use Rattle.cs_store.specs.Rows.{IsDeclared, Fits}
 use Rattle.cs_store.specs.Records.{Records, same_bytes, changed}
 use Rattle.cs_store.specs.Declaration.{declaration_bytes}
-use Rattle.cs_store.specs.Stored.{version, stored_under, StoresIn, Stores}
+use Rattle.cs_store.specs.Stored.{version, former_version, stored_under, StoresIn, Stores}
 use Rattle.cs_store.proofs.MemoryLemmas.{with_rows_found, rows_at_found, rows_at_absent}
 use Rattle.cs_store.proofs.RowLemmas.{same_is}
+
+-- the version that stores are written in is not the former one
+pub not_former : version ≢ former_version
+not_former same = absurd (omega (arith, ap (λ (l : List ℕ). get_or l 0 0) same))
 
 -- ---- maps
 
@@ -61,6 +65,7 @@ rows_change new records state (n ∷ name) key table rows here is found fit put 
     subst (Stores new) (sym (with_rows_found state (n ∷ name) table rows found)) (record {
       is_state = state_insert state (n ∷ name) _ is.is_state (is.is_state (n ∷ name) table found).named fit;
       each = at;
+      former = λ old. absurd (not_former old);
     })
   where
     rows_read : (t k : List ℕ) (b c : Bool) → same_bytes t (n ∷ name) ≡ b → same_bytes k key ≡ c
@@ -110,6 +115,7 @@ stores_table new records state [] schema is named fit absent change = absurd (om
 stores_table new records state (n ∷ name) schema is named fit absent change = record {
   is_state = state_insert state (n ∷ name) _ is.is_state named (empty_table schema fit);
   each = at;
+  former = λ old. absurd (not_former old);
 }
   where
     declared : (o : Option TableData) (b : Bool) → cond b (Some (declaration_bytes schema)) (spelled o) ≡ spelled (cond b (Some (record { schema = schema; rows = empty })) o)
@@ -134,7 +140,7 @@ stores_table new records state (n ∷ name) schema is named fit absent change = 
 
 -- the version alone is stored of no tables
 pub stores_nothing : (new records : Records) → ((t k : List ℕ) → records t k ≡ None) → ((t k : List ℕ) → new t k ≡ changed records [] [] (Some version) t k) → Stores new empty
-stores_nothing new records nothing change = record { is_state = empty_state; each = at }
+stores_nothing new records nothing change = record { is_state = empty_state; each = at; former = λ old. absurd (not_former old) }
   where
     no_table : (name : List ℕ) → get (empty {X = TableData} {R = slice_cmp nat_cmp}) name ≡ None
     no_table = get-empty (slice_cmp nat_cmp)

@@ -12,7 +12,7 @@ use Rattle.std.proofs.lemmas.Bool.{cases_Bool, and_parts, and_from}
 use Rattle.sqlite_trees.proofs.ListLemmas.{map-map, all-map}
 use Rattle.cs_value.specs.declared.value.OwnedValue.{OwnedValue}
 use Rattle.cs_value.specs.Value.{IsRow}
-use Rattle.cs_value.specs.Table.{IsName, IsKeyedRow}
+use Rattle.cs_value.specs.Table.{IsName}
 use Rattle.cs_value.specs.Spelling.{row_bytes}
 use Rattle.cs_value.specs.Maps.{ByBytes}
 use Rattle.cs_value.specs.State.{SchemaData, RowMap, TableData, State, IsState, schema_at, rows_at}
@@ -25,6 +25,7 @@ use Rattle.cs_store.specs.Stored.{version, Stores}
 use Rattle.cs_store.specs.declared.fault.StoreError.{StoreError}
 use Rattle.cs_store.specs.declared.fault.StoreError.TheVariants.{DamagedStore}
 use Rattle.cs_store.specs.Faults.{IsResource, IsReadRefusal}
+use Rattle.cs_store.specs.Rows.{IsRowIn}
 use Rattle.cs_store.specs.Store.{AreNamed, AreStored, RecoversList}
 use Rattle.cs_value.proofs.ListLemmas.{AllByRecursion-push}
 use Rattle.std.proofs.lemmas.List.{map-append}
@@ -119,30 +120,30 @@ same_spelled width (x ∷ rows) (y ∷ others) p q same =
     cc (row_bytes_same x y p.0.0 q.0.0 (p.0.1 ∙ sym q.0.1) first, same_spelled width rows others p.1 q.1 rest)
 
 -- bytes are those of one list of rows
-stored_rows : (flags : List ℕ) (rows : List (List OwnedValue)) → AllByRecursion (λ row. IsRow row × IsKeyedRow flags row) rows → AllByRecursion (IsRowOf (length flags)) rows
-stored_rows flags [] each = tt
-stored_rows flags (row ∷ rows) each = ((each.0.0, sym (length-IsKeyedRow flags row each.0.1)), stored_rows flags rows each.1)
+stored_rows : (schema : SchemaData) (rows : List (List OwnedValue)) → AllByRecursion (IsRowIn schema) rows → AllByRecursion (IsRowOf (length schema.flags)) rows
+stored_rows schema [] each = tt
+stored_rows schema (row ∷ rows) each = ((each.0.values, sym (length-IsKeyedRow schema.flags row each.0.keyed)), stored_rows schema rows each.1)
 
-pub stored_apart : (flags : List ℕ) (stored : List (List ℕ)) (rows others : List (List OwnedValue)) → AreStored flags stored rows → AreStored flags stored others → rows ≡ others
-stored_apart flags stored rows others p q =
-    same_spelled (length flags) rows others (stored_rows flags rows p.each) (stored_rows flags others q.each) (sym p.spelled ∙ q.spelled)
+pub stored_apart : (schema : SchemaData) (stored : List (List ℕ)) (rows others : List (List OwnedValue)) → AreStored schema stored rows → AreStored schema stored others → rows ≡ others
+stored_apart schema stored rows others p q =
+    same_spelled (length schema.flags) rows others (stored_rows schema rows p.each) (stored_rows schema others q.each) (sym p.spelled ∙ q.spelled)
 
 -- one more row is stored
-pub stored_push : (flags : List ℕ) (stored : List (List ℕ)) (bytes : List ℕ) (rows : List (List OwnedValue)) (row : List OwnedValue) → AreStored flags stored rows → IsRow row → IsKeyedRow flags row
-    → bytes ≡ row_bytes row → AreStored flags (stored ++ bytes ∷ []) (rows ++ row ∷ [])
-stored_push flags stored bytes rows row so_far values keyed spelled = record {
+pub stored_push : (schema : SchemaData) (stored : List (List ℕ)) (bytes : List ℕ) (rows : List (List OwnedValue)) (row : List OwnedValue) → AreStored schema stored rows → IsRowIn schema row
+    → bytes ≡ row_bytes row → AreStored schema (stored ++ bytes ∷ []) (rows ++ row ∷ [])
+stored_push schema stored bytes rows row so_far is spelled = record {
   spelled = ap (λ (s : List (List ℕ)). s ++ bytes ∷ []) so_far.spelled ∙ ap (λ (b : List ℕ). map row_bytes rows ++ b ∷ []) spelled ∙ sym (map-append row_bytes rows (row ∷ []));
-  each = AllByRecursion-push _ rows row so_far.each (values, keyed);
+  each = AllByRecursion-push _ rows row so_far.each is;
 }
 
 -- each of the bytes is those of a row
-pub stored_at : (flags : List ℕ) (stored : List (List ℕ)) (rows : List (List OwnedValue)) (i : ℕ) → AreStored flags stored rows → i < length stored
-    → (row : List OwnedValue) × IsRow row × IsKeyedRow flags row × (get_or stored i [] ≡ row_bytes row)
-stored_at flags [] rows i is lt = absurd (omega arith)
-stored_at flags (b ∷ stored) [] i is lt = absurd (let e = is.spelled in cc)
-stored_at flags (b ∷ stored) (row ∷ rows) zero is lt = (row, is.each.0.0, is.each.0.1, let e = is.spelled in cc)
-stored_at flags (b ∷ stored) (row ∷ rows) (suc i) is lt =
-    stored_at flags stored rows i (record { spelled = let e = is.spelled in cc; each = is.each.1 }) (omega arith)
+pub stored_at : (schema : SchemaData) (stored : List (List ℕ)) (rows : List (List OwnedValue)) (i : ℕ) → AreStored schema stored rows → i < length stored
+    → (row : List OwnedValue) × IsRowIn schema row × (get_or stored i [] ≡ row_bytes row)
+stored_at schema [] rows i is lt = absurd (omega arith)
+stored_at schema (b ∷ stored) [] i is lt = absurd (let e = is.spelled in cc)
+stored_at schema (b ∷ stored) (row ∷ rows) zero is lt = (row, is.each.0, let e = is.spelled in cc)
+stored_at schema (b ∷ stored) (row ∷ rows) (suc i) is lt =
+    stored_at schema stored rows i (record { spelled = let e = is.spelled in cc; each = is.each.1 }) (omega arith)
 
 -- the records under the name of a table spell its rows, by key
 pub rows_spelled : (records : Records) (state : State) (name : List ℕ) (listed : Entries (List ℕ)) → Stores records state → name ≢ [] → ListsTable records name listed
@@ -152,20 +153,20 @@ rows_spelled records state name listed is some lists =
     ∙ map-map (λ e. e.1) (each_value row_bytes) (entries (rows_at state name))
     ∙ sym (map-map row_bytes (λ e. e.1) (entries (rows_at state name)))
 
--- they are stored as rows under the flags of its schema
+-- they are stored as rows of its schema
 pub rows_are_stored : (records : Records) (state : State) (name : List ℕ) (schema : SchemaData) (listed : Entries (List ℕ)) → Stores records state → name ≢ [] → schema_at state name ≡ Some schema
-    → ListsTable records name listed → AreStored schema.flags (map (λ e. e.1) listed) (values (rows_at state name))
+    → ListsTable records name listed → AreStored schema (map (λ e. e.1) listed) (values (rows_at state name))
 rows_are_stored records state name schema listed is some has lists = record { spelled = rows_spelled records state name listed is some lists; each = at (get state name) refl }
   where
-    at : (o : Option TableData) → get state name ≡ o → AllByRecursion (λ row. IsRow row × IsKeyedRow schema.flags row) (values (rows_at state name))
+    at : (o : Option TableData) → get state name ≡ o → AllByRecursion (IsRowIn schema) (values (rows_at state name))
     at None none = absurd (let e = sym has ∙ ap (option_map (λ (t : TableData). t.schema)) none in cc)
     at (Some table) found =
         let same : table.schema ≡ schema = let e = ap (option_map (λ (t : TableData). t.schema)) (sym found) ∙ has in cc in
-        let each = all-map (λ row. IsRow row × IsKeyedRow table.schema.flags row) (λ e. e.1) (entries table.rows)
-        (each_entry (λ key row. IsRow row × IsKeyedRow table.schema.flags row) (entries table.rows) (entries_sorted table.rows) (λ key row got.
-        let fit = (is.is_state name table found).is_table.rows key row (get-entries table.rows key ∙ got) in (fit.values, fit.keyed))) in
-        subst (λ (r : RowMap). AllByRecursion (λ row. IsRow row × IsKeyedRow schema.flags row) (values r)) (sym (rows_at_found state name table found))
-        (subst (λ (t : SchemaData). AllByRecursion (λ row. IsRow row × IsKeyedRow t.flags row) (values table.rows)) same each)
+        let each = all-map (IsRowIn table.schema) (λ e. e.1) (entries table.rows)
+        (each_entry (λ key row. IsRowIn table.schema row) (entries table.rows) (entries_sorted table.rows) (λ key row got.
+        let fit = (is.is_state name table found).is_table.rows key row (get-entries table.rows key ∙ got) in record { values = fit.values; keyed = fit.keyed; obeys = fit.obeys })) in
+        subst (λ (r : RowMap). AllByRecursion (IsRowIn schema) (values r)) (sym (rows_at_found state name table found))
+        (subst (λ (t : SchemaData). AllByRecursion (IsRowIn t) (values table.rows)) same each)
 
 -- ---- the tables
 
@@ -227,8 +228,8 @@ refused_named W (Err e) (inl damaged) = inl damaged.0
 refused_named W (Err e) (inr resource) = inr resource
 
 -- where rows are stored they are read, or memory is refused
-pub rows_recovered : (r : Result (Vec (List OwnedValue) Global) StoreError) (flags : List ℕ) (stored : List (List ℕ)) (rows : List (List OwnedValue)) → IfOk r (λ v. AreStored flags stored v.items)
-    → IfErr r (λ e. ((e ≡ DamagedStore) × ((others : List (List OwnedValue)) → ¬ (AreStored flags stored others))) ⊎ IsResource e) → AreStored flags stored rows → RecoversList r rows
-rows_recovered (Ok v) flags stored rows read refused is = stored_apart flags stored v.items rows read is
-rows_recovered (Err e) flags stored rows read (inl damaged) is = absurd (damaged.1 rows is)
-rows_recovered (Err e) flags stored rows read (inr resource) is = resource
+pub rows_recovered : (r : Result (Vec (List OwnedValue) Global) StoreError) (schema : SchemaData) (stored : List (List ℕ)) (rows : List (List OwnedValue)) → IfOk r (λ v. AreStored schema stored v.items)
+    → IfErr r (λ e. ((e ≡ DamagedStore) × ((others : List (List OwnedValue)) → ¬ (AreStored schema stored others))) ⊎ IsResource e) → AreStored schema stored rows → RecoversList r rows
+rows_recovered (Ok v) schema stored rows read refused is = stored_apart schema stored v.items rows read is
+rows_recovered (Err e) schema stored rows read (inl damaged) is = absurd (damaged.1 rows is)
+rows_recovered (Err e) schema stored rows read (inr resource) is = resource

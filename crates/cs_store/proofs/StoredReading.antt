@@ -12,8 +12,9 @@ use Rattle.cs_value.specs.Reading.{field_at}
 use Rattle.cs_value.specs.State.{SchemaData, IsColumnName, IsSchema}
 use Rattle.cs_value.proofs.VarintLemmas.{number_again}
 use Rattle.cs_value.proofs.FieldAgain.{field_again}
-use Rattle.cs_store.specs.Declaration.{columns_bytes, declaration_bytes}
+use Rattle.cs_store.specs.Declaration.{column_codes, columns_bytes, declaration_bytes, schema_of_columns}
 use Rattle.cs_store.specs.Stored.{value_before, values_at, columns_at, counted_columns, schema_in}
+use Rattle.cs_store.proofs.CodeLemmas.{columns_length, made_again}
 
 -- a value that is spelled is read
 value_again : (v : OwnedValue) (rest : List ℕ) → IsValue v → field_at (value_bytes v ++ rest) ≡ Ok (Defined v, length (value_bytes v))
@@ -30,26 +31,28 @@ values_again (v ∷ row) fits =
     ∙ ap (option_map (λ values. v ∷ values)) (values_again row fits.1)
 
 -- columns that are spelled are read
-columns_again : (flags : List ℕ) (names : List (List ℕ)) → length names ≡ length flags → AllByRecursion IsColumnName names
-    → columns_at (length names) (columns_bytes flags names) ≡ Some (record { columns = names; flags = flags })
+columns_again : (codes : List ℕ) (names : List (List ℕ)) → length names ≡ length codes → AllByRecursion IsColumnName names
+    → columns_at (length names) (columns_bytes codes names) ≡ Some (record { names = names; bytes = codes })
 unfolding columns_at counted
 columns_again [] [] same named = refl
 columns_again [] (name ∷ names) same named = absurd (omega arith)
-columns_again (flag ∷ flags) [] same named = absurd (omega arith)
-columns_again (flag ∷ flags) (name ∷ names) same named =
+columns_again (code ∷ codes) [] same named = absurd (omega arith)
+columns_again (code ∷ codes) (name ∷ names) same named =
     let count = varint (length name) in
-    let rest = columns_bytes flags names in
-    rw (append_assoc count name rest, number_again (length name) (name ++ rest) named.0.short, drop-append_seam count (name ++ rest), take-append_seam name rest, drop-append_seam name rest, columns_again flags names (omega arith) named.1) refl
+    let rest = columns_bytes codes names in
+    rw (append_assoc count name rest, number_again (length name) (name ++ rest) named.0.short, drop-append_seam count (name ++ rest), take-append_seam name rest, drop-append_seam name rest, columns_again codes names (omega arith) named.1) refl
 
 -- a declaration is read
 pub schema_again : (schema : SchemaData) → IsSchema schema → schema_in (declaration_bytes schema) ≡ Some schema
 unfolding declaration_bytes
 schema_again schema is =
     let count = varint (length schema.columns) in
-    let rest = columns_bytes schema.flags schema.columns in
+    let codes = column_codes schema.flags schema.refuses in
+    let rest = columns_bytes codes schema.columns in
     ap (counted_columns (count ++ rest)) (number_again (length schema.columns) rest (omega (arith, is.as_many, is.flags.few)))
-    ∙ ap (columns_at (length schema.columns)) (drop-append_seam count rest)
-    ∙ columns_again schema.flags schema.columns is.as_many is.named
+    ∙ ap (λ bytes. option_map schema_of_columns (columns_at (length schema.columns) bytes)) (drop-append_seam count rest)
+    ∙ ap (option_map schema_of_columns) (columns_again codes schema.columns (sym (columns_length schema is)) is.named)
+    ∙ ap Some (made_again schema is)
 
 -- two schemas with one declaration are one
 pub one_schema : (a b : SchemaData) → IsSchema a → IsSchema b → declaration_bytes a ≡ declaration_bytes b → a ≡ b

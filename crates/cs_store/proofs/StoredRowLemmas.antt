@@ -7,9 +7,10 @@ use Rattle.cs_value.specs.Refusals.{Answers}
 use Rattle.cs_value.specs.declared.value.OwnedValue.{OwnedValue}
 use Rattle.cs_value.specs.declared.value.OwnedField.{OwnedField}
 use Rattle.cs_value.specs.declared.value.OwnedField.TheVariants.{Undefined, Defined}
-use Rattle.cs_value.specs.Value.{IsRecord, IsRow}
-use Rattle.cs_value.specs.Table.{IsKeyedRow}
+use Rattle.cs_value.specs.Value.{IsRecord}
 use Rattle.cs_value.specs.Spelling.{record_bytes, row_bytes, BeginsWith}
+use Rattle.cs_value.specs.State.{SchemaData}
+use Rattle.cs_store.specs.Rows.{IsRowIn}
 use Rattle.cs_value.proofs.KeyedRows.{length-IsKeyedRow}
 use Rattle.cs_value.proofs.RowImages.{record_bytes-map, IsRecord-map}
 
@@ -29,12 +30,12 @@ pub record RowImage (flags bytes : List ℕ) (row : List OwnedValue) : Type 0 wh
   pub whole : bytes ≡ record_bytes (map Defined row)
   pub begins : bytes ≡ record_bytes (map Defined row) ++ []
 
-pub row_image : (flags bytes : List ℕ) (row : List OwnedValue) → IsRow row → IsKeyedRow flags row → bytes ≡ row_bytes row → RowImage flags bytes row
-row_image flags bytes row values keyed e =
+pub row_image : (schema : SchemaData) (flags bytes : List ℕ) (row : List OwnedValue) → flags ≡ schema.flags → IsRowIn schema row → bytes ≡ row_bytes row → RowImage flags bytes row
+row_image schema flags bytes row same is e =
     let whole = e ∙ sym (record_bytes-map row) in
     record {
-      fields = IsRecord-map row values;
-      as_many = length-map row Defined ∙ sym (length-IsKeyedRow flags row keyed);
+      fields = IsRecord-map row is.values;
+      as_many = length-map row Defined ∙ sym (length-IsKeyedRow schema.flags row is.keyed) ∙ ap (λ (fs : List ℕ). length fs) (sym same);
       whole = whole;
       begins = whole ∙ sym (append-nil (record_bytes (map Defined row)));
     }

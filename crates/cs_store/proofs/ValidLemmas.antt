@@ -8,9 +8,9 @@ use Rattle.cs_value.specs.Spelling.{row_bytes}
 use Rattle.cs_value.specs.Table.{IsName}
 use Rattle.cs_value.specs.State.{SchemaData, IsSchema, TableData, IsRowAt, State, IsNamedTable, IsState, row_at}
 use Rattle.cs_store.specs.Records.{Records, records_of}
-use Rattle.cs_store.specs.Declaration.{declaration_bytes, IsDeclaration}
-use Rattle.cs_store.specs.Stored.{stored_under, StoresIn, StoresInSome, values_at, entries_under, table_in, state_of}
-use Rattle.cs_store.specs.Valid.{IsStoredRow, AreValid}
+use Rattle.cs_store.specs.Declaration.{declaration_bytes, IsFormer}
+use Rattle.cs_store.specs.Stored.{former_version, stored_under, StoresIn, StoresInSome, values_at, entries_under, table_in, state_of}
+use Rattle.cs_store.specs.Valid.{IsDeclarationIn, IsStoredRow, AreValid}
 use Rattle.cs_store.proofs.MemoryLemmas.{row_at_found, row_at_absent}
 use Rattle.cs_store.proofs.StateOf.{get_entries, get_unread, fitting_read}
 use Rattle.cs_store.proofs.StoredLemmas.{declaration_stored, row_stored}
@@ -20,12 +20,12 @@ use Rattle.cs_store.proofs.StoredReading.{schema_again, one_schema}
 
 module _ {written : List ℕ} (records : Records) (state : State) (is : StoresIn written records state) where
   -- under the empty name stand declarations, under names
-  table_valid : (name bytes : List ℕ) → name ≢ [] → records [] name ≡ Some bytes → IsName name × IsDeclaration bytes
+  table_valid : (name bytes : List ℕ) → name ≢ [] → records [] name ≡ Some bytes → IsName name × IsDeclarationIn written bytes
   table_valid name bytes some found = at (get state name) refl (sym (declaration_stored records state name is some) ∙ found)
     where
-      at : (o : Option TableData) → get state name ≡ o → option_map (λ t. declaration_bytes t.schema) o ≡ Some bytes → IsName name × IsDeclaration bytes
+      at : (o : Option TableData) → get state name ≡ o → option_map (λ t. declaration_bytes t.schema) o ≡ Some bytes → IsName name × IsDeclarationIn written bytes
       at None none e = absurd cc
-      at (Some table) there e = let t = is.is_state name table there in (t.named, (table.schema, t.is_table.schema, cc))
+      at (Some table) there e = let t = is.is_state name table there in (t.named, (table.schema, t.is_table.schema, cc, λ old. is.former old name table there))
 
   -- under another name stand rows of the table there
   row_valid : (name key value : List ℕ) → name ≢ [] → records name key ≡ Some value → IsStoredRow records name key value
@@ -91,15 +91,16 @@ module _ (rows : List Row) (valid : AreValid (records_of rows)) where
   -- a table whose rows are spelled in the records under its name
   record IsReadTable (name : List ℕ) (table : TableData) : Type 0 where
     named : IsNamedTable name table
+    former : valid.written ≡ former_version → IsFormer table.schema
     each : (key : List ℕ) → records_of rows name key ≡ option_map row_bytes (get table.rows key)
 
   -- under the name of a declared table stand rows of its schema
   row_of : (name key value : List ℕ) (schema : SchemaData) → name ≢ [] → IsSchema schema → records_of rows [] name ≡ Some (declaration_bytes schema) → records_of rows name key ≡ Some value
-      → IsSpelled (IsRowAt schema.flags key) row_bytes (λ bytes. values_at (length schema.columns) bytes) value
+      → IsSpelled (IsRowAt schema key) row_bytes (λ bytes. values_at (length schema.columns) bytes) value
   row_of name key value schema some is declared found =
       let r = valid.rows name key value some found in
       let spelled_alike : declaration_bytes r.schema ≡ declaration_bytes schema = (let e = sym r.declared ∙ declared in cc) in
-      let fits = subst (λ (s : SchemaData). IsRowAt s.flags key r.row) (one_schema r.schema schema r.is_schema is spelled_alike) r.fits in
+      let fits = subst (λ (s : SchemaData). IsRowAt s key r.row) (one_schema r.schema schema r.is_schema is spelled_alike) r.fits in
       record { it = r.row; kind = fits; spelled = r.spelled; reads = ap (values_at (length schema.columns)) r.spelled ∙ fitting_read schema key r.row is fits }
 
   -- a declaration is that of the table that is read
@@ -109,13 +110,14 @@ module _ (rows : List Row) (valid : AreValid (records_of rows)) where
       let schema = v.1.0 in
       let is = v.1.1 in
       let read : List ℕ → List ℕ → Option (List OwnedValue) = (λ key value. values_at (length schema.columns) value) in
-      let each : (key value : List ℕ) → records_of rows (b ∷ name) key ≡ Some value → IsSpelled (IsRowAt schema.flags key) row_bytes (read key) value = (λ key value e. row_of (b ∷ name) key value schema (λ f. cc) is (found ∙ ap Some v.1.2) e) in
+      let each : (key value : List ℕ) → records_of rows (b ∷ name) key ≡ Some value → IsSpelled (IsRowAt schema key) row_bytes (read key) value = (λ key value e. row_of (b ∷ name) key value schema (λ f. cc) is (found ∙ ap Some v.1.2) e) in
       let table : TableData = record { schema = schema; rows = entries_under read (b ∷ name) rows } in
       record {
         it = table;
         kind = record {
-          named = record { named = v.0; is_table = record { schema = is; rows = λ key row e. entry_kind (IsRowAt schema.flags key) row_bytes read (b ∷ name) rows key (each key) row e } };
-          each = λ key. entry_spelled (IsRowAt schema.flags key) row_bytes read (b ∷ name) rows key (each key);
+          named = record { named = v.0; is_table = record { schema = is; rows = λ key row e. entry_kind (IsRowAt schema key) row_bytes read (b ∷ name) rows key (each key) row e } };
+          former = v.1.3;
+          each = λ key. entry_spelled (IsRowAt schema key) row_bytes read (b ∷ name) rows key (each key);
         };
         spelled = v.1.2;
         reads = ap (table_in rows (b ∷ name)) v.1.2
@@ -142,6 +144,11 @@ module _ (rows : List Row) (valid : AreValid (records_of rows)) where
   is_state_of [] table found = absurd (let e = sym none_nameless ∙ found in cc)
   is_state_of (b ∷ name) table found = (table_read b name table found).named
 
+  -- in the former version only the columns of its keys refuse NULL
+  is_former : valid.written ≡ former_version → (name : List ℕ) (table : TableData) → get (state_of rows) name ≡ Some table → IsFormer table.schema
+  is_former old [] table found = absurd (let e = sym none_nameless ∙ found in cc)
+  is_former old (b ∷ name) table found = (table_read b name table found).former old
+
   -- no records stand under a name where no table is read
   no_rows : (b : ℕ) (name key : List ℕ) → get (state_of rows) (b ∷ name) ≡ None → records_of rows (b ∷ name) key ≡ None
   no_rows b name key none = at (records_of rows (b ∷ name) key) refl
@@ -167,4 +174,4 @@ module _ (rows : List Row) (valid : AreValid (records_of rows)) where
 
 -- valid rows store the state that is read of them, in their version
 pub valid_stores : (rows : List Row) (valid : AreValid (records_of rows)) → StoresIn valid.written (records_of rows) (state_of rows)
-valid_stores rows valid = record { is_state = is_state_of rows valid; each = each_stored rows valid }
+valid_stores rows valid = record { is_state = is_state_of rows valid; each = each_stored rows valid; former = is_former rows valid }

@@ -1,5 +1,5 @@
 -- What declaring a table and editing a row make of a state, or the first reason why they are refused.
-use Rattle.std.specs.Prelude.{◌≡◌, ℕ, suc, Bool, true, false, not, ◌==◌, if◌then◌else◌, List, []}
+use Rattle.std.specs.Prelude.{◌≡◌, ℕ, suc, Bool, true, false, not, ◌||◌, ◌==◌, if◌then◌else◌, List, []}
 use Rattle.std.specs.Prelude.{◌∷◌, length, map, Option, Some, None, is_some, Result, Ok, Err, IsSome, string_bytes}
 use Rattle.std.specs.declared.string.String.{String}
 use Rattle.std.specs.declared.alloc.Global.{Global}
@@ -7,13 +7,14 @@ use Rattle.std.specs.FinMap as map
 use Rattle.std.specs.Rc.{rc_str_bytes}
 use Rattle.cs_value.specs.declared.value.OwnedValue.{OwnedValue}
 use Rattle.cs_value.specs.declared.value.OwnedValue.TheVariants.{Null}
+use Rattle.cs_value.specs.declared.value.OwnedField.TheVariants.{Defined}
 use Rattle.cs_value.specs.Table.{IsName}
 use Rattle.cs_value.specs.Key.{row_key}
-use Rattle.cs_value.specs.State.{SchemaData, IsSchema, TableData, State, row_at, with_table, with_row, without_row}
+use Rattle.cs_value.specs.State.{SchemaData, IsSchema, has_null, TableData, State, row_at, with_table, with_row, without_row}
 use Rattle.cs_value.specs.State.{WrittenData, written_at}
 use Rattle.cs_store.specs.declared.fault.StoreError.{StoreError}
 use Rattle.cs_store.specs.declared.fault.StoreError.TheVariants.{TableExists, NoTable, BadSchema}
-use Rattle.cs_store.specs.declared.fault.StoreError.TheVariants.{KeyTaken, NoRow, RowWidth, NullInKey}
+use Rattle.cs_store.specs.declared.fault.StoreError.TheVariants.{KeyTaken, NoRow, RowWidth, NullInKey, NotNull}
 use Rattle.cs_store.specs.declared.edit.Edit.{Edit}
 use Rattle.cs_store.specs.declared.edit.Edit.TheVariants.{Insert, Update, Delete}
 use Rattle.cs_store.specs.declared.edit.Written.{Written}
@@ -21,9 +22,20 @@ use Rattle.cs_store.specs.Records.{same_bytes}
 
 -- ---- declaring
 
--- the names and the marks of the key columns, as a schema has them
-abbrev pub schema_of : List (String Global) → List Bool → SchemaData
-schema_of columns keys = record { columns = map string_bytes columns; flags = map (λ k. if k then 1 else 0) keys }
+-- what is marked in either list, where the first has a mark
+abbrev pub either : List Bool → List Bool → List Bool
+either [] others = others
+either (mark ∷ marks) [] = []
+either (mark ∷ marks) (other ∷ others) = (mark || other) ∷ either marks others
+
+-- the names, the marks of the key columns and those of the columns that refuse NULL, which the key columns do, as a schema
+-- has them
+abbrev pub schema_of : List (String Global) → List Bool → List Bool → SchemaData
+schema_of columns keys refuses = record {
+  columns = map string_bytes columns;
+  flags = map (λ k. if k then 1 else 0) keys;
+  refuses = either keys refuses;
+}
 
 abbrev pub IsDeclarable : List ℕ → SchemaData → Type 0
 IsDeclarable name schema = IsName name × IsSchema schema
@@ -52,10 +64,11 @@ has_null_key (flag ∷ flags) (value ∷ row) = has_null_key flags row
 has_null_key _ _ = false
 
 -- why the row may not stand in the table
-abbrev pub row_fault : List ℕ → List OwnedValue → Option StoreError
-row_fault flags row =
-    if not (length row == length flags) then Some RowWidth
-    else if has_null_key flags row then Some NullInKey
+abbrev pub row_fault : SchemaData → List OwnedValue → Option StoreError
+row_fault schema row =
+    if not (length row == length schema.flags) then Some RowWidth
+    else if has_null_key schema.flags row then Some NullInKey
+    else if has_null schema.refuses (map Defined row) then Some NotNull
     else None
 
 -- the refusal, or what comes next
@@ -75,7 +88,7 @@ when false refusal = None
 abbrev pub inserted_in : State → List ℕ → TableData → List OwnedValue → Result Edited StoreError
 inserted_in state name table row =
     let key = row_key table.schema.flags row in
-    unless (row_fault table.schema.flags row) (unless (when (has_row state name key) KeyTaken)
+    unless (row_fault table.schema row) (unless (when (has_row state name key) KeyTaken)
     (Ok (record { state = with_row state name key row; written = written_at state name key ∷ [] })))
 
 -- a row that gets another key is removed, and put under that key
@@ -90,7 +103,7 @@ moved state name key next row =
 abbrev pub updated_in : State → List ℕ → TableData → List ℕ → List OwnedValue → Result Edited StoreError
 updated_in state name table key row =
     let next = row_key table.schema.flags row in
-    unless (row_fault table.schema.flags row) (unless (when (not (has_row state name key)) NoRow)
+    unless (row_fault table.schema row) (unless (when (not (has_row state name key)) NoRow)
     (if same_bytes key next
     then Ok (record { state = with_row state name key row; written = written_at state name key ∷ [] })
     else moved state name key next row))

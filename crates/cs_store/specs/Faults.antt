@@ -5,7 +5,7 @@ use Rattle.sqlite.specs.declared.error.Error.TheVariants.{SqliteFailure}
 use Rattle.sqlite.specs.declared.error.ErrorCode.TheVariants.{OutOfMemory}
 use Rattle.cs_store.specs.declared.fault.StoreError.{StoreError}
 use Rattle.cs_store.specs.declared.fault.StoreError.TheVariants.{TableExists, NoTable, BadSchema, KeyTaken, NoRow}
-use Rattle.cs_store.specs.declared.fault.StoreError.TheVariants.{RowWidth, NullInKey}
+use Rattle.cs_store.specs.declared.fault.StoreError.TheVariants.{RowWidth, NullInKey, NotNull}
 use Rattle.cs_store.specs.declared.fault.StoreError.TheVariants.{DamagedStore, StoreFault, NoMemory}
 
 abbrev pub code_of : StoreError → ℕ
@@ -18,11 +18,13 @@ code_of RowWidth = 35
 code_of NullInKey = 36
 code_of DamagedStore = 37
 code_of StoreFault = 38
+code_of NotNull = 39
 code_of NoMemory = 60
 
--- SQLite's SQLITE_CORRUPT, SQLITE_NOMEM and SQLITE_ERROR
+-- SQLite's SQLITE_CORRUPT, SQLITE_CONSTRAINT, SQLITE_NOMEM and SQLITE_ERROR
 abbrev pub class_of : StoreError → ℕ
 class_of DamagedStore = 11
+class_of NotNull = 19
 class_of NoMemory = 7
 class_of _ = 1
 
@@ -36,6 +38,7 @@ name_of RowWidth = codes "RowWidth"
 name_of NullInKey = codes "NullInKey"
 name_of DamagedStore = codes "DamagedStore"
 name_of StoreFault = codes "StoreFault"
+name_of NotNull = codes "NotNull"
 name_of NoMemory = codes "NoMemory"
 
 -- the refusal for an error of the database
@@ -53,4 +56,4 @@ IsReadRefusal e = (e ≡ DamagedStore) ⊎ IsResource e
 
 -- what an edit of a row may refuse with, whatever the disk returns
 abbrev pub IsEditRefusal : StoreError → Type 0
-IsEditRefusal e = (e ≡ NoTable) ⊎ (e ≡ RowWidth) ⊎ (e ≡ NullInKey) ⊎ (e ≡ NoRow) ⊎ (e ≡ KeyTaken) ⊎ IsReadRefusal e
+IsEditRefusal e = (e ≡ NoTable) ⊎ (e ≡ RowWidth) ⊎ (e ≡ NullInKey) ⊎ (e ≡ NotNull) ⊎ (e ≡ NoRow) ⊎ (e ≡ KeyTaken) ⊎ IsReadRefusal e

@@ -2,13 +2,21 @@
 use Rattle.std.specs.Prelude.{◌≡◌, ℕ, List, Some, IsSome}
 use Rattle.std.specs.FinMap as map
 use Rattle.cs_value.specs.declared.value.OwnedValue.{OwnedValue}
-use Rattle.cs_value.specs.State.{State, TableData, IsRowAt}
+use Rattle.cs_value.specs.Value.{IsRow}
+use Rattle.cs_value.specs.Table.{IsKeyedRow}
+use Rattle.cs_value.specs.State.{SchemaData, State, TableData, Obeys, IsRowAt}
 
 abbrev pub IsDeclared : State → List ℕ → Type 0
 IsDeclared state name = IsSome (map.get state name)
+
+-- a row that may stand in a table of this schema
+pub record IsRowIn (schema : SchemaData) (row : List OwnedValue) : Type 0 where
+  pub values : IsRow row
+  pub keyed : IsKeyedRow schema.flags row
+  pub obeys : Obeys schema.refuses row
 
 -- the table is declared, and the row may stand in it under the key
 pub record Fits (state : State) (name key : List ℕ) (row : List OwnedValue) : Type 0 where
   pub table : TableData
   pub found : map.get state name ≡ Some table
-  pub fit : IsRowAt table.schema.flags key row
+  pub fit : IsRowAt table.schema key row

@@ -6,8 +6,6 @@ use Rattle.std.specs.FinMap as map
 use Rattle.std.specs.declared.alloc.Global.{Global}
 use Rattle.std.specs.declared.string.String.{String}
 use Rattle.cs_value.specs.declared.value.OwnedValue.{OwnedValue}
-use Rattle.cs_value.specs.Value.{IsRow}
-use Rattle.cs_value.specs.Table.{IsKeyedRow}
 use Rattle.cs_value.specs.Spelling.{row_bytes}
 use Rattle.cs_value.specs.State as tables
 use Rattle.sqlite_trees.specs.Tree.{Trees}
@@ -22,6 +20,7 @@ use Rattle.cs_store.specs.declared.fault.StoreError.{StoreError}
 use Rattle.cs_store.specs.Faults.{IsResource}
 use Rattle.cs_store.specs.Records.{HoldsRecords, records_in, GoesOn, KeepsContent, KeepsCrash, empty_schema}
 use Rattle.cs_store.specs.Stored.{Stores, StoresInSome, state_of}
+use Rattle.cs_store.specs.Rows.{IsRowIn}
 
 -- the state that a database's records stand for
 abbrev pub tables_in : Database → tables.State
@@ -139,10 +138,10 @@ pub record SetsUp (old new : State) : Type 0 where
   pub holds : HoldsState new.now
   pub held : HoldsTables old.now (tables_in new.now)
 
--- the bytes are those of the rows in turn, each a row under these flags
-pub record AreStored (flags : List ℕ) (stored : List (List ℕ)) (rows : List (List OwnedValue)) : Type 0 where
+-- the bytes are those of the rows in turn, each a row of a table of this schema
+pub record AreStored (schema : tables.SchemaData) (stored : List (List ℕ)) (rows : List (List OwnedValue)) : Type 0 where
   pub spelled : stored ≡ map_list row_bytes rows
-  pub each : AllByRecursion (λ row. IsRow row × IsKeyedRow flags row) rows
+  pub each : AllByRecursion (IsRowIn schema) rows
 
 -- a list that is read gives what is stored, or is refused memory
 abbrev pub RecoversList : {X : Type 0} → Result (Vec X Global) StoreError → List X → Type 0

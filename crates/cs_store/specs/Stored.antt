@@ -15,11 +15,11 @@ use Rattle.cs_value.specs.Maps.{ByBytes}
 use Rattle.cs_value.specs.Reading.{number_at, field_at}
 use Rattle.cs_value.specs.State.{SchemaData, TableData, State, IsState, row_at}
 use Rattle.cs_store.specs.Records.{Records, content, same_bytes}
-use Rattle.cs_store.specs.Declaration.{declaration_bytes}
+use Rattle.cs_store.specs.Declaration.{ColumnsData, IsFormer, declaration_bytes, schema_of_columns}
 
 -- ---- what is stored of a state
 
--- the version that stores are written in, and the former one, which differs in nothing else
+-- the version that stores are written in, and the former one, in which only the columns of the key refuse NULL
 abbrev pub version : List ℕ
 version = 2 ∷ []
 
@@ -41,6 +41,8 @@ stored_under written state (b ∷ name) key = option_map row_bytes (row_at state
 pub record StoresIn (written : List ℕ) (records : Records) (state : State) : Type 0 where
   pub is_state : IsState state
   pub each : (name key : List ℕ) → records name key ≡ stored_under written state name key
+  pub former : written ≡ former_version → (name : List ℕ) (table : TableData) → map.get state name ≡ Some table
+      → IsFormer table.schema
 
 -- in that of stores
 abbrev pub Stores : Records → State → Type 0
@@ -59,13 +61,13 @@ value_before (Ok (Undefined, used)) others = None
 value_before (Err e) others = None
 
 -- a name behind the count of its bytes, and the other columns behind it
-abbrev pub name_before : ℕ → List ℕ → Result (ℕ × ℕ) FieldFault → (List ℕ → Option SchemaData) → Option SchemaData
-name_before flag bytes (Ok (count, used)) others =
-    option_map (λ (s : SchemaData). let all : SchemaData = record {
-      columns = take count (drop used bytes) ∷ s.columns;
-      flags = flag ∷ s.flags;
+abbrev pub name_before : ℕ → List ℕ → Result (ℕ × ℕ) FieldFault → (List ℕ → Option ColumnsData) → Option ColumnsData
+name_before code bytes (Ok (count, used)) others =
+    option_map (λ (c : ColumnsData). let all : ColumnsData = record {
+      names = take count (drop used bytes) ∷ c.names;
+      bytes = code ∷ c.bytes;
     } in all) (others (drop count (drop used bytes)))
-name_before flag bytes (Err e) others = None
+name_before code bytes (Err e) others = None
 
 -- so many values, and nothing behind them
 unfoldable pub values_at : ℕ → List ℕ → Option (List OwnedValue)
@@ -73,16 +75,16 @@ values_at zero [] = Some []
 values_at zero (b ∷ bytes) = None
 values_at (suc n) bytes = value_before (field_at bytes) (λ used. values_at n (drop used bytes))
 
--- so many columns, and nothing behind them: flags and names
-unfoldable pub columns_at : ℕ → List ℕ → Option SchemaData
-columns_at zero [] = Some (record { columns = []; flags = [] })
+-- so many columns, and nothing behind them: their bytes and names
+unfoldable pub columns_at : ℕ → List ℕ → Option ColumnsData
+columns_at zero [] = Some (record { names = []; bytes = [] })
 columns_at zero (b ∷ bytes) = None
 columns_at (suc n) [] = None
-columns_at (suc n) (flag ∷ bytes) = name_before flag bytes (number_at bytes) (λ rest. columns_at n rest)
+columns_at (suc n) (code ∷ bytes) = name_before code bytes (number_at bytes) (λ rest. columns_at n rest)
 
 -- the schema that a declaration is of
 abbrev pub counted_columns : List ℕ → Result (ℕ × ℕ) FieldFault → Option SchemaData
-counted_columns bytes (Ok (count, used)) = columns_at count (drop used bytes)
+counted_columns bytes (Ok (count, used)) = option_map schema_of_columns (columns_at count (drop used bytes))
 counted_columns bytes (Err e) = None
 
 abbrev pub schema_in : List ℕ → Option SchemaData

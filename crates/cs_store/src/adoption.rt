@@ -191,7 +191,7 @@ fn check_listed<S: Alter>(
     ensures survives { KeepsCrash (state S.Store conn.old) (state S.Store conn.new) }
 {
     let version = read_version(conn)?;
-    check_records(alloc, listed)?;
+    check_records(alloc, version, listed)?;
     Ok(version)
 }
 

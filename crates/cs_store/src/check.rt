@@ -1,22 +1,26 @@
 //! Whether records are those of tables.
-ghost use Rattle.std.specs.Prelude.{◌≡◌, ◌⊎◌, Some, IfOk, IfErr, IfSome, OnOk, MatchOption};
-ghost use Rattle.std.specs.Prelude.{ℕ, List, [], ◌∷◌, ◌++◌, string_bytes};
+ghost use Rattle.std.specs.Prelude.{◌≡◌, ◌↔◌, ◌⊎◌, Some, IsTrue, IfOk, IfErr, OnOk, MatchOption};
+ghost use Rattle.std.specs.Prelude.{List, [], ◌∷◌, ◌++◌, string_bytes};
 ghost use Rattle.std.specs.Option.{option_copied};
 ghost use Rattle.std.specs.List.{AllByRecursion};
 ghost use Rattle.std.specs.FinMap as map;
 ghost use Rattle.cs_store.specs.declared.fault.StoreError.TheVariants.{DamagedStore as Damaged};
 ghost use Rattle.cs_store.specs.declared.fault.StoreError.TheVariants.{NoMemory as OutOfMemory};
 ghost use Rattle.cs_store.specs.Records.{Records, RecordData, ListsAll};
-ghost use Rattle.cs_store.specs.Stored.{IsVersion};
+ghost use Rattle.cs_store.specs.Declaration.{declaration_bytes, IsFormer};
+ghost use Rattle.cs_store.specs.Stored.{former_version};
+ghost use Rattle.cs_store.specs.Versions.{bytes_of};
 ghost use Rattle.cs_store.specs.Valid.{AreValid, AreDeclared, IsTableRecord, DeclaresTable};
-ghost use Rattle.cs_store.specs.Valid.{IsGoodTable, IsGoodRow, IsRowOf};
+ghost use Rattle.cs_store.specs.Valid.{IsDeclarationIn, IsGoodTable, IsGoodRow, IsRowOf};
 ghost use Rattle.cs_value.specs.Table.{IsName};
+ghost use Rattle.cs_value.specs.State.{IsSchema, is_marked as is_marked_by};
 
 use crate::declaration::read_declaration;
 use crate::fault::StoreError;
 use crate::records::Record;
-use crate::schema::Schema;
+use crate::schema::{Schema, is_marked};
 use crate::stored_row::read_row;
+use crate::version::Version;
 use cs_value::{Key, NoMemory, is_table_name};
 use std::alloc::Global;
 use std::collections::BTreeMap;
@@ -66,40 +70,51 @@ impl Schemas {
     }
 }
 
-/// Checks that records are those of tables: a declaration under each name, and rows of declared
-/// tables. The version is not looked at.
-pub(crate) fn check_records(alloc: Global, listed: &[Record]) -> Result<(), StoreError>
+/// Checks that records are those of tables, in this version: a declaration under each name, and rows of
+/// declared tables. The version's own record is not looked at.
+pub(crate) fn check_records(
+    alloc: Global,
+    version: Version,
+    listed: &[Record],
+) -> Result<(), StoreError>
     ensures valid { OnOk result ((records : Records) → ListsAll records listed.now
-        → (written : List ℕ) → IsVersion written → records [] [] ≡ Some written → AreValid records) }
+        → records [] [] ≡ Some (bytes_of version) → AreValid records) }
     ensures refused { IfErr result (λ e. ((e ≡ Damaged)
-        × ((records : Records) → ListsAll records listed.now → ¬ AreValid records)) ⊎ (e ≡ OutOfMemory)) }
+        × ((records : Records) → ListsAll records listed.now
+        → records [] [] ≡ Some (bytes_of version) → ¬ AreValid records)) ⊎ (e ≡ OutOfMemory)) }
 {
-    match read_schemas(alloc, listed) {
+    match read_schemas(alloc, version, listed) {
         Ok(schemas) => check_rows(alloc, &schemas, listed),
         Err(error) => Err(error),
     }
 }
 
-/// The schemas of the tables that the records declare.
-fn read_schemas(alloc: Global, listed: &[Record]) -> Result<Schemas, StoreError>
-    ensures read { IfOk result (AreDeclared listed.now) }
-    ensures refused { IfErr result (λ e. ((e ≡ Damaged) × (¬ AllByRecursion IsGoodTable listed.now))
-        ⊎ (e ≡ OutOfMemory)) }
+/// The schemas of the tables that the records declare, in this version.
+fn read_schemas(alloc: Global, version: Version, listed: &[Record]) -> Result<Schemas, StoreError>
+    ensures read { IfOk result (AreDeclared (bytes_of version) listed.now) }
+    ensures refused { IfErr result (λ e. ((e ≡ Damaged)
+        × (¬ AllByRecursion (IsGoodTable (bytes_of version)) listed.now)) ⊎ (e ≡ OutOfMemory)) }
 {
     let mut schemas = Schemas::new(alloc);
     for record in listed {
-        add_table(alloc, &mut schemas, record)?;
+        add_table(alloc, version, &mut schemas, record)?;
     }
     Ok(schemas)
 }
 
 /// Adds the table that a record declares, if it is a declaration.
-fn add_table(alloc: Global, schemas: &mut Schemas, stored: &Record) -> Result<(), StoreError>
-    ensures added { OnOk result ((before : List RecordData) → AreDeclared before schemas.old
-        → AreDeclared (before ++ stored.now ∷ []) schemas.new) }
-    ensures refused { IfErr result (λ e. ((e ≡ Damaged) × (¬ IsGoodTable stored.now)) ⊎ (e ≡ OutOfMemory)) }
+fn add_table(
+    alloc: Global,
+    version: Version,
+    schemas: &mut Schemas,
+    stored: &Record,
+) -> Result<(), StoreError>
+    ensures added { OnOk result ((before : List RecordData) → AreDeclared (bytes_of version) before schemas.old
+        → AreDeclared (bytes_of version) (before ++ stored.now ∷ []) schemas.new) }
+    ensures refused { IfErr result (λ e. ((e ≡ Damaged) × (¬ IsGoodTable (bytes_of version) stored.now))
+        ⊎ (e ≡ OutOfMemory)) }
 {
-    match read_table(alloc, stored) {
+    match read_table(alloc, version, stored) {
         Ok(Some((name, schema))) => Ok(schemas.insert(name, schema)?),
         Ok(None) => Ok(()),
         Err(error) => Err(error),
@@ -107,17 +122,54 @@ fn add_table(alloc: Global, schemas: &mut Schemas, stored: &Record) -> Result<()
 }
 
 /// The table that a record declares, if it is a declaration.
-fn read_table(alloc: Global, stored: &Record) -> Result<Option<(String, Schema)>, StoreError>
+fn read_table(
+    alloc: Global,
+    version: Version,
+    stored: &Record,
+) -> Result<Option<(String, Schema)>, StoreError>
     ensures read { IfOk result (λ o. MatchOption o (¬ IsTableRecord stored.now)
-        (λ t. DeclaresTable stored.now (string_bytes t.0) t.1)) }
-    ensures refused { IfErr result (λ e. ((e ≡ Damaged) × (¬ IsGoodTable stored.now)) ⊎ (e ≡ OutOfMemory)) }
+        (λ t. DeclaresTable (bytes_of version) stored.now (string_bytes t.0) t.1)) }
+    ensures refused { IfErr result (λ e. ((e ≡ Damaged) × (¬ IsGoodTable (bytes_of version) stored.now))
+        ⊎ (e ≡ OutOfMemory)) }
 {
     if !stored.tab.is_empty() || stored.key.is_empty() {
         return Ok(None);
     }
     let name = read_name(alloc, &stored.key)?;
-    let schema = read_declaration(alloc, &stored.value)?;
+    let schema = read_declaration_in(alloc, version, &stored.value)?;
     Ok(Some((name, schema)))
+}
+
+/// The schema whose declaration these bytes are, in this version.
+fn read_declaration_in(alloc: Global, version: Version, bytes: &[u8]) -> Result<Schema, StoreError>
+    ensures found { IfOk result (λ s. IsSchema s × (bytes.now ≡ declaration_bytes s)) }
+    ensures former { IfOk result (λ s. bytes_of version ≡ former_version → IsFormer s) }
+    ensures refused { IfErr result (λ e. ((e ≡ Damaged) × (¬ IsDeclarationIn (bytes_of version) bytes.now))
+        ⊎ (e ≡ OutOfMemory)) }
+{
+    let schema = read_declaration(alloc, bytes)?;
+    match version {
+        Version::Former if !is_former(&schema) => Err(StoreError::DamagedStore),
+        _ => Ok(schema),
+    }
+}
+
+/// Whether only the columns of the key refuse NULL.
+fn is_former(schema: &Schema) -> bool
+    ensures { IsTrue result ↔ IsFormer schema.now }
+{
+    for (column, flag) in schema.flags().iter().enumerate() {
+        if !is_former_rule(*flag, is_marked(schema.refuses(), column)) {
+            return false;
+        }
+    }
+    true
+}
+
+fn is_former_rule(flag: u8, refuses: bool) -> bool
+    ensures { IsTrue result ↔ (refuses ≡ is_marked_by flag) }
+{
+    refuses == (flag != 0)
 }
 
 /// The name of a table.
@@ -164,7 +216,7 @@ fn check_row_of(alloc: Global, schema: &Schema, key: &[u8], value: &[u8]) -> Res
     ensures refused { IfErr result (λ e. ((e ≡ Damaged) × (¬ IsRowOf schema.now key.now value.now))
         ⊎ (e ≡ OutOfMemory)) }
 {
-    let row = read_row(alloc, schema.flags(), value)?;
+    let row = read_row(alloc, schema, value)?;
     let own = Key::of_row(alloc, schema.flags(), &row)?;
     if own.bytes() == key {
         Ok(())

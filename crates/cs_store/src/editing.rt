@@ -14,15 +14,15 @@ ghost use Rattle.cs_store.specs.declared.fault.StoreError.TheVariants.{NoRow as 
 use crate::edit::{Edit, Written};
 use crate::fault::StoreError;
 use crate::rows::Rows;
-use crate::schema::Schema;
+use crate::schema::{Schema, obeys};
 use cs_value::{Key, Row};
 use std::alloc::Global;
 use std::rc::RcStr;
 
 /// Carries out an edit, and tells the keys that it wrote, with the rows that stood there before.
 ///
-/// Refuses, in this order: [`NoTable`](StoreError::NoTable); [`RowWidth`](StoreError::RowWidth) and
-/// [`NullInKey`](StoreError::NullInKey) for the given row; for an update and a deletion
+/// Refuses, in this order: [`NoTable`](StoreError::NoTable); [`RowWidth`](StoreError::RowWidth),
+/// [`NullInKey`](StoreError::NullInKey) and [`NotNull`](StoreError::NotNull) for the given row; for an update and a deletion
 /// [`NoRow`](StoreError::NoRow); for an insertion, and for an update to another key,
 /// [`KeyTaken`](StoreError::KeyTaken). Beside these it refuses only with what the rows refuse with:
 /// [`NoMemory`](StoreError::NoMemory), [`StoreFault`](StoreError::StoreFault) or
@@ -105,9 +105,9 @@ fn check_vacant<B: Rows>(
 
 /// The key of a row that may stand in a table of this schema.
 fn key_for(alloc: Global, schema: &Schema, row: &Row) -> Result<Key, StoreError>
-    ensures key { IfOk result (λ key. IsRowAt schema.now.flags key row.now) }
-    ensures fits { OnOk result (row_fault schema.now.flags row.now ≡ None) }
-    ensures refused { IfErr result (λ e. (row_fault schema.now.flags row.now ≡ Some e) ⊎ IsResource e) }
+    ensures key { IfOk result (λ key. IsRowAt schema.now key row.now) }
+    ensures fits { OnOk result (row_fault schema.now row.now ≡ None) }
+    ensures refused { IfErr result (λ e. (row_fault schema.now row.now ≡ Some e) ⊎ IsResource e) }
     ensures named { IfErr result IsEditRefusal }
 {
     if row.values().len() != schema.flags().len() {
@@ -115,6 +115,9 @@ fn key_for(alloc: Global, schema: &Schema, row: &Row) -> Result<Key, StoreError>
     }
     if !row.is_keyed(schema.flags()) {
         return Err(StoreError::NullInKey);
+    }
+    if !obeys(schema.refuses(), row) {
+        return Err(StoreError::NotNull);
     }
     Ok(Key::of_row(alloc, schema.flags(), row)?)
 }

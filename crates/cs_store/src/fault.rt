@@ -23,6 +23,8 @@ pub enum StoreError {
     RowWidth,
     #[error("a key column of the row is NULL")]
     NullInKey,
+    #[error("a column of the row that refuses NULL has it")]
+    NotNull,
     #[error("what is stored is not valid")]
     DamagedStore,
     #[error("the database refused")]
@@ -49,6 +51,7 @@ impl Fault for StoreError {
             StoreError::NullInKey => 36,
             StoreError::DamagedStore => 37,
             StoreError::StoreFault => 38,
+            StoreError::NotNull => 39,
             StoreError::NoMemory => NoMemory.code(),
         }
     }
@@ -56,6 +59,7 @@ impl Fault for StoreError {
     fn class(&self) -> u8 {
         match self {
             StoreError::DamagedStore => 11,
+            StoreError::NotNull => 19,
             StoreError::NoMemory => NoMemory.class(),
             _ => 1,
         }
@@ -72,6 +76,7 @@ impl Fault for StoreError {
             StoreError::NullInKey => "NullInKey",
             StoreError::DamagedStore => "DamagedStore",
             StoreError::StoreFault => "StoreFault",
+            StoreError::NotNull => "NotNull",
             StoreError::NoMemory => NoMemory.name(),
         }
     }

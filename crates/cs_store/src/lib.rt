@@ -2,7 +2,7 @@
 //!
 //! ```rust
 //! let mut rows = MemRows::new(alloc);
-//! rows.declare(alloc, "t", &[name_a, name_b], &[true, false])?;
+//! rows.declare(alloc, "t", &[name_a, name_b], &[true, false], &[false, false])?;
 //! let insert = Edit::Insert { table: name_t, row };
 //! let written = edit_in(alloc, &mut rows, &insert)?;
 //! assert_eq!(rt; rows.list(alloc, "t")?.len(), 1);

@@ -64,14 +64,14 @@ impl Table {
     /// The row under a key.
     fn get(&self, key: &Key) -> Option<&Row>
         ensures found { option_copied result ≡ map.get self.now.rows key.now }
-        ensures fits { IfSome result (λ row. IsRowAt self.now.schema.flags key.now row.now) }
+        ensures fits { IfSome result (λ row. IsRowAt self.now.schema key.now row.now) }
     {
         self.rows.get(key)
     }
 
     /// Puts the row under its key. [`NoMemory`] changes nothing.
     fn put(&mut self, key: Key, row: Row) -> Result<(), NoMemory>
-        requires { IsRowAt self.old.schema.flags key row }
+        requires { IsRowAt self.old.schema key row }
         ensures ok { OnOk result (self.new ≡ record self.old { rows = map.insert self.old.rows key row }) }
         ensures err { OnErr result (self.new ≡ self.old) }
     {
@@ -128,7 +128,8 @@ impl MemRows {
         }
     }
 
-    /// Declares a table without rows: the names of its columns, of which the marked ones are the key.
+    /// Declares a table without rows: the names of its columns, of which those marked in `keys` are the key, and
+    /// those of the key and those marked in `refuses` refuse NULL.
     ///
     /// Refuses with [`BadSchema`](StoreError::BadSchema) where the name or the columns make no table,
     /// and then with [`TableExists`](StoreError::TableExists). A refusal changes nothing.
@@ -138,16 +139,18 @@ impl MemRows {
         name: &str,
         columns: &[String],
         keys: &[bool],
+        refuses: &[bool],
     ) -> Result<(), StoreError>
-        ensures declared { OnOk result (Declares self.old name.now (schema_of columns.now keys.now) (Ok self.new)) }
-        ensures refused { IfErr result (λ e. (Declares self.old name.now (schema_of columns.now keys.now) (Err e))
-            ⊎ (e ≡ OutOfMemory)) }
+        ensures declared { OnOk result (Declares self.old name.now
+            (schema_of columns.now keys.now refuses.now) (Ok self.new)) }
+        ensures refused { IfErr result (λ e. (Declares self.old name.now
+            (schema_of columns.now keys.now refuses.now) (Err e)) ⊎ (e ≡ OutOfMemory)) }
         ensures unchanged { OnErr result (self.new ≡ self.old) }
     {
         if !is_table_name(name) {
             return Err(StoreError::BadSchema);
         }
-        let schema = Schema::new(alloc, columns, keys)?;
+        let schema = Schema::new(alloc, columns, keys, refuses)?;
         if self.table(name).is_some() {
             return Err(StoreError::TableExists);
         }

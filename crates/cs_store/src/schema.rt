@@ -1,24 +1,25 @@
-//! What a table declares: its columns, and which of them are its key.
-ghost use Rattle.std.specs.Prelude.{◌≡◌, ◌≢◌, ◌<◌, ◌↔◌, ◌⊎◌, if◌then◌else◌, map, string_bytes};
-ghost use Rattle.std.specs.Prelude.{IfOk, IfErr, IsTrue, AllPairs};
+//! What a table declares: its columns, which of them are its key, and which refuse NULL.
+ghost use Rattle.std.specs.Prelude.{◌≡◌, ◌≢◌, ◌<◌, ◌↔◌, ◌⊎◌, if◌then◌else◌, [], ◌∷◌, map, string_bytes};
+ghost use Rattle.std.specs.Prelude.{IfOk, IfErr, IsTrue, AllPairs, false, get_or};
 ghost use Rattle.std.specs.List.{AllByRecursion};
 ghost use Rattle.cs_value.specs.Table.{IsFlags};
-ghost use Rattle.cs_value.specs.State.{IsSchema, IsColumnName};
-ghost use Rattle.cs_store.specs.Editing.{schema_of};
+ghost use Rattle.cs_value.specs.State.{IsSchema, IsColumnName, AreRules, Obeys};
+ghost use Rattle.cs_store.specs.Editing.{either, schema_of};
 ghost use Rattle.cs_store.specs.declared.fault.StoreError.TheVariants.{BadSchema, NoMemory as OutOfMemory};
 
 use crate::fault::StoreError;
-use cs_value::{MAX_COLUMNS, MAX_CONTENT_LEN, NoMemory};
+use cs_value::{MAX_COLUMNS, MAX_CONTENT_LEN, NoMemory, OwnedValue, Row};
 use std::alloc::{AllocError, Global};
 use std::collections::BTreeSet;
 use std::marker::Model;
 
-/// The columns of a table: a name for each, and a flag, which is 1 for those of the primary key and
-/// 0 for the others.
+/// The columns of a table: a name for each, a flag, which is 1 for those of the primary key and 0 for
+/// the others, and a mark where it refuses NULL, as those of the key do.
 #[derive(Debug, Drop)]
 pub struct Schema {
     columns: Vec<String>,
     flags: Vec<u8>,
+    refuses: Vec<bool>,
 }
 
 impl Model for Schema {
@@ -29,23 +30,40 @@ impl Model for Schema {
 
     ghost coded = { schema_code };
 
-    ghost view = { λ s. record { columns = map string_bytes s.columns.items; flags = s.flags.items } };
+    ghost view = { λ s. record {
+      columns = map string_bytes s.columns.items;
+      flags = s.flags.items;
+      refuses = s.refuses.items;
+    } };
 
-    ghost invariant = { λ s. IsSchema (record { columns = map string_bytes s.columns.items; flags = s.flags.items }) };
+    ghost invariant = { λ s. IsSchema (record {
+      columns = map string_bytes s.columns.items;
+      flags = s.flags.items;
+      refuses = s.refuses.items;
+    }) };
 }
 
 impl Schema {
-    /// Makes the schema of columns with these names, of which the marked ones are the key.
+    /// Makes the schema of columns with these names, of which those marked in `keys` are the key, and those of
+    /// the key and those marked in `refuses` refuse NULL.
     ///
     /// Refuses with `BadSchema` where they make none: there is no column or more than
-    /// [`MAX_COLUMNS`], the two lists are not as long, no column is marked, or a name is empty,
+    /// [`MAX_COLUMNS`], the three lists are not as long, no column is of the key, or a name is empty,
     /// repeated or longer than [`MAX_CONTENT_LEN`] bytes.
-    pub fn new(alloc: Global, columns: &[String], keys: &[bool]) -> Result<Schema, StoreError>
-        ensures made { IfOk result (λ s. s ≡ schema_of columns.now keys.now) }
-        ensures refused { IfErr result (λ e. ((e ≡ BadSchema) × (¬ IsSchema (schema_of columns.now keys.now)))
-            ⊎ (e ≡ OutOfMemory)) }
+    pub fn new(
+        alloc: Global,
+        columns: &[String],
+        keys: &[bool],
+        refuses: &[bool],
+    ) -> Result<Schema, StoreError>
+        ensures made { IfOk result (λ s. s ≡ schema_of columns.now keys.now refuses.now) }
+        ensures refused { IfErr result (λ e. ((e ≡ BadSchema)
+            × (¬ IsSchema (schema_of columns.now keys.now refuses.now))) ⊎ (e ≡ OutOfMemory)) }
     {
-        checked(alloc, copy_names(alloc, columns)?, key_flags(alloc, keys)?)
+        let names = copy_names(alloc, columns)?;
+        let flags = key_flags(alloc, keys)?;
+        let rules = rules_of(alloc, keys, refuses)?;
+        checked(alloc, names, flags, rules)
     }
 
     /// The names of the columns.
@@ -63,6 +81,13 @@ impl Schema {
         &self.flags
     }
 
+    /// Whether each column refuses NULL: those of the key do, and those that were declared so.
+    pub fn refuses(&self) -> &[bool]
+        ensures { result.now ≡ self.now.refuses }
+    {
+        &self.refuses
+    }
+
     /// A copy of the schema.
     pub fn copy(&self, alloc: Global) -> Result<Schema, NoMemory>
         ensures { IfOk result (λ s. s ≡ self.now) }
@@ -70,6 +95,7 @@ impl Schema {
         Ok(Schema {
             columns: copy_names(alloc, &self.columns)?,
             flags: Vec::from_slice(alloc, &self.flags)?,
+            refuses: Vec::from_slice(alloc, &self.refuses)?,
         })
     }
 }
@@ -90,24 +116,54 @@ fn key_flags(alloc: Global, keys: &[bool]) -> Result<Vec<u8>, AllocError>
     keys.iter().map(|key| u8::from(*key)).collect(alloc)
 }
 
-/// The schema of columns with these names and flags, if they make one.
+/// The marks of the columns that refuse NULL: those of the key, and those that are declared so.
+fn rules_of(alloc: Global, keys: &[bool], refuses: &[bool]) -> Result<Vec<bool>, NoMemory>
+    ensures { IfOk result (λ rules. rules.items ≡ either keys.now refuses.now) }
+{
+    let mut rules = Vec::new(alloc);
+    for (column, declared) in refuses.iter().enumerate() {
+        rules.push(is_marked(keys, column) || *declared)?;
+    }
+    Ok(rules)
+}
+
+/// Whether a column is marked. One behind the last mark is not.
+pub(crate) fn is_marked(marks: &[bool], column: usize) -> bool
+    ensures { result ≡ get_or marks.now column false }
+{
+    column < marks.len() && marks[column]
+}
+
+/// The schema of columns with these names, flags and marks where they refuse NULL, if they make one.
 pub(crate) fn checked(
     alloc: Global,
     columns: Vec<String>,
     flags: Vec<u8>,
+    refuses: Vec<bool>,
 ) -> Result<Schema, StoreError>
-    ensures made { IfOk result (λ s. s ≡ record { columns = map string_bytes columns.items; flags = flags.items }) }
+    ensures made { IfOk result (λ s. s ≡ record {
+      columns = map string_bytes columns.items;
+      flags = flags.items;
+      refuses = refuses.items;
+    }) }
     ensures well_formed { IfOk result IsSchema }
-    ensures refused { IfErr result (λ e. ((e ≡ BadSchema)
-        × (¬ IsSchema (record { columns = map string_bytes columns.items; flags = flags.items })))
-        ⊎ (e ≡ OutOfMemory)) }
+    ensures refused { IfErr result (λ e. ((e ≡ BadSchema) × (¬ IsSchema (record {
+      columns = map string_bytes columns.items;
+      flags = flags.items;
+      refuses = refuses.items;
+    }))) ⊎ (e ≡ OutOfMemory)) }
 {
     if columns.len() == flags.len()
         && are_flags(&flags)
+        && are_rules(&flags, &refuses)
         && are_names(&columns)
         && are_apart(alloc, &columns)?
     {
-        Ok(Schema { columns, flags })
+        Ok(Schema {
+            columns,
+            flags,
+            refuses,
+        })
     } else {
         Err(StoreError::BadSchema)
     }
@@ -123,6 +179,27 @@ fn are_bits(flags: &[u8]) -> bool
     ensures { IsTrue result ↔ AllByRecursion (λ flag. flag < 2) flags.now }
 {
     flags.iter().all(|flag| *flag < 2)
+}
+
+/// Whether there is a mark for each flag, and it is set where the flag is.
+fn are_rules(flags: &[u8], refuses: &[bool]) -> bool
+    ensures { IsTrue result ↔ AreRules flags.now refuses.now }
+{
+    if flags.len() != refuses.len() {
+        return false;
+    }
+    for (column, flag) in flags.iter().enumerate() {
+        if !is_rule(*flag, refuses[column]) {
+            return false;
+        }
+    }
+    true
+}
+
+fn is_rule(flag: u8, refuses: bool) -> bool
+    ensures { IsTrue result ↔ AreRules (flag ∷ []) (refuses ∷ []) }
+{
+    flag == 0 || refuses
 }
 
 fn are_names(columns: &[String]) -> bool
@@ -153,4 +230,22 @@ fn are_apart(alloc: Global, columns: &[String]) -> Result<bool, AllocError>
         }
     }
     Ok(true)
+}
+
+/// Whether the row has NULL in no column that refuses it.
+pub(crate) fn obeys(refuses: &[bool], row: &Row) -> bool
+    ensures { IsTrue result ↔ Obeys refuses.now row.now }
+{
+    for (column, value) in row.values().iter().enumerate() {
+        if !may_stand(is_marked(refuses, column), value) {
+            return false;
+        }
+    }
+    true
+}
+
+fn may_stand(refuses: bool, value: &OwnedValue) -> bool
+    ensures { IsTrue result ↔ Obeys (refuses ∷ []) (value.now ∷ []) }
+{
+    !refuses || !matches!(value, OwnedValue::Null)
 }

@@ -212,9 +212,9 @@ impl<S: Alter> Store<S> {
         }
     }
 
-    /// Declares a table without rows: the names of its columns, of which the marked ones are the key. A crash
-    /// leaves the tables as before, or with this one; once this is done, these alone, and once it is refused
-    /// and the store is open still, those alone.
+    /// Declares a table without rows: the names of its columns, of which those marked in `keys` are the key, and
+    /// those of the key and those marked in `refuses` refuse NULL. A crash leaves the tables as before, or with
+    /// this one; once this is done, these alone, and once it is refused and the store is open still, those alone.
     ///
     /// Refuses with [`BadSchema`](StoreError::BadSchema) where the name or the columns make no table,
     /// and then with [`TableExists`](StoreError::TableExists). A refusal changes nothing.
@@ -224,22 +224,23 @@ impl<S: Alter> Store<S> {
         name: &str,
         columns: &[String],
         keys: &[bool],
+        refuses: &[bool],
     ) -> Result<(), StoreError>
         ensures declared { HasCleanDisk (state S.Store self.new)
             → OnOk result (Declares (tables_in (state S.Store self.old).now) name.now
-            (schema_of columns.now keys.now) (Ok (tables_in (state S.Store self.new).now))) }
+            (schema_of columns.now keys.now refuses.now) (Ok (tables_in (state S.Store self.new).now))) }
         ensures refused { HasCleanDisk (state S.Store self.new)
             → IfErr result (λ e. (Declares (tables_in (state S.Store self.old).now) name.now
-            (schema_of columns.now keys.now) (Err e)) ⊎ IsResource e) }
+            (schema_of columns.now keys.now refuses.now) (Err e)) ⊎ IsResource e) }
         ensures shut { HasCleanDisk (state S.Store self.new) → RefusesShut (state S.Store self.old)
-            (λ e. (held : tables.State) → Declares held name.now (schema_of columns.now keys.now) (Err e)
+            (λ e. (held : tables.State) → Declares held name.now (schema_of columns.now keys.now refuses.now) (Err e)
             ⊎ IsResource e) result }
         ensures named { IfErr result (λ e. (e ≡ NoSchema) ⊎ (e ≡ TakenName) ⊎ IsReadRefusal e) }
         ensures at_rest { HasCleanDisk (state S.Store self.new) → OnOk result (IsAtRest (state S.Store self.new)) }
         ensures kept { HasCleanDisk (state S.Store self.new)
             → OnErr result (KeepsContent (state S.Store self.old) (state S.Store self.new)) }
         ensures atomic { IsAtomic CanBegin (λ left. Declares (tables_in (state S.Store self.old).now) name.now
-            (schema_of columns.now keys.now) (Ok left)) (state S.Store self.old) (state S.Store self.new) }
+            (schema_of columns.now keys.now refuses.now) (Ok left)) (state S.Store self.old) (state S.Store self.new) }
         ensures left { OnOk result (LeavesOnly (λ left. left ≡ tables_in (state S.Store self.new).now)
             (state S.Store self.new)) }
         ensures stands { OnErr result (IsTrue (state S.Store self.new).is_open → LeavesOnly
@@ -249,7 +250,7 @@ impl<S: Alter> Store<S> {
         if !is_table_name(name) {
             return Err(StoreError::BadSchema);
         }
-        let schema = Schema::new(alloc, columns, keys)?;
+        let schema = Schema::new(alloc, columns, keys, refuses)?;
         let mut batch = self.begin()?;
         batch.declare(alloc, name, &schema)?;
         batch.commit()

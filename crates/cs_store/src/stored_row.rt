@@ -2,24 +2,23 @@
 ghost use Rattle.std.specs.Prelude.{◌≡◌, ◌≢◌, ◌⊎◌, List, map, IfOk, IfErr};
 ghost use Rattle.cs_value.specs.declared.value.OwnedValue.{OwnedValue};
 ghost use Rattle.cs_value.specs.declared.value.OwnedField.TheVariants.{Defined};
-ghost use Rattle.cs_value.specs.Value.{IsRow};
-ghost use Rattle.cs_value.specs.Table.{IsKeyedRow};
 ghost use Rattle.cs_value.specs.Spelling.{row_bytes};
+ghost use Rattle.cs_store.specs.Rows.{IsRowIn};
 ghost use Rattle.cs_store.specs.declared.fault.StoreError.TheVariants.{DamagedStore as Damaged};
 ghost use Rattle.cs_store.specs.declared.fault.StoreError.TheVariants.{NoMemory as OutOfMemory};
 
 use crate::fault::StoreError;
+use crate::schema::{Schema, obeys};
 use cs_value::{Image, ImageFault, OwnedField, Row, image_read};
 use std::alloc::Global;
 
-/// The row of a table with these flags that the bytes are.
-pub(crate) fn read_row(alloc: Global, flags: &[u8], bytes: &[u8]) -> Result<Row, StoreError>
-    ensures found { IfOk result (λ row. IsRow row × IsKeyedRow flags.now row × (bytes.now ≡ row_bytes row)) }
+/// The row of a table of this schema that the bytes are.
+pub(crate) fn read_row(alloc: Global, schema: &Schema, bytes: &[u8]) -> Result<Row, StoreError>
+    ensures found { IfOk result (λ row. IsRowIn schema.now row × (bytes.now ≡ row_bytes row)) }
     ensures refused { IfErr result (λ e. ((e ≡ Damaged)
-        × ((row : List OwnedValue) → IsRow row → IsKeyedRow flags.now row → bytes.now ≢ row_bytes row))
-        ⊎ (e ≡ OutOfMemory)) }
+        × ((row : List OwnedValue) → IsRowIn schema.now row → bytes.now ≢ row_bytes row)) ⊎ (e ≡ OutOfMemory)) }
 {
-    let (image, used) = match image_read(alloc, bytes, flags.len()) {
+    let (image, used) = match image_read(alloc, bytes, schema.flags().len()) {
         Ok(read) => read,
         Err(ImageFault::Fault(_)) => return Err(StoreError::DamagedStore),
         Err(ImageFault::NoMemory) => return Err(StoreError::NoMemory),
@@ -28,7 +27,10 @@ pub(crate) fn read_row(alloc: Global, flags: &[u8], bytes: &[u8]) -> Result<Row,
         return Err(StoreError::DamagedStore);
     }
     let row = defined_row(alloc, image)?;
-    if !row.is_keyed(flags) {
+    if !row.is_keyed(schema.flags()) {
+        return Err(StoreError::DamagedStore);
+    }
+    if !obeys(schema.refuses(), &row) {
         return Err(StoreError::DamagedStore);
     }
     Ok(row)

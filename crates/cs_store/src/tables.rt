@@ -6,8 +6,6 @@ ghost use Rattle.std.specs.Prelude.{IfErr, IfSome, Option, Some, None, ℕ, List
 ghost use Rattle.std.specs.List.{AllByRecursion};
 ghost use Rattle.cs_value.specs.Table.{IsName};
 ghost use Rattle.cs_value.specs.declared.value.OwnedValue.{OwnedValue};
-ghost use Rattle.cs_value.specs.Value.{IsRow};
-ghost use Rattle.cs_value.specs.Table.{IsKeyedRow};
 ghost use Rattle.cs_value.specs.Spelling.{row_bytes};
 ghost use Rattle.cs_value.specs.State.{SchemaData, IsSchema, schema_at, row_at, rows_at};
 ghost use Rattle.cs_value.specs.State.{with_row, without_row};
@@ -15,7 +13,7 @@ ghost use Rattle.cs_store.specs.Declaration.{declaration_bytes};
 ghost use Rattle.sqlite.specs.State.{HasCleanDisk};
 ghost use Rattle.sqlite.specs.Held.{state};
 ghost use Rattle.cs_store.specs.Faults.{IsResource, IsReadRefusal};
-ghost use Rattle.cs_store.specs.Rows.{IsDeclared, Fits};
+ghost use Rattle.cs_store.specs.Rows.{IsDeclared, Fits, IsRowIn};
 ghost use Rattle.cs_store.specs.Store.{IsSound, KeepsStore, Recovers, RecoversList, RefusesShut};
 ghost use Rattle.cs_store.specs.Store.{AddsTable, AreNamed, AreStored, HoldsState, tables_in};
 
@@ -86,19 +84,23 @@ pub(crate) fn find_row<S: Alter>(
     ensures kept { KeepsStore (state S.Store conn.old) (state S.Store conn.new) }
 {
     match find_record(conn, name, key.bytes()) {
-        Ok(found) => row_in(alloc, schema.flags(), found),
+        Ok(found) => row_in(alloc, schema, found),
         Err(error) => Err(error),
     }
 }
 
 /// The row that is stored, if one is.
-fn row_in(alloc: Global, flags: &[u8], stored: Option<Vec<u8>>) -> Result<Option<Row>, StoreError>
-    ensures found { (o : Option (List OwnedValue)) → IfSome o (λ row. IsRow row × IsKeyedRow flags.now row)
+fn row_in(
+    alloc: Global,
+    schema: &Schema,
+    stored: Option<Vec<u8>>,
+) -> Result<Option<Row>, StoreError>
+    ensures found { (o : Option (List OwnedValue)) → IfSome o (IsRowIn schema.now)
         → option_map (λ v. v.items) stored ≡ option_map row_bytes o → Recovers result o }
     ensures named { IfErr result IsReadRefusal }
 {
     match stored {
-        Some(bytes) => Ok(Some(read_row(alloc, flags, &bytes)?)),
+        Some(bytes) => Ok(Some(read_row(alloc, schema, &bytes)?)),
         None => Ok(None),
     }
 }
@@ -119,20 +121,20 @@ pub(crate) fn list_rows<S: Alter>(
     ensures kept { KeepsStore (state S.Store conn.old) (state S.Store conn.new) }
 {
     match list_records(conn, alloc, name) {
-        Ok(listed) => rows_in(alloc, schema.flags(), &listed),
+        Ok(listed) => rows_in(alloc, schema, &listed),
         Err(error) => Err(error),
     }
 }
 
 /// The rows that are stored.
-fn rows_in(alloc: Global, flags: &[u8], listed: &[Keyed]) -> Result<Vec<Row>, StoreError>
-    ensures read { IfOk result (λ rows. AreStored flags.now (map_list (λ e. e.1) listed.now) rows.items) }
+fn rows_in(alloc: Global, schema: &Schema, listed: &[Keyed]) -> Result<Vec<Row>, StoreError>
+    ensures read { IfOk result (λ rows. AreStored schema.now (map_list (λ e. e.1) listed.now) rows.items) }
     ensures refused { IfErr result (λ e. ((e ≡ Damaged) × ((rows : List (List OwnedValue))
-        → ¬ (AreStored flags.now (map_list (λ e. e.1) listed.now) rows))) ⊎ IsResource e) }
+        → ¬ (AreStored schema.now (map_list (λ e. e.1) listed.now) rows))) ⊎ IsResource e) }
 {
     let mut rows = Vec::new(alloc);
     for record in listed {
-        match read_row(alloc, flags, &record.value) {
+        match read_row(alloc, schema, &record.value) {
             Ok(row) => rows.push(row)?,
             Err(error) => return Err(error),
         }

@@ -4,11 +4,11 @@ ghost use Rattle.cs_store.specs.Stored.{IsVersion};
 ghost use Rattle.cs_store.specs.Versions.{bytes_of};
 
 /// A version of the records.
-#[derive(Debug, Drop)]
+#[derive(Clone, Copy, Debug)]
 pub(crate) enum Version {
     /// The one that stores are written in.
     Current,
-    /// The one before, which differs in nothing else.
+    /// The one before, in which only the columns of the key refuse NULL.
     Former,
 }
 

@@ -114,6 +114,7 @@ fn replay<S: Alter>(alloc: Global, store: &mut Store<S>, file: &[u8]) -> Result<
         on_data: Choice::Replace,
         on_notfound: Choice::Omit,
         on_conflict: Choice::Replace,
+        on_constraint: Choice::Omit,
     };
     let handler = |conflict: &Conflict| policy.choose(conflict);
     let report = apply(alloc, store, file, Noop::Report, &handler)?;

@@ -9,7 +9,7 @@ const FORMS: &[(&str, &str)] = &[
     (" --CREATE", "None"),
     (
         "create Table t(a, \"b c\", Primary KEY(a, \"b c\"));",
-        "Some(Create { name: \"t\", columns: [\"a\", \"b c\"], keys: [\"a\", \"b c\"] })",
+        "Some(Create { name: \"t\", columns: [\"a\", \"b c\"], refuses: [false, false], keys: [\"a\", \"b c\"] })",
     ),
     (
         "INSERT INTO \"a\"\"b\" VALUES(-1, 'it''s', x'0F', nUll) ; \r",
@@ -35,11 +35,11 @@ const FORMS: &[(&str, &str)] = &[
     ),
     (
         ".apply a",
-        "Some(Apply { slot: \"a\", on_data: Abort, on_notfound: Abort, on_conflict: Abort, noop: Report })",
+        "Some(Apply { slot: \"a\", on_data: Abort, on_notfound: Abort, on_conflict: Abort, on_constraint: Abort, noop: Report })",
     ),
     (
         ".apply a conflict=replace noop=ignore data=omit",
-        "Some(Apply { slot: \"a\", on_data: Omit, on_notfound: Abort, on_conflict: Replace, noop: Ignore })",
+        "Some(Apply { slot: \"a\", on_data: Omit, on_notfound: Abort, on_conflict: Replace, on_constraint: Abort, noop: Ignore })",
     ),
     (".revert a", "Some(Revert { slot: \"a\" })"),
     (".session open", "Some(SessionOpen)"),

@@ -82,7 +82,7 @@ fn store_with(
     let mut store = Store::new_memory(rt.alloc()).expect(rt, "a store");
     let columns = names(rt, "a", second);
     store
-        .declare(rt.alloc(), name, &columns, keys)
+        .declare(rt.alloc(), name, &columns, keys, &[false, false])
         .expect(rt, "a table");
     store
 }

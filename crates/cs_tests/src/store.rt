@@ -47,7 +47,7 @@ pub(crate) fn key_of(rt: &(impl Abort + AllocGlobal), number: i64) -> Key {
 pub(crate) fn tables(rt: &(impl Abort + AllocGlobal)) -> MemRows {
     let mut rows = MemRows::new(rt.alloc());
     let columns = names(rt, "a", "b");
-    rows.declare(rt.alloc(), "t", &columns, &[true, false])
+    rows.declare(rt.alloc(), "t", &columns, &[true, false], &[false, false])
         .expect(rt, "a table");
     rows
 }
@@ -89,7 +89,8 @@ pub(crate) fn deletion(rt: &(impl Abort + AllocGlobal), table: &str, key: i64) -
 #[test]
 fn marks_the_key_columns(rt: HostRuntime) {
     let columns = names(&rt, "a", "b");
-    let schema = Schema::new(rt.alloc(), &columns, &[false, true]).expect(&rt, "a schema");
+    let schema = Schema::new(rt.alloc(), &columns, &[false, true], &[false, false])
+        .expect(&rt, "a schema");
     let copy = schema.copy(rt.alloc()).expect(&rt, "memory");
     assert!(rt; copy.columns() == columns.as_slice() && copy.flags() == [0, 1].as_slice());
 }

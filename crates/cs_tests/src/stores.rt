@@ -15,7 +15,13 @@ pub(crate) fn declaration<S: Alter>(
     name: &str,
     keys: &[bool],
 ) -> Result<(), StoreError> {
-    store.declare(rt.alloc(), name, &names(rt, "a", "b"), keys)
+    store.declare(
+        rt.alloc(),
+        name,
+        &names(rt, "a", "b"),
+        keys,
+        &[false, false],
+    )
 }
 
 /// A store in memory with t, which has no rows.

@@ -35,13 +35,13 @@ pub empty_table : (schema : SchemaData) → IsSchema schema → IsTable (record 
 empty_table schema is = record { schema = is; rows = λ key row found. absurd (let none = sym (get-empty (slice_cmp nat_cmp) key) ∙ found in cc) }
 
 -- a row that fits is put
-pub table_insert : (table : TableData) (key : List ℕ) (row : List OwnedValue) → IsTable table → IsRowAt table.schema.flags key row
+pub table_insert : (table : TableData) (key : List ℕ) (row : List OwnedValue) → IsTable table → IsRowAt table.schema key row
     → IsTable (record table { rows = insert table.rows key row })
-table_insert table key row is fit = record { schema = is.schema; rows = each_insert (IsRowAt table.schema.flags) table.rows key row is.rows fit }
+table_insert table key row is fit = record { schema = is.schema; rows = each_insert (IsRowAt table.schema) table.rows key row is.rows fit }
 
 -- a row is taken away
 pub table_remove : (table : TableData) (key : List ℕ) → IsTable table → IsTable (record table { rows = remove table.rows key })
-table_remove table key is = record { schema = is.schema; rows = each_remove (IsRowAt table.schema.flags) table.rows key is.rows }
+table_remove table key is = record { schema = is.schema; rows = each_remove (IsRowAt table.schema) table.rows key is.rows }
 
 -- there are no tables
 pub empty_state : IsState empty
@@ -58,9 +58,9 @@ table_of_schema (Some table) schema has = (table, refl, cc)
 
 -- the row under a key, if there is one, fits the schema of its table
 pub row_at_fits : (state : State) (name : List ℕ) (schema : SchemaData) → IsState state → schema_at state name ≡ Some schema → (key : List ℕ)
-    → IfSome (row_at state name key) (IsRowAt schema.flags key)
+    → IfSome (row_at state name key) (IsRowAt schema key)
 row_at_fits state name schema is has key =
     let there = table_of_schema (get state name) schema has in
-    subst (λ (o : Option TableData). IfSome (get (unwrap_or (option_map (λ (t : TableData). t.rows) o) empty) key) (IsRowAt schema.flags key)) (sym there.1)
-    (subst (λ (s : SchemaData). IfSome (get there.0.rows key) (IsRowAt s.flags key)) there.2
-    (IfSome-from_each (IsRowAt there.0.schema.flags key) (get there.0.rows key) ((is name there.0 there.1).is_table.rows key)))
+    subst (λ (o : Option TableData). IfSome (get (unwrap_or (option_map (λ (t : TableData). t.rows) o) empty) key) (IsRowAt schema key)) (sym there.1)
+    (subst (λ (s : SchemaData). IfSome (get there.0.rows key) (IsRowAt s key)) there.2
+    (IfSome-from_each (IsRowAt there.0.schema key) (get there.0.rows key) ((is name there.0 there.1).is_table.rows key)))

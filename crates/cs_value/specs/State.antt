@@ -1,21 +1,26 @@
 -- What a database of tables holds: tables by name, each with a schema, and its rows by key. The names and the rows are
 -- those that changesets can speak of.
-use Rattle.std.specs.Prelude.{◌≡◌, ◌≢◌, ℕ, ◌<◌, ◌≤◌, List, length, AllPairs, Option, Some, option_map, IsUtf8, unwrap_or, refl}
+use Rattle.std.specs.Prelude.{◌≡◌, ◌≢◌, ⊤, ℕ, zero, suc, ◌<◌, ◌≤◌, Bool, true, false, List, [], ◌∷◌, length, map as map_list}
+use Rattle.std.specs.Prelude.{AllPairs, Option, Some, option_map, IsUtf8, unwrap_or, refl}
 use Rattle.std.specs.List.{AllByRecursion}
-use Rattle.std.specs.Coded.{Coded, code_by, coded×, coded_ℕ, coded_list}
+use Rattle.std.specs.Coded.{Coded, code_by, coded×, coded_ℕ, coded_bool, coded_list}
 use Rattle.std.specs.FinMap as map
 use Rattle.cs_value.specs.declared.TheConstants.{MAX_CONTENT_LEN}
 use Rattle.cs_value.specs.declared.value.OwnedValue.{OwnedValue}
+use Rattle.cs_value.specs.declared.value.OwnedValue.TheVariants.{Null}
+use Rattle.cs_value.specs.declared.value.OwnedField.{OwnedField}
+use Rattle.cs_value.specs.declared.value.OwnedField.TheVariants.{Defined}
 use Rattle.cs_value.specs.contracts.value.OwnedValue.{the_row}
 use Rattle.cs_value.specs.Value.{IsRow}
 use Rattle.cs_value.specs.Table.{IsName, IsFlags, IsKeyedRow}
 use Rattle.cs_value.specs.Key.{row_key}
 use Rattle.cs_value.specs.Maps.{ByBytes}
 
--- the columns of a table: a name for each, and a flag, which is 1 for those of the primary key
+-- the columns of a table: a name for each, a flag, which is 1 for those of the primary key, and whether it refuses NULL
 pub record SchemaData : Type 0 where
   pub columns : List (List ℕ)
   pub flags : List ℕ
+  pub refuses : List Bool
 
 -- a column's name has a byte, and is UTF-8 and not too long
 pub record IsColumnName (name : List ℕ) : Type 0 where
@@ -23,9 +28,26 @@ pub record IsColumnName (name : List ℕ) : Type 0 where
   pub text : IsUtf8 name
   pub short : length name ≤ MAX_CONTENT_LEN
 
+-- which columns these flags, or bytes, mark
+abbrev pub is_marked : ℕ → Bool
+is_marked zero = false
+is_marked (suc flag) = true
+
+abbrev pub marks : List ℕ → List Bool
+marks = map_list is_marked
+
+-- a mark for each column, which is there for each column of the key
+abbrev pub AreRules : List ℕ → List Bool → Type 0
+AreRules [] [] = ⊤
+AreRules (zero ∷ flags) (mark ∷ refuses) = AreRules flags refuses
+AreRules (suc flag ∷ flags) (mark ∷ refuses) = (mark ≡ true) × AreRules flags refuses
+AreRules [] (mark ∷ refuses) = ⊥
+AreRules (flag ∷ flags) [] = ⊥
+
 pub record IsSchema (schema : SchemaData) : Type 0 where
   pub flags : IsFlags schema.flags
   pub bits : AllByRecursion (λ flag. flag < 2) schema.flags
+  pub rules : AreRules schema.flags schema.refuses
   pub as_many : length schema.columns ≡ length schema.flags
   pub named : AllByRecursion IsColumnName schema.columns
   pub apart : AllPairs ◌≢◌ schema.columns
@@ -38,15 +60,27 @@ pub record TableData : Type 0 where
   pub schema : SchemaData
   pub rows : RowMap
 
--- a row that may stand in a table with these flags, and its key
-pub record IsRowAt (flags : List ℕ) (key : List ℕ) (row : List OwnedValue) : Type 0 where
+-- NULL stands in a column that refuses it
+abbrev pub has_null : List Bool → List OwnedField → Bool
+has_null [] fields = false
+has_null (mark ∷ refuses) [] = false
+has_null (true ∷ refuses) (Defined Null ∷ fields) = true
+has_null (mark ∷ refuses) (field ∷ fields) = has_null refuses fields
+
+-- no column of the row does so
+abbrev pub Obeys : List Bool → List OwnedValue → Type 0
+Obeys refuses row = has_null refuses (map_list Defined row) ≡ false
+
+-- a row that may stand in a table of this schema, and its key
+pub record IsRowAt (schema : SchemaData) (key : List ℕ) (row : List OwnedValue) : Type 0 where
   pub values : IsRow row
-  pub keyed : IsKeyedRow flags row
-  pub own : key ≡ row_key flags row
+  pub keyed : IsKeyedRow schema.flags row
+  pub obeys : Obeys schema.refuses row
+  pub own : key ≡ row_key schema.flags row
 
 pub record IsTable (table : TableData) : Type 0 where
   pub schema : IsSchema table.schema
-  pub rows : (key : List ℕ) (row : List OwnedValue) → map.get table.rows key ≡ Some row → IsRowAt table.schema.flags key row
+  pub rows : (key : List ℕ) (row : List OwnedValue) → map.get table.rows key ≡ Some row → IsRowAt table.schema key row
 
 -- tables by name
 abbrev pub State : Type 0
@@ -104,8 +138,9 @@ written_at state name key = record { table = name; key = key; former = row_at st
 -- ---- the codes by which contracts compare states
 
 abbrev pub schema_code : Coded SchemaData
-schema_code = code_by (List (List ℕ) × List ℕ) (coded× (coded_list (coded_list coded_ℕ)) (coded_list coded_ℕ))
-    (λ s. (s.columns, s.flags)) (λ p. record { columns = p.0; flags = p.1 }) (λ s. refl)
+schema_code = code_by (List (List ℕ) × (List ℕ × List Bool))
+    (coded× (coded_list (coded_list coded_ℕ)) (coded× (coded_list coded_ℕ) (coded_list coded_bool)))
+    (λ s. (s.columns, (s.flags, s.refuses))) (λ p. record { columns = p.0; flags = p.1.0; refuses = p.1.1 }) (λ s. refl)
 
 abbrev pub rows_code : Coded RowMap
 rows_code = map.code (coded_list coded_ℕ) (coded_list the_row.coded)

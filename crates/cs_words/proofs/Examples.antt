@@ -9,8 +9,8 @@ use Rattle.cs_group.specs.declared.conflict.Noop.TheVariants.{Report, Ignore}
 use Rattle.cs_apply.specs.declared.policy.Policy.{Policy}
 use Rattle.cs_words.specs.Words.{asked, command_app, Apply, Concat, Dump, Sql, Invert, Shell}
 
-abbrev policy : Choice → Choice → Choice → Policy
-policy on_data on_notfound on_conflict = record { on_data = on_data; on_notfound = on_notfound; on_conflict = on_conflict }
+abbrev policy : Choice → Choice → Choice → Choice → Policy
+policy on_data on_notfound on_conflict on_constraint = record { on_data = on_data; on_notfound = on_notfound; on_conflict = on_conflict; on_constraint = on_constraint }
 
 -- no word, and the name alone
 no_word : asked [] ≡ Some (Shell (codes ":memory:"))
@@ -21,7 +21,7 @@ the_name_alone = refl
 
 -- ---- each command
 
-applies : asked (codes "changeset" ∷ codes "a.cs" ∷ codes "apply" ∷ codes "s" ∷ []) ≡ Some (Apply (codes "a.cs") (codes "s") (policy choice.Abort choice.Abort choice.Abort) Report)
+applies : asked (codes "changeset" ∷ codes "a.cs" ∷ codes "apply" ∷ codes "s" ∷ []) ≡ Some (Apply (codes "a.cs") (codes "s") (policy choice.Abort choice.Abort choice.Abort choice.Abort) Report)
 unfolding clap_on_literals
 applies = refl
 
@@ -47,31 +47,39 @@ runs_a_shell = refl
 
 -- ---- policies
 
-omits_data : asked (codes "changeset" ∷ codes "--data" ∷ codes "omit" ∷ codes "a.cs" ∷ codes "apply" ∷ codes "s" ∷ []) ≡ Some (Apply (codes "a.cs") (codes "s") (policy choice.Omit choice.Abort choice.Abort) Report)
+omits_data : asked (codes "changeset" ∷ codes "--data" ∷ codes "omit" ∷ codes "a.cs" ∷ codes "apply" ∷ codes "s" ∷ []) ≡ Some (Apply (codes "a.cs") (codes "s") (policy choice.Omit choice.Abort choice.Abort choice.Abort) Report)
 unfolding clap_on_literals
 omits_data = refl
 
-replaces_notfound : asked (codes "changeset" ∷ codes "--notfound=replace" ∷ codes "a.cs" ∷ codes "apply" ∷ codes "s" ∷ []) ≡ Some (Apply (codes "a.cs") (codes "s") (policy choice.Abort choice.Replace choice.Abort) Report)
+replaces_notfound : asked (codes "changeset" ∷ codes "--notfound=replace" ∷ codes "a.cs" ∷ codes "apply" ∷ codes "s" ∷ []) ≡ Some (Apply (codes "a.cs") (codes "s") (policy choice.Abort choice.Replace choice.Abort choice.Abort) Report)
 unfolding clap_on_literals
 replaces_notfound = refl
 
-replaces_conflict : asked (codes "changeset" ∷ codes "a.cs" ∷ codes "apply" ∷ codes "s" ∷ codes "--conflict" ∷ codes "replace" ∷ []) ≡ Some (Apply (codes "a.cs") (codes "s") (policy choice.Abort choice.Abort choice.Replace) Report)
+replaces_conflict : asked (codes "changeset" ∷ codes "a.cs" ∷ codes "apply" ∷ codes "s" ∷ codes "--conflict" ∷ codes "replace" ∷ []) ≡ Some (Apply (codes "a.cs") (codes "s") (policy choice.Abort choice.Abort choice.Replace choice.Abort) Report)
 unfolding clap_on_literals
 replaces_conflict = refl
 
-ignores_noops : asked (codes "changeset" ∷ codes "--ignore-noop" ∷ codes "a.cs" ∷ codes "apply" ∷ codes "s" ∷ []) ≡ Some (Apply (codes "a.cs") (codes "s") (policy choice.Abort choice.Abort choice.Abort) Ignore)
+replaces_what_a_table_refuses : asked (codes "changeset" ∷ codes "--constraint" ∷ codes "replace" ∷ codes "a.cs" ∷ codes "apply" ∷ codes "s" ∷ []) ≡ Some (Apply (codes "a.cs") (codes "s") (policy choice.Abort choice.Abort choice.Abort choice.Replace) Report)
+unfolding clap_on_literals
+replaces_what_a_table_refuses = refl
+
+omits_what_a_table_refuses_behind : asked (codes "changeset" ∷ codes "a.cs" ∷ codes "apply" ∷ codes "s" ∷ codes "--constraint=omit" ∷ codes "--conflict=replace" ∷ []) ≡ Some (Apply (codes "a.cs") (codes "s") (policy choice.Abort choice.Abort choice.Replace choice.Omit) Report)
+unfolding clap_on_literals
+omits_what_a_table_refuses_behind = refl
+
+ignores_noops : asked (codes "changeset" ∷ codes "--ignore-noop" ∷ codes "a.cs" ∷ codes "apply" ∷ codes "s" ∷ []) ≡ Some (Apply (codes "a.cs") (codes "s") (policy choice.Abort choice.Abort choice.Abort choice.Abort) Ignore)
 unfolding clap_on_literals
 ignores_noops = refl
 
-ignores_noops_between : asked (codes "changeset" ∷ codes "a.cs" ∷ codes "--ignore-noop" ∷ codes "apply" ∷ codes "s" ∷ []) ≡ Some (Apply (codes "a.cs") (codes "s") (policy choice.Abort choice.Abort choice.Abort) Ignore)
+ignores_noops_between : asked (codes "changeset" ∷ codes "a.cs" ∷ codes "--ignore-noop" ∷ codes "apply" ∷ codes "s" ∷ []) ≡ Some (Apply (codes "a.cs") (codes "s") (policy choice.Abort choice.Abort choice.Abort choice.Abort) Ignore)
 unfolding clap_on_literals
 ignores_noops_between = refl
 
-ignores_noops_behind : asked (codes "changeset" ∷ codes "a.cs" ∷ codes "apply" ∷ codes "s" ∷ codes "--ignore-noop" ∷ []) ≡ Some (Apply (codes "a.cs") (codes "s") (policy choice.Abort choice.Abort choice.Abort) Ignore)
+ignores_noops_behind : asked (codes "changeset" ∷ codes "a.cs" ∷ codes "apply" ∷ codes "s" ∷ codes "--ignore-noop" ∷ []) ≡ Some (Apply (codes "a.cs") (codes "s") (policy choice.Abort choice.Abort choice.Abort choice.Abort) Ignore)
 unfolding clap_on_literals
 ignores_noops_behind = refl
 
-ignores_noops_and_omits_data : asked (codes "changeset" ∷ codes "--data" ∷ codes "omit" ∷ codes "--ignore-noop" ∷ codes "a.cs" ∷ codes "apply" ∷ codes "s" ∷ []) ≡ Some (Apply (codes "a.cs") (codes "s") (policy choice.Omit choice.Abort choice.Abort) Ignore)
+ignores_noops_and_omits_data : asked (codes "changeset" ∷ codes "--data" ∷ codes "omit" ∷ codes "--ignore-noop" ∷ codes "a.cs" ∷ codes "apply" ∷ codes "s" ∷ []) ≡ Some (Apply (codes "a.cs") (codes "s") (policy choice.Omit choice.Abort choice.Abort choice.Abort) Ignore)
 unfolding clap_on_literals
 ignores_noops_and_omits_data = refl
 
@@ -96,6 +104,14 @@ no_choice = refl
 an_option_twice : asked (codes "changeset" ∷ codes "--data" ∷ codes "omit" ∷ codes "--data" ∷ codes "omit" ∷ codes "a.cs" ∷ codes "dump" ∷ []) ≡ None
 unfolding clap_on_literals
 an_option_twice = refl
+
+no_choice_for_what_a_table_refuses : asked (codes "changeset" ∷ codes "--constraint" ∷ codes "maybe" ∷ codes "a.cs" ∷ codes "dump" ∷ []) ≡ None
+unfolding clap_on_literals
+no_choice_for_what_a_table_refuses = refl
+
+that_choice_twice : asked (codes "changeset" ∷ codes "--constraint" ∷ codes "omit" ∷ codes "--constraint=omit" ∷ codes "a.cs" ∷ codes "apply" ∷ codes "s" ∷ []) ≡ None
+unfolding clap_on_literals
+that_choice_twice = refl
 
 the_flag_twice : asked (codes "changeset" ∷ codes "--ignore-noop" ∷ codes "a.cs" ∷ codes "apply" ∷ codes "s" ∷ codes "--ignore-noop" ∷ []) ≡ None
 unfolding clap_on_literals

@@ -55,11 +55,12 @@ operand_rule name = record (new_rule name) { required = true }
 abbrev pub rest_rule : Rule
 rest_rule = record (new_rule (codes "ARG")) { range = Some (record { start_inclusive = 0; end_inclusive = usize_max }) }
 
--- the four options, a file, a command, and that one's arguments
+-- the five options, a file, a command, and that one's arguments
 abbrev pub command_app : App
-command_app = with_rule (with_rule (with_rule (with_rule (with_rule (with_rule (with_rule (new_app (codes "changeset"))
-    (choice_rule (codes "data"))) (choice_rule (codes "notfound"))) (choice_rule (codes "conflict")))
-    (flag_rule (codes "ignore-noop"))) (operand_rule (codes "FILE"))) (operand_rule (codes "COMMAND"))) rest_rule
+command_app = with_rule (with_rule (with_rule (with_rule (with_rule (with_rule (with_rule (with_rule
+    (new_app (codes "changeset")) (choice_rule (codes "data"))) (choice_rule (codes "notfound")))
+    (choice_rule (codes "conflict"))) (choice_rule (codes "constraint"))) (flag_rule (codes "ignore-noop")))
+    (operand_rule (codes "FILE"))) (operand_rule (codes "COMMAND"))) rest_rule
 
 -- ---- what matched words ask for
 
@@ -73,9 +74,11 @@ abbrev pub choice_in : List Row → Text → Option Choice
 choice_in rows option = option_and_then chosen (first_of option rows)
 
 abbrev pub policy_in : List Row → Option Policy
-policy_in rows = option_and_then (λ on_data. option_and_then (λ on_notfound. option_map (λ on_conflict.
-    record { on_data = on_data; on_notfound = on_notfound; on_conflict = on_conflict })
-    (choice_in rows (codes "conflict"))) (choice_in rows (codes "notfound"))) (choice_in rows (codes "data"))
+policy_in rows = option_and_then (λ on_data. option_and_then (λ on_notfound. option_and_then (λ on_conflict.
+    option_map (λ on_constraint.
+    record { on_data = on_data; on_notfound = on_notfound; on_conflict = on_conflict; on_constraint = on_constraint })
+    (choice_in rows (codes "constraint"))) (choice_in rows (codes "conflict"))) (choice_in rows (codes "notfound")))
+    (choice_in rows (codes "data"))
 
 -- the value of a flag is `true` where it is given
 abbrev pub noop_where : Option Text → Noop

@@ -46,6 +46,7 @@ pub(crate) fn command_line<'a>(alloc: Global) -> Result<Command<'a>, AllocError>
         .arg(choice_option(alloc, "data"))?
         .arg(choice_option(alloc, "notfound"))?
         .arg(choice_option(alloc, "conflict"))?
+        .arg(choice_option(alloc, "constraint"))?
         .arg(flag(alloc, "ignore-noop"))?
         .arg(operand(alloc, "FILE"))?
         .arg(operand(alloc, "COMMAND"))?

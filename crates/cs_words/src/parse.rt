@@ -67,6 +67,7 @@ fn policy_of(matches: &ArgMatches<'_>) -> Option<Policy>
         on_data: choice_of(matches, "data")?,
         on_notfound: choice_of(matches, "notfound")?,
         on_conflict: choice_of(matches, "conflict")?,
+        on_constraint: choice_of(matches, "constraint")?,
     })
 }
 

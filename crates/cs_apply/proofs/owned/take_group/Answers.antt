@@ -6,7 +6,8 @@ use Rattle.std.proofs.lemmas.List.{take_all}
 use Rattle.cs_wire.specs.declared.entry.Entry.{Entry}
 use Rattle.cs_wire.specs.Changeset.{HeaderData}
 use Rattle.cs_wire.specs.Items.{FlaggedEntry, header_of}
-use Rattle.cs_group.proofs.ApplyLemmas.{judged_same}
+use Rattle.cs_group.specs.Applying.{refuses_at}
+use Rattle.cs_group.proofs.ApplyLemmas.{judged_same, refuses_same}
 use Rattle.cs_apply.specs.Run.{directed_entry, group_of}
 use Rattle.cs_apply.proofs.BehindLemmas.{behind_table, has_judged_table}
 use Rattle.cs_apply.proofs.DirectedLemmas.{directed_entries, entries_more, entry_new, group_begun, group_whole}
@@ -26,6 +27,7 @@ loop-entry-init g c =
             c.take_table.ensures.was_honest honest,
             takes.table,
             rw takes.same takes.judged,
+            rw takes.same takes.rules,
             (λ before closed names is.
                 rw (group_begun c.args.direction closed c.args.group.now)
                 (behind_table before closed h (FnReturnsAt g.H.Fn c.args.handler.now) c.args.run.now c.take_table.new.self (g.B.Rows.state c.args.rows.now) (g.B.Rows.state c.take_table.new.rows) is takes)),
@@ -37,6 +39,11 @@ take_entry-requires-clause-table g c = λ honest compatible.
     let so = c.loop-entry.invariant in
     has_judged_table (g.B.Rows.state c.loop-entry.rows) c.loop-entry.run c.args.group.now.header c.directed.result (so.4 honest).1 (so.4 honest).2
     (ap (λ (x : FlaggedEntry). x.flags) c.directed.ensures ∙ ap (λ (x : FlaggedEntry). x.flags) c.from_entry-entry.ensures ∙ c.flags.ensures.same) compatible
+
+pub take_entry-requires-clause-rules : goal.take_entry-requires-clause-rules
+take_entry-requires-clause-rules g c = λ honest.
+    let was = c.loop-entry.invariant.4 honest in
+    was.3 ∙ ap (refuses_at (g.B.Rows.state c.loop-entry.rows)) (sym was.1)
 
 pub returns-in_err-take_entry-clause-kept : goal.returns-in_err-take_entry-clause-kept
 returns-in_err-take_entry-clause-kept g c = g.B.Rows.keeps_then _ _ _ c.loop-entry.invariant.1 c.take_entry.ensures.kept
@@ -65,9 +72,10 @@ loop-entry-preserved g c =
             was.0,
             ap (λ t. rc_str_bytes t) c.take_entry.ensures.table.0 ∙ was.1,
             c.take_entry.ensures.table.1 ∙ was.2 ∙ sym (judged_same (g.B.Rows.state c.loop-entry.rows) (g.B.Rows.state c.take_entry.new.rows) (c.in_ok-take_entry.ensures.schemas honest) (group_of h []) (group_of h []) refl),
+            ap (λ v. v.items) c.take_entry.ensures.table.2 ∙ was.3 ∙ sym (refuses_same (g.B.Rows.state c.loop-entry.rows) (g.B.Rows.state c.take_entry.new.rows) (c.in_ok-take_entry.ensures.schemas honest) h.name),
             (λ before closed names start.
                 let new = entry_new c.args.direction closed group j e entries.well_formed within is names in
-                let next = c.in_ok-take_entry.ensures.behind honest before closed h (directed_entries c.args.direction h.flags (take j group.entries)) shown_flags (rw shown new) (was.3 before closed names start) in
+                let next = c.in_ok-take_entry.ensures.behind honest before closed h (directed_entries c.args.direction h.flags (take j group.entries)) shown_flags (rw shown new) (was.4 before closed names start) in
                 rw (entries_more c.args.direction h.flags group.entries j e within is, ← shown) next),
           ),
     )
@@ -78,4 +86,4 @@ returns-clause-behind g c = λ honest before closed names is.
     let group = c.args.group.now in
     let all = take_all c.loop-entry.entry-index group.entries (rw c.entries-entry-items.ensures.same at c.loop-entry-test.false) in
     let whole = ap (λ (es : List Entry). group_of group.header (directed_entries c.args.direction group.header.flags es)) all ∙ group_whole c.args.direction group in
-    rw (← whole) ((so.4 honest).3 before closed names is)
+    rw (← whole) ((so.4 honest).4 before closed names is)

@@ -3,7 +3,7 @@ use Rattle.std.proofs.Common.{Option, Ok, refl, ap, ◌∙◌, arith}
 use Rattle.std.specs.Fn.{FnReturnsAt}
 use Rattle.cs_wire.specs.declared.item.Item.{Item}
 use Rattle.cs_apply.specs.Run.{directed}
-use Rattle.cs_apply.proofs.DirectedLemmas.{front_start, front_table, front_has_table, front_entry, outcome_named, read_as, run_outcome}
+use Rattle.cs_apply.proofs.DirectedLemmas.{front_start, front_table, front_has_table, front_has_rules, front_entry, outcome_named, read_as, run_outcome}
 use Rattle.cs_apply.proofs.running.run_in.Goals as goal
 
 pub items-init : goal.items-init
@@ -41,6 +41,12 @@ take_entry-requires-clause-table g c = λ honest compatible.
     let handed = rw (c.in-Some.is, c.in-Entry.is) at c.in_ok-item.ensures.item so.7.groups so.7.begins in
     front_has_table (FnReturnsAt g.H.Fn c.args.handler.now) c.args.direction c.items.cursor.file c.items.cursor.place c.items.run _ _ _ _ so.7 c.in-Entry.entry handed.0 c.directed.result
     (rw c.directed.ensures refl) honest compatible
+
+pub take_entry-requires-clause-rules : goal.take_entry-requires-clause-rules
+take_entry-requires-clause-rules g c = λ honest.
+    let so = c.items.invariant in
+    let handed = rw (c.in-Some.is, c.in-Entry.is) at c.in_ok-item.ensures.item so.7.groups so.7.begins in
+    front_has_rules (FnReturnsAt g.H.Fn c.args.handler.now) c.args.direction c.items.cursor.file c.items.cursor.place c.items.run _ _ _ _ so.7 c.in-Entry.entry handed.0 honest
 
 pub items-preserved : goal.items-preserved
 items-preserved g c =

@@ -3,4 +3,4 @@ use Rattle.cs_value.proofs.KeyedRows.{length-IsKeyedRow}
 use Rattle.cs_session.proofs.checking.check_row.Goals as goal
 
 pub of_row-requires : goal.of_row-requires
-of_row-requires c = length-IsKeyedRow c.args.flags.now c.in-Some.row.now (c.is_keyed.ensures.keyed.0 c.if-is_keyed.true)
+of_row-requires c = length-IsKeyedRow c.flags-flags.result.now c.in-Some.row.now (c.is_keyed.ensures.keyed.0 c.if-is_keyed.true)

@@ -5,7 +5,7 @@ use Rattle.cs_shell.proofs.CommandLemmas.{works_on_slots, on_create, on_insert, 
 use Rattle.cs_shell.proofs.shell.run_command.Goals as goal
 
 pub returns-in-Create : goal.returns-in-Create
-returns-in-Create g c = rw c.in-Create.is (on_create (state g.S.Store c.args.store.now) (state g.S.Store c.create.new.store) _ c.args.work.now.session c.args.work.now.session _ _ _ _ (rw (c.as_str.ensures.value, c.deref.ensures.value, c.deref-in-Create.ensures.value) at (c.create.ensures c.args.work.now.session)))
+returns-in-Create g c = rw c.in-Create.is (on_create (state g.S.Store c.args.store.now) (state g.S.Store c.create.new.store) _ c.args.work.now.session c.args.work.now.session _ _ _ _ _ (rw (c.as_str.ensures.value, c.deref.ensures.value, c.deref-in-Create.ensures.value, c.deref-in-Create-2.ensures.value) at (c.create.ensures c.args.work.now.session)))
 
 pub returns-in-Insert : goal.returns-in-Insert
 returns-in-Insert g c = rw c.in-Insert.is (on_insert (state g.S.Store c.args.store.now) (state g.S.Store c.insert.new.store) _ c.args.work.now.session c.insert.new.session _ _ _ c.insert.ensures)
@@ -38,12 +38,12 @@ pub returns-in_err-get-in-Apply : goal.returns-in_err-get-in-Apply
 returns-in_err-get-in-Apply g c =
     let p = err_from_is_err_and c.from_residual.result c.from_residual.ensures.1 in
     rw (c.in-Apply.is, p.1, p.2, c.in_err-get-in-Apply.ensures.0)
-    (on_apply_empty (state g.S.Store c.args.store.now) c.args.work.now.slots c.args.work.now.session _ _ _ _ _ (rw c.as_bytes-in-Apply.ensures.value at c.in_err-get-in-Apply.ensures.1))
+    (on_apply_empty (state g.S.Store c.args.store.now) c.args.work.now.slots c.args.work.now.session _ _ _ _ _ _ (rw c.as_bytes-in-Apply.ensures.value at c.in_err-get-in-Apply.ensures.1))
 
 pub returns-in_ok-get-in-Apply : goal.returns-in_ok-get-in-Apply
 returns-in_ok-get-in-Apply g c =
     rw c.in-Apply.is
-    (on_apply (state g.S.Store c.args.store.now) (state g.S.Store c.apply_file.new.store) c.args.work.now.slots c.args.work.now.session c.apply_file.new.session _ _ _ _ _ _ _ (rw c.as_bytes-in-Apply.ensures.value at c.in_ok-get-in-Apply.ensures) c.apply_file.ensures)
+    (on_apply (state g.S.Store c.args.store.now) (state g.S.Store c.apply_file.new.store) c.args.work.now.slots c.args.work.now.session c.apply_file.new.session _ _ _ _ _ _ _ _ (rw c.as_bytes-in-Apply.ensures.value at c.in_ok-get-in-Apply.ensures) c.apply_file.ensures)
 
 pub returns-in_err-get-in-Revert : goal.returns-in_err-get-in-Revert
 returns-in_err-get-in-Revert g c =

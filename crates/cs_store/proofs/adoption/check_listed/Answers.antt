@@ -2,14 +2,11 @@
 use Rattle.sqlite.specs.Held.{state}
 use Rattle.cs_store.specs.Laws.{was_clean}
 use Rattle.cs_store.specs.Records.{records_in}
-use Rattle.cs_store.specs.Versions.{bytes_of}
-use Rattle.cs_store.proofs.AdoptionLemmas.{is_version}
 use Rattle.cs_store.proofs.adoption.check_listed.Goals as goal
 
 pub returns-clause-valid : goal.returns-clause-valid
 returns-clause-valid g c clean =
     let old = state g.S.Store c.args.conn.now in
     let needs = c.requires.records (was_clean old (state g.S.Store c.read_version.new.conn) c.read_version.ensures.survives clean) in
-    let version = c.in_ok-version.version in
     let read = c.in_ok-version.ensures.read clean in
-    (c.in_ok-check_records.ensures.valid (records_in old.now) needs.1 (bytes_of version) (is_version version) read, read)
+    (c.in_ok-check_records.ensures.valid (records_in old.now) needs.1 read, read)

@@ -9,7 +9,7 @@ use Rattle.cs_store.proofs.RowLemmas.{same_itself}
 use Rattle.cs_store.proofs.check.check_row_of.Goals as goal
 
 pub of_row-requires : goal.of_row-requires
-of_row-requires c = ap (λ (fs : List ℕ). length fs) (c.flags-2.ensures.same ∙ sym c.flags.ensures.same) ∙ length-IsKeyedRow c.flags.result.now c.in_ok-row.row c.in_ok-row.ensures.found.1
+of_row-requires c = ap (λ (fs : List ℕ). length fs) c.flags.ensures.same ∙ length-IsKeyedRow c.args.schema.now.flags c.in_ok-row.row c.in_ok-row.ensures.found.0.keyed
 
 pub returns-clause-refused : goal.returns-clause-refused
 returns-clause-refused c = inl (
@@ -17,9 +17,8 @@ returns-clause-refused c = inl (
   λ is.
       let flags = c.args.schema.now.flags in
       let read = c.in_ok-row.ensures.found in
-      let keyed = rw c.flags.ensures.same at read.1 in
-      let wide = sym (length-IsKeyedRow flags c.in_ok-row.row keyed) ∙ length-IsKeyedRow flags is.row is.fits.keyed in
-      let same : c.in_ok-row.row ≡ is.row = row_bytes_same c.in_ok-row.row is.row read.0 is.fits.values wide (sym read.2 ∙ is.spelled) in
-      let own = c.bytes.ensures ∙ c.in_ok-own.ensures ∙ ap (λ (fs : List ℕ). row_key fs c.in_ok-row.row) c.flags-2.ensures.same ∙ ap (λ (r : List OwnedValue). row_key flags r) same ∙ sym is.fits.own in
+      let wide = sym (length-IsKeyedRow flags c.in_ok-row.row read.0.keyed) ∙ length-IsKeyedRow flags is.row is.fits.keyed in
+      let same : c.in_ok-row.row ≡ is.row = row_bytes_same c.in_ok-row.row is.row read.0.values is.fits.values wide (sym read.1 ∙ is.spelled) in
+      let own = c.bytes.ensures ∙ c.in_ok-own.ensures ∙ ap (λ (fs : List ℕ). row_key fs c.in_ok-row.row) c.flags.ensures.same ∙ ap (λ (r : List OwnedValue). row_key flags r) same ∙ sym is.fits.own in
       true≢false (sym (same_itself c.args.key.now) ∙ ap (λ (k : List ℕ). same_bytes k c.args.key.now) (sym own) ∙ sym c.if-eq.ensures),
 )

@@ -15,7 +15,7 @@ replace_row-requires g c = record {
       let found = ap (λ (s : State). schema_at s c.args.table.now) same ∙ c.in_ok-schema.ensures.found before in
       let own = same_text c.args.key.now c.in_ok-next.next c.if-eq.ensures in
       fits_in _ c.args.table.now c.args.key.now c.args.row.now c.in_ok-schema.schema found
-      (subst (λ (k : List ℕ). IsRowAt c.in_ok-schema.schema.flags k c.args.row.now) (sym own) c.in_ok-next.ensures.key);
+      (subst (λ (k : List ℕ). IsRowAt c.in_ok-schema.schema k c.args.row.now) (sym own) c.in_ok-next.ensures.key);
 }
 
 pub returns-then-eq-clause-kept : goal.returns-then-eq-clause-kept

@@ -1,9 +1,6 @@
 -- `tables::find_row`: the clauses `kept`, `found` and `fits`.
-use Rattle.std.proofs.Common.{inl, ap, sym, subst, List, ℕ, ◌∙◌}
-use Rattle.std.specs.Option.{IfSome}
+use Rattle.std.proofs.Common.{inl, ap, ◌∙◌}
 use Rattle.sqlite.specs.Held.{state}
-use Rattle.cs_value.specs.Value.{IsRow}
-use Rattle.cs_value.specs.Table.{IsKeyedRow}
 use Rattle.cs_value.specs.State.{row_at}
 use Rattle.cs_store.specs.Records.{records_in}
 use Rattle.cs_store.specs.Store.{tables_in}
@@ -23,8 +20,7 @@ returns-in-Ok-clause-found g c sound clean has =
     let name = c.args.name.now in
     let stored = row_stored (records_in old.now) (tables_in old.now) name c.args.key.now holds.stores (declared_named old.now name c.args.schema.now has) in
     let fits = row_is (tables_in old.now) name c.args.key.now c.args.schema.now holds.stores.is_state has in
-    c.row_in.ensures.found (row_at (tables_in old.now) name c.args.key.now)
-    (subst (λ (flags : List ℕ). IfSome (row_at (tables_in old.now) name c.args.key.now) (λ row. IsRow row × IsKeyedRow flags row)) (sym c.flags.ensures.same) fits)
+    c.row_in.ensures.found (row_at (tables_in old.now) name c.args.key.now) fits
     (c.in-Ok.ensures.found clean holds.records ∙ ap (records_in old.now name) c.bytes.ensures ∙ stored)
 
 pub returns-in-Ok-clause-fits : goal.returns-in-Ok-clause-fits

@@ -18,8 +18,8 @@ returns-in-Ok-clause-listed g c sound clean has =
     let holds = shows_read old new sound c.list_records.ensures.keeps_crash clean (c.in-Ok.ensures.reads clean) in
     let name = c.args.name.now in
     let is = rows_are_stored (records_in old.now) (tables_in old.now) name c.args.schema.now c.in-Ok.listed.items holds.stores (declared_named old.now name c.args.schema.now has) has (c.in-Ok.ensures.listed clean holds.records) in
-    rows_recovered c.rows_in.result c.flags.result.now (map (λ e. e.1) c.deref.result.now) _ c.rows_in.ensures.read c.rows_in.ensures.refused
-    (rw (c.flags.ensures.same, c.deref.ensures.value) is)
+    rows_recovered c.rows_in.result c.args.schema.now (map (λ e. e.1) c.deref.result.now) _ c.rows_in.ensures.read c.rows_in.ensures.refused
+    (rw c.deref.ensures.value is)
 
 pub returns-in-Ok-clause-named : goal.returns-in-Ok-clause-named
 returns-in-Ok-clause-named g c = refused_named _ c.rows_in.result c.rows_in.ensures.refused

@@ -12,5 +12,6 @@ returns-in_ok-read_row-in-Some-clause-found c None is same = absurd (let e = ap 
 returns-in_ok-read_row-in-Some-clause-found c (Some row) is same =
     let read = c.in_ok-read_row-in-Some.ensures.found in
     let e : c.in-Some.bytes.items ≡ row_bytes row = let k = ap (option_map (λ v. v.items)) (sym c.in-Some.is) ∙ same in cc in
-    let wide = sym (length-IsKeyedRow c.args.flags.now c.in_ok-read_row-in-Some.field-0 read.1) ∙ length-IsKeyedRow c.args.flags.now row is.1 in
-    ap (λ (r : List OwnedValue). Some r) (row_bytes_same c.in_ok-read_row-in-Some.field-0 row read.0 is.0 wide (sym read.2 ∙ c.deref.ensures.value ∙ e))
+    let flags = c.args.schema.now.flags in
+    let wide = sym (length-IsKeyedRow flags c.in_ok-read_row-in-Some.field-0 read.0.keyed) ∙ length-IsKeyedRow flags row is.keyed in
+    ap (λ (r : List OwnedValue). Some r) (row_bytes_same c.in_ok-read_row-in-Some.field-0 row read.0.values is.values wide (sym read.1 ∙ c.deref.ensures.value ∙ e))

@@ -35,7 +35,7 @@ returns-in_default-clause-refused g c = λ clean.
 pub returns-then-not-is_table_name-clause-refused : goal.returns-then-not-is_table_name-clause-refused
 returns-then-not-is_table_name-clause-refused g c = λ clean.
     let fresh : IsNewTable c.args.self.now c.args.name.now = rw (← c.self.view_is) (new_where_none c.args.name.now c.self.inside.tables c.place_of.result (sym c.is_some.ensures ∙ c.if-is_some.false) c.place_of.ensures.none) in
-    let unnamed : IsName c.args.name.now → ⊥ = search rules in
+    let unnamed : IsName c.args.name.now → ⊥ = λ named. let e = c.if-not-is_table_name.ensures.1 named in cc in
     inl (fresh, refl, inr unnamed)
 
 pub returns-clause-rewound : goal.returns-clause-rewound

@@ -11,4 +11,4 @@ returns-clause-found c = seen (got_seen (λ k. k) (λ v. v) (option_copied c.get
 
 pub returns-clause-fits : goal.returns-clause-fits
 returns-clause-fits c =
-    if_found c.get.result _ (IsRowAt c.args.self.now.schema.flags c.args.key.now) (returns-clause-found c) (rw (← c.self.view_is) (c.self.invariant.rows c.args.key.now))
+    if_found c.get.result _ (IsRowAt c.args.self.now.schema c.args.key.now) (returns-clause-found c) (rw (← c.self.view_is) (c.self.invariant.rows c.args.key.now))

@@ -11,7 +11,7 @@ rows_are : (c : goal.Joined-branch-2) → seen_map (λ k. k) (λ v. v) c.insert.
 rows_are c = seen_insert (λ k. k) (λ v. v) c.self.inside.rows.entries c.insert.new.self.entries c.args.key c.args.row c.in_ok-insert.ensures.entries
 
 pub invariant_of-self-2 : goal.invariant_of-self-2
-invariant_of-self-2 c = rw (rows_are c) (table_insert (the_view c.self.inside) c.args.key c.args.row c.self.invariant (subst (λ (t : TableData). IsRowAt t.schema.flags c.args.key c.args.row) (sym c.self.view_is) c.requires))
+invariant_of-self-2 c = rw (rows_are c) (table_insert (the_view c.self.inside) c.args.key c.args.row c.self.invariant (subst (λ (t : TableData). IsRowAt t.schema c.args.key c.args.row) (sym c.self.view_is) c.requires))
 
 pub returns-clause-ok : goal.returns-clause-ok
 returns-clause-ok c =

@@ -27,7 +27,7 @@ returns-in_err-declare-clause-refused g c clean =
     let last_clean : HasCleanDisk last = rw same clean in
     let mid_clean = was_clean mid last c.drop-batch.ensures.survives last_clean in
     let named : IsName c.args.name.now = search rules in
-    let is : IsSchema (schema_of c.args.columns.now c.args.keys.now) = subst IsSchema (c.schema.view_is ∙ c.in_ok-schema.ensures.made) c.schema.invariant in
+    let is : IsSchema (schema_of c.args.columns.now c.args.keys.now c.args.refuses.now) = subst IsSchema (c.schema.view_is ∙ c.in_ok-schema.ensures.made) c.schema.invariant in
     let p = err_from_is_err_and c.from_residual-in_err-declare.result c.from_residual-in_err-declare.ensures.1 in
     rw (p.1, p.2) (taken_declares old begun mid c.in_ok-batch.ensures.begun c.declare.ensures.kept mid_clean c.args.name.now _ c.in_err-declare.field-0.0 (named, is) (c.in_err-declare.ensures.refused mid_clean))
 
@@ -53,7 +53,7 @@ returns-clause-declared g c clean =
     let mid_clean = was_clean mid last c.commit.ensures.atomic.survives last_clean in
     let named : IsName c.args.name.now = search rules in
     let made = c.in_ok-schema.ensures.made in
-    let is : IsSchema (schema_of c.args.columns.now c.args.keys.now) = subst IsSchema (c.schema.view_is ∙ made) c.schema.invariant in
+    let is : IsSchema (schema_of c.args.columns.now c.args.keys.now c.args.refuses.now) = subst IsSchema (c.schema.view_is ∙ made) c.schema.invariant in
     let added = subst (λ (s : SchemaData). AddsTable (tables_in begun.now) c.args.name.now s (tables_in mid.now)) made (c.in_ok-declare.ensures.declared mid_clean) in
     rw (← same) (committed_declares old begun mid c.in_ok-batch.ensures.begun c.declare.ensures.kept mid_clean last c.args.name.now _ c.commit.result (named, is) added (c.commit.ensures.committed last_clean))
 
@@ -71,19 +71,19 @@ returns-clause-kept g c clean =
 pub returns-then-not-is_table_name-clause-atomic : goal.returns-then-not-is_table_name-clause-atomic
 returns-then-not-is_table_name-clause-atomic g c =
     let old = state g.S.Store c.args.self.now in
-    unmoved_atomic old c.crash_law.ensures CanBegin (λ left. Declares (tables_in old.now) c.args.name.now (schema_of c.args.columns.now c.args.keys.now) (Ok left))
+    unmoved_atomic old c.crash_law.ensures CanBegin (λ left. Declares (tables_in old.now) c.args.name.now (schema_of c.args.columns.now c.args.keys.now c.args.refuses.now) (Ok left))
 
 pub returns-in_err-schema-clause-atomic : goal.returns-in_err-schema-clause-atomic
 returns-in_err-schema-clause-atomic g c =
     let old = state g.S.Store c.args.self.now in
-    unmoved_atomic old c.crash_law.ensures CanBegin (λ left. Declares (tables_in old.now) c.args.name.now (schema_of c.args.columns.now c.args.keys.now) (Ok left))
+    unmoved_atomic old c.crash_law.ensures CanBegin (λ left. Declares (tables_in old.now) c.args.name.now (schema_of c.args.columns.now c.args.keys.now c.args.refuses.now) (Ok left))
 
 pub returns-in_err-batch-clause-atomic : goal.returns-in_err-batch-clause-atomic
 returns-in_err-batch-clause-atomic g c =
     let old = state g.S.Store c.args.self.now in
     let new = state g.S.Store c.begin.follows.lender-at-none in
     let keeps : KeepsCrash old new = search rules in
-    idle_atomic old new c.crash_law.ensures CanBegin (λ left. Declares (tables_in old.now) c.args.name.now (schema_of c.args.columns.now c.args.keys.now) (Ok left)) keeps
+    idle_atomic old new c.crash_law.ensures CanBegin (λ left. Declares (tables_in old.now) c.args.name.now (schema_of c.args.columns.now c.args.keys.now c.args.refuses.now) (Ok left)) keeps
 
 pub returns-in_err-declare-clause-atomic : goal.returns-in_err-declare-clause-atomic
 returns-in_err-declare-clause-atomic g c =
@@ -93,7 +93,7 @@ returns-in_err-declare-clause-atomic g c =
     let last = state g.S.Store c.drop-batch.new.self.0 in
     let same : c.drop-batch.new.self.0 ≡ c.self-in_err-declare-1.given.0 = search rules in
     rw (← same) (dropped_atomic old begun mid last c.crash_law.ensures c.in_ok-batch.ensures.survives c.declare.ensures.kept
-    (λ left. Declares (tables_in old.now) c.args.name.now (schema_of c.args.columns.now c.args.keys.now) (Ok left)) c.drop-batch.ensures.survives)
+    (λ left. Declares (tables_in old.now) c.args.name.now (schema_of c.args.columns.now c.args.keys.now c.args.refuses.now) (Ok left)) c.drop-batch.ensures.survives)
 
 pub returns-clause-atomic : goal.returns-clause-atomic
 returns-clause-atomic g c =
@@ -104,7 +104,7 @@ returns-clause-atomic g c =
     let same : c.commit.new.self.0 ≡ c.self-2-1.given.0 = search rules in
     let named : IsName c.args.name.now = search rules in
     let made = c.in_ok-schema.ensures.made in
-    let schema = schema_of c.args.columns.now c.args.keys.now in
+    let schema = schema_of c.args.columns.now c.args.keys.now c.args.refuses.now in
     let is : IsSchema schema = subst IsSchema (c.schema.view_is ∙ made) c.schema.invariant in
     rw (← same) (made_atomic old begun mid last c.crash_law.ensures c.in_ok-batch.ensures.survives c.declare.ensures.kept (λ before left. Declares before c.args.name.now schema (Ok left)) c.in_ok-batch.ensures.begun
     (λ clean. added_declares (tables_in begun.now) (tables_in mid.now) c.args.name.now schema (named, is)
