@@ -11,7 +11,7 @@ use cs_group::Choice;
 pub(crate) enum Ending {
     /// The handler chose to abort at this conflict.
     Aborted(Conflict),
-    /// The handler chose to replace a row that is not there, or one that its table refuses.
+    /// The handler chose to replace a row that is not there, or to carry out an entry that its table refuses.
     Misused(Conflict),
 }
 

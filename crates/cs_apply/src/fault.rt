@@ -20,8 +20,8 @@ pub enum ApplyFault {
     /// The handler chose to abort at this conflict.
     #[error("aborted at {0}")]
     Abort(Conflict),
-    /// The handler chose to replace a row that is not there, or one that its table refuses.
-    #[error("no row to replace at {0}")]
+    /// The handler chose to replace a row that is not there, or to carry out an entry that its table refuses.
+    #[error("nothing to replace at {0}")]
     Misuse(Conflict),
     /// The store refused, for another cause than memory.
     #[error("{0}")]

@@ -25,10 +25,10 @@ pub enum Direction {
 /// Applies the changeset of a file to rows, or its inverse, as SQLite's `sqlite3changeset_apply` has it.
 ///
 /// A group whose table is not there, has fewer columns or another key is passed over. For each conflict
-/// the handler is asked, a second time for an entry that leaves NULL in a column that refuses it where it is to replace
-/// another row, but not for an entry that would change nothing where these are to be ignored
+/// the handler is asked, but not for an entry that would change nothing where these are to be ignored
 /// ([`Noop::Ignore`]): a delete that finds no row, an insert that finds its row, and an update that finds its new
-/// values. The report tells the conflicts, the tables that were passed over, and the keys
+/// values. An entry that would leave NULL in a column that refuses it meets a conflict too: alone, or as its second
+/// one where the handler chose to replace the row in its way. The report tells the conflicts, the tables that were passed over, and the keys
 /// that were written, in the order of the file, and how many entries were ignored.
 ///
 /// # Errors
@@ -36,8 +36,8 @@ pub enum Direction {
 /// In this order: [`Read`](ApplyFault::Read) for a file that is no changeset's;
 /// [`Wider`](ApplyFault::Wider) for the first group whose table has more columns; and at the first
 /// conflict where the handler says so [`Abort`](ApplyFault::Abort), or
-/// [`Misuse`](ApplyFault::Misuse) where it would replace a row that is not there, or one that its table refuses. The rows may refuse at
-/// any point with [`Store`](ApplyFault::Store), and memory with [`NoMemory`](ApplyFault::NoMemory).
+/// [`Misuse`](ApplyFault::Misuse) where it would replace a row that is not there, or carry out an entry
+/// that its table refuses. The rows may refuse at any point with [`Store`](ApplyFault::Store), and memory with [`NoMemory`](ApplyFault::NoMemory).
 ///
 /// The file is read once, and its entries are carried out as they are met: behind a refusal rows may have
 /// been written, and are to be dropped, and the handler may have been asked before a fault was found.

@@ -42,11 +42,11 @@ placed_key p = key_of p.flags p.entry.change
 abbrev pub current : State → PlacedEntry → Option (List OwnedValue)
 current state p = row_at state p.table (placed_key p)
 
--- the columns of its table that refuse NULL
+-- for each column of a table whether it refuses NULL; none where there is no such table
 abbrev pub refuses_at : State → List ℕ → List Bool
 refuses_at state table = unwrap_or (option_map (λ s. s.refuses) (schema_at state table)) []
 
--- the entry leaves NULL in one of them
+-- the entry would leave NULL in a column of its table that refuses it
 abbrev pub refused_at : State → PlacedEntry → Bool
 refused_at state p = is_refused (refuses_at state p.table) p.flags p.entry.change
 

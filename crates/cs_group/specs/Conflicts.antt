@@ -30,7 +30,8 @@ kind_between None (Some row) = Some Conflict
 kind_between (Some image) None = Some NotFound
 kind_between (Some image) (Some row) = if has_values row image then None else Some Data
 
--- a change leaves NULL in a column that refuses it
+-- a change would leave NULL in a column that refuses it: since no row that stands has it there, this says whether the row
+-- afterwards would
 abbrev pub is_refused : List Bool → List ℕ → Change → Bool
 is_refused refuses flags change = unwrap_or (option_map (has_null refuses) (after_image flags change)) false
 
@@ -83,8 +84,8 @@ is_overcome Constraint Replace = false
 is_overcome kind Omit = false
 is_overcome kind Abort = false
 
--- a conflict ends all where the choice says so, and where a row that is not there, or one that breaks a rule, is to be
--- replaced
+-- a conflict ends all where the choice says so, where a row is to be replaced that is not there, and where a change is to
+-- be carried out that the rule of a column refuses
 abbrev pub ends : Kind → Choice → Bool
 ends kind Omit = false
 ends kind Abort = true

@@ -9,7 +9,7 @@ use Rattle.cs_group.specs.Joining.{entry_key, table_name, with_text, key_places,
 use Rattle.cs_group.specs.Net.{net_row_change}
 use Rattle.cs_group.specs.Applying.{Choices, IsClean, IsApplied}
 
--- of each state where the first applies without a conflict, and the second to what the first makes of it, the join makes
+-- of each state, in which no row breaks a rule of its table, where the first applies without a conflict, and the second to what the first makes of it, the join makes
 -- what both make, without a conflict
 abbrev pub DoesBoth : List GroupData → List GroupData → List GroupData → Type 0
 DoesBoth first second join = (old mid new : State) (choose again : Choices)

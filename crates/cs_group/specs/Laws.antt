@@ -19,7 +19,8 @@ abbrev pub AppliedOnce : Type 0
 AppliedOnce = (noop : Noop) (old : State) (changeset : List GroupData) (choose : Choices) (new other : State)
     → IsAppliedUnder noop old changeset choose new → IsAppliedUnder noop old changeset choose other → new ≡ other
 
--- after a changeset that met no conflict its inverse meets none, and gives the state back
+-- after a changeset that met no conflict in a state, in which no row breaks a rule of its table, its inverse meets none,
+-- and gives the state back
 abbrev pub AppliedReverts : Type 0
 AppliedReverts = (old : State) (changeset inverse : List GroupData) (choose again : Choices) (new : State)
     → IsState old → IsChangeset changeset → IsInverse changeset inverse → IsClean old changeset

@@ -7,7 +7,8 @@ pub fn applied_once_law()
     ensures { AppliedOnce }
 {}
 
-/// Where a changeset met no conflict, its inverse meets none afterwards, and gives the state back.
+/// Where a changeset met no conflict in a state, whose rows keep the rules of their tables, its inverse meets none
+/// afterwards, and gives the state back.
 pub fn applied_reverts_law()
     ensures { AppliedReverts }
 {}

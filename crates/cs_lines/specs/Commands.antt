@@ -57,12 +57,12 @@ joined between (item ∷ next ∷ items) = item ++ between ∷ joined between (n
 abbrev pub assignment : AssignmentData → List Token
 assignment a = Name a.column ∷ Fixed Equals ∷ Value a.value ∷ []
 
--- what stands behind a column: NOT NULL where it refuses NULL, and a comma
+-- what stands behind a column: NOT NULL where it says so, and a comma
 abbrev pub rule_tokens : Bool → List Token
 rule_tokens true = Fixed NOT ∷ Value Null ∷ Fixed Comma ∷ []
 rule_tokens false = Fixed Comma ∷ []
 
--- columns, each with whether it refuses NULL
+-- columns, each with whether it says NOT NULL
 abbrev pub columns_tokens : List (List ℕ) → List Bool → List Token
 columns_tokens (column ∷ columns) (mark ∷ refuses) = Name column ∷ rule_tokens mark ++ columns_tokens columns refuses
 columns_tokens [] refuses = []

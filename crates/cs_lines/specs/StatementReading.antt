@@ -180,7 +180,7 @@ column_in [] = None
 column_in (t ∷ ts) = if is_fixed symbol.Primary t then Some (None, ts)
     else and_then (name_of t) (λ n. option_map (λ r. (Some (column_with n r.0), r.1)) (rule_in ts))
 
--- a column that was read, and those that follow up to PRIMARY, as many as that at most; or none
+-- the columns up to PRIMARY, as many as that at most, behind one that was read; where PRIMARY was, none
 unfoldable pub columns_within : Option ColumnData → ℕ → Tokens → Option (List ColumnData × Tokens)
 columns_within None n tokens = Some ([], tokens)
 columns_within (Some column) zero tokens = None

@@ -12,7 +12,7 @@ pub struct Assignment {
 /// What a line asks for.
 #[derive(Debug, Drop)]
 pub enum Command {
-    /// `CREATE TABLE name(columns, PRIMARY KEY(keys));`, with `NOT NULL` behind each column that refuses NULL.
+    /// `CREATE TABLE name(columns, PRIMARY KEY(keys));`, with `NOT NULL` behind each column of `refuses`.
     Create {
         name: String,
         columns: Vec<String>,

@@ -1,6 +1,6 @@
 //! Whether a store has the tables that are attached, and rows that can stand in them.
-ghost use Rattle.std.specs.Prelude.{◌≡◌, ◌⊎◌, [], ◌∷◌, false, get_or, map, IsTrue, ◌↔◌, OnOk, IfErr, IfSome};
-ghost use Rattle.cs_value.specs.State.{IsRowAt, Obeys};
+ghost use Rattle.std.specs.Prelude.{◌≡◌, ◌⊎◌, map, IsTrue, ◌↔◌, OnOk, IfErr, IfSome};
+ghost use Rattle.cs_value.specs.State.{IsRowAt};
 ghost use Rattle.cs_session.specs.declared.fault.SessionFault.TheVariants.{NoMemory as OutOfMemory};
 ghost use Rattle.cs_session.specs.FirstImages.{HasAttached};
 ghost use Rattle.cs_session.specs.Noting.{AreApart, IsDamage};
@@ -11,7 +11,7 @@ use crate::attached::Attached;
 use crate::fault::SessionFault;
 use crate::tables::Tables;
 use cs_store::{Rows, Schema, StoreError};
-use cs_value::{Key, OwnedValue, Row};
+use cs_value::{Key, Row};
 use std::alloc::Global;
 
 /// Refuses where one of the tables is not there as it was attached.
@@ -101,37 +101,9 @@ pub(crate) fn check_row(
         Some(row) => row,
     };
     let flags = schema.flags();
-    if row.is_keyed(flags)
-        && obeys(schema.refuses(), row)
-        && Key::of_row(alloc, flags, row)? == *key
-    {
+    if row.is_keyed(flags) && schema.is_obeyed_by(row) && Key::of_row(alloc, flags, row)? == *key {
         Ok(())
     } else {
         Err(SessionFault::Store(StoreError::DamagedStore))
     }
-}
-
-/// Whether the row has NULL in no column that refuses it.
-fn obeys(refuses: &[bool], row: &Row) -> bool
-    ensures { IsTrue result ↔ Obeys refuses.now row.now }
-{
-    for (column, value) in row.values().iter().enumerate() {
-        if !may_stand(is_marked(refuses, column), value) {
-            return false;
-        }
-    }
-    true
-}
-
-fn may_stand(refuses: bool, value: &OwnedValue) -> bool
-    ensures { IsTrue result ↔ Obeys (refuses ∷ []) (value.now ∷ []) }
-{
-    !refuses || !matches!(value, OwnedValue::Null)
-}
-
-/// Whether a column is marked. One behind the last mark is not.
-fn is_marked(marks: &[bool], column: usize) -> bool
-    ensures { result ≡ get_or marks.now column false }
-{
-    column < marks.len() && marks[column]
 }

@@ -43,7 +43,7 @@ pub record ColumnsData : Type 0 where
   pub names : List (List ℕ)
   pub bytes : List ℕ
 
--- the flag of the column with this byte; that of no column where the byte is none
+-- the flag of the column with this byte; 2, which is no flag, for a byte of no column
 abbrev pub flag_of : ℕ → ℕ
 flag_of zero = 0
 flag_of (suc zero) = 1

@@ -22,7 +22,8 @@ use Rattle.cs_store.specs.Records.{same_bytes}
 
 -- ---- declaring
 
--- what is marked in either list, where the first has a mark
+-- the second list, with the marks of the first added: as long as the second, so that lists that are not as long make no
+-- schema
 abbrev pub either : List Bool → List Bool → List Bool
 either [] others = others
 either (mark ∷ marks) [] = []

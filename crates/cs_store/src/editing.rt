@@ -14,7 +14,7 @@ ghost use Rattle.cs_store.specs.declared.fault.StoreError.TheVariants.{NoRow as 
 use crate::edit::{Edit, Written};
 use crate::fault::StoreError;
 use crate::rows::Rows;
-use crate::schema::{Schema, obeys};
+use crate::schema::Schema;
 use cs_value::{Key, Row};
 use std::alloc::Global;
 use std::rc::RcStr;
@@ -116,7 +116,7 @@ fn key_for(alloc: Global, schema: &Schema, row: &Row) -> Result<Key, StoreError>
     if !row.is_keyed(schema.flags()) {
         return Err(StoreError::NullInKey);
     }
-    if !obeys(schema.refuses(), row) {
+    if !schema.is_obeyed_by(row) {
         return Err(StoreError::NotNull);
     }
     Ok(Key::of_row(alloc, schema.flags(), row)?)

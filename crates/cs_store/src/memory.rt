@@ -3,7 +3,7 @@ ghost use Rattle.std.specs.Prelude.{◌≡◌, OnOk, OnErr, IfOk, IfErr, IfSome,
 ghost use Rattle.std.specs.Option.{option_copied};
 ghost use Rattle.std.specs.FinMap as map;
 ghost use Rattle.cs_store.specs.declared.fault.StoreError.TheVariants.{NoMemory as OutOfMemory};
-ghost use Rattle.cs_value.specs.State.{IsRowAt, IsSchema, IsTable, schema_at, row_at, rows_at, with_row, without_row};
+ghost use Rattle.cs_value.specs.State.{IsRowAt, IsSchema, IsState, IsTable, schema_at, row_at, rows_at, with_row, without_row};
 ghost use Rattle.cs_store.specs.Rows.{Fits};
 ghost use Rattle.cs_store.specs.Editing.{Declares, schema_of};
 ghost use Rattle.cs_value.specs.Table.{IsName};
@@ -126,6 +126,13 @@ impl MemRows {
         MemRows {
             tables: BTreeMap::new(alloc),
         }
+    }
+
+    /// The tables are those of a state: names, schemas and rows are well formed. It has no effect.
+    pub fn tables_law(&self)
+        ensures { IsState self.now }
+    {
+        let _ = &self.tables;
     }
 
     /// Declares a table without rows: the names of its columns, of which those marked in `keys` are the key, and

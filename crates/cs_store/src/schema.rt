@@ -88,6 +88,13 @@ impl Schema {
         &self.refuses
     }
 
+    /// Whether a row has NULL in no column that refuses it.
+    pub fn is_obeyed_by(&self, row: &Row) -> bool
+        ensures { IsTrue result ↔ Obeys self.now.refuses row.now }
+    {
+        obeys(&self.refuses, row)
+    }
+
     /// A copy of the schema.
     pub fn copy(&self, alloc: Global) -> Result<Schema, NoMemory>
         ensures { IfOk result (λ s. s ≡ self.now) }
@@ -233,7 +240,7 @@ fn are_apart(alloc: Global, columns: &[String]) -> Result<bool, AllocError>
 }
 
 /// Whether the row has NULL in no column that refuses it.
-pub(crate) fn obeys(refuses: &[bool], row: &Row) -> bool
+fn obeys(refuses: &[bool], row: &Row) -> bool
     ensures { IsTrue result ↔ Obeys refuses.now row.now }
 {
     for (column, value) in row.values().iter().enumerate() {

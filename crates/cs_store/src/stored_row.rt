@@ -8,7 +8,7 @@ ghost use Rattle.cs_store.specs.declared.fault.StoreError.TheVariants.{DamagedSt
 ghost use Rattle.cs_store.specs.declared.fault.StoreError.TheVariants.{NoMemory as OutOfMemory};
 
 use crate::fault::StoreError;
-use crate::schema::{Schema, obeys};
+use crate::schema::Schema;
 use cs_value::{Image, ImageFault, OwnedField, Row, image_read};
 use std::alloc::Global;
 
@@ -30,7 +30,7 @@ pub(crate) fn read_row(alloc: Global, schema: &Schema, bytes: &[u8]) -> Result<R
     if !row.is_keyed(schema.flags()) {
         return Err(StoreError::DamagedStore);
     }
-    if !obeys(schema.refuses(), &row) {
+    if !schema.is_obeyed_by(&row) {
         return Err(StoreError::DamagedStore);
     }
     Ok(row)

@@ -296,7 +296,7 @@ fn prints_refusals(rt: HostRuntime) {
         ),
         (
             Choice::Replace,
-            "no row to replace at a conflict of kind notfound in table t",
+            "nothing to replace at a conflict of kind notfound in table t",
         ),
     ] {
         expect_text(&rt, &refusal(&rt, choice), text);

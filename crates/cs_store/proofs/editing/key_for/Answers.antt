@@ -9,10 +9,10 @@ returns-then-not-is_keyed-clause-refused c =
     let same = ap (λ (vs : List OwnedValue). length vs) (sym c.values.ensures.same) ∙ c.if-values-flags.false ∙ ap (λ (fs : List ℕ). length fs) c.flags.ensures.same in
     inl (null_fault c.args.schema.now c.args.row.now same (λ k. true≢false (sym (c.if-not-is_keyed.ensures.keyed.1 (rw c.flags-2.ensures.same k)))))
 
-pub returns-then-not-obeys-clause-refused : goal.returns-then-not-obeys-clause-refused
-returns-then-not-obeys-clause-refused c =
-    inl (refused_null c.args.schema.now c.args.row.now (rw (← c.flags-2.ensures.same) (c.if-not-is_keyed.ensures.keyed.0 refl)) (λ obeys. true≢false (sym (c.if-not-obeys.ensures.1 (rw c.refuses.ensures obeys)))))
+pub returns-then-not-is_obeyed_by-clause-refused : goal.returns-then-not-is_obeyed_by-clause-refused
+returns-then-not-is_obeyed_by-clause-refused c =
+    inl (refused_null c.args.schema.now c.args.row.now (rw (← c.flags-2.ensures.same) (c.if-not-is_keyed.ensures.keyed.0 refl)) (λ obeys. true≢false (sym (c.if-not-is_obeyed_by.ensures.1 obeys))))
 
 pub returns-clause-fits : goal.returns-clause-fits
 returns-clause-fits c =
-    no_fault c.args.schema.now c.args.row.now (rw (← c.flags-2.ensures.same) (c.if-not-is_keyed.ensures.keyed.0 refl)) (rw (← c.refuses.ensures) (c.if-not-obeys.ensures.0 refl))
+    no_fault c.args.schema.now c.args.row.now (rw (← c.flags-2.ensures.same) (c.if-not-is_keyed.ensures.keyed.0 refl)) (c.if-not-is_obeyed_by.ensures.0 refl)

@@ -52,15 +52,15 @@ returns-then-not-is_keyed-clause-refused c =
           absurd (cc (c.if-not-is_keyed.ensures.keyed.1 (rw c.flags-2.ensures.same (subst (IsKeyedRow c.args.schema.now.flags) same is.keyed)))),
     )
 
-pub returns-then-not-obeys-clause-refused : goal.returns-then-not-obeys-clause-refused
-returns-then-not-obeys-clause-refused c =
+pub returns-then-not-is_obeyed_by-clause-refused : goal.returns-then-not-is_obeyed_by-clause-refused
+returns-then-not-is_obeyed_by-clause-refused c =
     inl (
       refl,
       λ row is e.
           let image = row_image c.args.schema.now c.flags.result.now c.args.bytes.now row c.flags.ensures.same is e in
           let only = c.in-Ok.ensures.only (map Defined row) [] image.fields image.as_many image.begins in
           let same = same_from_fields row c.in_ok-row.row (sym only.0 ∙ c.in_ok-row.ensures.found) in
-          absurd (cc (c.if-not-obeys.ensures.1 (rw c.refuses.ensures (subst (Obeys c.args.schema.now.refuses) same is.obeys)))),
+          absurd (cc (c.if-not-is_obeyed_by.ensures.1 (subst (Obeys c.args.schema.now.refuses) same is.obeys))),
     )
 
 pub returns-clause-found : goal.returns-clause-found
@@ -69,7 +69,7 @@ returns-clause-found c =
       record {
         values = c.if-not-is_keyed.ensures.are_values;
         keyed = rw (← c.flags-2.ensures.same) (c.if-not-is_keyed.ensures.keyed.0 refl);
-        obeys = rw (← c.refuses.ensures) (c.if-not-obeys.ensures.0 refl);
+        obeys = c.if-not-is_obeyed_by.ensures.0 refl;
       },
       row_whole c.args.bytes.now c.in-Ok.read.0 c.in-Ok.read.1 c.in_ok-row.row found.2 (omega (arith, c.if-used-bytes.false)) c.in_ok-row.ensures.found,
     )
