@@ -91,6 +91,7 @@ enum vollikash_code {
     VOLLIKASH_NULL_IN_KEY = 36,   /* a key column of the row is NULL */
     VOLLIKASH_DAMAGED_STORE = 37, /* what is stored is not valid */
     VOLLIKASH_STORE_FAULT = 38,   /* the database refused */
+    VOLLIKASH_NOT_NULL = 39,      /* another column of the row that refuses NULL has it */
 
     /* A changeset is not applied. */
     VOLLIKASH_WIDER = 40,  /* a table of the file has fewer columns than the store's */
@@ -116,8 +117,8 @@ enum vollikash_code {
 
 /*
 ** SQLite's result code for a number above, without sqlite3.h: SQLITE_OK,
-** SQLITE_CORRUPT, SQLITE_SCHEMA, SQLITE_ABORT, SQLITE_MISUSE, SQLITE_NOMEM,
-** SQLITE_IOERR, SQLITE_TOOBIG, and SQLITE_ERROR for the others.
+** SQLITE_CORRUPT, SQLITE_SCHEMA, SQLITE_CONSTRAINT, SQLITE_ABORT, SQLITE_MISUSE,
+** SQLITE_NOMEM, SQLITE_IOERR, SQLITE_TOOBIG, and SQLITE_ERROR for the others.
 */
 static inline int vollikash_class(int code)
 {
@@ -129,6 +130,8 @@ static inline int vollikash_class(int code)
         return 0;
     case VOLLIKASH_DAMAGED_STORE:
         return 11;
+    case VOLLIKASH_NOT_NULL:
+        return 19;
     case VOLLIKASH_WIDER:
     case VOLLIKASH_SCHEMA:
         return 17;
