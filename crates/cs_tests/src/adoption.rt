@@ -1,6 +1,7 @@
 //! Databases that are taken over as stores, or handed back.
 
-use crate::stores::{fill, has};
+use crate::store::insertion;
+use crate::stores::{end, fill, has, store_with_rule};
 use cs_store::{Store, StoreError};
 use cs_value::Value;
 use sqlite::{Alter, Connection, Error, FileStore, Leftover, MemStore, Options};
@@ -100,7 +101,25 @@ const DAMAGES: &[&str] = &[
     // A row stands under the name of no table.
     "INSERT INTO rec VALUES('w', X'010000000000000001', X'010000000000000001030178')",
     // The second column has a byte that no column has.
-    "UPDATE rec SET rowb = X'02010161020162' WHERE tab = '' AND keyb = X'74'",
+    "UPDATE rec SET rowb = X'02010161030162' WHERE tab = '' AND keyb = X'74'",
+    // The first column refuses NULL, and none is of the key.
+    "UPDATE rec SET rowb = X'02020161000162' WHERE tab = '' AND keyb = X'74'",
+];
+
+/// What makes the second column of t one that refuses NULL.
+const AS_RULED: &str = "UPDATE rec SET rowb = X'02010161020162' WHERE tab = '' AND keyb = X'74'";
+
+/// What is done to a store with the row (1, 'x') of a table t that refuses NULL in b, so that its records are not those of
+/// tables.
+const RULED_DAMAGES: &[&str] = &[
+    // The version is the former one, whose columns have no such byte.
+    AS_FORMER,
+    // The row has NULL there.
+    "UPDATE rec SET rowb = X'01000000000000000105' WHERE tab = 't'",
+    // The key is NULL.
+    "UPDATE rec SET keyb = X'05', rowb = X'05030178' WHERE tab = 't'",
+    // A second row has NULL there.
+    "INSERT INTO rec VALUES('t', X'010000000000000002', X'01000000000000000205')",
 ];
 
 /// What brings the records of a store back to the former version.
@@ -179,4 +198,71 @@ fn brings_a_store_of_the_former_version_to_this_one(rt: HostRuntime) {
     assert!(rt; has(&rt, &mut store, (&["t"], ROWS)));
     let mut conn = store.into_connection();
     assert!(rt; version_of(&rt, &mut conn).as_str() == "02");
+}
+
+/// A store with the row (1, 'x') of t, which refuses NULL in b.
+fn ruled(rt: &(impl Abort + AllocGlobal)) -> Connection<MemStore> {
+    let mut store = store_with_rule(rt);
+    let edit = insertion(rt, "t", &[Value::Int(1), Value::Text("x")]);
+    store.edit(rt.alloc(), &edit).expect(rt, "no refusal");
+    store.into_connection()
+}
+
+#[test]
+fn refuses_damaged_stores_that_refuse_null(rt: HostRuntime) {
+    for (place, damage) in RULED_DAMAGES.iter().enumerate() {
+        let mut conn = ruled(&rt);
+        change_record(&rt, &mut conn, damage);
+        assert!(rt; is_refused(&rt, conn), "at {place}");
+    }
+}
+
+#[test]
+fn refuses_a_rule_under_the_former_version(rt: HostRuntime) {
+    let mut conn = former(&rt);
+    change_record(&rt, &mut conn, AS_RULED);
+    assert!(rt; is_refused(&rt, conn));
+}
+
+/// The declaration of t in a database, in hexadecimal digits.
+fn declaration_in(rt: &(impl Abort + AllocGlobal), conn: &mut Connection<MemStore>) -> String {
+    let sql = "SELECT hex(rowb) FROM rec WHERE tab = '' AND keyb = X'74'";
+    let row = conn.query_row(sql, &[]).expect(rt, "a row");
+    row.get(0).expect(rt, "a text")
+}
+
+#[test]
+fn declares_a_rule_by_its_byte(rt: HostRuntime) {
+    let mut conn = current(&rt);
+    assert!(rt; declaration_in(&rt, &mut conn).as_str() == "02010161000162");
+    let mut conn = ruled(&rt);
+    assert!(rt; declaration_in(&rt, &mut conn).as_str() == "02010161020162");
+}
+
+/// Whether the table t of a store refuses NULL in both columns, and has the row (1, 'x') alone.
+fn is_ruled<S: Alter>(rt: &(impl Abort + AllocGlobal), store: &mut Store<S>) -> bool {
+    match store.schema(rt.alloc(), "t").expect(rt, "memory") {
+        Some(schema) => {
+            schema.refuses() == [true, true].as_slice() && has(rt, store, (&["t"], ROWS))
+        }
+        None => false,
+    }
+}
+
+#[test]
+fn adopts_a_store_that_refuses_null(rt: HostRuntime) {
+    let mut store = adopted(&rt, ruled(&rt));
+    assert!(rt; is_ruled(&rt, &mut store));
+    end(store);
+}
+
+#[test]
+fn reads_a_rule_of_its_byte(rt: HostRuntime) {
+    let mut conn = current(&rt);
+    change_record(&rt, &mut conn, AS_RULED);
+    let mut store = adopted(&rt, conn);
+    assert!(rt; is_ruled(&rt, &mut store));
+    let edit = insertion(&rt, "t", &[Value::Int(2), Value::Null]);
+    assert!(rt; matches!(store.edit(rt.alloc(), &edit), Err(StoreError::NotNull)));
+    end(store);
 }

@@ -4,11 +4,11 @@
 //! files are 1, but where their last byte says otherwise.
 
 use crate::refusals::expect_text;
-use crate::store::{row_of, tables};
-use crate::stores::{end, listed, rows_of, store_with_table};
+use crate::store::{row_of, tables, tables_with_rule};
+use crate::stores::{end, listed, rows_of, store_with_rule, store_with_table};
 use crate::{DELETE, INSERT, UPDATE, WIDER_INSERT};
 use cs_apply::{
-    ApplyFault, Choice, Conflict, Direction, Kind, Noop, Report, apply, revert, run_in,
+    ApplyFault, Choice, Conflict, Direction, Kind, Met, Noop, Policy, Report, apply, revert, run_in,
 };
 use cs_store::{Rows, Store};
 use cs_value::{Fault, Row, Value};
@@ -261,6 +261,395 @@ fn asks_a_handler(rt: HostRuntime) {
     assert!(rt; asked(&rt, &mut rows, INSERT) == [0, 1, 0, 1]);
     assert!(rt; asked(&rt, &mut rows, INSERT_DELETE) == [0, 0, 0, 2]);
     assert!(rt; asked(&rt, &mut rows, DELETE) == [41, 0, 0, 0]);
+}
+
+/// An INSERT of (1, NULL).
+const NULL_INSERT: &[u8] = b"T\x02\x01\x00t\x00\x12\x00\x01\x00\x00\x00\x00\x00\x00\x00\x01\x05";
+
+/// The DELETE of that row.
+const NULL_DELETE: &[u8] = b"T\x02\x01\x00t\x00\x09\x00\x01\x00\x00\x00\x00\x00\x00\x00\x01\x05";
+
+/// An UPDATE of 'x' to NULL.
+const TO_NULL: &[u8] =
+    b"T\x02\x01\x00t\x00\x17\x00\x01\x00\x00\x00\x00\x00\x00\x00\x01\x03\x01x\x00\x05";
+
+/// An UPDATE of NULL to 'y'.
+const FROM_NULL: &[u8] =
+    b"T\x02\x01\x00t\x00\x17\x00\x01\x00\x00\x00\x00\x00\x00\x00\x01\x05\x00\x03\x01y";
+
+/// The INSERT of (2, 'q'), an UPDATE of 'x' to NULL, and the INSERT of (3, NULL).
+const SEVERAL: &[u8] = b"T\x02\x01\x00t\x00\
+\x12\x00\x01\x00\x00\x00\x00\x00\x00\x00\x02\x03\x01q\
+\x17\x00\x01\x00\x00\x00\x00\x00\x00\x00\x01\x03\x01x\x00\x05\
+\x12\x00\x01\x00\x00\x00\x00\x00\x00\x00\x03\x05";
+
+/// Files for a table t that refuses NULL in b: one that gives t its rows, and one that is applied to these; what is chosen
+/// for each conflict but a constraint, and what for that; the number of the refusal, or 0, and how many keys are written;
+/// the conflicts that are told, with what was chosen for each; and b of the row (1, b) that t has then alone, which is
+/// empty where it has none.
+type RuledCase = (
+    &'static [u8],
+    &'static [u8],
+    [Choice; 2],
+    [usize; 2],
+    &'static [(Kind, Choice)],
+    &'static str,
+);
+
+const RULED: &[RuledCase] = &[
+    // An INSERT of NULL without a row at its key.
+    (
+        b"",
+        NULL_INSERT,
+        [Choice::Abort, Choice::Omit],
+        [0, 0],
+        &[(Kind::Constraint, Choice::Omit)],
+        "",
+    ),
+    (
+        b"",
+        NULL_INSERT,
+        [Choice::Omit, Choice::Replace],
+        [42, 0],
+        &[],
+        "",
+    ),
+    (
+        b"",
+        NULL_INSERT,
+        [Choice::Replace, Choice::Abort],
+        [41, 0],
+        &[],
+        "",
+    ),
+    // An INSERT of NULL over a row: the second question comes behind Replace alone.
+    (
+        INSERT,
+        NULL_INSERT,
+        [Choice::Replace, Choice::Omit],
+        [0, 0],
+        &[
+            (Kind::Conflict, Choice::Replace),
+            (Kind::Constraint, Choice::Omit),
+        ],
+        "x",
+    ),
+    (
+        INSERT,
+        NULL_INSERT,
+        [Choice::Replace, Choice::Replace],
+        [42, 0],
+        &[],
+        "x",
+    ),
+    (
+        INSERT,
+        NULL_INSERT,
+        [Choice::Replace, Choice::Abort],
+        [41, 0],
+        &[],
+        "x",
+    ),
+    (
+        INSERT,
+        NULL_INSERT,
+        [Choice::Omit, Choice::Omit],
+        [0, 0],
+        &[(Kind::Conflict, Choice::Omit)],
+        "x",
+    ),
+    (
+        INSERT,
+        NULL_INSERT,
+        [Choice::Omit, Choice::Replace],
+        [0, 0],
+        &[(Kind::Conflict, Choice::Omit)],
+        "x",
+    ),
+    (
+        INSERT,
+        NULL_INSERT,
+        [Choice::Omit, Choice::Abort],
+        [0, 0],
+        &[(Kind::Conflict, Choice::Omit)],
+        "x",
+    ),
+    (
+        INSERT,
+        NULL_INSERT,
+        [Choice::Abort, Choice::Omit],
+        [41, 0],
+        &[],
+        "x",
+    ),
+    (
+        INSERT,
+        NULL_INSERT,
+        [Choice::Abort, Choice::Replace],
+        [41, 0],
+        &[],
+        "x",
+    ),
+    (
+        INSERT,
+        NULL_INSERT,
+        [Choice::Abort, Choice::Abort],
+        [41, 0],
+        &[],
+        "x",
+    ),
+    // An UPDATE to NULL of the row that it finds.
+    (
+        INSERT,
+        TO_NULL,
+        [Choice::Abort, Choice::Omit],
+        [0, 0],
+        &[(Kind::Constraint, Choice::Omit)],
+        "x",
+    ),
+    (
+        INSERT,
+        TO_NULL,
+        [Choice::Omit, Choice::Replace],
+        [42, 0],
+        &[],
+        "x",
+    ),
+    (
+        INSERT,
+        TO_NULL,
+        [Choice::Replace, Choice::Abort],
+        [41, 0],
+        &[],
+        "x",
+    ),
+    // An UPDATE to NULL of a row that differs.
+    (
+        OTHER,
+        TO_NULL,
+        [Choice::Replace, Choice::Omit],
+        [0, 0],
+        &[
+            (Kind::Data, Choice::Replace),
+            (Kind::Constraint, Choice::Omit),
+        ],
+        "z",
+    ),
+    (
+        OTHER,
+        TO_NULL,
+        [Choice::Replace, Choice::Replace],
+        [42, 0],
+        &[],
+        "z",
+    ),
+    (
+        OTHER,
+        TO_NULL,
+        [Choice::Replace, Choice::Abort],
+        [41, 0],
+        &[],
+        "z",
+    ),
+    (
+        OTHER,
+        TO_NULL,
+        [Choice::Omit, Choice::Omit],
+        [0, 0],
+        &[(Kind::Data, Choice::Omit)],
+        "z",
+    ),
+    (
+        OTHER,
+        TO_NULL,
+        [Choice::Omit, Choice::Replace],
+        [0, 0],
+        &[(Kind::Data, Choice::Omit)],
+        "z",
+    ),
+    (
+        OTHER,
+        TO_NULL,
+        [Choice::Omit, Choice::Abort],
+        [0, 0],
+        &[(Kind::Data, Choice::Omit)],
+        "z",
+    ),
+    (
+        OTHER,
+        TO_NULL,
+        [Choice::Abort, Choice::Omit],
+        [41, 0],
+        &[],
+        "z",
+    ),
+    (
+        OTHER,
+        TO_NULL,
+        [Choice::Abort, Choice::Replace],
+        [41, 0],
+        &[],
+        "z",
+    ),
+    (
+        OTHER,
+        TO_NULL,
+        [Choice::Abort, Choice::Abort],
+        [41, 0],
+        &[],
+        "z",
+    ),
+    // An UPDATE to NULL of a row that is missing.
+    (
+        b"",
+        TO_NULL,
+        [Choice::Omit, Choice::Abort],
+        [0, 0],
+        &[(Kind::NotFound, Choice::Omit)],
+        "",
+    ),
+    (
+        b"",
+        TO_NULL,
+        [Choice::Replace, Choice::Omit],
+        [42, 0],
+        &[],
+        "",
+    ),
+    (
+        b"",
+        TO_NULL,
+        [Choice::Abort, Choice::Omit],
+        [41, 0],
+        &[],
+        "",
+    ),
+    // NULL in what is deleted or updated breaks no rule.
+    (
+        OTHER,
+        NULL_DELETE,
+        [Choice::Replace, Choice::Abort],
+        [0, 1],
+        &[(Kind::Data, Choice::Replace)],
+        "",
+    ),
+    (
+        OTHER,
+        FROM_NULL,
+        [Choice::Replace, Choice::Abort],
+        [0, 1],
+        &[(Kind::Data, Choice::Replace)],
+        "y",
+    ),
+    // What is carried out before a file ends is undone.
+    (
+        INSERT,
+        SEVERAL,
+        [Choice::Abort, Choice::Abort],
+        [41, 0],
+        &[],
+        "x",
+    ),
+    (
+        OTHER,
+        SEVERAL,
+        [Choice::Replace, Choice::Replace],
+        [42, 0],
+        &[],
+        "z",
+    ),
+];
+
+/// Whether conflicts are of these kinds in turn, with these choices.
+fn are_met(conflicts: &[Met], wanted: &[(Kind, Choice)]) -> bool {
+    if conflicts.len() != wanted.len() {
+        return false;
+    }
+    for (met, (kind, choice)) in conflicts.iter().zip(wanted) {
+        if met.conflict.kind != *kind || met.choice != *choice {
+            return false;
+        }
+    }
+    true
+}
+
+/// Whether a run tells what it should in a case.
+fn is_told(run: Result<Report, ApplyFault>, case: &RuledCase) -> bool {
+    let (_, _, _, wanted, met, _) = *case;
+    match run {
+        Ok(report) => [0, report.written.len()] == wanted && are_met(&report.conflicts, met),
+        Err(fault) => [fault.code() as usize, 0] == wanted,
+    }
+}
+
+/// What a store answers to a file, with one choice for all conflicts but constraints, and one for these.
+fn applied<S: Alter>(
+    rt: &(impl Abort + AllocGlobal),
+    store: &mut Store<S>,
+    file: &[u8],
+    choices: [Choice; 2],
+) -> Result<Report, ApplyFault> {
+    let policy = Policy {
+        on_data: choices[0],
+        on_notfound: choices[0],
+        on_conflict: choices[0],
+        on_constraint: choices[1],
+    };
+    let handler = |conflict: &Conflict| policy.choose(conflict);
+    apply(rt.alloc(), store, file, Noop::Report, &handler)
+}
+
+/// Whether a store whose t refuses NULL in b answers to a case as it should, and holds what it should then.
+fn holds_in_store<S: Alter>(
+    rt: &(impl Abort + AllocGlobal),
+    store: &mut Store<S>,
+    case: &RuledCase,
+) -> bool {
+    let (before, file, choices, _, _, after) = *case;
+    assert!(rt; applied(rt, store, before, [Choice::Abort; 2]).is_ok());
+    is_told(applied(rt, store, file, choices), case) && is_row(rt, &rows_of(rt, store), after)
+}
+
+#[test]
+fn applies_files_where_a_column_refuses_null(rt: HostRuntime) {
+    for (place, case) in RULED.iter().enumerate() {
+        let mut store = store_with_rule(&rt);
+        assert!(rt; holds_in_store(&rt, &mut store, case), "at {place}");
+        end(store);
+    }
+}
+
+/// Omits where this row stands at a constraint, or none where it is none, and else replaces.
+fn omit_at(conflict: &Conflict, stood: Option<&Row>) -> Choice {
+    if conflict.kind == Kind::Constraint && conflict.current.as_ref() == stood {
+        Choice::Omit
+    } else {
+        Choice::Replace
+    }
+}
+
+/// How many conflicts rows tell of the INSERT of (1, NULL), where that handler is asked.
+fn asked_at<B: Rows>(rt: &(impl Abort + AllocGlobal), rows: &mut B, stood: Option<&Row>) -> Answer {
+    let handler = |conflict: &Conflict| omit_at(conflict, stood);
+    let direction = Direction::Forward;
+    answer(run_in(
+        rt.alloc(),
+        rows,
+        NULL_INSERT,
+        direction,
+        Noop::Report,
+        &handler,
+    ))
+}
+
+#[test]
+fn shows_the_row_that_stands_at_a_constraint(rt: HostRuntime) {
+    let mut rows = tables_with_rule(&rt);
+    assert!(rt; asked_at(&rt, &mut rows, None) == [0, 1, 0, 0]);
+    assert!(rt; run(&rt, &mut rows, INSERT, Choice::Abort) == [0, 0, 0, 1]);
+    let row = row_of(&rt, &[Value::Int(1), Value::Text("x")]);
+    assert!(rt; asked_at(&rt, &mut rows, Some(&row)) == [0, 2, 0, 0]);
+    assert!(rt; asked_at(&rt, &mut rows, None) == [42, 0, 0, 0]);
 }
 
 /// Why the DELETE of a row that is not there is refused, with one choice for all conflicts.

@@ -12,6 +12,10 @@ const FORMS: &[(&str, &str)] = &[
         "Some(Create { name: \"t\", columns: [\"a\", \"b c\"], refuses: [false, false], keys: [\"a\", \"b c\"] })",
     ),
     (
+        "CREATE TABLE n(a not  Null, \"NOT\"NOT NULL,c, PRIMARY KEY(a));",
+        "Some(Create { name: \"n\", columns: [\"a\", \"NOT\", \"c\"], refuses: [true, true, false], keys: [\"a\"] })",
+    ),
+    (
         "INSERT INTO \"a\"\"b\" VALUES(-1, 'it''s', x'0F', nUll) ; \r",
         "Some(Insert { table: \"a\\\"b\", values: [Int(-1), Text(Text { text: \"it's\" }), Blob(Bytes { bytes: [15] }), Null] })",
     ),
@@ -41,6 +45,10 @@ const FORMS: &[(&str, &str)] = &[
         ".apply a conflict=replace noop=ignore data=omit",
         "Some(Apply { slot: \"a\", on_data: Omit, on_notfound: Abort, on_conflict: Replace, on_constraint: Abort, noop: Ignore })",
     ),
+    (
+        ".apply a constraint=omit conflict=replace",
+        "Some(Apply { slot: \"a\", on_data: Abort, on_notfound: Abort, on_conflict: Replace, on_constraint: Omit, noop: Report })",
+    ),
     (".revert a", "Some(Revert { slot: \"a\" })"),
     (".session open", "Some(SessionOpen)"),
     (
@@ -66,7 +74,17 @@ const MISFITS: &[(&str, usize)] = &[
     ("INSERT INTO t VALUES('x);", 22),
     ("SELECT * FROM select;", 15),
     ("SELECT * FROM t; .", 18),
+    ("SELECT * FROM Not;", 15),
     ("CREATE TABLE t(PRIMARY KEY(a));", 16),
+    ("CREATE TABLE n(a, b NOT, PRIMARY KEY(a));", 24),
+    ("CREATE TABLE n(a, b NULL, PRIMARY KEY(a));", 21),
+    ("CREATE TABLE n(a NOT NULL PRIMARY KEY(a));", 27),
+    (
+        "CREATE TABLE n(a, b NOT NULL NOT NULL, PRIMARY KEY(a));",
+        30,
+    ),
+    ("CREATE TABLE n(a, NOT NULL, PRIMARY KEY(a));", 19),
+    ("CREATE TABLE n(a NOT", 21),
     ("UPDATE t SET a=1;", 17),
     ("DELETE t;", 8),
     ("- -", 1),
@@ -80,6 +98,8 @@ const MISFITS: &[(&str, usize)] = &[
     (".load a-", 7),
     (".apply a data=x", 10),
     (".apply a data=omit data=omit", 20),
+    (".apply a constraint=x", 10),
+    (".apply a constraint=omit constraint=omit", 26),
     (".apply a noop=omit", 10),
     (".apply a noop=ignore noop=ignore", 22),
 ];

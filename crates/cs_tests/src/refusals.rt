@@ -184,6 +184,7 @@ fn numbers_refusals_of_stores(rt: HostRuntime) {
         (StoreError::NullInKey, 36, 1, "NullInKey"),
         (StoreError::DamagedStore, 37, 11, "DamagedStore"),
         (StoreError::StoreFault, 38, 1, "StoreFault"),
+        (StoreError::NotNull, 39, 19, "NotNull"),
         (StoreError::NoMemory, 60, 7, "NoMemory"),
     ] {
         expect_named(&rt, &error, code, class, name);

@@ -54,14 +54,16 @@ pub(crate) fn edited<S: Alter>(
     number(session.edit(rt.alloc(), store, &edit_of(rt, call)))
 }
 
-/// A store without t, with another table, and with tables t of other columns or another key, and one
-/// with t: the name of the table, its second column, its key, and what a session with t answers.
-const OTHERS: &[(&str, &str, &[bool], u8)] = &[
-    ("u", "b", &[true, false], 51),
-    ("t", "c", &[true, false], 51),
-    ("t", "b", &[false, true], 51),
-    ("t", "b", &[true, true], 51),
-    ("t", "b", &[true, false], 0),
+/// A store without t, with another table, with tables t of other columns, another key or other rules, and with t: the name
+/// of the table, its second column, its key, the columns that refuse NULL, and what a session with t answers.
+const OTHERS: &[(&str, &str, &[bool], &[bool], u8)] = &[
+    ("u", "b", &[true, false], &[false, false], 51),
+    ("t", "c", &[true, false], &[false, false], 51),
+    ("t", "b", &[false, true], &[false, false], 51),
+    ("t", "b", &[true, true], &[false, false], 51),
+    ("t", "b", &[true, false], &[false, true], 51),
+    ("t", "b", &[true, false], &[true, false], 0),
+    ("t", "b", &[true, false], &[false, false], 0),
 ];
 
 /// A session with t of a store, which is no more.
@@ -78,11 +80,12 @@ fn store_with(
     name: &str,
     second: &str,
     keys: &[bool],
+    refuses: &[bool],
 ) -> Store<MemStore> {
     let mut store = Store::new_memory(rt.alloc()).expect(rt, "a store");
     let columns = names(rt, "a", second);
     store
-        .declare(rt.alloc(), name, &columns, keys, &[false, false])
+        .declare(rt.alloc(), name, &columns, keys, refuses)
         .expect(rt, "a table");
     store
 }
@@ -122,8 +125,8 @@ fn answers<S: Alter>(
 #[test]
 fn refuses_other_stores(rt: HostRuntime) {
     let mut session = session_alone(&rt);
-    for (place, (name, second, keys, answer)) in OTHERS.iter().enumerate() {
-        let mut store = store_with(&rt, name, second, keys);
+    for (place, (name, second, keys, refuses, answer)) in OTHERS.iter().enumerate() {
+        let mut store = store_with(&rt, name, second, keys, refuses);
         assert!(rt;
             answers(&rt, &mut session, &mut store, *answer),
             "at {place}"

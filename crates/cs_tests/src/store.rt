@@ -2,7 +2,7 @@
 //!
 //! The table t of these tests has the columns a and b, of which a is the key.
 
-use cs_store::{Edit, MemRows, Schema, Written, edit_in};
+use cs_store::{Edit, MemRows, Schema, StoreError, Written, edit_in};
 use cs_value::{Key, OwnedValue, Row, Value};
 use std::process::Abort;
 
@@ -43,13 +43,23 @@ pub(crate) fn key_of(rt: &(impl Abort + AllocGlobal), number: i64) -> Key {
     Key::from_values(rt.alloc(), &[OwnedValue::Int(number)]).expect(rt, "memory")
 }
 
-/// Tables with t, which has no rows.
-pub(crate) fn tables(rt: &(impl Abort + AllocGlobal)) -> MemRows {
+/// Tables with t, which has no rows, and refuses NULL in the columns with these marks.
+fn tables_of(rt: &(impl Abort + AllocGlobal), refuses: &[bool]) -> MemRows {
     let mut rows = MemRows::new(rt.alloc());
     let columns = names(rt, "a", "b");
-    rows.declare(rt.alloc(), "t", &columns, &[true, false], &[false, false])
+    rows.declare(rt.alloc(), "t", &columns, &[true, false], refuses)
         .expect(rt, "a table");
     rows
+}
+
+/// Tables with t, which has no rows.
+pub(crate) fn tables(rt: &(impl Abort + AllocGlobal)) -> MemRows {
+    tables_of(rt, &[false, false])
+}
+
+/// Tables with t, which refuses NULL in b, and has no rows.
+pub(crate) fn tables_with_rule(rt: &(impl Abort + AllocGlobal)) -> MemRows {
+    tables_of(rt, &[false, true])
 }
 
 /// The insertion of a row of these values.
@@ -89,10 +99,45 @@ pub(crate) fn deletion(rt: &(impl Abort + AllocGlobal), table: &str, key: i64) -
 #[test]
 fn marks_the_key_columns(rt: HostRuntime) {
     let columns = names(&rt, "a", "b");
-    let schema = Schema::new(rt.alloc(), &columns, &[false, true], &[false, false])
-        .expect(&rt, "a schema");
+    let schema = Schema::new(rt.alloc(), &columns, &[false, true], &[false, false]).expect(
+        &rt, "a schema",
+    );
     let copy = schema.copy(rt.alloc()).expect(&rt, "memory");
     assert!(rt; copy.columns() == columns.as_slice() && copy.flags() == [0, 1].as_slice());
+}
+
+/// Which of a and b are the key, which are declared to refuse NULL, and which do so.
+const RULES: &[([bool; 2], [bool; 2], [bool; 2])] = &[
+    ([true, false], [false, false], [true, false]),
+    ([true, false], [true, false], [true, false]),
+    ([true, false], [false, true], [true, true]),
+    ([false, true], [false, false], [false, true]),
+    ([false, true], [true, true], [true, true]),
+    ([true, true], [false, false], [true, true]),
+];
+
+#[test]
+fn marks_the_columns_that_refuse_null(rt: HostRuntime) {
+    let columns = names(&rt, "a", "b");
+    for (place, (keys, declared, refuses)) in RULES.iter().enumerate() {
+        let schema = Schema::new(rt.alloc(), &columns, keys, declared).expect(&rt, "a schema");
+        assert!(rt; schema.refuses() == refuses.as_slice(), "at {place}");
+    }
+}
+
+/// Marks that are not as many as the columns a and b.
+pub(crate) const OTHER_LENGTHS: &[&[bool]] = &[&[], &[false], &[true], &[false, false, false]];
+
+#[test]
+fn refuses_marks_of_another_length(rt: HostRuntime) {
+    let columns = names(&rt, "a", "b");
+    let mut rows = MemRows::new(rt.alloc());
+    for refuses in OTHER_LENGTHS {
+        let schema = Schema::new(rt.alloc(), &columns, &[true, false], refuses);
+        assert!(rt; matches!(schema, Err(StoreError::BadSchema)));
+        let answer = rows.declare(rt.alloc(), "t", &columns, &[true, false], refuses);
+        assert!(rt; answer == Err(StoreError::BadSchema));
+    }
 }
 
 /// Tables with t, which has the row (1, NULL).

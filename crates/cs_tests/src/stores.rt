@@ -2,7 +2,9 @@
 //!
 //! The table t of these tests has the columns a and b, of which a is the key.
 
-use crate::store::{deletion, insertion, key_of, names, row_of, tables, update};
+use crate::store::{
+    OTHER_LENGTHS, deletion, insertion, key_of, names, row_of, tables, tables_with_rule, update,
+};
 use cs_store::{Edit, Rows, Store, StoreError, Written, edit_in};
 use cs_value::{Row, Value};
 use sqlite::{Alter, MemStore};
@@ -15,19 +17,32 @@ pub(crate) fn declaration<S: Alter>(
     name: &str,
     keys: &[bool],
 ) -> Result<(), StoreError> {
-    store.declare(
-        rt.alloc(),
-        name,
-        &names(rt, "a", "b"),
-        keys,
-        &[false, false],
-    )
+    declaration_of(rt, store, name, keys, &[false, false])
+}
+
+/// What a store answers to the declaration of a table with the columns a and b, which refuses NULL in the columns with
+/// these marks.
+fn declaration_of<S: Alter>(
+    rt: &(impl Abort + AllocGlobal),
+    store: &mut Store<S>,
+    name: &str,
+    keys: &[bool],
+    refuses: &[bool],
+) -> Result<(), StoreError> {
+    store.declare(rt.alloc(), name, &names(rt, "a", "b"), keys, refuses)
 }
 
 /// A store in memory with t, which has no rows.
 pub(crate) fn store_with_table(rt: &(impl Abort + AllocGlobal)) -> Store<MemStore> {
     let mut store = Store::new_memory(rt.alloc()).expect(rt, "a store");
     declaration(rt, &mut store, "t", &[true, false]).expect(rt, "a table");
+    store
+}
+
+/// A store in memory with t, which refuses NULL in b, and has no rows.
+pub(crate) fn store_with_rule(rt: &(impl Abort + AllocGlobal)) -> Store<MemStore> {
+    let mut store = Store::new_memory(rt.alloc()).expect(rt, "a store");
+    declaration_of(rt, &mut store, "t", &[true, false], &[false, true]).expect(rt, "a table");
     store
 }
 
@@ -170,6 +185,17 @@ fn has_the_declared_tables_alone(rt: HostRuntime) {
     end(store);
 }
 
+#[test]
+fn declares_no_table_by_marks_of_another_length(rt: HostRuntime) {
+    let mut store = store_with_table(&rt);
+    for refuses in OTHER_LENGTHS {
+        let answer = declaration_of(&rt, &mut store, "u", &[true, false], refuses);
+        assert!(rt; answer == Err(StoreError::BadSchema));
+    }
+    assert!(rt; has(&rt, &mut store, (&["t"], &[])));
+    end(store);
+}
+
 /// An edit of borrowed values.
 #[derive(Clone, Copy)]
 pub(crate) enum Call {
@@ -284,6 +310,107 @@ const CASES: &[Case] = &[
     ),
 ];
 
+/// The row of t once one is inserted.
+const ONE: &[[Value<'static>; 2]] = &[[Value::Int(1), Value::Text("x")]];
+
+/// The same, with another row.
+const BOTH: &[[Value<'static>; 2]] = &[
+    [Value::Int(1), Value::Text("x")],
+    [Value::Int(2), Value::Int(0)],
+];
+
+/// The edits of a table t that refuses NULL in b and has no rows, in turn.
+const RULED: &[Case] = &[
+    (
+        Call::Insert("t", &[Value::Int(1), Value::Null]),
+        Err(StoreError::NotNull),
+        &[],
+    ),
+    (
+        Call::Update("t", 1, &[Value::Int(1), Value::Null]),
+        Err(StoreError::NotNull),
+        &[],
+    ),
+    (
+        Call::Insert("t", &[Value::Int(1), Value::Text("x")]),
+        Ok(1),
+        ONE,
+    ),
+    // The width and the key of a row are told before its NULL, and that before a key that is taken.
+    (
+        Call::Insert("t", &[Value::Int(1), Value::Null, Value::Null]),
+        Err(StoreError::RowWidth),
+        ONE,
+    ),
+    (
+        Call::Insert("t", &[Value::Null, Value::Null]),
+        Err(StoreError::NullInKey),
+        ONE,
+    ),
+    (
+        Call::Insert("t", &[Value::Int(1), Value::Null]),
+        Err(StoreError::NotNull),
+        ONE,
+    ),
+    (
+        Call::Insert("u", &[Value::Int(1), Value::Null]),
+        Err(StoreError::NoTable),
+        ONE,
+    ),
+    (
+        Call::Insert("t", &[Value::Int(2), Value::Int(0)]),
+        Ok(1),
+        BOTH,
+    ),
+    // So they are of an update, and all that before a row that is missing.
+    (
+        Call::Update("t", 3, &[Value::Null]),
+        Err(StoreError::RowWidth),
+        BOTH,
+    ),
+    (
+        Call::Update("t", 3, &[Value::Null, Value::Null]),
+        Err(StoreError::NullInKey),
+        BOTH,
+    ),
+    (
+        Call::Update("t", 3, &[Value::Int(3), Value::Null]),
+        Err(StoreError::NotNull),
+        BOTH,
+    ),
+    (
+        Call::Update("t", 3, &[Value::Int(3), Value::Int(0)]),
+        Err(StoreError::NoRow),
+        BOTH,
+    ),
+    (
+        Call::Update("t", 1, &[Value::Null, Value::Null]),
+        Err(StoreError::NullInKey),
+        BOTH,
+    ),
+    (
+        Call::Update("t", 1, &[Value::Int(1), Value::Null]),
+        Err(StoreError::NotNull),
+        BOTH,
+    ),
+    (
+        Call::Update("t", 1, &[Value::Int(2), Value::Null]),
+        Err(StoreError::NotNull),
+        BOTH,
+    ),
+    (
+        Call::Update("t", 1, &[Value::Int(3), Value::Null]),
+        Err(StoreError::NotNull),
+        BOTH,
+    ),
+    (
+        Call::Update("u", 1, &[Value::Int(1), Value::Null]),
+        Err(StoreError::NoTable),
+        BOTH,
+    ),
+    (Call::Delete("t", 2), Ok(1), ONE),
+];
+
 /// The edit that owns these values.
 pub(crate) fn edit_of(rt: &(impl Abort + AllocGlobal), call: Call) -> Edit {
     match call {
@@ -334,5 +461,28 @@ fn answers_edits_in_memory_and_in_a_batch(rt: HostRuntime) {
     expect_answers(&rt, &mut tables(&rt), CASES);
     let mut store = store_with_table(&rt);
     expect_answers_in_batch(&rt, &mut store, CASES);
+    end(store);
+}
+
+/// Asserts it of a store.
+fn expect_answers_of_store<S: Alter>(
+    rt: &(impl Abort + AllocGlobal),
+    store: &mut Store<S>,
+    cases: &[Case],
+) {
+    for (place, case) in cases.iter().enumerate() {
+        let (call, answer, held) = *case;
+        let told = count(store.edit(rt.alloc(), &edit_of(rt, call)));
+        assert!(rt; told == answer, "at {place}");
+        assert!(rt; are(rt, &rows_of(rt, store), held), "at {place}");
+    }
+}
+
+#[test]
+fn answers_edits_where_a_column_refuses_null(rt: HostRuntime) {
+    expect_answers(&rt, &mut tables_with_rule(&rt), RULED);
+    let mut store = store_with_rule(&rt);
+    expect_answers_in_batch(&rt, &mut store, RULED);
+    expect_answers_of_store(&rt, &mut store, RULED);
     end(store);
 }
