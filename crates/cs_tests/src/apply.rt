@@ -652,15 +652,15 @@ fn shows_the_row_that_stands_at_a_constraint(rt: HostRuntime) {
     assert!(rt; asked_at(&rt, &mut rows, None) == [42, 0, 0, 0]);
 }
 
-/// Why the DELETE of a row that is not there is refused, with one choice for all conflicts.
-fn refusal(rt: &(impl Abort + AllocGlobal), choice: Choice) -> ApplyFault {
+/// Why a file is refused, where t refuses NULL in b and has no rows, with one choice for all conflicts.
+fn refusal(rt: &(impl Abort + AllocGlobal), file: &[u8], choice: Choice) -> ApplyFault {
     let handler = |_: &Conflict| choice;
-    let mut rows = tables(rt);
+    let mut rows = tables_with_rule(rt);
     let direction = Direction::Forward;
     run_in(
         rt.alloc(),
         &mut rows,
-        DELETE,
+        file,
         direction,
         Noop::Report,
         &handler,
@@ -670,24 +670,31 @@ fn refusal(rt: &(impl Abort + AllocGlobal), choice: Choice) -> ApplyFault {
 
 #[test]
 fn names_refusals(rt: HostRuntime) {
-    let fault = refusal(&rt, Choice::Abort);
+    let fault = refusal(&rt, DELETE, Choice::Abort);
     assert!(rt; fault.class() == 4 && fault.name() == "Abort");
-    let fault = refusal(&rt, Choice::Replace);
+    let fault = refusal(&rt, DELETE, Choice::Replace);
     assert!(rt; fault.class() == 21 && fault.name() == "Misuse");
 }
 
 #[test]
 fn prints_refusals(rt: HostRuntime) {
-    for (choice, text) in [
+    for (file, choice, text) in [
         (
+            DELETE,
             Choice::Abort,
             "aborted at a conflict of kind notfound in table t",
         ),
         (
+            NULL_INSERT,
+            Choice::Abort,
+            "aborted at a conflict of kind constraint in table t",
+        ),
+        (
+            DELETE,
             Choice::Replace,
             "nothing to replace at a conflict of kind notfound in table t",
         ),
     ] {
-        expect_text(&rt, &refusal(&rt, choice), text);
+        expect_text(&rt, &refusal(&rt, file, choice), text);
     }
 }
