@@ -628,7 +628,7 @@ fn omit_at(conflict: &Conflict, stood: Option<&Row>) -> Choice {
     }
 }
 
-/// How many conflicts rows tell of the INSERT of (1, NULL), where that handler is asked.
+/// What rows answer to the INSERT of (1, NULL), with that handler.
 fn asked_at<B: Rows>(rt: &(impl Abort + AllocGlobal), rows: &mut B, stood: Option<&Row>) -> Answer {
     let handler = |conflict: &Conflict| omit_at(conflict, stood);
     let direction = Direction::Forward;
@@ -693,6 +693,11 @@ fn prints_refusals(rt: HostRuntime) {
             DELETE,
             Choice::Replace,
             "nothing to replace at a conflict of kind notfound in table t",
+        ),
+        (
+            NULL_INSERT,
+            Choice::Replace,
+            "nothing to replace at a conflict of kind constraint in table t",
         ),
     ] {
         expect_text(&rt, &refusal(&rt, file, choice), text);

@@ -119,9 +119,11 @@ const RULES: &[([bool; 2], [bool; 2], [bool; 2])] = &[
 #[test]
 fn marks_the_columns_that_refuse_null(rt: HostRuntime) {
     let columns = names(&rt, "a", "b");
+    let row = row_of(&rt, &[Value::Int(1), Value::Null]);
     for (place, (keys, declared, refuses)) in RULES.iter().enumerate() {
         let schema = Schema::new(rt.alloc(), &columns, keys, declared).expect(&rt, "a schema");
         assert!(rt; schema.refuses() == refuses.as_slice(), "at {place}");
+        assert!(rt; schema.is_obeyed_by(&row) != refuses[1], "at {place}");
     }
 }
 
@@ -163,6 +165,11 @@ fn tells(
         None
     };
     written.table.as_str() == "t" && written.key == key_of(rt, key) && written.former == former
+}
+
+#[test]
+fn laws_return(rt: HostRuntime) {
+    filled(&rt).tables_law();
 }
 
 #[test]
