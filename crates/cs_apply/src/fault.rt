@@ -21,7 +21,7 @@ pub enum ApplyFault {
     #[error("aborted at {0}")]
     Abort(Conflict),
     /// The handler chose to replace a row that is not there, or to carry out an entry that its table refuses.
-    #[error("nothing to replace at {0}")]
+    #[error("replace is not possible at {0}")]
     Misuse(Conflict),
     /// The store refused, for another cause than memory.
     #[error("{0}")]

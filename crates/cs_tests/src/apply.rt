@@ -692,12 +692,12 @@ fn prints_refusals(rt: HostRuntime) {
         (
             DELETE,
             Choice::Replace,
-            "nothing to replace at a conflict of kind notfound in table t",
+            "replace is not possible at a conflict of kind notfound in table t",
         ),
         (
             NULL_INSERT,
             Choice::Replace,
-            "nothing to replace at a conflict of kind constraint in table t",
+            "replace is not possible at a conflict of kind constraint in table t",
         ),
     ] {
         expect_text(&rt, &refusal(&rt, file, choice), text);
