@@ -8,7 +8,7 @@ import pathlib
 import subprocess
 
 import reader
-from model import NUMBERS, Applying, Refusal, Table, content_of, have_same_columns, joined, quoted
+from model import NUMBERS, Applying, Refusal, Table, content_of, have_same_columns, joined, put, quoted
 
 HERE = pathlib.Path(__file__).resolve().parent
 
@@ -27,6 +27,8 @@ APPLY_NOTHING = "applies with updates that modify nothing, which SQLite does not
 APPLY_WIDER = "applies to a table of more columns, which SQLite applies to: not asked"
 APPLY_NOOP = "applies that ignore what changes nothing, which SQLite's library can from 3.42 on: not compared"
 APPLY_CASE = "applies among tables whose names differ in case alone, which are one to SQLite: not asked"
+APPLY_LATER = "applies whose constraint conflicts SQLite tells behind the others of their table: compared in its order"
+APPLY_REMOVED = "applies whose second attempt fails: SQLite has removed the row, which stays here: compared without it"
 SESSION_ORDER = "net changesets whose tables and entries SQLite orders otherwise"
 SESSION_FLAGS = "net changesets of a table whose key SQLite numbers, and this marks by 1: compared with flags of 1"
 SESSION_CASE = "sessions on tables with names that differ in case alone, which are one to SQLite: not asked"
@@ -136,8 +138,47 @@ class Join:
         return (ORDER,)
 
 
+class PutOff(Exception):
+    """An entry meets a constraint conflict, and is tried again."""
+
+
+class LaterApplying(Applying):
+    """An apply that tells constraint conflicts as SQLite does.
+
+    An entry whose new row would have NULL where it is refused is put off until those behind it of its table were tried,
+    is tried once more then, and is told of where it is tried a third time. Each time an UPDATE of a row that differs is
+    told to meet that one first. The row that an INSERT was to replace is removed the first time, and stays so.
+    """
+
+    def carry_out_all(self, name, entries):
+        """Carries the entries of a table out, in three rounds."""
+        for is_told in (False, False, True):
+            self.is_told = is_told
+            entries = [entry for entry in entries if self.is_put_off(name, entry)]
+
+    def is_put_off(self, name, entry):
+        """Carries an entry out, unless that is put off."""
+        try:
+            self.carry_out(name, entry)
+        except PutOff:
+            if entry[0] == reader.INSERT:
+                self.writes.append(put(self.tables, name, self.tables[name].key(entry[2][0]), None))
+            return True
+        return False
+
+    def ask(self, name, kind):
+        """What is done about a conflict."""
+        if kind == b"constraint" and not self.is_told:
+            raise PutOff
+        return super().ask(name, kind)
+
+
 class Apply:
-    """Whether an apply to tables of these rows does what SQLite's does to ordinary tables."""
+    """Whether an apply to tables of these rows does what SQLite's does to ordinary tables, with the same NOT NULL.
+
+    Which entries meet a constraint conflict, what is answered to it and what that leaves is the same. When it is told is
+    not, nor whether the row is there that an INSERT was to replace: `LaterApplying` says how SQLite does both.
+    """
 
     def __init__(self, tables, groups, choices):
         self.tables = {name: copied(table) for name, table in tables.items()}
@@ -186,19 +227,26 @@ class Apply:
         """Compares the answers."""
         if b"none" in told:
             return (APPLY_NOOP,)
-        applying, code, met = Applying(self.tables, self.choices), OK, b""
+        answer_here, rows_here = self.ended(Applying)
+        answer, rows = self.ended(LaterApplying)
+        made, told_answer, listed = told[:-len(rows) - 1], told[-len(rows) - 1], told[len(told) - len(rows):]
+        lists = [sorted(line.split(b";")[1:]) for line in listed]
+        if any(line != b"0" for line in made) or told_answer != answer or lists != rows:
+            raise Difference(self.script, (answer, rows), told)
+        return (APPLY_LATER,) * (answer != answer_here) + (APPLY_REMOVED,) * (rows != rows_here)
+
+    def ended(self, form):
+        """How an apply of this form ends, as `sqlite.c` answers it, and the rows that it leaves."""
+        tables = {name: copied(table) for name, table in self.tables.items()}
+        applying, code, last = form(tables, self.choices), OK, b""
         try:
             applying.run(self.asked)
         except Refusal as refusal:
             number, kind = refusal.line.split(b" ")[1:4:2]
-            code, met = ABORT if number == b"41" else MISUSE, b"%d" % NUMBERS[kind]
-        met = b"".join(line[9:10] for line in applying.report if line.startswith(b"conflict ")) + met
-        rows = [sorted(b"".join(map(shown, row)) for row in table.rows.values()) for table in self.tables.values()]
-        made, answer, listed = told[:-len(rows) - 1], told[-len(rows) - 1], told[len(told) - len(rows):]
-        lists = [sorted(line.split(b";")[1:]) for line in listed]
-        if any(line != b"0" for line in made) or answer != b"%d %s" % (code, met) or lists != rows:
-            raise Difference(self.script, (code, met, rows), told)
-        return ()
+            code, last = ABORT if number == b"41" else MISUSE, b"%d" % NUMBERS[kind]
+        met = b"".join(line[9:10] for line in applying.report if line.startswith(b"conflict ")) + last
+        rows = [sorted(b"".join(map(shown, row)) for row in table.rows.values()) for table in tables.values()]
+        return b"%d %s" % (code, met), rows
 
 
 class Recording:
@@ -261,7 +309,7 @@ def in_order(groups):
 
 def copied(table):
     """A table with the rows that it has now."""
-    copy = Table(table.columns, table.flags)
+    copy = Table(table.columns, table.flags, table.refuses)
     copy.rows = dict(table.rows)
     return copy
 
@@ -281,11 +329,17 @@ def sql_value(value):
     return b"CAST(X'%s' AS TEXT)" % text if kind == b"\x03" else b"X'%s'" % text
 
 
+def create_text(name, table):
+    """The SQL that makes a table, in which the columns are c1, c2 and so on."""
+    names = [b"c%d" % place for place in range(1, len(table.flags) + 1)]
+    keys = b", ".join(column for column, flag in zip(names, table.flags) if flag)
+    rules = b", ".join(column + b" NOT NULL" * mark for column, mark in zip(names, table.refuses))
+    return b"CREATE TABLE %s(%s, PRIMARY KEY(%s))" % (quoted(name, b'"'), rules, keys)
+
+
 def table_texts(name, table):
     """The SQL that makes a table with its rows."""
-    columns = [b"c%d" % place for place in range(1, len(table.flags) + 1)]
-    keys = [column for column, flag in zip(columns, table.flags) if flag]
-    yield b"CREATE TABLE %s(%s, PRIMARY KEY(%s))" % (quoted(name, b'"'), b", ".join(columns), b", ".join(keys))
+    yield create_text(name, table)
     for row in table.rows.values():
         yield b"INSERT INTO %s VALUES(%s)" % (quoted(name, b'"'), b", ".join(map(sql_value, row)))
 
@@ -303,9 +357,7 @@ def shown(value):
 def script_of(tables, groups, choices):
     """Lines that do the same: the rows are put there by a changeset, since a line holds not every text."""
     for name, table in tables.items():
-        names = [b"c%d" % place for place in range(1, len(table.flags) + 1)]
-        keys = b", ".join(column for column, flag in zip(names, table.flags) if flag)
-        yield b"CREATE TABLE %s(%s, PRIMARY KEY(%s));" % (quoted(name, b'"'), b", ".join(names), keys)
+        yield create_text(name, table) + b";"
         if table.rows:
             rows = [(reader.INSERT, b"\x00", [list(row)]) for row in table.rows.values()]
             yield b".load a " + hexed([(bytes(table.flags), name, rows)])

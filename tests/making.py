@@ -2,7 +2,7 @@
 
 Groups are those of `reader.py`. What is made has few keys and few values, so that much of it meets.
 """
-from model import NULL, UNDEFINED, key_of, literals, quoted
+from model import NULL, UNDEFINED, have_same_columns, key_of, literals, quoted
 from reader import DELETE, INSERT, UPDATE, is_text, spelled, write
 
 INTEGERS = (0, 1, 2, 3, -1, 10, 255, 256, 1 << 31, (1 << 63) - 1, -1 << 63)
@@ -31,6 +31,9 @@ SPOILERS = (
 FIELDS = (b"\x00", b"\x00", NULL, NULL, b"\x02" + bytes(8), b"\x06", b"\x03\x01\xff", b"\x03\x02\xc3", b"\x03\x01x")
 
 CHOICES = (b"omit", b"replace", b"abort")
+
+# What is chosen where entries are carried out though they meet a conflict, and may then meet a second one.
+TRYING_AGAIN = (b" data=replace", b" notfound=omit", b" conflict=replace", b" constraint=omit")
 
 
 def integer(number):
@@ -155,7 +158,7 @@ class Maker:
             groups += self.changeset([(name, self.flags()) for name in NAMES if name not in names])[:1]
         if self.is_one_in(3):
             groups = self.clean(tables, groups)
-        return [self.widths(group) for group in groups]
+        return [self.with_nulls(tables, self.widths(group)) for group in groups]
 
     def other_flags(self, flags):
         """Flags of a table with one column less, one more, or another key; or such as are numbered otherwise."""
@@ -170,6 +173,24 @@ class Maker:
             len(record) == len(flags) for _, _, records in entries for record in records
         )
         return group if is_good else self.group(flags, name)
+
+    def with_nulls(self, tables, group):
+        """A group of which sometimes most entries have NULL in a column that refuses it."""
+        flags, name, entries = group
+        table = tables.get(name)
+        if table is None or not have_same_columns(flags, table.flags) or self.is_one_in(2):
+            return group
+        return flags, name, [
+            entry if entry[0] == DELETE or self.is_one_in(3) else
+            (*entry[:2], [*entry[2][:-1], self.with_null(table, entry[2][-1])]) for entry in entries
+        ]
+
+    def with_null(self, table, record):
+        """A record with NULL in a column outside the key that refuses it, where it has a value in such a column."""
+        parts = enumerate(zip(table.flags, table.refuses, record))
+        places = [place for place, (flag, mark, field) in parts if mark and not flag and field != UNDEFINED]
+        null = self.pick(places) if places else None
+        return [NULL if place == null else field for place, field in enumerate(record)]
 
     def clean(self, tables, groups):
         """Groups of which each entry does what it can do to the row that stands under its key."""
@@ -294,14 +315,18 @@ class Maker:
             for column, value in zip(columns, values)
         ]
 
+    def column(self, name):
+        """A column in a CREATE TABLE, which may refuse NULL."""
+        rule = self.pick((b" NOT NULL", b" NOT NULL", b" not null", b"\tnot\r Null")) if self.is_one_in(3) else b""
+        return self.name(name) + rule
+
     def create(self):
         """A CREATE TABLE."""
         columns = self.chance.sample(COLUMNS, self.pick((1, 2, 2, 3, 3, 4)))
         keys = self.chance.sample(columns, self.upto(min(len(columns), 3)))
         if self.is_one_in(12):
             self.pick((columns, keys)).append(self.pick(COLUMNS + (b"",)))
-        rules = (self.name(column) + (self.pick((b" NOT NULL", b" not null")) if self.is_one_in(4) else b"") for column in columns)
-        names = b", ".join(rules), b", ".join(map(self.name, keys))
+        names = b", ".join(map(self.column, columns)), b", ".join(map(self.name, keys))
         name = self.pick((b"", b"a\0b")) if self.is_one_in(40) else self.pick(NAMES)
         return b"CREATE TABLE %s(%s, PRIMARY KEY(%s));" % (self.name(name), *names)
 
@@ -321,6 +346,8 @@ class Maker:
         row = self.row([1, 0]) if table is None else self.row(table.flags)
         if table is not None and self.is_one_in(6):
             row = self.row_of(table)
+        if table is not None and self.is_one_in(12):
+            row = self.with_null(table, row)
         if self.is_one_in(25):
             row = self.pick((row + [NULL], row[:-1] or row, [NULL] * len(row)))
         values = self.pick((b",", b", ")).join(map(self.literal, row))
@@ -348,7 +375,9 @@ class Maker:
             return b"UPDATE %s SET a=1 WHERE a=1;" % self.name(name)
         places = self.chance.sample(range(len(table.columns)), self.upto(len(table.columns)))
         columns = [table.columns[place] for place in places]
-        values = [self.value(table.flags[place]) for place in places]
+        row = self.row(table.flags)
+        row = self.with_null(table, row) if self.is_one_in(6) else row
+        values = [row[place] for place in places]
         if self.is_one_in(20):
             columns[0], values[-1] = self.pick(((b"none", NULL), (columns[-1], NULL)))
         sets = b", ".join(self.assignments(columns, values))
@@ -370,6 +399,8 @@ class Maker:
         """What is chosen about conflicts."""
         kinds = self.chance.sample((b"data", b"notfound", b"conflict", b"constraint"), self.chance.randrange(5))
         settings = [b" %s=%s" % (kind, self.pick(CHOICES)) for kind in kinds]
+        if self.is_one_in(4):
+            settings = self.chance.sample(TRYING_AGAIN, len(TRYING_AGAIN))
         if self.is_one_in(3):
             settings.insert(self.chance.randrange(len(settings) + 1), b" noop=" + self.pick((b"ignore", b"ignore", b"report")))
         return b"".join(settings)

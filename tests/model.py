@@ -165,16 +165,21 @@ class Applying:
                 self.report.append(b"warning 17 skipped " + quoted(name))
         try:
             for judgement, (_, name, entries) in zip(judgements, groups):
-                for entry in entries if judgement == "compatible" else ():
-                    self.carry_out(name, entry)
+                if judgement == "compatible":
+                    self.carry_out_all(name, entries)
         except Refusal:
             take_back(self.tables, self.writes)
             raise
         ignored = [b"ignored %d" % self.ignored] if self.ignored else []
         return self.report + ignored + [b"applied %d" % len(self.writes)]
 
+    def carry_out_all(self, name, entries):
+        """Carries the entries of a table out."""
+        for entry in entries:
+            self.carry_out(name, entry)
+
     def carry_out(self, name, entry):
-        """Carries an entry out, or does what is chosen about the conflict that it meets."""
+        """Carries an entry out, or does what is chosen about the conflicts that it meets."""
         table = self.tables[name]
         key = table.key(entry[2][0])
         row = table.rows.get(key)
@@ -184,16 +189,20 @@ class Applying:
             self.ignored += 1
             return
         while kind is not None:
-            choice = self.choices[kind]
-            if choice == b"abort":
-                raise Refusal(b"error 41 Abort %s %s" % (kind, quoted(name)))
-            if kind in (b"notfound", b"constraint") and choice == b"replace":
-                raise Refusal(b"error 42 Misuse %s %s" % (kind, quoted(name)))
-            self.report.append(b"conflict %d %s %s %s" % (NUMBERS[kind], kind, choice, quoted(name)))
-            if choice == b"omit":
+            if self.ask(name, kind) == b"omit":
                 return
             kind = b"constraint" if is_refused else None
         self.writes.append(put(self.tables, name, key, row_after(entry, row)))
+
+    def ask(self, name, kind):
+        """What is done about a conflict, unless that ends the call."""
+        choice = self.choices[kind]
+        if choice == b"abort":
+            raise Refusal(b"error 41 Abort %s %s" % (kind, quoted(name)))
+        if kind in (b"notfound", b"constraint") and choice == b"replace":
+            raise Refusal(b"error 42 Misuse %s %s" % (kind, quoted(name)))
+        self.report.append(b"conflict %d %s %s %s" % (NUMBERS[kind], kind, choice, quoted(name)))
+        return choice
 
 
 def put(tables, name, key, row):

@@ -14,7 +14,9 @@ KEYWORDS = frozenset(
 BLANKS = re.compile(rb"[ \t\r]*")
 WORDS = re.compile(rb"[^ \t\r]+")
 SLOT = re.compile(rb"[A-Za-z0-9_]+")
-SETTING = re.compile(rb"((?:data|notfound|conflict|constraint)(?==(?:omit|replace|abort)$)|noop(?==(?:report|ignore)$))=([a-z]+)")
+SETTING = re.compile(
+    rb"((?:data|notfound|conflict|constraint)(?==(?:omit|replace|abort)$)|noop(?==(?:report|ignore)$))=([a-z]+)"
+)
 TOKEN = re.compile(
     rb"(?P<blob>[Xx]'(?:[0-9A-Fa-f]{2})*')|(?P<word>(?![Xx]')[A-Za-z_][A-Za-z0-9_]*)|(?P<sign>[(),;=*])"
     rb'|(?P<integer>-?[0-9]+)(?![A-Za-z0-9_])|"(?P<name>(?:[^"]|"")*)"(?!")|' rb"'(?P<text>(?:[^']|'')*)'(?!')"
@@ -391,7 +393,7 @@ class Shell:
         return report
 
     def dot_apply(self, words):
-        """`.apply SLOT [data=C] [notfound=C] [conflict=C] [noop=N]`"""
+        """`.apply SLOT [data=C] [notfound=C] [conflict=C] [constraint=C] [noop=N]`"""
         slot, choices = words.slot(), words.choices()
         return self.carry_out(self.groups(slot), choices)
 

@@ -1,8 +1,9 @@
 """Changesets and stores as bytes: what the tests of the program hand it, and what they read back.
 
 A table is its columns' names, for each column whether it is of the key, its rows, tuples of `int`, `str`, `bytes` and
-`None`, and for each column whether it refuses NULL: where that is not told, those of the key do. A store is a file of SQLite with the table of records (`docs/STORE.md`); it is written and read here by
-Python's own sqlite3. A changeset is bytes (`docs/FORMAT.md`).
+`None`, and for each column whether it refuses NULL: where that is not told, those of the key do. A store is a file of
+SQLite with the table of records (`docs/STORE.md`); it is written and read here by Python's own sqlite3. A changeset is
+bytes (`docs/FORMAT.md`).
 """
 import collections
 import contextlib
