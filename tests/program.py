@@ -30,7 +30,7 @@ RECORDED = HERE / "recorded"
 PROGRAM = HERE.parent / "crates/changeset/out/changeset"
 
 USAGE = """\
-Usage: changeset [--data C] [--notfound C] [--conflict C] [--ignore-noop] FILE COMMAND ...
+Usage: changeset [--data C] [--notfound C] [--conflict C] [--constraint C] [--ignore-noop] FILE COMMAND ...
 COMMANDs:
   apply STORE        Apply the changeset to the store STORE
   concat FILE2 OUT   Concatenate FILE and FILE2 into OUT
@@ -45,8 +45,9 @@ C is omit, replace or abort (the default).
 T = header("t", 1, 0)
 KEY = b"\x01\x00\x00\x00\x00\x00\x00\x00\x01"
 
-# The line that makes it.
+# The line that makes it, and the line that makes a table n whose second column refuses NULL.
 CREATE = "CREATE TABLE t(a, b, PRIMARY KEY(a));"
+CREATE_N = "CREATE TABLE n(a, b NOT NULL, PRIMARY KEY(a));"
 
 INSERT = T + insert(1, "x")
 DELETE = T + delete(1, "x")
@@ -55,6 +56,11 @@ UPDATE = T + update((1, "x"), (UNDEFINED, "y"))
 MANY = 20_000
 MANY_INSERTS = T + b"".join(insert(key, "x") for key in range(MANY))
 WIDER_INSERT = header("t", 1, 0, 0) + insert(1, None, None)
+
+# The header of the table n, an insert of a row that it refuses, and an update to such a row.
+N = header("n", 1, 0)
+NULL_INSERT = N + insert(1, None)
+NULL_UPDATE = N + update((1, "x"), (UNDEFINED, None))
 
 INPUT_FAULT = "error 71 InputFault\n"
 OUTPUT_FAULT = "error 72 OutputFault\n"
@@ -70,6 +76,11 @@ NEEDS_FULL = unittest.skipUnless(os.path.exists("/dev/full"), "no /dev/full")
 def tables_of(*rows, columns=("a", "b"), keys=(True, False), name="t"):
     """A table with these rows, of which the first column is the key unless said otherwise."""
     return {name: Table(columns, keys, list(rows))}
+
+
+def refusing(*rows):
+    """The table n with these rows, whose second column refuses NULL."""
+    return {"n": Table(("a", "b"), (True, False), list(rows), (True, True))}
 
 
 class ProgramTest(unittest.TestCase):
@@ -158,6 +169,9 @@ class ProgramTest(unittest.TestCase):
         self.assertEqual(sorted(os.listdir(self.folder)), sorted(names))
 
 
+# The kinds of conflicts, as words say what is done about them.
+KINDS = ("data", "notfound", "conflict", "constraint")
+
 # The commands, and how many arguments each has.
 COMMANDS = {"apply": 1, "concat": 2, "dump": 0, "invert": 1, "shell": 0, "sql": 0}
 
@@ -199,6 +213,12 @@ class Words(ProgramTest):
             ["-", "dump", "x"],
             ["--version"],
             ["--data", "omit", "--data", "omit", "a.cs", "dump"],
+            ["--constraint", "a.cs", "dump"],
+            ["--constraint=", "a.cs", "dump"],
+            ["--constraint", "ignore", "a.cs", "dump"],
+            ["--constraint=OMIT", "a.cs", "dump"],
+            ["--constrain", "omit", "a.cs", "dump"],
+            ["--constraint=omit", "--constraint=omit", "a.cs", "dump"],
             ["--", "--help"],
             ["--dta", "-h"],
             ["--data", "-h"],
@@ -231,6 +251,8 @@ class Words(ProgramTest):
             ["a.cs", "--notfound", "replace", "dump"],
             ["a.cs", "dump", "--conflict=abort"],
             ["--data=omit", "--notfound=omit", "--conflict=omit", "a.cs", "dump"],
+            ["--constraint", "replace", "a.cs", "dump"],
+            ["a.cs", "--constraint=omit", "--ignore-noop", "dump"],
             ["--", "a.cs", "dump"],
         ):
             with self.subTest(words=words):
@@ -521,6 +543,10 @@ class Scripts(ProgramTest):
 class StoreTest(ProgramTest):
     """A test with changesets that are applied to a store."""
 
+    def run_shell(self, lines, store="store"):
+        """Runs lines on the store in a file."""
+        return self.run_program(store, "shell", stdin="".join(line + "\n" for line in lines).encode())
+
     def write(self, tables, **how):
         """Has SQLite write the store."""
         write_store(self.folder / "store", tables, **how)
@@ -655,9 +681,10 @@ class Applies(StoreTest):
         self.assertEqual(self.read(), tables_of(*rows))
 
 
-# The declaration of the table t, and its row (1, 'x').
+# The declaration of the table t, and its row (1, 'x'); and the declaration of n, which the former version has not.
 TABLE = ("", b"t", b"\x02\x01\x01a\x00\x01b")
 ROW = ("t", KEY, KEY + b"\x03\x01x")
+REFUSING = ("", b"n", b"\x02\x01\x01a\x02\x01b")
 
 # Records that are those of no tables, and what is wrong with them.
 DAMAGED = (
@@ -669,7 +696,12 @@ DAMAGED = (
     ("a long count of columns", [VERSION, ("", b"t", b"\x80\x02\x01\x01a\x00\x01b")]),
     ("no column", [VERSION, ("", b"t", b"\x00")]),
     ("no key column", [VERSION, ("", b"t", b"\x02\x00\x01a\x00\x01b")]),
-    ("a byte that no column has", [VERSION, ("", b"t", b"\x02\x01\x01a\x02\x01b")]),
+    ("a byte that no column has", [VERSION, ("", b"t", b"\x02\x01\x01a\x03\x01b")]),
+    ("a byte that no column of the key has", [VERSION, ("", b"t", b"\x02\x03\x01a\x01\x01b")]),
+    ("no key column, but one that refuses NULL", [VERSION, ("", b"t", b"\x02\x00\x01a\x02\x01b")]),
+    ("NULL in a column that refuses it", [VERSION, REFUSING, ("n", KEY, KEY + b"\x05")]),
+    ("a row behind such a one", [VERSION, REFUSING, ("n", KEY, KEY + b"\x05"), ("n", b"\x03\x00", b"\x03\x00\x03\x01x")]),
+    ("a row of a table that is not declared", [VERSION, TABLE, ROW, ("u", KEY, ROW[2])]),
     ("a column twice", [VERSION, ("", b"t", b"\x02\x01\x01a\x00\x01a")]),
     ("a column without a name", [VERSION, ("", b"t", b"\x02\x01\x01a\x00\x00")]),
     ("a column's name that is not UTF-8", [VERSION, ("", b"t", b"\x02\x01\x01a\x00\x01\xff")]),
@@ -708,7 +740,7 @@ class Policies(StoreTest):
                 status, printed, reported = self.apply(changeset)
                 self.assertEqual((status, printed, reported[:14]), (1, "", "error 41 Abort"))
                 for choice in ("omit", "replace", "abort"):
-                    options = [f"--{kind}={choice}" for kind in ("data", "notfound", "conflict")]
+                    options = [f"--{kind}={choice}" for kind in KINDS]
                     self.expect([*options, "--ignore-noop", "a.cs", "apply", "store"], 0, f"ignored {count}\napplied 0\n")
                 self.expect(["a.cs", "apply", "store", "--ignore-noop"], 0, f"ignored {count}\napplied 0\n")
                 self.assertEqual(self.read(), tables_of(*left))
@@ -743,7 +775,7 @@ class Policies(StoreTest):
             else:
                 self.expect_policy(rows, changeset, [f"--{kind}=replace"], 0, met % ("replace", 1), "", replaced)
             # The choices of the other kinds are none of this one.
-            others = [f"--{other}=omit" for other in ("data", "notfound", "conflict") if other != kind]
+            others = [f"--{other}=omit" for other in KINDS if other != kind]
             self.expect_policy(rows, changeset, others, *aborted)
 
     def test_conflicts_of_each_kind_at_once(self):
@@ -761,12 +793,191 @@ class Policies(StoreTest):
         self.expect_files("a.cs")
 
 
+class Rules(StoreTest):
+    """Columns that refuse NULL: in lines, in applies, and in stores that SQLite wrote or reads."""
+
+    def test_declaration(self):
+        """The byte of a column says whether it refuses NULL; one of the key does so anyway."""
+        lines = [
+            CREATE_N, "create table k(a not null, b NOT\tnull, c, PRIMARY KEY(c, a));", "CREATE TABLE f(a, b, PRIMARY KEY(a));",
+            'CREATE TABLE "not"("null" NOT NULL, "NOT", PRIMARY KEY("NOT"));',
+        ]
+        self.assertEqual(self.run_shell(lines), (0, "", ""))
+        self.assertEqual(read_records(self.folder / "store"), sorted([
+            VERSION, REFUSING, ("", b"k", b"\x03\x01\x01a\x02\x01b\x01\x01c"), ("", b"f", b"\x02\x01\x01a\x00\x01b"),
+            ("", b"not", b"\x02\x02\x04null\x01\x03NOT"),
+        ]))
+
+    def test_forms_that_do_not_fit(self):
+        for line, column in (
+            ("CREATE TABLE n(a, b NOT, PRIMARY KEY(a));", 24), ("CREATE TABLE n(a, b NULL, PRIMARY KEY(a));", 21),
+            ("CREATE TABLE n(a, b NOT NULL NOT NULL, PRIMARY KEY(a));", 30), ("CREATE TABLE n(a, NOT NULL, PRIMARY KEY(a));", 19),
+            ("CREATE TABLE n(a, b, PRIMARY KEY(a NOT NULL));", 36), ("CREATE TABLE not(a, PRIMARY KEY(a));", 14),
+            ('CREATE TABLE n(a, b "NOT" NULL, PRIMARY KEY(a));', 21), ("CREATE TABLE n(a, b NOTNULL, PRIMARY KEY(a));", 21),
+        ):
+            with self.subTest(line=line):
+                self.assertEqual(self.run_shell([line]), (1, f"error 61 Syntax {column}\n", ""))
+        self.assertEqual(self.read(), {})
+
+    def test_lines_that_are_refused(self):
+        """Each changes nothing, and is answered by the first of the refusals that fit."""
+        self.write(refusing((1, "x"), (2, "y")))
+        for line, answer in (
+            ("INSERT INTO n VALUES(3, NULL);", "39 NotNull"),
+            ("INSERT INTO n VALUES(1, NULL);", "39 NotNull"),
+            ("INSERT INTO n VALUES(NULL, NULL);", "36 NullInKey"),
+            ("INSERT INTO n VALUES(3, NULL, NULL);", "35 RowWidth"),
+            ("UPDATE n SET b=NULL WHERE a=1;", "39 NotNull"),
+            ("UPDATE n SET b=NULL, a=2 WHERE a=1;", "39 NotNull"),
+            ("UPDATE n SET b=NULL, a=NULL WHERE a=1;", "36 NullInKey"),
+            ("UPDATE n SET b=NULL WHERE a=3;", "34 NoRow"),
+        ):
+            with self.subTest(line=line):
+                self.assertEqual(self.run_shell([line]), (1, f"error {answer}\n", ""))
+        self.assertEqual(self.read(), refusing((1, "x"), (2, "y")))
+
+    def test_what_is_not_refused(self):
+        """Other values of the column, and NULL where nothing refuses it."""
+        self.write({**refusing((1, "x")), **tables_of((1, "x"))})
+        lines = [
+            "INSERT INTO n VALUES(2, '');", "INSERT INTO n VALUES(3, X'');", "UPDATE n SET b=0, a=4 WHERE a=1;",
+            "UPDATE t SET b=NULL WHERE a=1;", "INSERT INTO t VALUES(2, NULL);", "DELETE FROM n WHERE a=3;",
+        ]
+        self.assertEqual(self.run_shell(lines), (0, "", ""))
+        self.assertEqual(self.read(), {**refusing((2, ""), (4, 0)), **tables_of((1, None), (2, None))})
+
+    def expect_conflicts(self, rows, changeset, choices, met, ends=None, left=None):
+        """Applies a changeset to these rows of n, by the command and by a line. What is met is kinds with what is done
+        about them; where the last of these ends the apply, nothing of it stays."""
+        options = [f"--{choice}" for choice in choices.split()]
+        told = "".join(f"conflict {KINDS.index(kind) + 1} {kind} {choice} 'n'\n" for kind, choice in met)
+        told = told + "applied %d\n" % (ends or 0) if not isinstance(ends, str) else f"error {ends} constraint 'n'\n"
+        status, lines = int(isinstance(ends, str)), [f".load a {changeset.hex()}", f".apply a {choices}"]
+        for words in (options, None):
+            with self.case(rows=rows, changeset=changeset, choices=choices, words=words):
+                self.write(refusing(*rows))
+                self.make("a.cs", changeset)
+                ended = self.run_shell(lines) if words is None else self.run_program(*words, "a.cs", "apply", "store")
+                self.assertEqual(ended, (status, "", told) if words is not None and status else (status, told, ""))
+                self.assertEqual(self.read(), refusing(*(rows if left is None else left)))
+
+    def test_entries_that_meet_no_other_conflict(self):
+        for rows, changeset in (([], NULL_INSERT), ([(1, "x")], NULL_UPDATE), ([(2, "q")], NULL_INSERT)):
+            for others in ("", " data=replace conflict=replace notfound=omit", " noop=ignore"):
+                others = others if others != " noop=ignore" else ""
+                self.expect_conflicts(rows, changeset, others, [], "41 Abort")
+                self.expect_conflicts(rows, changeset, "constraint=abort" + others, [], "41 Abort")
+                self.expect_conflicts(rows, changeset, "constraint=replace" + others, [], "42 Misuse")
+                self.expect_conflicts(rows, changeset, "constraint=omit" + others, [("constraint", "omit")])
+
+    def test_rows_that_are_replaced(self):
+        """The conflict that is replaced is met first, and then that of the new row; the row stays as it was."""
+        for kind, rows, changeset in (
+            ("conflict", [(1, "x")], NULL_INSERT), ("conflict", [(1, "z")], NULL_INSERT), ("data", [(1, "z")], NULL_UPDATE),
+        ):
+            self.expect_conflicts(rows, changeset, f"{kind}=replace", [], "41 Abort")
+            self.expect_conflicts(rows, changeset, f"{kind}=replace constraint=replace", [], "42 Misuse")
+            met = [(kind, "replace"), ("constraint", "omit")]
+            self.expect_conflicts(rows, changeset, f"{kind}=replace constraint=omit", met)
+            self.expect_conflicts(rows, changeset, f"constraint=omit {kind}=omit", [(kind, "omit")])
+
+    def test_entries_before_and_behind_one_that_is_refused(self):
+        entries = insert(3, "new") + insert(1, None) + delete(4, None) + update((2, "x"), (UNDEFINED, None)) + insert(5, "last")
+        met = [("conflict", "replace"), ("constraint", "omit"), ("data", "replace"), ("constraint", "omit")]
+        rows, left = [(1, "x"), (2, "x"), (4, "x")], [(1, "x"), (2, "x"), (3, "new"), (5, "last")]
+        self.expect_conflicts(rows, N + entries, "data=replace conflict=replace constraint=omit", met, 3, left)
+        self.expect_conflicts(rows, N + entries, "data=replace conflict=replace", [], "41 Abort")
+        self.expect_conflicts(rows, N + entries, "constraint=replace data=replace conflict=replace", [], "42 Misuse")
+
+    def test_a_column_that_is_not_modified(self):
+        """An UPDATE of other columns, and one that modifies none, meet no such conflict."""
+        table = Table(("a", "b", "c"), (True, False, False), [(1, "x", None)], (True, True, False))
+        self.write({"n": table})
+        head = header("n", 1, 0, 0)
+        for old, new in (((1, UNDEFINED, None), (UNDEFINED, UNDEFINED, 5)), ((1, UNDEFINED, UNDEFINED), (UNDEFINED,) * 3),
+                         ((1, UNDEFINED, 5), (UNDEFINED, UNDEFINED, None))):
+            self.expect_applied(head + update(old, new), "applied 1\n")
+        self.assertEqual(self.read(), {"n": table})
+
+    def test_what_changes_nothing_is_ignored(self):
+        """No row is what the entry leaves, so an entry that is refused is not ignored."""
+        for rows, changeset in (([], NULL_INSERT), ([(1, "x")], NULL_UPDATE)):
+            with self.case(rows=rows):
+                self.write(refusing(*rows))
+                self.make("a.cs", changeset)
+                self.expect(["--ignore-noop", "a.cs", "apply", "store"], 1, "", "error 41 Abort constraint 'n'\n")
+                printed = "conflict 4 constraint omit 'n'\napplied 0\n"
+                self.expect(["--ignore-noop", "--constraint", "omit", "a.cs", "apply", "store"], 0, printed)
+                self.assertEqual(self.read(), refusing(*rows))
+
+    def test_sessions(self):
+        """An apply whose entries are left is undone with the lines beside it."""
+        self.write(refusing((1, "x")))
+        lines = [
+            ".session open", ".session attach n", "UPDATE n SET b='y' WHERE a=1;", "UPDATE n SET b=NULL WHERE a=1;",
+            f".load a {(NULL_INSERT + insert(2, 'w')).hex()}", ".apply a conflict=replace constraint=omit",
+            ".session changeset c", ".dump c", ".invert c d", ".apply d", ".apply c", ".session undo", ".session isempty",
+            "SELECT * FROM n;",
+        ]
+        printed = (
+            "error 39 NotNull\nconflict 3 conflict replace 'n'\nconflict 4 constraint omit 'n'\napplied 1\n"
+            "table 'n' columns 2 flags 1,0\nupdate 0 old 1,'x' new -,'y'\ninsert 0 new 2,'w'\n"
+            "applied 2\napplied 2\napplied 2\n0\n1|'x'\n"
+        )
+        self.assertEqual(self.run_shell(lines), (1, printed, ""))
+        self.assertEqual(self.read_alone(), refusing((1, "x")))
+
+    def test_store_of_sqlite(self):
+        """A store that SQLite wrote keeps its rules, also where it is opened again."""
+        for log in (False, True):
+            with self.case(log=log):
+                self.write(refusing((1, "x")), log=log)
+                for _ in range(2):
+                    lines = ["INSERT INTO n VALUES(2, NULL);", f".load a {NULL_UPDATE.hex()}", ".apply a", "SELECT * FROM n;"]
+                    printed = "error 39 NotNull\nerror 41 Abort constraint 'n'\n1|'x'\n"
+                    self.assertEqual(self.run_shell(lines), (1, printed, ""))
+                    self.assertEqual(self.read_alone(), refusing((1, "x")))
+
+    def test_rules_under_the_former_version(self):
+        """A declaration with such a column is damage there, and valid in this version."""
+        for records in ([REFUSING], [REFUSING, ("n", KEY, ROW[2])]):
+            with self.case(records=records):
+                run_sql(self.folder / "store", RECORDS, records=[FORMER, *records])
+                for _ in range(2):
+                    self.assertEqual(self.run_shell(["SELECT * FROM n;"]), (1, "", DAMAGED_STORE))
+                    self.assertEqual(self.apply(INSERT), (1, "", DAMAGED_STORE))
+                self.assertEqual(read_records(self.folder / "store"), [FORMER, *records])
+                run_sql(self.folder / "store", "UPDATE rec SET rowb = X'02' WHERE tab = '' AND keyb = X''")
+                self.assertEqual(self.run_shell(["SELECT * FROM n;"]), (0, "1|'x'\n" * (len(records) - 1), ""))
+
+    def test_new_table_in_a_store_of_the_former_version(self):
+        """The store is of this version by then, and the table may have rules; the others have none."""
+        for log in (False, True):
+            with self.case(log=log):
+                self.write(tables_of((1, None)), log=log, version=FORMER)
+                lines = [CREATE_N, "INSERT INTO n VALUES(1, 'x');", "INSERT INTO n VALUES(2, NULL);", "INSERT INTO t VALUES(2, NULL);"]
+                self.assertEqual(self.run_shell(lines), (1, "error 39 NotNull\n", ""))
+                tables = {**tables_of((1, None), (2, None)), **refusing((1, "x"))}
+                self.assertEqual(self.read_alone(), tables)
+                self.assertEqual(read_records(self.folder / "store"), sorted([
+                    VERSION, TABLE, REFUSING, ("t", KEY, KEY + b"\5"), ("t", KEY[:-1] + b"\2", KEY[:-1] + b"\2\5"),
+                    ("n", KEY, ROW[2]),
+                ]))
+
+    def test_refused_store_of_the_former_version_keeps_its_byte(self):
+        """A row of a table that is not declared stands behind valid ones."""
+        self.write(tables_of((1, "x")), version=FORMER)
+        run_sql(self.folder / "store", records=[("u", KEY, ROW[2])])
+        for _ in range(2):
+            self.assertEqual(self.run_shell(["SELECT * FROM t;"]), (1, "", DAMAGED_STORE))
+            self.assertEqual(read_records(self.folder / "store"), [FORMER, TABLE, ROW, ("u", KEY, ROW[2])])
+        run_sql(self.folder / "store", "DELETE FROM rec WHERE tab = 'u'")
+        self.assertEqual(self.run_shell(["SELECT * FROM t;"]), (0, "1|'x'\n", ""))
+        self.assertEqual(read_records(self.folder / "store"), [VERSION, TABLE, ROW])
+
+
 class Shells(StoreTest):
     """Scripts on the store in a file."""
-
-    def run_shell(self, lines, store="store"):
-        """Runs lines on the store in a file."""
-        return self.run_program(store, "shell", stdin="".join(line + "\n" for line in lines).encode())
 
     def test_new_store_and_an_existing_one(self):
         self.assertEqual(self.run_shell([CREATE, "INSERT INTO t VALUES(1, 'x');"]), (0, "", ""))
