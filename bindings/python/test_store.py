@@ -27,11 +27,24 @@ PROGRAM = HERE.parents[1] / "crates/changeset/out/changeset"
 # The INSERT of (1, 'x') into the table t, whose first column is its key.
 FILE = bytes.fromhex("5402010074001200010000000000000001030178")
 
+# The INSERT of (1, None) into the table n, and the UPDATE of its row (1, 'x') to that.
+NULL_INSERT = bytes.fromhex("540201006e00" "1200" "010000000000000001" "05")
+NULL_UPDATE = bytes.fromhex("540201006e00" "1700" "010000000000000001" "030178" "00" "05")
+
 
 def store_with_table(path=":memory:", **given):
     """A store with a table t of two columns, of which the first is its key."""
     store = vollikash.open(path, **given)
     store.create("t", ["a", "b"], key=["a"])
+    return store
+
+
+def store_with_rule(path=":memory:", *rows):
+    """A store with these rows in a table n of two columns, of which the first is its key, and the second refuses None."""
+    store = vollikash.open(path)
+    store.create("n", ["a", "b"], key=["a"], refuses=["b"])
+    for row in rows:
+        store.insert("n", *row)
     return store
 
 
@@ -171,6 +184,152 @@ class Stores(Folder):
             with self.assertRaises(StoreError):
                 store.session("t", "nowhere")
             store.session().close()
+
+
+class Rules(Folder):
+    """Columns that refuse None."""
+
+    def expect_refused(self, call, number, name):
+        """Asserts that a call is refused."""
+        with self.subTest(name), self.assertRaises(StoreError) as caught:
+            call()
+        error = pickle.loads(pickle.dumps(caught.exception))
+        self.assertEqual((type(error), error.number, error.name, error.detail), (StoreError, number, name, ""))
+
+    def expect_conflict(self, rows, file, number, kind, **choices):
+        """Asserts that a conflict ends an apply to these rows, which stay."""
+        with self.subTest(rows=rows, **choices), store_with_rule(":memory:", *rows) as store:
+            with self.assertRaises(ConflictError) as caught:
+                store.apply(file, **choices)
+            error = pickle.loads(pickle.dumps(caught.exception))
+            told = error.number, error.name, error.kind, error.table
+            self.assertEqual(told, (number, {41: "Abort", 42: "Misuse"}[number], kind, "n"))
+            self.assertEqual(list(store.rows("n")), rows)
+
+    def expect_left(self, rows, file, conflicts, **choices):
+        """Asserts that an apply to these rows meets these conflicts of n, and that the rows stay."""
+        with self.subTest(rows=rows, **choices), store_with_rule(":memory:", *rows) as store:
+            report = store.apply(file, **choices)
+            self.assertEqual(report, ([(*met, "n") for met in conflicts], [], 0, 0))
+            self.assertEqual(list(store.rows("n")), rows)
+
+    def test_lines(self):
+        """None is refused before a key that is taken, and behind a row that is missing."""
+        with store_with_rule(":memory:", (1, "x"), (2, "y")) as store:
+            for call, number, name in (
+                (lambda: store.insert("n", 3, None), 39, "NotNull"),
+                (lambda: store.insert("n", 1, None), 39, "NotNull"),
+                (lambda: store.insert("n", None, None), 36, "NullInKey"),
+                (lambda: store.insert("n", 3), 35, "RowWidth"),
+                (lambda: store.update("n", {"b": None}, where={"a": 1}), 39, "NotNull"),
+                (lambda: store.update("n", {"a": 2, "b": None}, where={"a": 1}), 39, "NotNull"),
+                (lambda: store.update("n", {"b": None}, where={"a": 3}), 34, "NoRow"),
+            ):
+                self.expect_refused(call, number, name)
+            self.assertEqual(list(store.rows("n")), [(1, "x"), (2, "y")])
+            store.update("n", {"b": b""}, where={"a": 1})
+            store.insert("n", 3, "")
+            self.assertEqual(list(store.rows("n")), [(1, b""), (2, "y"), (3, "")])
+
+    def test_columns(self):
+        """They are named in any order and by any collection; the key may be among them, and the others take None."""
+        for refuses in (["d", "a"], ("a", "d", "a"), {"a", "b", "d"}, {"d": 1, "a": 2}.keys(), frozenset(["d", "a"])):
+            with self.subTest(refuses=refuses), vollikash.open(":memory:") as store:
+                store.create("t", ["a", "b", "c", "d"], key=["b"], refuses=refuses)
+                store.insert("t", 1, 2, None, 4)
+                self.expect_refused(lambda: store.insert("t", None, 3, 3, 4), 39, "NotNull")
+                self.expect_refused(lambda: store.insert("t", 1, 3, 3, None), 39, "NotNull")
+                self.assertEqual(list(store.rows("t")), [(1, 2, None, 4)])
+        with vollikash.open(":memory:") as store:
+            store.create("t", ["a", 'not "null'], key=["a"], refuses=['not "null'])
+            self.expect_refused(lambda: store.insert("t", 1, None), 39, "NotNull")
+            store.create("u", ["a", "b"], key=["a"], refuses=[])
+            store.insert("u", 1, None)
+
+    def test_names_that_are_no_columns(self):
+        """Each is told before anything is sent."""
+        with vollikash.open(":memory:") as store:
+            for refuses in (["c"], ["a", "B"], ["b", ""], ["ab"], [None], ["n"], [7]):
+                with self.subTest(refuses=refuses), self.assertRaises(ValueError):
+                    store.create("n", ["a", "b"], key=["a"], refuses=refuses)
+            self.expect_refused(lambda: store.rows("n"), 31, "NoTable")
+            store.create("n", ["a", "b"], key=["a"], refuses=["b", "b"])
+
+    def test_conflicts(self):
+        for rows, file in (([], NULL_INSERT), ([(1, "x")], NULL_UPDATE)):
+            self.expect_conflict(rows, file, 41, "constraint")
+            self.expect_conflict(rows, file, 41, "constraint", data="replace", conflict="replace", notfound="omit")
+            self.expect_conflict(rows, file, 41, "constraint", ignore_noop=True)
+            self.expect_conflict(rows, file, 42, "constraint", constraint="replace")
+            self.expect_left(rows, file, [("constraint", "omit")], constraint="omit")
+            self.expect_left(rows, file, [("constraint", "omit")], constraint="omit", ignore_noop=True)
+
+    def test_rows_that_are_replaced(self):
+        """The second conflict stands behind the first one, and the row stays."""
+        for kind, file in (("conflict", NULL_INSERT), ("data", NULL_UPDATE)):
+            rows = [(1, "z"), (2, "y")]
+            self.expect_conflict(rows, file, 41, kind, constraint="omit")
+            self.expect_conflict(rows, file, 41, "constraint", **{kind: "replace"})
+            self.expect_conflict(rows, file, 42, "constraint", constraint="replace", **{kind: "replace"})
+            self.expect_left(rows, file, [(kind, "omit")], constraint="replace", **{kind: "omit"})
+            self.expect_left(rows, file, [(kind, "replace"), ("constraint", "omit")], constraint="omit", **{kind: "replace"})
+        self.expect_left([], NULL_UPDATE, [("notfound", "omit")], notfound="omit", constraint="omit")
+
+    def test_choices_that_are_none(self):
+        with store_with_rule() as store:
+            for choice in ("ignore", "Omit", "", None):
+                with self.subTest(choice), self.assertRaises(ValueError):
+                    store.apply(NULL_INSERT, constraint=choice)
+            self.assertEqual(list(store.rows("n")), [])
+
+    def test_a_file(self):
+        """The store that is opened again has the rule."""
+        path = self.folder / "rules.db"
+        with store_with_rule(path, (1, "x")):
+            pass
+        for _ in range(2):
+            with vollikash.open(path) as store:
+                self.expect_refused(lambda: store.insert("n", 2, None), 39, "NotNull")
+                with self.assertRaises(ConflictError):
+                    store.apply(NULL_UPDATE)
+                self.assertEqual(list(store.rows("n")), [(1, "x")])
+        with sqlite3.connect(path) as base:
+            query = "SELECT keyb, rowb FROM rec WHERE tab = '' ORDER BY keyb"
+            self.assertEqual(base.execute(query).fetchall(), [(b"", b"\x02"), (b"n", b"\x02\x01\x01a\x02\x01b")])
+        base.close()
+
+    def test_sessions(self):
+        """What is left of an apply is neither told nor undone."""
+        with store_with_rule(":memory:", (1, "z"), (2, "y")) as store, store.session("n") as session:
+            self.assertEqual(store.apply(NULL_INSERT, conflict="replace", constraint="omit").applied, 0)
+            self.assertTrue(session.is_empty())
+            self.assertEqual(session.changeset(), b"")
+            self.expect_refused(lambda: store.update("n", {"b": None}, where={"a": 2}), 39, "NotNull")
+            store.update("n", {"b": "w"}, where={"a": 2})
+            store.delete("n", where={"a": 1})
+            changes = session.changeset()
+            self.assertEqual(session.undo(), ([], [], 2, 0))
+            self.assertEqual(list(store.rows("n")), [(1, "z"), (2, "y")])
+            self.assertEqual((store.apply(changes).applied, store.revert(changes).applied), (2, 2))
+            self.assertEqual(list(store.rows("n")), [(1, "z"), (2, "y")])
+
+    def test_from_store_to_store(self):
+        """What a session tells of a table without the rule is applied to one with it, but for the rows that it refuses."""
+        with vollikash.open(":memory:") as source, store_with_rule(self.folder / "target.db") as target:
+            source.create("n", ["a", "b"], key=["a"])
+            with source.session("n") as session:
+                for key, value in ((1, "x"), (2, None), (3, b""), (4, None)):
+                    source.insert("n", key, value)
+                changes = session.changeset()
+            with self.assertRaises(ConflictError) as caught:
+                target.apply(changes)
+            self.assertEqual(caught.exception.kind, "constraint")
+            self.assertEqual(list(target.rows("n")), [])
+            report = target.apply(changes, constraint="omit")
+            self.assertEqual(report, ([("constraint", "omit", "n")] * 2, [], 2, 0))
+            self.assertEqual(list(target.rows("n")), [(1, "x"), (3, b"")])
+            again = target.apply(changes, constraint="omit", ignore_noop=True)
+            self.assertEqual(again, ([("constraint", "omit", "n")] * 2, [], 0, 2))
 
 
 class Files(Folder):

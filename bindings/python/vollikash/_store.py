@@ -42,7 +42,7 @@ class ConflictError(StoreError):
 
     @property
     def kind(self) -> str:
-        """What the entry met: a row that differs, that is missing, or that is there."""
+        """What the entry met: a row that differs, that is missing, or that is there, or a column that refuses None."""
         return self.detail.split(" ", 1)[0]
 
     @property
@@ -136,14 +136,14 @@ class Store:
                     _raise(int(refused["number"]), refused["name"], refused["rest"] or "")
             return printed
 
-    def create(
-        self, table: str, columns: Sequence[str], key: Sequence[str], refuses: Collection[str] = ()
-    ) -> None:
-        """Makes a table without rows: its columns, those of its key, and those beside them that refuse None. A name among
-        these that is no column's is a ValueError."""
-        if not set(refuses) <= set(columns):
-            raise ValueError("a name that is no column's")
-        named = ", ".join(spelled_name(column) + " NOT NULL" * (column in refuses) for column in columns)
+    def create(self, table: str, columns: Sequence[str], key: Sequence[str], refuses: Collection[str] = ()) -> None:
+        """Makes a table without rows: its columns, those of its key, and those that refuse None, as the ones of the key do
+        anyway. A name among `refuses` that is no column's raises ValueError before anything is sent."""
+        names, marked = list(columns), list(refuses)
+        for name in marked:
+            if name not in names:
+                raise ValueError(f"refuses has {name!r}, which is no column's name")
+        named = ", ".join(spelled_name(column) + " NOT NULL" * (column in marked) for column in names)
         keys = ", ".join(spelled_name(column) for column in key)
         self._ask(f"CREATE TABLE {spelled_name(table)}({named}, PRIMARY KEY({keys}));")
 
@@ -174,9 +174,12 @@ class Store:
         ignore_noop: bool = False,
     ) -> Report:
         """Applies a changeset, and tells what that did. What is done about a row that differs, is missing or is there, or
-        would have None in a column that refuses it, is "omit", "replace" or "abort": that raises `ConflictError`, and changes nothing. With `ignore_noop` entries that
-        would change nothing are ignored, and meet no conflict: a DELETE whose row is missing, an INSERT whose row is
-        there as it says, and an UPDATE whose row has the new values."""
+        would have None in a column that refuses it, is "omit", "replace" or "abort": that raises `ConflictError`, and
+        changes nothing. Only a row that differs or is there can be replaced: "replace" for another conflict raises
+        `ConflictError` too, where one is met. Where a row is to be replaced by one that would have None there, both
+        conflicts are met, one behind the other, and the row stays. With `ignore_noop` entries that would change nothing
+        are ignored, and meet no conflict: a DELETE whose row is missing, an INSERT whose row is there as it says, and an
+        UPDATE whose row has the new values."""
         choices = {"data": data, "notfound": notfound, "conflict": conflict, "constraint": constraint}
         for kind, choice in choices.items():
             if choice not in _CHOICES:
