@@ -46,8 +46,9 @@ SEEDS, ROWS, EDITS = 6, 12, 20
 class Table:
     """A table of a store and of a database, and the rows that both have, by their keys."""
 
-    def __init__(self, name, columns, key):
+    def __init__(self, name, columns, key, refuses=(), values=VALUES):
         self.name, self.columns, self.key = name, columns, key
+        self.refuses, self.values = refuses, values
         self.rows = {}
 
     def key_of(self, row):
@@ -60,7 +61,7 @@ class Table:
 
     def pick_row(self, maker):
         """A row that may stand there."""
-        return tuple(maker.choice(KEYS if column in self.key else VALUES) for column in self.columns)
+        return tuple(maker.choice(KEYS if column in self.key else self.values) for column in self.columns)
 
     def edits(self, maker, count):
         """So many edits, by method and arguments of a store, each of which is carried out."""
@@ -146,9 +147,10 @@ class Base:
         (made,) = self.ask(f"invert x{file.hex()}")
         return bytes.fromhex(made[2:])
 
-    def apply(self, file):
-        """Has SQLite apply a changeset, where each conflict ends that: its result code, and the conflicts."""
-        (told,) = self.ask(f"apply aaa x{file.hex()}")
+    def apply(self, file, choices="aaaa"):
+        """Has SQLite apply a changeset, where each conflict ends that unless said otherwise: its result code, and the
+        conflicts."""
+        (told,) = self.ask(f"apply {choices} x{file.hex()}")
         return told
 
     def rows(self, name):
@@ -179,8 +181,9 @@ class Exchange(unittest.TestCase):
         path.unlink(missing_ok=True)
         store, base = vollikash.open(":memory:"), Base(self.library, path)
         self.addCleanup(store.close)
-        store.create(table.name, table.columns, table.key)
-        columns, key = (", ".join(map(spelled_name, names)) for names in (table.columns, order))
+        store.create(table.name, table.columns, table.key, table.refuses)
+        columns = ", ".join(spelled_name(name) + " NOT NULL" * (name in table.refuses) for name in table.columns)
+        key = ", ".join(map(spelled_name, order))
         base.run(f"CREATE TABLE {spelled_name(table.name)}({columns}, PRIMARY KEY({key}))",
                  *(statement(table.name, *edit) for edit in edits))
         for edit in edits:
@@ -248,6 +251,43 @@ class Exchange(unittest.TestCase):
             store.revert(recorded)
             self.assertEqual(base.apply(vollikash.invert(recorded)), self.APPLIED)
             self.assertEqual(self.assert_same(store, base, table), before)
+
+    def test_null_where_it_is_refused(self):
+        """What SQLite records of a table without such columns is applied to one with them: here and by SQLite the same
+        entries meet a conflict, which ends the apply or leaves the row. How both differ where a row is to be replaced by
+        one that is refused is told in `library.py`."""
+        conflicts = 0
+        for words in TABLES:
+            for seed in range(SEEDS):
+                with self.subTest(table=words[0], seed=seed):
+                    maker, beside = random.Random(f"null {words} {seed}"), [name for name in words[1] if name not in words[2]]
+                    table = Table(*words, beside[seed % 2:], [value for value in VALUES if value is not None])
+                    rows, other = list(table.edits(maker, ROWS)), Table(*words, values=(*VALUES, None, None))
+                    self.sides(other, table.key, rows)[0].close()
+                    other.rows.update(table.rows)
+                    base = Base(self.library, self.folder / "base.db")
+                    recorded = base.record(*(statement(table.name, *edit) for edit in other.edits(maker, EDITS)))
+                    store, base = self.sides(table, table.key, rows)
+                    conflicts += self.expect_same_conflicts(table, store, base, recorded)
+                    store.close()
+        self.assertGreater(conflicts, 0)
+
+    def expect_same_conflicts(self, table, store, base, recorded):
+        """Applies what was recorded to both, which meet as many constraint conflicts, and answers how many."""
+        before = self.assert_same(store, base, table)
+        with store.session(table.name) as session:
+            conflicts = store.apply(recorded, constraint="omit").conflicts
+            session.undo()
+        self.assertEqual(conflicts, [("constraint", "omit", table.name)] * len(conflicts))
+        if conflicts:
+            with self.assertRaisesRegex(vollikash.ConflictError, "error 41 Abort constraint"):
+                store.apply(recorded)
+            self.assertEqual(base.apply(recorded), f"{library.ABORT} 4")
+            self.assertEqual(self.assert_same(store, base, table), before)
+        self.assertEqual(store.apply(recorded, constraint="omit").conflicts, conflicts)
+        self.assertEqual(base.apply(recorded, "aaao"), self.APPLIED + "4" * len(conflicts))
+        self.assert_same(store, base, table)
+        return len(conflicts)
 
     def test_a_key_in_another_order(self):
         """SQLite numbers a key as PRIMARY KEY(..) lists it. What it records is applied here and inverted as it is; with its key

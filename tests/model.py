@@ -278,10 +278,11 @@ def python_value(value):
 
 
 def shown_tables(tables):
-    """Tables as `refusals.py` compares them: of each the columns, which are of the key, and the rows by their keys."""
+    """Tables as `refusals.py` compares them: of each the columns, which are of the key, which refuse NULL, and the rows by
+    their keys."""
     return {
         name.decode(): (
-            tuple(column.decode() for column in table.columns), tuple(map(bool, table.flags)),
+            tuple(column.decode() for column in table.columns), tuple(map(bool, table.flags)), tuple(table.refuses),
             [tuple(map(python_value, table.rows[key])) for key in sorted(table.rows)],
         )
         for name, table in tables.items()

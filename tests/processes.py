@@ -24,7 +24,7 @@ import unittest
 import program
 from cuts import Story, files_of, found_by_sqlite, opened_again, script_run, tables_of
 from descriptors import MarkedScript
-from program import CREATE, DELETE, INSERT, PATIENCE, STORE_FAULT, UPDATE, StoreTest
+from program import CREATE, CREATE_N, DELETE, INSERT, NULL_INSERT, PATIENCE, STORE_FAULT, UPDATE, StoreTest
 from shell import Shell
 
 REFUSED = (1, "", STORE_FAULT)
@@ -54,6 +54,7 @@ PAIRS = [
     (["INSERT INTO t VALUES(1, 'x');"], [f".load a {INSERT.hex()}", ".apply a", "SELECT * FROM t;"]),
     ([f".load a {INSERT.hex()}", ".apply a", ".revert a"], [f".load a {DELETE.hex()}", ".apply a notfound=omit"]),
     ([f".load a {UPDATE.hex()}", ".apply a", "SELECT * FROM t;"], ["SELECT * FROM t;", "DELETE FROM t WHERE a=1;"]),
+    ([CREATE_N, "INSERT INTO n VALUES(2, NULL);"], [CREATE_N, f".load a {NULL_INSERT.hex()}", ".apply a constraint=omit"]),
 ]
 
 # What a store has that they find, or that is not there yet.

@@ -48,7 +48,10 @@ DELETE = T + delete(1, "x")
 UPDATE = T + update((1, "x"), (UNDEFINED, "y"))
 TWO_TABLES = INSERT + insert(2, None) + header("w", 0, 1) + insert("blob", b"\x00\xff") + delete(None, 5)
 
+NULL_INSERT = header("n", 1, 0) + insert(1, None)
+
 CREATE = "CREATE TABLE t(a, b, PRIMARY KEY(a));"
+CREATE_N = "CREATE TABLE n(a, b NOT NULL, PRIMARY KEY(a));"
 
 # Scripts, by what they show.
 SCRIPTS = {
@@ -70,11 +73,14 @@ SCRIPTS = {
         CREATE, "INSERT INTO t VALUES(1, 'z');", ".session open", ".session attach t", "INSERT INTO t VALUES(2, 'w');",
         f".load a {INSERT.hex()}", ".apply a conflict=replace", ".apply a", "INSERT INTO t VALUES(2, 'v');",
         "SELECT * FROM t;", ".session undo", "SELECT * FROM t;", ".session changeset c", ".hex c",
+        CREATE_N, "INSERT INTO n VALUES(1, 'x');", ".session attach n", f".load a {NULL_INSERT.hex()}",
+        ".apply a conflict=replace constraint=omit", ".apply a conflict=replace", "SELECT * FROM n;", ".session undo",
     ],
     "a line of each form": [
         "-- nothing", "", CREATE, 'CREATE TABLE "a b"(c, "d ""e", PRIMARY KEY("d ""e", c));',
         "INSERT INTO t VALUES(1, X'00ff');", "INSERT INTO \"a b\" VALUES('x''y', NULL);", "DELETE FROM t WHERE a=9;",
         "UPDATE t SET b=NULL, a=7 WHERE a=1;", "SELECT * FROM t;", 'SELECT * FROM "a b";', ".load e",
+        CREATE_N, "INSERT INTO n VALUES(1, NULL);", f".load n {NULL_INSERT.hex()}", ".apply n constraint=omit",
         f".load f {TWO_TABLES.hex()}", ".invert f g", ".dump g", ".hex g", ".concat f g h", ".hex h", ".apply f",
         ".apply f data=omit notfound=omit conflict=replace", ".revert f", ".session open", ".session attach t",
         ".session attach t", ".session attach nowhere", "INSERT INTO t VALUES(8, 'eight');", "DELETE FROM t WHERE a=7;",
@@ -90,8 +96,8 @@ FILES = {"two": TWO_TABLES, "insert": INSERT, "update": UPDATE, "broken": TWO_TA
 COMMANDS = [
     ["two", "invert", "out"], ["two", "dump"], ["two", "sql"], ["insert", "concat", "update", "out"],
     ["two", "concat", "two", "out"], ["broken", "invert", "out"], ["broken", "dump"], ["insert", "apply", "store"],
-    ["--data", "replace", "--conflict=omit", "two", "apply", "store"], ["broken", "apply", "store"], ["--help"],
-    ["two", "nothing"],
+    ["--data", "replace", "--conflict=omit", "--constraint", "omit", "two", "apply", "store"],
+    ["broken", "apply", "store"], ["--help"], ["two", "nothing"],
 ]
 
 # The store that they find.
@@ -239,7 +245,9 @@ def is_store(path):
 
 def shown_tables(tables):
     """Tables, as they are compared."""
-    return {name: (table.columns, table.keys, table.rows) for name, table in tables.items()}
+    return {
+        name: (table.columns, table.keys, tuple(table.refuses or table.keys), table.rows) for name, table in tables.items()
+    }
 
 
 def tried(count):
