@@ -799,8 +799,8 @@ class Rules(StoreTest):
     def test_declaration(self):
         """The byte of a column says whether it refuses NULL; one of the key does so anyway."""
         lines = [
-            CREATE_N, "create table k(a not null, b NOT\tnull, c, PRIMARY KEY(c, a));", "CREATE TABLE f(a, b, PRIMARY KEY(a));",
-            'CREATE TABLE "not"("null" NOT NULL, "NOT", PRIMARY KEY("NOT"));',
+            CREATE_N, "create table k(a not null, b NOT\tnull, c, PRIMARY KEY(c, a));",
+            "CREATE TABLE f(a, b, PRIMARY KEY(a));", 'CREATE TABLE "not"("null" NOT NULL, "NOT", PRIMARY KEY("NOT"));',
         ]
         self.assertEqual(self.run_shell(lines), (0, "", ""))
         self.assertEqual(read_records(self.folder / "store"), sorted([
@@ -811,7 +811,8 @@ class Rules(StoreTest):
     def test_forms_that_do_not_fit(self):
         for line, column in (
             ("CREATE TABLE n(a, b NOT, PRIMARY KEY(a));", 24), ("CREATE TABLE n(a, b NULL, PRIMARY KEY(a));", 21),
-            ("CREATE TABLE n(a, b NOT NULL NOT NULL, PRIMARY KEY(a));", 30), ("CREATE TABLE n(a, NOT NULL, PRIMARY KEY(a));", 19),
+            ("CREATE TABLE n(a, b NOT NULL NOT NULL, PRIMARY KEY(a));", 30),
+            ("CREATE TABLE n(a, NOT NULL, PRIMARY KEY(a));", 19),
             ("CREATE TABLE n(a, b, PRIMARY KEY(a NOT NULL));", 36), ("CREATE TABLE not(a, PRIMARY KEY(a));", 14),
             ('CREATE TABLE n(a, b "NOT" NULL, PRIMARY KEY(a));', 21), ("CREATE TABLE n(a, b NOTNULL, PRIMARY KEY(a));", 21),
         ):
@@ -846,28 +847,40 @@ class Rules(StoreTest):
         self.assertEqual(self.run_shell(lines), (0, "", ""))
         self.assertEqual(self.read(), {**refusing((2, ""), (4, 0)), **tables_of((1, None), (2, None))})
 
-    def expect_conflicts(self, rows, changeset, choices, met, ends=None, left=None):
-        """Applies a changeset to these rows of n, by the command and by a line. What is met is kinds with what is done
-        about them; where the last of these ends the apply, nothing of it stays."""
-        options = [f"--{choice}" for choice in choices.split()]
+    def expect_ended(self, rows, changeset, choices, status, told, left):
+        """Applies a changeset to these rows of n, by the command and by a line, and asserts what is told and left."""
+        with self.case(rows=rows, changeset=changeset, choices=choices):
+            options = [f"--{choice}" for choice in choices.split()]
+            self.write(refusing(*rows))
+            self.make("a.cs", changeset)
+            self.expect([*options, "a.cs", "apply", "store"], status, *(("", told) if status else (told, "")))
+            self.assertEqual(self.read(), refusing(*left))
+            self.write_anew(refusing(*rows))
+            lines = [f".load a {changeset.hex()}", f".apply a {choices}"]
+            self.assertEqual(self.run_shell(lines), (status, told, ""))
+            self.assertEqual(self.read(), refusing(*left))
+
+    def write_anew(self, tables):
+        """Has SQLite write another store in its place."""
+        for name in ("store", "store-wal"):
+            (self.folder / name).unlink(missing_ok=True)
+        self.write(tables)
+
+    def expect_conflicts(self, rows, changeset, choices, met, applied=0, left=None):
+        """Asserts what an apply meets, kinds with what is done about them, and how many entries it carries out."""
         told = "".join(f"conflict {KINDS.index(kind) + 1} {kind} {choice} 'n'\n" for kind, choice in met)
-        told = told + "applied %d\n" % (ends or 0) if not isinstance(ends, str) else f"error {ends} constraint 'n'\n"
-        status, lines = int(isinstance(ends, str)), [f".load a {changeset.hex()}", f".apply a {choices}"]
-        for words in (options, None):
-            with self.case(rows=rows, changeset=changeset, choices=choices, words=words):
-                self.write(refusing(*rows))
-                self.make("a.cs", changeset)
-                ended = self.run_shell(lines) if words is None else self.run_program(*words, "a.cs", "apply", "store")
-                self.assertEqual(ended, (status, "", told) if words is not None and status else (status, told, ""))
-                self.assertEqual(self.read(), refusing(*(rows if left is None else left)))
+        self.expect_ended(rows, changeset, choices, 0, f"{told}applied {applied}\n", rows if left is None else left)
+
+    def expect_end(self, rows, changeset, choices, fault):
+        """Asserts that a constraint conflict ends an apply."""
+        self.expect_ended(rows, changeset, choices, 1, f"error {fault} constraint 'n'\n", rows)
 
     def test_entries_that_meet_no_other_conflict(self):
         for rows, changeset in (([], NULL_INSERT), ([(1, "x")], NULL_UPDATE), ([(2, "q")], NULL_INSERT)):
-            for others in ("", " data=replace conflict=replace notfound=omit", " noop=ignore"):
-                others = others if others != " noop=ignore" else ""
-                self.expect_conflicts(rows, changeset, others, [], "41 Abort")
-                self.expect_conflicts(rows, changeset, "constraint=abort" + others, [], "41 Abort")
-                self.expect_conflicts(rows, changeset, "constraint=replace" + others, [], "42 Misuse")
+            for others in ("", " data=replace conflict=replace notfound=omit"):
+                self.expect_end(rows, changeset, others, "41 Abort")
+                self.expect_end(rows, changeset, "constraint=abort" + others, "41 Abort")
+                self.expect_end(rows, changeset, "constraint=replace" + others, "42 Misuse")
                 self.expect_conflicts(rows, changeset, "constraint=omit" + others, [("constraint", "omit")])
 
     def test_rows_that_are_replaced(self):
@@ -875,19 +888,45 @@ class Rules(StoreTest):
         for kind, rows, changeset in (
             ("conflict", [(1, "x")], NULL_INSERT), ("conflict", [(1, "z")], NULL_INSERT), ("data", [(1, "z")], NULL_UPDATE),
         ):
-            self.expect_conflicts(rows, changeset, f"{kind}=replace", [], "41 Abort")
-            self.expect_conflicts(rows, changeset, f"{kind}=replace constraint=replace", [], "42 Misuse")
+            self.expect_end(rows, changeset, f"{kind}=replace", "41 Abort")
+            self.expect_end(rows, changeset, f"{kind}=replace constraint=replace", "42 Misuse")
             met = [(kind, "replace"), ("constraint", "omit")]
             self.expect_conflicts(rows, changeset, f"{kind}=replace constraint=omit", met)
             self.expect_conflicts(rows, changeset, f"constraint=omit {kind}=omit", [(kind, "omit")])
 
     def test_entries_before_and_behind_one_that_is_refused(self):
-        entries = insert(3, "new") + insert(1, None) + delete(4, None) + update((2, "x"), (UNDEFINED, None)) + insert(5, "last")
+        entries = insert(3, "new") + insert(1, None) + delete(4, None) + update((2, "x"), (UNDEFINED, None))
+        entries += insert(5, "last")
         met = [("conflict", "replace"), ("constraint", "omit"), ("data", "replace"), ("constraint", "omit")]
         rows, left = [(1, "x"), (2, "x"), (4, "x")], [(1, "x"), (2, "x"), (3, "new"), (5, "last")]
         self.expect_conflicts(rows, N + entries, "data=replace conflict=replace constraint=omit", met, 3, left)
-        self.expect_conflicts(rows, N + entries, "data=replace conflict=replace", [], "41 Abort")
-        self.expect_conflicts(rows, N + entries, "constraint=replace data=replace conflict=replace", [], "42 Misuse")
+        self.expect_end(rows, N + entries, "data=replace conflict=replace", "41 Abort")
+        self.expect_end(rows, N + entries, "constraint=replace data=replace conflict=replace", "42 Misuse")
+
+    def test_lines_and_files_as_documents_have_them(self):
+        """The declaration, the refusals and the conflicts of rows of n, byte by byte."""
+        first, second = bytes.fromhex("010000000000000001"), bytes.fromhex("010000000000000002")
+        head = bytes.fromhex("540201006e00")
+        null_of_second, null_of_first = head + b"\x12\0" + second + b"\5", head + b"\x12\0" + first + b"\5"
+        null_for_x = head + b"\x17\0" + first + bytes.fromhex("030178") + b"\0\5"
+        for lines, printed in (
+            ([CREATE_N, "INSERT INTO n VALUES(1, NULL);", "INSERT INTO n VALUES(1, 'x');"], "error 39 NotNull\n"),
+            (["UPDATE n SET b=NULL WHERE a=1;", "UPDATE n SET b=NULL WHERE a=2;"], "error 39 NotNull\nerror 34 NoRow\n"),
+            (["DELETE FROM n WHERE a=1;", f".load a {null_of_second.hex()}", ".apply a"], "error 41 Abort constraint 'n'\n"),
+            ([f".load a {null_of_second.hex()}", ".apply a constraint=omit"], "conflict 4 constraint omit 'n'\napplied 0\n"),
+            ([f".load a {null_of_second.hex()}", ".apply a constraint=replace"], "error 42 Misuse constraint 'n'\n"),
+            (["INSERT INTO n VALUES(1, 'x');", f".load a {null_of_first.hex()}", ".apply a conflict=replace constraint=omit",
+              "SELECT * FROM n;"],
+             "conflict 3 conflict replace 'n'\nconflict 4 constraint omit 'n'\napplied 0\n1|'x'\n"),
+            (["UPDATE n SET b='z' WHERE a=1;", f".load a {null_for_x.hex()}", ".apply a data=replace constraint=omit",
+              "SELECT * FROM n;"],
+             "conflict 1 data replace 'n'\nconflict 4 constraint omit 'n'\napplied 0\n1|'z'\n"),
+        ):
+            with self.subTest(lines=lines):
+                self.assertEqual(self.run_shell(lines), (int("error" in printed), printed, ""))
+        self.assertEqual(read_records(self.folder / "store"), [
+            VERSION, REFUSING, ("n", first, first + bytes.fromhex("03017a")),
+        ])
 
     def test_a_column_that_is_not_modified(self):
         """An UPDATE of other columns, and one that modifies none, meet no such conflict."""
@@ -955,7 +994,8 @@ class Rules(StoreTest):
         for log in (False, True):
             with self.case(log=log):
                 self.write(tables_of((1, None)), log=log, version=FORMER)
-                lines = [CREATE_N, "INSERT INTO n VALUES(1, 'x');", "INSERT INTO n VALUES(2, NULL);", "INSERT INTO t VALUES(2, NULL);"]
+                lines = [CREATE_N, "INSERT INTO n VALUES(1, 'x');"]
+                lines += ["INSERT INTO n VALUES(2, NULL);", "INSERT INTO t VALUES(2, NULL);"]
                 self.assertEqual(self.run_shell(lines), (1, "error 39 NotNull\n", ""))
                 tables = {**tables_of((1, None), (2, None)), **refusing((1, "x"))}
                 self.assertEqual(self.read_alone(), tables)
