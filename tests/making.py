@@ -178,7 +178,7 @@ class Maker:
         """A group of which sometimes most entries have NULL in a column that refuses it."""
         flags, name, entries = group
         table = tables.get(name)
-        if table is None or not have_same_columns(flags, table.flags) or self.is_one_in(2):
+        if table is None or not have_same_columns(flags, table.flags) or self.is_one_in(3):
             return group
         return flags, name, [
             entry if entry[0] == DELETE or self.is_one_in(3) else
@@ -315,10 +315,10 @@ class Maker:
             for column, value in zip(columns, values)
         ]
 
-    def column(self, name):
+    def column(self, name, of_key):
         """A column in a CREATE TABLE, which may refuse NULL."""
-        rule = self.pick((b" NOT NULL", b" NOT NULL", b" not null", b"\tnot\r Null")) if self.is_one_in(3) else b""
-        return self.name(name) + rule
+        rule = self.pick((b" NOT NULL", b" NOT NULL", b" not null", b"\tnot\r Null"))
+        return self.name(name) + (rule if self.is_one_in(6 if of_key else 2) else b"")
 
     def create(self):
         """A CREATE TABLE."""
@@ -326,7 +326,7 @@ class Maker:
         keys = self.chance.sample(columns, self.upto(min(len(columns), 3)))
         if self.is_one_in(12):
             self.pick((columns, keys)).append(self.pick(COLUMNS + (b"",)))
-        names = b", ".join(map(self.column, columns)), b", ".join(map(self.name, keys))
+        names = b", ".join(self.column(name, name in keys) for name in columns), b", ".join(map(self.name, keys))
         name = self.pick((b"", b"a\0b")) if self.is_one_in(40) else self.pick(NAMES)
         return b"CREATE TABLE %s(%s, PRIMARY KEY(%s));" % (self.name(name), *names)
 
@@ -399,7 +399,7 @@ class Maker:
         """What is chosen about conflicts."""
         kinds = self.chance.sample((b"data", b"notfound", b"conflict", b"constraint"), self.chance.randrange(5))
         settings = [b" %s=%s" % (kind, self.pick(CHOICES)) for kind in kinds]
-        if self.is_one_in(4):
+        if self.is_one_in(3):
             settings = self.chance.sample(TRYING_AGAIN, len(TRYING_AGAIN))
         if self.is_one_in(3):
             settings.insert(self.chance.randrange(len(settings) + 1), b" noop=" + self.pick((b"ignore", b"ignore", b"report")))
