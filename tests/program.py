@@ -903,7 +903,7 @@ class Rules(StoreTest):
         self.expect_end(rows, N + entries, "data=replace conflict=replace", "41 Abort")
         self.expect_end(rows, N + entries, "constraint=replace data=replace conflict=replace", "42 Misuse")
 
-    def test_lines_and_files_as_documents_have_them(self):
+    def test_lines_and_files_byte_by_byte(self):
         """The declaration, the refusals and the conflicts of rows of n, byte by byte."""
         first, second = bytes.fromhex("010000000000000001"), bytes.fromhex("010000000000000002")
         head = bytes.fromhex("540201006e00")

@@ -582,6 +582,16 @@ fn is_told(run: Result<Report, ApplyFault>, case: &RuledCase) -> bool {
     }
 }
 
+/// The first choice for all conflicts but constraints, and the second for these.
+fn policy_of(choices: [Choice; 2]) -> Policy {
+    Policy {
+        on_data: choices[0],
+        on_notfound: choices[0],
+        on_conflict: choices[0],
+        on_constraint: choices[1],
+    }
+}
+
 /// What a store answers to a file, with one choice for all conflicts but constraints, and one for these.
 fn applied<S: Alter>(
     rt: &(impl Abort + AllocGlobal),
@@ -589,12 +599,7 @@ fn applied<S: Alter>(
     file: &[u8],
     choices: [Choice; 2],
 ) -> Result<Report, ApplyFault> {
-    let policy = Policy {
-        on_data: choices[0],
-        on_notfound: choices[0],
-        on_conflict: choices[0],
-        on_constraint: choices[1],
-    };
+    let policy = policy_of(choices);
     let handler = |conflict: &Conflict| policy.choose(conflict);
     apply(rt.alloc(), store, file, Noop::Report, &handler)
 }
@@ -616,6 +621,90 @@ fn applies_files_where_a_column_refuses_null(rt: HostRuntime) {
         let mut store = store_with_rule(&rt);
         assert!(rt; holds_in_store(&rt, &mut store, case), "at {place}");
         end(store);
+    }
+}
+
+/// What rows answer to a file, or to its inverse, with one choice for all conflicts but constraints, and one for these.
+fn run_by<B: Rows>(
+    rt: &(impl Abort + AllocGlobal),
+    rows: &mut B,
+    file: &[u8],
+    direction: Direction,
+    choices: [Choice; 2],
+) -> Result<Report, ApplyFault> {
+    let policy = policy_of(choices);
+    let handler = |conflict: &Conflict| policy.choose(conflict);
+    run_in(rt.alloc(), rows, file, direction, Noop::Report, &handler)
+}
+
+/// Whether rows in memory, whose t refuses NULL in b, answer to a case as they should, and hold what they should then.
+fn is_held_in_memory(
+    rt: &(impl Abort + AllocGlobal),
+    case: &RuledCase,
+    direction: Direction,
+) -> bool {
+    let (before, file, choices, _, _, after) = *case;
+    let mut rows = tables_with_rule(rt);
+    assert!(rt; run(rt, &mut rows, before, Choice::Abort)[0] == 0);
+    let told = run_by(rt, &mut rows, file, direction, choices);
+    let is_refused = told.is_err();
+    is_told(told, case) && (is_refused || is_row(rt, &listed(rt, &mut rows), after))
+}
+
+/// Cases of files whose inverse is run.
+const INVERSES: &[RuledCase] = &[
+    // That of the DELETE of a row with NULL, where no row stands, and over a row.
+    (
+        b"",
+        NULL_DELETE,
+        [Choice::Abort, Choice::Omit],
+        [0, 0],
+        &[(Kind::Constraint, Choice::Omit)],
+        "",
+    ),
+    (
+        b"",
+        NULL_DELETE,
+        [Choice::Omit, Choice::Replace],
+        [42, 0],
+        &[],
+        "",
+    ),
+    (
+        INSERT,
+        NULL_DELETE,
+        [Choice::Replace, Choice::Omit],
+        [0, 0],
+        &[
+            (Kind::Conflict, Choice::Replace),
+            (Kind::Constraint, Choice::Omit),
+        ],
+        "x",
+    ),
+    // That of an UPDATE of NULL to 'y'.
+    (
+        LATER,
+        FROM_NULL,
+        [Choice::Abort, Choice::Omit],
+        [0, 0],
+        &[(Kind::Constraint, Choice::Omit)],
+        "y",
+    ),
+];
+
+#[test]
+fn runs_files_in_memory_where_a_column_refuses_null(rt: HostRuntime) {
+    for (place, case) in RULED.iter().enumerate() {
+        assert!(rt;
+            is_held_in_memory(&rt, case, Direction::Forward),
+            "at {place}"
+        );
+    }
+    for (place, case) in INVERSES.iter().enumerate() {
+        assert!(rt;
+            is_held_in_memory(&rt, case, Direction::Inverse),
+            "at {place}"
+        );
     }
 }
 

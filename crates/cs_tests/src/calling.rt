@@ -108,7 +108,7 @@ fn fills_a_table(rt: HostRuntime) {
     end(store);
 }
 
-/// Applies a file, with each row in the way replaced, and tells how many keys were written.
+/// Applies a file, with each row in the way replaced where no column refuses it, and tells how many keys were written.
 fn replay<S: Alter>(alloc: Global, store: &mut Store<S>, file: &[u8]) -> Result<usize, ApplyFault> {
     let policy = Policy {
         on_data: Choice::Replace,

@@ -108,15 +108,19 @@ fn undo_number<S: Alter>(
     number(session.undo(rt.alloc(), store))
 }
 
-/// Whether a session answers this number for a store whatever it is asked: to an edit of t, to the
-/// changeset, and to undo it.
+/// Whether a session answers this number for a store whatever it is asked: to an edit of t, which puts NULL into b
+/// where it is refused anyway, to the changeset, and to undo it.
 fn answers<S: Alter>(
     rt: &(impl Abort + AllocGlobal),
     session: &mut Session,
     store: &mut Store<S>,
     answer: u8,
 ) -> bool {
-    let call = Call::Insert("t", &[Value::Int(1), Value::Text("x")]);
+    let call = if answer == 0 {
+        Call::Insert("t", &[Value::Int(1), Value::Text("x")])
+    } else {
+        Call::Insert("t", &[Value::Int(1), Value::Null])
+    };
     changeset_number(rt, session, store) == answer
         && edited(rt, session, store, call) == answer
         && undo_number(rt, session, store) == answer

@@ -186,10 +186,10 @@ fn has_the_declared_tables_alone(rt: HostRuntime) {
 }
 
 #[test]
-fn declares_no_table_by_marks_of_another_length(rt: HostRuntime) {
+fn tells_marks_of_another_length_before_a_taken_name(rt: HostRuntime) {
     let mut store = store_with_table(&rt);
     for refuses in OTHER_LENGTHS {
-        let answer = declaration_of(&rt, &mut store, "u", &[true, false], refuses);
+        let answer = declaration_of(&rt, &mut store, "t", &[true, false], refuses);
         assert!(rt; answer == Err(StoreError::BadSchema));
     }
     assert!(rt; has(&rt, &mut store, (&["t"], &[])));
