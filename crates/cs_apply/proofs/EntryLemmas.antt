@@ -13,7 +13,7 @@ use Rattle.cs_wire.specs.declared.entry.Change.TheVariants.{Insert}
 use Rattle.cs_wire.specs.Entry.{before_image}
 use Rattle.cs_wire.specs.Changeset.{HeaderData}
 use Rattle.cs_store.specs.Rows.{Fits}
-use Rattle.cs_store.proofs.EditingLemmas.{fits_in}
+use Rattle.cs_rows.proofs.EditingLemmas.{fits_in}
 use Rattle.cs_group.specs.Joining.{key_places}
 use Rattle.cs_group.proofs.ConflictLemmas.{and_false}
 use Rattle.cs_group.proofs.KeyPlaceLemmas.{fits_same, key_of_same}

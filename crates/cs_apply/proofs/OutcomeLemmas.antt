@@ -5,7 +5,7 @@ use Rattle.std.specs.List.{flat_map}
 use Rattle.std.proofs.lemmas.List.Elements.{All-nil}
 use Rattle.cs_value.specs.State.{State}
 use Rattle.cs_wire.specs.Changeset.{GroupData}
-use Rattle.cs_store.specs.declared.edit.Written.{Written}
+use Rattle.cs_rows.specs.declared.edit.Written.{Written}
 use Rattle.cs_store.specs.Editing.{written_of}
 use Rattle.cs_group.specs.declared.conflict.Noop.{Noop}
 use Rattle.cs_group.specs.Applying.{NoneWider, heeded, ignored, met_at, written_for, skipped}

@@ -4,7 +4,7 @@ use Rattle.std.specs.Prelude.{◌≡◌, ◌⊎◌, ◌∷◌, ◌++◌, ℕ, tr
 use Rattle.cs_value.specs.State.{State, IsState}
 use Rattle.cs_wire.specs.Changeset.{GroupData, IsChangeset, file_bytes}
 use Rattle.cs_wire.specs.ReadFaults.{ReadFails}
-use Rattle.cs_store.specs.declared.fault.StoreError.TheVariants.{DamagedStore, StoreFault}
+use Rattle.cs_rows.specs.declared.fault.StoreError.TheVariants.{DamagedStore, StoreFault}
 use Rattle.cs_store.specs.Editing.{written_of}
 use Rattle.cs_group.specs.declared.conflict.Choice.{Choice}
 use Rattle.cs_group.specs.declared.conflict.Choice.TheVariants as choice

@@ -8,7 +8,7 @@ use Rattle.std.proofs.lemmas.List.Elements.{recursion_from_All, All-from_recursi
 use Rattle.std.proofs.lemmas.List.Quantifiers.{all_pairs_push}
 use Rattle.cs_value.specs.Table.{IsName}
 use Rattle.cs_value.specs.State.{SchemaData, IsSchema, State, schema_at, rows_at}
-use Rattle.cs_store.specs.declared.fault.StoreError.{StoreError}
+use Rattle.cs_rows.specs.declared.fault.StoreError.{StoreError}
 use Rattle.cs_store.specs.Faults.{IsReadRefusal}
 use Rattle.cs_session.specs.declared.attached.Attached.{Attached}
 use Rattle.cs_session.specs.FirstImages.{AttachedTable, Notes, IsAttachedTable, IsNotes, rewound_rows, rewound}

@@ -1,5 +1,5 @@
 -- The net changeset of a session, applied to the rows from before.
-use Rattle.std.proofs.Common.{◌≡◌, ◌≢◌, ◌⊎◌, inl, inr, ℕ, zero, suc, Bool, true, false, cond, List, [], ◌∷◌, ◌++◌, length, map, filter_map, Option, Some, None, option_map, refl, sym, ap, ◌∙◌, subst}
+use Rattle.std.proofs.Common.{bytes_eq, ◌≡◌, ◌≢◌, ◌⊎◌, inl, inr, ℕ, zero, suc, Bool, true, false, cond, List, [], ◌∷◌, ◌++◌, length, map, filter_map, Option, Some, None, option_map, refl, sym, ap, ◌∙◌, subst}
 use Rattle.std.specs.Prelude.{IfSome, unwrap_or, nat_lt}
 use Rattle.std.specs.FinMap.{get}
 use Rattle.std.proofs.Common.{arith}
@@ -15,7 +15,6 @@ use Rattle.cs_wire.specs.declared.entry.Change.{Change}
 use Rattle.cs_wire.specs.declared.entry.Entry.{Entry}
 use Rattle.cs_wire.specs.Entry.{IsEntry, key_of, after_image}
 use Rattle.cs_wire.specs.Changeset.{HeaderData, GroupData, IsGroup, IsChangeset}
-use Rattle.cs_store.specs.Records.{same_bytes}
 use Rattle.cs_group.specs.declared.judging.Judgement.TheVariants.{Wider, Compatible}
 use Rattle.cs_group.specs.Judging.{leads, judgement, judged}
 use Rattle.cs_group.specs.Net.{net_row_change}
@@ -111,7 +110,7 @@ module _ (state before : State) (table : AttachedTable) (has : schema_at before 
       → unwrap_or (first_at firsts q) (row_at state table.name q) ≡ row_at state table.name q
   no_entry q [] is apart = refl
   no_entry q (first ∷ firsts) is apart =
-      by_key (same_bytes first.key q) refl (entry_since state table first) (nets first is.0) apart (no_entry q firsts is.1)
+      by_key (bytes_eq first.key q) refl (entry_since state table first) (nets first is.0) apart (no_entry q firsts is.1)
     where
       here : first.key ≡ q → (o : Option Entry) → Nets first o → AllByRecursion (λ e. ¬ (key_of flags e.change ≡ q)) (cons_option o (entries_of firsts)) → first.row ≡ row_at state table.name q
       here same None net left = net ∙ ap (row_at state table.name) same
@@ -121,7 +120,7 @@ module _ (state before : State) (table : AttachedTable) (has : schema_at before 
       others None left = left
       others (Some entry) left = left.1
 
-      by_key : (b : Bool) → same_bytes first.key q ≡ b → (o : Option Entry) → Nets first o → AllByRecursion (λ e. ¬ (key_of flags e.change ≡ q)) (cons_option o (entries_of firsts))
+      by_key : (b : Bool) → bytes_eq first.key q ≡ b → (o : Option Entry) → Nets first o → AllByRecursion (λ e. ¬ (key_of flags e.change ≡ q)) (cons_option o (entries_of firsts))
           → (AllByRecursion (λ e. ¬ (key_of flags e.change ≡ q)) (entries_of firsts) → unwrap_or (first_at firsts q) (row_at state table.name q) ≡ row_at state table.name q)
           → unwrap_or (cond b (Some first.row) (first_at firsts q)) (row_at state table.name q) ≡ row_at state table.name q
       by_key true same o net left next = here (same_text first.key q (sym same)) o net left
@@ -205,7 +204,7 @@ module _ (state before : State) where
     by_table [] tracked apart = inl tt
     by_table (table ∷ notes) tracked apart =
         let parts = group_parts (header_of table) (filter_map (entry_since state table) table.firsts) (recorded_changes notes state) apart in
-        at (same_bytes table.name name) refl parts.0 (by_table notes tracked.1 parts.1)
+        at (bytes_eq table.name name) refl parts.0 (by_table notes tracked.1 parts.1)
       where
         here : table.name ≡ name → AllByRecursion (λ e. Elsewhere (placed_by (header_of table) e)) (filter_map (entry_since state table) table.firsts)
             → row_at state name q ≡ row_at before name q
@@ -213,7 +212,7 @@ module _ (state before : State) where
             let none = no_entry state before table tracked.0.has tracked.0.held tracked.0.rows q table.firsts tracked.0.firsts (other_key table is (filter_map (entry_since state table) table.firsts) apart) in
             subst (λ (n : List ℕ). row_at state n q ≡ row_at before n q) is (sym (tracked.0.rows q ∙ none))
 
-        at : (b : Bool) → same_bytes table.name name ≡ b → AllByRecursion (λ e. Elsewhere (placed_by (header_of table) e)) (filter_map (entry_since state table) table.firsts)
+        at : (b : Bool) → bytes_eq table.name name ≡ b → AllByRecursion (λ e. Elsewhere (placed_by (header_of table) e)) (filter_map (entry_since state table) table.firsts)
             → AllByRecursion (λ t. ¬ (t.name ≡ name)) notes ⊎ (row_at state name q ≡ row_at before name q)
             → AllByRecursion (λ t. ¬ (t.name ≡ name)) (table ∷ notes) ⊎ (row_at state name q ≡ row_at before name q)
         at true same apart others = inr (here (same_text table.name name (sym same)) apart)
@@ -228,9 +227,9 @@ found_itself first firsts = rw (nat_list_eq_equiv.refl first.key) refl
 found_behind : (first : FirstImage) (firsts others : List FirstImage) → AllByRecursion (λ f. first.key ≢ f.key) others
     → AllByRecursion (λ f. first_at firsts f.key ≡ Some f.row) others → AllByRecursion (λ f. first_at (first ∷ firsts) f.key ≡ Some f.row) others
 found_behind first firsts [] apart found = tt
-found_behind first firsts (f ∷ others) apart found = (at (same_bytes first.key f.key) refl, found_behind first firsts others apart.1 found.1)
+found_behind first firsts (f ∷ others) apart found = (at (bytes_eq first.key f.key) refl, found_behind first firsts others apart.1 found.1)
   where
-    at : (b : Bool) → same_bytes first.key f.key ≡ b → cond b (Some first.row) (first_at firsts f.key) ≡ Some f.row
+    at : (b : Bool) → bytes_eq first.key f.key ≡ b → cond b (Some first.row) (first_at firsts f.key) ≡ Some f.row
     at true same = absurd (apart.0 (same_text first.key f.key (sym same)))
     at false same = found.0
 

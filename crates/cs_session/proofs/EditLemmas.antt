@@ -1,5 +1,5 @@
 -- What an edit tells of the rows that it wrote.
-use Rattle.std.proofs.Common.{◌≡◌, ℕ, Bool, true, false, cond, not, List, [], ◌∷◌, Option, Some, None, option_map, Result, Ok, Err, ◌⊎◌, inl, inr, refl, sym, ap, ◌∙◌, subst}
+use Rattle.std.proofs.Common.{bytes_eq, ◌≡◌, ℕ, Bool, true, false, cond, not, List, [], ◌∷◌, Option, Some, None, option_map, Result, Ok, Err, ◌⊎◌, inl, inr, refl, sym, ap, ◌∙◌, subst}
 use Rattle.std.specs.Prelude.{string_bytes, OnOk}
 use Rattle.std.specs.List.{AllByRecursion}
 use Rattle.std.specs.FinMap.{get}
@@ -9,11 +9,10 @@ use Rattle.cs_value.specs.declared.value.OwnedValue.{OwnedValue}
 use Rattle.cs_value.specs.Key.{row_key}
 use Rattle.cs_value.specs.State.{TableData, State, WrittenData, IsState, schema_at, row_at, written_at, with_row, without_row}
 use Rattle.cs_value.proofs.StateLemmas.{table_of_schema}
-use Rattle.cs_store.specs.declared.edit.Edit.{Edit}
-use Rattle.cs_store.specs.declared.edit.Edit.TheVariants.{Insert, Update, Delete}
-use Rattle.cs_store.specs.declared.fault.StoreError.{StoreError}
-use Rattle.cs_store.specs.declared.fault.StoreError.TheVariants.{KeyTaken, NoRow}
-use Rattle.cs_store.specs.Records.{same_bytes}
+use Rattle.cs_rows.specs.declared.edit.Edit.{Edit}
+use Rattle.cs_rows.specs.declared.edit.Edit.TheVariants.{Insert, Update, Delete}
+use Rattle.cs_rows.specs.declared.fault.StoreError.{StoreError}
+use Rattle.cs_rows.specs.declared.fault.StoreError.TheVariants.{KeyTaken, NoRow}
 use Rattle.cs_store.specs.Editing.{Edited, row_fault, unless, has_row, when, inserted_in, moved, updated_in, deleted_in, found_table, edited}
 use Rattle.cs_group.specs.Laws.{TellsFormer}
 use Rattle.cs_apply.specs.Steps.{with_result}
@@ -94,9 +93,9 @@ module _ (state : State) (name : List ℕ) (found : TableData) (is : get state n
   updates : (key : List ℕ) (row : List OwnedValue) → IfDone state name (updated_in state name found key row)
   updates key row =
       let next = row_key found.schema.flags row in
-      let done = cond (same_bytes key next) (Ok (record { state = with_row state name key row; written = written_at state name key ∷ [] })) (moved state name key next row) in
+      let done = cond (bytes_eq key next) (Ok (record { state = with_row state name key row; written = written_at state name key ∷ [] })) (moved state name key next row) in
       if_unless state name (row_fault found.schema row) (unless (when (not (has_row state name key)) NoRow) done)
-      (if_unless state name (when (not (has_row state name key)) NoRow) done (stays_or_moves (same_bytes key next) key next row))
+      (if_unless state name (when (not (has_row state name key)) NoRow) done (stays_or_moves (bytes_eq key next) key next row))
 
 in_found : (state : State) (name : List ℕ) (o : Option TableData) (next : TableData → Result Edited StoreError) → ((found : TableData) → o ≡ Some found → IfDone state name (next found))
     → IfDone state name (found_table o next)
@@ -115,7 +114,7 @@ edited_formers state edit done is is_state notes has =
     let tells : Tells state (table_of edit) done = subst (IfDone state (table_of edit)) is (edited_tells state edit) in
     tells_formers state is_state done.state done.written tells.tells notes (each tells notes (recursion_from_All (λ (t : AttachedTable). t.name ≡ table_of edit → HasAttached state t) notes has))
   where
-    at : Tells state (table_of edit) done → (table : AttachedTable) → (table.name ≡ table_of edit → HasAttached state table) → (b : Bool) → same_bytes (table_of edit) table.name ≡ b
+    at : Tells state (table_of edit) done → (table : AttachedTable) → (table.name ≡ table_of edit → HasAttached state table) → (b : Bool) → bytes_eq (table_of edit) table.name ≡ b
         → HasAttached state table ⊎ (writes_of table.name done.written ≡ [])
     at tells table has true same = inl (has (sym (same_text (table_of edit) table.name (sym same))))
     at tells table has false other = inr (only_writes (table_of edit) table.name done.written tells.of_table other)
@@ -123,7 +122,7 @@ edited_formers state edit done is is_state notes has =
     each : Tells state (table_of edit) done → (ts : Notes) → AllByRecursion (λ t. t.name ≡ table_of edit → HasAttached state t) ts
         → AllByRecursion (λ t. HasAttached state t ⊎ (writes_of t.name done.written ≡ [])) ts
     each tells [] has = tt
-    each tells (table ∷ ts) has = (at tells table has.0 (same_bytes (table_of edit) table.name) refl, each tells ts has.1)
+    each tells (table ∷ ts) has = (at tells table has.0 (bytes_eq (table_of edit) table.name) refl, each tells ts has.1)
 
 -- ---- what is answered
 

@@ -1,5 +1,5 @@
 -- First images, and the rows that they say stood there.
-use Rattle.std.proofs.Common.{◌≡◌, ℕ, Bool, true, false, cond, List, [], ◌∷◌, ◌++◌, Option, Some, None, option_map, ◌⊎◌, inl, inr, refl, sym, ap, ◌∙◌}
+use Rattle.std.proofs.Common.{bytes_eq, ◌≡◌, ℕ, Bool, true, false, cond, List, [], ◌∷◌, ◌++◌, Option, Some, None, option_map, ◌⊎◌, inl, inr, refl, sym, ap, ◌∙◌}
 use Rattle.std.specs.Prelude.{unwrap_or, is_some}
 use Rattle.std.specs.List.{AllByRecursion}
 use Rattle.std.specs.Ordering.{nat_cmp, is_eq}
@@ -10,7 +10,6 @@ use Rattle.std.proofs.lemmas.Option.{none-some}
 use Rattle.cs_value.specs.declared.value.OwnedValue.{OwnedValue}
 use Rattle.cs_value.specs.State.{RowMap, State, WrittenData, row_at, rows_at}
 use Rattle.cs_value.proofs.ByteMaps.{same_maps, tied_bytes, self_tied}
-use Rattle.cs_store.specs.Records.{same_bytes}
 use Rattle.cs_group.specs.Laws.{TellsFormer}
 use Rattle.cs_session.specs.FirstImages.{FirstImage, AttachedTable, Notes, first_at, put_all_back, rewound_rows, rewound, noted, writes_of, recorded}
 
@@ -23,7 +22,7 @@ set_at rows key None q = get-remove nat_list_cmp_total rows key q
 set_at rows key (Some row) q = get-insert nat_list_cmp_total rows key row q
 
 -- keys are one in the order of a map where they are the same bytes
-one_key : {X : Type 0} (key q : List ℕ) (x y : X) (b : Bool) → same_bytes key q ≡ b → cond (is_eq (slice_cmp nat_cmp q key)) x y ≡ cond b x y
+one_key : {X : Type 0} (key q : List ℕ) (x y : X) (b : Bool) → bytes_eq key q ≡ b → cond (is_eq (slice_cmp nat_cmp q key)) x y ≡ cond b x y
 one_key key q x y true same = let is = same_text key q (sym same) in rw is (ap (λ (b : Bool). cond b x y) (self_tied q))
 one_key key q x y false same = at (is_eq (slice_cmp nat_cmp q key)) refl
   where
@@ -41,8 +40,8 @@ pub put_all_at : (firsts : List FirstImage) (rows : RowMap) (q : List ℕ) → g
 put_all_at [] rows q = refl
 put_all_at (first ∷ firsts) rows q =
     set_at (put_all_back firsts rows) first.key first.row q
-    ∙ one_key first.key q first.row (get (put_all_back firsts rows) q) (same_bytes first.key q) refl
-    ∙ from_first (same_bytes first.key q) first.row (get rows q) (get (put_all_back firsts rows) q) (first_at firsts q) (put_all_at firsts rows q)
+    ∙ one_key first.key q first.row (get (put_all_back firsts rows) q) (bytes_eq first.key q) refl
+    ∙ from_first (bytes_eq first.key q) first.row (get rows q) (get (put_all_back firsts rows) q) (first_at firsts q) (put_all_at firsts rows q)
 
 -- ---- one key more
 
@@ -50,7 +49,7 @@ put_all_at (first ∷ firsts) rows q =
 append_kept : (firsts : List FirstImage) (first : FirstImage) (q : List ℕ) (row : Option (List OwnedValue)) → first_at firsts q ≡ Some row
     → first_at (firsts ++ first ∷ []) q ≡ Some row
 append_kept [] first q row e = absurd (none-some row e)
-append_kept (f ∷ firsts) first q row e = at (same_bytes f.key q) e (append_kept firsts first q row)
+append_kept (f ∷ firsts) first q row e = at (bytes_eq f.key q) e (append_kept firsts first q row)
   where
     at : (b : Bool) → cond b (Some f.row) (first_at firsts q) ≡ Some row → (first_at firsts q ≡ Some row → first_at (firsts ++ first ∷ []) q ≡ Some row)
         → cond b (Some f.row) (first_at (firsts ++ first ∷ []) q) ≡ Some row
@@ -59,13 +58,13 @@ append_kept (f ∷ firsts) first q row e = at (same_bytes f.key q) e (append_kep
 
 -- and where nothing was there it is the new one's
 append_new : (firsts : List FirstImage) (first : FirstImage) (q : List ℕ) → first_at firsts q ≡ None
-    → first_at (firsts ++ first ∷ []) q ≡ cond (same_bytes first.key q) (Some first.row) None
+    → first_at (firsts ++ first ∷ []) q ≡ cond (bytes_eq first.key q) (Some first.row) None
 append_new [] first q e = refl
-append_new (f ∷ firsts) first q e = at (same_bytes f.key q) e (append_new firsts first q)
+append_new (f ∷ firsts) first q e = at (bytes_eq f.key q) e (append_new firsts first q)
   where
     at : (b : Bool) → cond b (Some f.row) (first_at firsts q) ≡ None
-        → (first_at firsts q ≡ None → first_at (firsts ++ first ∷ []) q ≡ cond (same_bytes first.key q) (Some first.row) None)
-        → cond b (Some f.row) (first_at (firsts ++ first ∷ []) q) ≡ cond (same_bytes first.key q) (Some first.row) None
+        → (first_at firsts q ≡ None → first_at (firsts ++ first ∷ []) q ≡ cond (bytes_eq first.key q) (Some first.row) None)
+        → cond b (Some f.row) (first_at (firsts ++ first ∷ []) q) ≡ cond (bytes_eq first.key q) (Some first.row) None
     at true e next = absurd (none-some f.row (sym e))
     at false e next = next e
 
@@ -92,7 +91,7 @@ module _ (old : List ℕ → Option (List OwnedValue)) (q : List ℕ) where
       → Noted firsts written
   noted_new firsts [] e told = inl (tt, e)
   noted_new firsts (w ∷ written) e told =
-      by_key (same_bytes w.key q) refl (append_new firsts new q e) (noted_new firsts written e told.1) (λ none. noted_new (firsts ++ new ∷ []) written none told.1)
+      by_key (bytes_eq w.key q) refl (append_new firsts new q e) (noted_new firsts written e told.1) (λ none. noted_new (firsts ++ new ∷ []) written none told.1)
     where
       new : FirstImage
       new = record { key = w.key; row = w.former }
@@ -111,7 +110,7 @@ module _ (old : List ℕ → Option (List OwnedValue)) (q : List ℕ) where
       more false apart here (inl (others, none)) = inl ((apart, others), none)
       more false apart here (inr stands) = inr stands
 
-      by_key : (b : Bool) → same_bytes w.key q ≡ b → first_at (firsts ++ new ∷ []) q ≡ cond (same_bytes w.key q) (Some w.former) None
+      by_key : (b : Bool) → bytes_eq w.key q ≡ b → first_at (firsts ++ new ∷ []) q ≡ cond (bytes_eq w.key q) (Some w.former) None
           → Noted firsts written → (first_at (firsts ++ new ∷ []) q ≡ None → Noted (firsts ++ new ∷ []) written) → Noted firsts (w ∷ written)
       by_key true same stands here there = here_is (same_text w.key q (sym same)) (stands ∙ ap (λ (b : Bool). cond b (Some w.former) None) same)
       by_key false same stands here there =
@@ -136,9 +135,9 @@ module _ (old : State) (name : List ℕ) where
   pub told_of : (written : List WrittenData) → AllByRecursion (λ w. row_at old w.table w.key ≡ w.former) written
       → AllByRecursion (λ w. row_at old name w.key ≡ w.former) (writes_of name written)
   told_of [] told = tt
-  told_of (w ∷ written) told = at (same_bytes w.table name) refl (told_of written told.1)
+  told_of (w ∷ written) told = at (bytes_eq w.table name) refl (told_of written told.1)
     where
-      at : (b : Bool) → same_bytes w.table name ≡ b → AllByRecursion (λ w. row_at old name w.key ≡ w.former) (writes_of name written)
+      at : (b : Bool) → bytes_eq w.table name ≡ b → AllByRecursion (λ w. row_at old name w.key ≡ w.former) (writes_of name written)
           → AllByRecursion (λ w. row_at old name w.key ≡ w.former) (cond b (w ∷ writes_of name written) (writes_of name written))
       at true same rest = (ap (λ (t : List ℕ). row_at old t w.key) (sym (same_text w.table name (sym same))) ∙ told.0, rest)
       at false same rest = rest
@@ -146,9 +145,9 @@ module _ (old : State) (name : List ℕ) where
   apart_of : (written : List WrittenData) (q : List ℕ) → AllByRecursion (λ w. ¬ (w.key ≡ q)) (writes_of name written)
       → AllByRecursion (λ w. ¬ ((w.table ≡ name) × (w.key ≡ q))) written
   apart_of [] q apart = tt
-  apart_of (w ∷ written) q apart = at (same_bytes w.table name) refl apart (apart_of written q)
+  apart_of (w ∷ written) q apart = at (bytes_eq w.table name) refl apart (apart_of written q)
     where
-      at : (b : Bool) → same_bytes w.table name ≡ b → AllByRecursion (λ w. ¬ (w.key ≡ q)) (cond b (w ∷ writes_of name written) (writes_of name written))
+      at : (b : Bool) → bytes_eq w.table name ≡ b → AllByRecursion (λ w. ¬ (w.key ≡ q)) (cond b (w ∷ writes_of name written) (writes_of name written))
           → (AllByRecursion (λ w. ¬ (w.key ≡ q)) (writes_of name written) → AllByRecursion (λ w. ¬ ((w.table ≡ name) × (w.key ≡ q))) written)
           → AllByRecursion (λ w. ¬ ((w.table ≡ name) × (w.key ≡ q))) (w ∷ written)
       at true same apart rest = ((λ here. apart.0 here.1), rest apart.1)

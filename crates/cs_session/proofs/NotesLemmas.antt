@@ -1,5 +1,5 @@
 -- What is noted of writes is well formed.
-use Rattle.std.proofs.Common.{◌≡◌, ◌≢◌, ◌⊎◌, inl, inr, ℕ, Bool, true, false, cond, List, [], ◌∷◌, ◌++◌, Option, Some, refl, sym, subst}
+use Rattle.std.proofs.Common.{bytes_eq, ◌≡◌, ◌≢◌, ◌⊎◌, inl, inr, ℕ, Bool, true, false, cond, List, [], ◌∷◌, ◌++◌, Option, Some, refl, sym, subst}
 use Rattle.std.specs.Prelude.{IfSome, is_some}
 use Rattle.std.specs.List.{AllByRecursion}
 use Rattle.std.specs.Cmp.Lexicographic.{other_text}
@@ -8,7 +8,6 @@ use Rattle.cs_value.specs.declared.value.OwnedValue.{OwnedValue}
 use Rattle.cs_value.specs.State.{SchemaData, State, WrittenData, IsState, IsRowAt, row_at}
 use Rattle.cs_value.proofs.ListLemmas.{AllByRecursion-map, AllByRecursion-push, AllByRecursion-weaker, PairsByRecursion, recursion_from_AllPairs, AllPairs-from_recursion}
 use Rattle.cs_value.proofs.StateLemmas.{row_at_fits}
-use Rattle.cs_store.specs.Records.{same_bytes}
 use Rattle.cs_group.specs.Laws.{TellsFormer}
 use Rattle.cs_session.specs.FirstImages.{FirstImage, AttachedTable, Notes, IsAttachedTable, IsNotes, HasAttached, first_at, noted, writes_of, noted_in, recorded}
 use Rattle.cs_session.specs.Noting.{HasFormers, AreFormers}
@@ -19,9 +18,9 @@ use Rattle.cs_session.proofs.FirstLemmas.{told_of}
 -- a key without a first image is not there
 absent : (firsts : List FirstImage) (q : List ℕ) → is_some (first_at firsts q) ≡ false → AllByRecursion (λ f. f.key ≢ q) firsts
 absent [] q e = tt
-absent (f ∷ firsts) q e = at (same_bytes f.key q) refl e (absent firsts q)
+absent (f ∷ firsts) q e = at (bytes_eq f.key q) refl e (absent firsts q)
   where
-    at : (b : Bool) → same_bytes f.key q ≡ b → is_some (cond b (Some f.row) (first_at firsts q)) ≡ false → (is_some (first_at firsts q) ≡ false → AllByRecursion (λ g. g.key ≢ q) firsts)
+    at : (b : Bool) → bytes_eq f.key q ≡ b → is_some (cond b (Some f.row) (first_at firsts q)) ≡ false → (is_some (first_at firsts q) ≡ false → AllByRecursion (λ g. g.key ≢ q) firsts)
         → AllByRecursion (λ g. g.key ≢ q) (f ∷ firsts)
     at true same e next = absurd (let apart : true ≡ false = e in cc)
     at false same e next = (other_text f.key q (sym same), next e)
@@ -115,6 +114,6 @@ module _ (old : State) (is_state : IsState old) where
       at (inr none) = subst (λ (writes : List WrittenData). AllByRecursion (λ w. IfSome w.former (IsRowAt table.schema w.key)) writes) (sym none) tt
 
 -- writes of one table are of no other
-pub only_writes : (name other : List ℕ) (written : List WrittenData) → AllByRecursion (λ w. w.table ≡ name) written → same_bytes name other ≡ false → writes_of other written ≡ []
+pub only_writes : (name other : List ℕ) (written : List WrittenData) → AllByRecursion (λ w. w.table ≡ name) written → bytes_eq name other ≡ false → writes_of other written ≡ []
 only_writes name other [] all apart = refl
 only_writes name other (w ∷ written) all apart = rw (all.0, apart) (only_writes name other written all.1 apart)

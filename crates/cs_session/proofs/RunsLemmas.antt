@@ -12,7 +12,7 @@ use Rattle.cs_value.specs.declared.value.OwnedValue.{OwnedValue}
 use Rattle.cs_value.specs.State.{SchemaData, TableData, RowMap, State, WrittenData, schema_at, rows_at, with_table}
 use Rattle.cs_value.proofs.ByteMaps.{same_maps}
 use Rattle.cs_value.proofs.ListLemmas.{AllByRecursion-weaker, recursion_from_AllPairs, AllPairs-from_recursion}
-use Rattle.cs_store.specs.declared.edit.Edit.{Edit}
+use Rattle.cs_rows.specs.declared.edit.Edit.{Edit}
 use Rattle.sqlite.specs.Effect.{Database}
 use Rattle.sqlite.specs.State.{State as Connection}
 use Rattle.cs_store.specs.Editing.{Declares, Edited}

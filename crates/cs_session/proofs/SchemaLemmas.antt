@@ -1,5 +1,5 @@
 -- Whether two schemas are the same, as the code finds it.
-use Rattle.std.proofs.Common.{◌≡◌, ℕ, Bool, true, false, true≢false, List, [], ◌∷◌, map, IsTrue, ◌↔◌, refl, sym, ap, ◌∙◌}
+use Rattle.std.proofs.Common.{bytes_eq, ◌≡◌, ℕ, Bool, true, false, true≢false, List, [], ◌∷◌, map, IsTrue, ◌↔◌, refl, sym, ap, ◌∙◌}
 use Rattle.std.proofs.Math.Bool.{beq}
 use Rattle.std.specs.Prelude.{String, string_bytes}
 use Rattle.std.specs.declared.alloc.Global.{Global}
@@ -7,7 +7,6 @@ use Rattle.std.specs.String.{string_eq}
 use Rattle.std.specs.Cmp.Lexicographic.{pointwise, nat_list_eq_equiv, same_text}
 use Rattle.std.proofs.lemmas.Bool.{and_parts}
 use Rattle.cs_value.specs.State.{SchemaData}
-use Rattle.cs_store.specs.Records.{same_bytes}
 
 -- texts in turn
 same_texts : (xs ys : List (String Global)) → pointwise string_eq xs ys ≡ true → map string_bytes xs ≡ map string_bytes ys
@@ -25,7 +24,7 @@ texts_same (x ∷ xs) [] e = absurd (let apart : string_bytes x ∷ map string_b
 texts_same (x ∷ xs) (y ∷ ys) e =
     let first : string_bytes x ≡ string_bytes y = cc e in
     let others : map string_bytes xs ≡ map string_bytes ys = cc e in
-    let here : same_bytes (string_bytes x) (string_bytes y) ≡ true = ap (same_bytes (string_bytes x)) (sym first) ∙ nat_list_eq_equiv.refl (string_bytes x) in
+    let here : bytes_eq (string_bytes x) (string_bytes y) ≡ true = ap (bytes_eq (string_bytes x)) (sym first) ∙ nat_list_eq_equiv.refl (string_bytes x) in
     rw (here) (texts_same xs ys others)
 
 -- marks in turn
@@ -59,11 +58,11 @@ AreColumns s t found = IsTrue found ↔ ((s.columns ≡ t.columns) × (s.flags �
 
 module _ (s t : SchemaData) (names others : List (String Global)) (of_s : map string_bytes names ≡ s.columns) (of_t : map string_bytes others ≡ t.columns) where
   -- with one name in each column, and one flag
-  pub same_columns : (flags flags' : List ℕ) → flags ≡ s.flags → flags' ≡ t.flags → pointwise string_eq names others ≡ true → (found : Bool) → found ≡ same_bytes flags flags'
+  pub same_columns : (flags flags' : List ℕ) → flags ≡ s.flags → flags' ≡ t.flags → pointwise string_eq names others ≡ true → (found : Bool) → found ≡ bytes_eq flags flags'
       → AreColumns s t found
   same_columns flags flags' is_s is_t same found is = rw is (
     λ e. (sym of_s ∙ same_texts names others same ∙ of_t, sym is_s ∙ same_text flags flags' (sym e) ∙ is_t),
-    λ e. ap (same_bytes flags) (is_t ∙ sym e.1 ∙ sym is_s) ∙ nat_list_eq_equiv.refl flags,
+    λ e. ap (bytes_eq flags) (is_t ∙ sym e.1 ∙ sym is_s) ∙ nat_list_eq_equiv.refl flags,
   )
 
   pub other_columns : pointwise string_eq names others ≡ false → (found : Bool) → found ≡ false → AreColumns s t found

@@ -1,5 +1,5 @@
 -- The tables of a session by their places, and what is noted in them, one write after another.
-use Rattle.std.proofs.Common.{◌≡◌, ◌≢◌, ◌⊎◌, ◌<◌, ℕ, zero, suc, Bool, true, false, cond, List, [], ◌∷◌, ◌++◌, length, get_or, set, drop, ◌+◌, map, refl, sym, ap, ◌∙◌, subst, arith}
+use Rattle.std.proofs.Common.{bytes_eq, ◌≡◌, ◌≢◌, ◌⊎◌, ◌<◌, ℕ, zero, suc, Bool, true, false, cond, List, [], ◌∷◌, ◌++◌, length, get_or, set, drop, ◌+◌, map, refl, sym, ap, ◌∙◌, subst, arith}
 use Rattle.std.specs.Prelude.{IfSome, is_some, Option, Result, Ok, Err, OnOk, IfErr, All}
 use Rattle.std.specs.List.{AllByRecursion}
 use Rattle.std.specs.Rc.{rc_str_bytes}
@@ -10,7 +10,6 @@ use Rattle.std.proofs.lemmas.List.Elements.{filter-append, All-from_recursion}
 use Rattle.cs_value.specs.declared.value.OwnedValue.{OwnedValue}
 use Rattle.cs_value.specs.State.{WrittenData, IsRowAt}
 use Rattle.cs_value.proofs.ListLemmas.{AllByRecursion-at, AllByRecursion-append, AllByRecursion-append_left, AllByRecursion-append_right, AllByRecursion-weaker, PairsByRecursion, recursion_from_AllPairs, AllPairs-from_recursion, get_or_map_at}
-use Rattle.cs_store.specs.Records.{same_bytes}
 use Rattle.cs_session.specs.declared.attached.Attached.{Attached}
 use Rattle.cs_session.specs.declared.fault.SessionFault.{SessionFault}
 use Rattle.cs_session.specs.declared.fault.SessionFault.TheVariants.{NoMemory as OutOfMemory}
@@ -25,10 +24,10 @@ Apart s t = s.name ≢ t.name
 
 -- ---- one write
 
-other_bytes : (name other : List ℕ) → other ≢ name → same_bytes name other ≡ false
-other_bytes name other apart = at (same_bytes name other) refl
+other_bytes : (name other : List ℕ) → other ≢ name → bytes_eq name other ≡ false
+other_bytes name other apart = at (bytes_eq name other) refl
   where
-    at : (b : Bool) → same_bytes name other ≡ b → b ≡ false
+    at : (b : Bool) → bytes_eq name other ≡ b → b ≡ false
     at true same = absurd (apart (sym (same_text name other (sym same))))
     at false same = refl
 
@@ -53,7 +52,7 @@ module _ (w : WrittenData) where
   none_formers (t ∷ notes) apart = (other_formers t apart.0, none_formers notes apart.1)
 
   -- the table of the name has one key more
-  same_name : (t : AttachedTable) → t.name ≡ w.table → same_bytes w.table t.name ≡ true
+  same_name : (t : AttachedTable) → t.name ≡ w.table → bytes_eq w.table t.name ≡ true
   same_name t same = (bytes_decides w.table t.name).1 (sym same)
 
   here_noted : (t : AttachedTable) → t.name ≡ w.table → noted_in one t ≡ with_write t w.key w.former
@@ -113,7 +112,7 @@ noted_then firsts (w ∷ xs) ys = at (is_some (first_at firsts w.key)) (noted_th
 
 module _ (xs ys : List WrittenData) where
   writes_then : (name : List ℕ) → writes_of name (xs ++ ys) ≡ writes_of name xs ++ writes_of name ys
-  writes_then name = filter-append (λ (v : WrittenData). same_bytes v.table name) xs ys
+  writes_then name = filter-append (λ (v : WrittenData). bytes_eq v.table name) xs ys
 
   in_then : (t : AttachedTable) → noted_in ys (noted_in xs t) ≡ noted_in (xs ++ ys) t
   in_then t = ap (λ (fs : List FirstImage). let b : AttachedTable = record t { firsts = fs } in b)

@@ -2,7 +2,7 @@
 use Rattle.std.specs.Prelude.{◌≡◌, ◌≢◌, ◌⊎◌, ℕ, List, [], ◌∷◌, ◌++◌, All, Any, None, Some}
 use Rattle.cs_value.specs.Table.{IsName}
 use Rattle.cs_value.specs.State.{SchemaData, State, schema_at}
-use Rattle.cs_store.specs.declared.fault.StoreError.TheVariants.{NoTable, DamagedStore, StoreFault}
+use Rattle.cs_rows.specs.declared.fault.StoreError.TheVariants.{NoTable, DamagedStore, StoreFault}
 use Rattle.cs_session.specs.declared.fault.SessionFault.{SessionFault}
 use Rattle.cs_session.specs.declared.fault.SessionFault.TheVariants.{Store, Apply, AlreadyAttached, WrongStore, NoMemory}
 use Rattle.cs_session.specs.FirstImages.{Notes}

@@ -1,7 +1,7 @@
 -- Whether a store has the tables that are attached, and why it does not give their net changeset.
 use Rattle.std.specs.Prelude.{◌≡◌, ◌⊎◌, ℕ, List, All, Any}
 use Rattle.cs_value.specs.State.{State}
-use Rattle.cs_store.specs.declared.fault.StoreError.TheVariants.{DamagedStore, StoreFault}
+use Rattle.cs_rows.specs.declared.fault.StoreError.TheVariants.{DamagedStore, StoreFault}
 use Rattle.cs_session.specs.declared.fault.SessionFault.{SessionFault}
 use Rattle.cs_session.specs.declared.fault.SessionFault.TheVariants.{Store, WrongStore, NoMemory}
 use Rattle.cs_session.specs.FirstImages.{AttachedTable, Notes, HasAttached}

@@ -1,7 +1,7 @@
 -- What a session refuses with: this project's own numbers and names, and the result codes of SQLite.
 use Rattle.std.specs.Prelude.{ℕ, List, codes}
-use Rattle.cs_store.specs.declared.fault.StoreError.{StoreError}
-use Rattle.cs_store.specs.declared.fault.StoreError.TheVariants as store_error
+use Rattle.cs_rows.specs.declared.fault.StoreError.{StoreError}
+use Rattle.cs_rows.specs.declared.fault.StoreError.TheVariants as store_error
 use Rattle.cs_store.specs.Faults as stores
 use Rattle.cs_apply.specs.declared.fault.ApplyFault.{ApplyFault}
 use Rattle.cs_apply.specs.declared.fault.ApplyFault.TheVariants as apply_fault

@@ -2,7 +2,7 @@
 -- "changesets and patchsets", and its interface, under "sqlite3session_changeset". For each row that was written since
 -- its table was attached, the row that stood there first is kept, or that none did; the changes are from these rows to
 -- those that stand there now.
-use Rattle.std.specs.Prelude.{◌≡◌, ◌≢◌, ℕ, if◌then◌else◌, List, [], ◌∷◌, ◌++◌, map, filter, filter_map}
+use Rattle.std.specs.Prelude.{bytes_eq, ◌≡◌, ◌≢◌, ℕ, if◌then◌else◌, List, [], ◌∷◌, ◌++◌, map, filter, filter_map}
 use Rattle.std.specs.Prelude.{All, AllPairs, Option, None, Some, option_map, is_some, unwrap_or, IfSome}
 use Rattle.std.specs.FinMap as map
 use Rattle.cs_value.specs.declared.value.OwnedValue.{OwnedValue}
@@ -10,7 +10,6 @@ use Rattle.cs_value.specs.Table.{IsName}
 use Rattle.cs_value.specs.State.{SchemaData, IsSchema, IsRowAt, RowMap, State, WrittenData, schema_at, rows_at, row_at, with_rows}
 use Rattle.cs_wire.specs.declared.entry.Entry.{Entry}
 use Rattle.cs_wire.specs.Changeset.{HeaderData, GroupData}
-use Rattle.cs_store.specs.Records.{same_bytes}
 use Rattle.cs_group.specs.JoinLaw.{net_entry}
 
 -- ---- what is remembered
@@ -52,7 +51,7 @@ HasAttached state table = schema_at state table.name ≡ Some table.schema
 -- what stood under a key first, where it was written: a row or none
 abbrev pub first_at : List FirstImage → List ℕ → Option (Option (List OwnedValue))
 first_at [] key = None
-first_at (first ∷ firsts) key = if same_bytes first.key key then Some first.row else first_at firsts key
+first_at (first ∷ firsts) key = if bytes_eq first.key key then Some first.row else first_at firsts key
 
 -- ---- the rows from before
 
@@ -88,7 +87,7 @@ noted firsts (w ∷ written) =
 
 -- the writes of a table
 abbrev pub writes_of : List ℕ → List WrittenData → List WrittenData
-writes_of name = filter (λ w. same_bytes w.table name)
+writes_of name = filter (λ w. bytes_eq w.table name)
 
 -- an attached table with the writes of it
 abbrev pub noted_in : List WrittenData → AttachedTable → AttachedTable

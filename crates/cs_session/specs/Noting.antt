@@ -2,7 +2,7 @@
 use Rattle.std.specs.Prelude.{◌≡◌, ◌≢◌, ℕ, List, AllPairs, Option, IfSome}
 use Rattle.std.specs.List.{AllByRecursion}
 use Rattle.cs_value.specs.State.{IsRowAt, WrittenData}
-use Rattle.cs_store.specs.declared.fault.StoreError.TheVariants.{DamagedStore}
+use Rattle.cs_rows.specs.declared.fault.StoreError.TheVariants.{DamagedStore}
 use Rattle.cs_session.specs.declared.fault.SessionFault.{SessionFault}
 use Rattle.cs_session.specs.declared.fault.SessionFault.TheVariants.{Store}
 use Rattle.cs_value.specs.declared.value.OwnedValue.{OwnedValue}

@@ -1,9 +1,9 @@
 -- What an edit and an apply through a session do, or why they are refused.
 use Rattle.std.specs.Prelude.{◌≡◌, ◌⊎◌, ℕ, List, map, Ok, Err, string_bytes}
 use Rattle.cs_value.specs.State.{State, WrittenData}
-use Rattle.cs_store.specs.declared.edit.Edit.{Edit}
-use Rattle.cs_store.specs.declared.edit.Edit.TheVariants.{Insert, Update, Delete}
-use Rattle.cs_store.specs.declared.fault.StoreError.TheVariants.{DamagedStore, StoreFault}
+use Rattle.cs_rows.specs.declared.edit.Edit.{Edit}
+use Rattle.cs_rows.specs.declared.edit.Edit.TheVariants.{Insert, Update, Delete}
+use Rattle.cs_rows.specs.declared.fault.StoreError.TheVariants.{DamagedStore, StoreFault}
 use Rattle.cs_store.specs.Editing.{written_of, edited}
 use Rattle.cs_store.specs.Faults as store
 use Rattle.cs_apply.specs.declared.report.Report.{Report}

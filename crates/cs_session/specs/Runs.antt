@@ -4,7 +4,7 @@ use Rattle.std.specs.Prelude.{◌≡◌, ◌≢◌, ◌⊎◌, ℕ, List, [], �
 use Rattle.std.proofs.Common.{inl, inr}
 use Rattle.cs_value.specs.State.{SchemaData, RowMap, State, rows_at}
 use Rattle.cs_wire.specs.Changeset.{GroupData}
-use Rattle.cs_store.specs.declared.edit.Edit.{Edit}
+use Rattle.cs_rows.specs.declared.edit.Edit.{Edit}
 use Rattle.cs_store.specs.Editing.{Declares}
 use Rattle.cs_group.specs.declared.conflict.Noop.{Noop}
 use Rattle.cs_group.specs.Applying.{Choices, IsAppliedUnder, written_under}

@@ -29,9 +29,9 @@ use Rattle.cs_session.specs.declared.fault.SessionFault.TheVariants as session
 use Rattle.cs_session.specs.Changes as sessions
 use Rattle.cs_session.specs.FirstImages.{Notes, rewound}
 use Rattle.cs_session.specs.Recording.{RecordsApply, RefusesApply}
-use Rattle.cs_shell.specs.ErrorLines.{of_apply, of_session, of_read}
-use Rattle.cs_shell.specs.Replies.{Reply, Reported, Refused}
-use Rattle.cs_shell.specs.Report.{told_of}
+use Rattle.cs_replies.specs.ErrorLines.{of_apply, of_session, of_read}
+use Rattle.cs_replies.specs.Replies.{Reply, Reported, Refused}
+use Rattle.cs_replies.specs.Report.{told_of}
 use Rattle.cs_shell.specs.Script.{ApplyGives, RevertGives, not_applied, reverted, recorded, unread}
 use Rattle.cs_shell.specs.ShellState.{SlotMap, ShellState}
 use Rattle.cs_shell.specs.Turns.{Gave, Works, seen, seen_table}

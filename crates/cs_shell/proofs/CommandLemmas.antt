@@ -14,11 +14,11 @@ use Rattle.cs_session.specs.FirstImages.{Notes}
 use Rattle.cs_lines.specs.declared.fault.SyntaxFault.{SyntaxFault}
 use Rattle.cs_lines.specs.Commands.{CommandData, AssignmentData, Create, Insert, Update, Delete, Select, Apply, Revert, SessionOpen, SessionAttach, SessionChangeset, SessionIsEmpty, SessionUndo, SessionClose}
 use Rattle.cs_lines.specs.Lines.{RefusesLine, Spelled}
-use Rattle.cs_shell.specs.declared.refusal.Refusal.{Refusal}
-use Rattle.cs_shell.specs.declared.refusal.Refusal.TheVariants.{NoMemory, EmptySlot}
+use Rattle.cs_replies.specs.declared.refusal.Refusal.{Refusal}
+use Rattle.cs_replies.specs.declared.refusal.Refusal.TheVariants.{NoMemory, EmptySlot}
 use Rattle.cs_shell.specs.declared.workspace.Workspace.{Workspace}
-use Rattle.cs_shell.specs.ErrorLines.{of_line}
-use Rattle.cs_shell.specs.Replies.{Reply, Refused}
+use Rattle.cs_replies.specs.ErrorLines.{of_line}
+use Rattle.cs_replies.specs.Replies.{Reply, Refused}
 use Rattle.cs_shell.specs.Script.{IsResource, SlotsGive, LineGives, malformed, answered, unanswered, CreateGives, EditGives, UpdateGives, DeleteGives, SelectGives, ApplyGives, ByKind, RevertGives, WithSession, OpenGives, AttachGives, ChangesetGives, IsEmptyGives, UndoGives, CloseGives}
 use Rattle.cs_shell.specs.Script.{CommandGives, created, inserts, updates, deletes, selects, on_slots, applies, reverts, opens, attaches, changes, tells_empty, undoes, closes}
 use Rattle.cs_shell.specs.ShellState.{SlotMap, ShellState}

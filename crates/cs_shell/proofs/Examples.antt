@@ -19,8 +19,8 @@ use Rattle.cs_wire.proofs.Examples.{one_change, row, insert_file, delete_file, u
 use Rattle.cs_wire.proofs.Examples.{insert_is_changeset, letter_is_refused}
 use Rattle.cs_lines.specs.Commands.{Load, Hex, Invert, Concat, Dump, IsSlot}
 use Rattle.cs_lines.specs.Lines.{words_of, Spelled}
-use Rattle.cs_shell.specs.ErrorLines.{refusal_text}
-use Rattle.cs_shell.specs.Replies.{Reply, Silent, Text as Printed, Dumped, Refused, reply_text, replies_text}
+use Rattle.cs_replies.specs.ErrorLines.{refusal_text}
+use Rattle.cs_replies.specs.Replies.{Reply, Silent, Text as Printed, Dumped, Refused, reply_text, replies_text}
 use Rattle.cs_shell.specs.ShellState.{SlotMap, ShellState}
 use Rattle.cs_shell.specs.Stores.{beginning}
 use Rattle.cs_shell.specs.Script.{SlotsGive, loaded, no_hex, shown, nothing_to_show, inverted, not_inverted}
@@ -31,7 +31,7 @@ use Rattle.cs_value.specs.Quoting.{doubled}
 use Rattle.cs_files.specs.Texts.{literal, separated, field_text, header_text, entry_text, group_text}
 use Rattle.cs_shell.specs.declared.script.Status.TheVariants.{Done}
 use Rattle.cs_files.specs.declared.told.Told.{Told}
-use Rattle.cs_shell.specs.declared.refusal.Refusal.TheVariants.{Read, Syntax, EmptySlot, BadHex, LineText}
+use Rattle.cs_replies.specs.declared.refusal.Refusal.TheVariants.{Read, Syntax, EmptySlot, BadHex, LineText}
 
 computing : Unit {0}
 unfolding encode_utf8 chars is_utf8

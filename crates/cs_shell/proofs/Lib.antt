@@ -4,7 +4,6 @@ pub mod Examples
 pub mod LineLemmas
 pub mod ProgressLemmas
 pub mod ReplyLemmas
-pub mod ReportExamples
 pub mod RunLemmas
 pub mod SeenLemmas
 pub mod SessionLemmas

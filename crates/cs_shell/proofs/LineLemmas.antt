@@ -8,7 +8,7 @@ use Rattle.cs_store.specs.Store.{tables_in}
 use Rattle.cs_files.specs.declared.told.Told.{Told}
 use Rattle.cs_shell.specs.declared.script.Status.{Status}
 use Rattle.cs_shell.specs.declared.workspace.Workspace.{Workspace}
-use Rattle.cs_shell.specs.Replies.{Reply}
+use Rattle.cs_replies.specs.Replies.{Reply}
 use Rattle.cs_shell.specs.Runs.{LinesGive, Runs}
 use Rattle.cs_shell.specs.Script.{LineGives, unanswered}
 use Rattle.cs_shell.specs.ShellState.{ShellState}

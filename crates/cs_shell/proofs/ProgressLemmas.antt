@@ -12,7 +12,7 @@ use Rattle.cs_shell.specs.declared.script.Script.{Script}
 use Rattle.cs_files.specs.declared.told.Told.{Told}
 use Rattle.cs_files.specs.Told.{known}
 use Rattle.cs_files.specs.Calls.{AppendsFront}
-use Rattle.cs_shell.specs.Replies.{Reply, reply_text, replies_text, is_refused}
+use Rattle.cs_replies.specs.Replies.{Reply, reply_text, replies_text, is_refused}
 use Rattle.cs_shell.specs.Runs.{Splits, HasNoFeed, ended, unended, LinesGive, AnswersAll}
 use Rattle.cs_shell.specs.Progress.{Holds, HasBegun, IsFresh, Adds, Running, running, EndsLine, Progress, Advances, Broken, Breaks, Finishes, Unfinished}
 

@@ -12,8 +12,8 @@ use Rattle.cs_wire.specs.ReadFaults.{ReadFails}
 use Rattle.cs_files.specs.declared.fault.FileFault.{FileFault}
 use Rattle.cs_files.specs.Files.{JoinFails}
 use Rattle.cs_lines.specs.Commands.{Load, Invert, Concat, Dump}
-use Rattle.cs_shell.specs.ErrorLines.{of_hex, of_read, of_files}
-use Rattle.cs_shell.specs.Replies.{Refused}
+use Rattle.cs_replies.specs.ErrorLines.{of_hex, of_read, of_files}
+use Rattle.cs_replies.specs.Replies.{Refused}
 use Rattle.cs_shell.specs.Script.{SlotsGive, no_hex, not_inverted, not_joined, not_dumped, unable}
 use Rattle.cs_shell.specs.ShellState.{SlotMap}
 

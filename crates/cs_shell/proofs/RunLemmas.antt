@@ -4,15 +4,15 @@ use Rattle.std.specs.Prelude.{if◌then◌else◌, IsTrue}
 use Rattle.std.specs.Io.KnownBytes.{Appends, Consumes, Keeps, IsAtEnd}
 use Rattle.std.proofs.KnownBytes.{Appends-trans, Consumes-trans}
 use Rattle.std.proofs.lemmas.List.{append_assoc, length-drop, length-take-le, take-append-drop}
-use Rattle.cs_shell.specs.declared.refusal.Refusal.TheVariants.{ScriptTooLong}
+use Rattle.cs_replies.specs.declared.refusal.Refusal.TheVariants.{ScriptTooLong}
 use Rattle.cs_shell.specs.declared.script.Script.{Script}
 use Rattle.cs_shell.specs.declared.script.Status.{Status}
 use Rattle.cs_shell.specs.declared.script.Status.TheVariants.{Done, LinesRefused, TooLong, InputFault, OutputFault}
 use Rattle.cs_files.specs.declared.told.Told.{Told}
 use Rattle.cs_files.specs.Told.{has_failed, known}
 use Rattle.cs_files.specs.Calls.{AppendsFront}
-use Rattle.cs_shell.specs.ErrorLines.{refusal_text}
-use Rattle.cs_shell.specs.Replies.{Reply, replies_text}
+use Rattle.cs_replies.specs.ErrorLines.{refusal_text}
+use Rattle.cs_replies.specs.Replies.{Reply, replies_text}
 use Rattle.cs_shell.specs.Runs.{SCRIPT_LIMIT, unended, LinesGive, EndsText, EndsFront, EndsOverrun, Overruns, Ends, Runs, EndsUnwritten, at_line, at_last_line, at_overrun}
 use Rattle.cs_shell.specs.Progress.{IsFresh, Running, running, Progress, Advances, Breaks, Finishes, Unfinished, HasRead, ReadsText}
 use Rattle.cs_shell.proofs.ProgressLemmas.{Progress-start, AppendsFront-behind}

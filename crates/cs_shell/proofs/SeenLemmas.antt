@@ -1,5 +1,5 @@
 -- What a script sees of a session: whole tables, where the session has first images.
-use Rattle.std.proofs.Common.{◌≡◌, ◌≢◌, ℕ, suc, ◌+◌, ◌||◌, Bool, true, false, cond, List, [], ◌∷◌, ◌++◌, length, map, filter_map, Option, Some, None, option_map, refl, sym, ap, ◌∙◌, arith, length-append}
+use Rattle.std.proofs.Common.{bytes_eq, ◌≡◌, ◌≢◌, ℕ, suc, ◌+◌, ◌||◌, Bool, true, false, cond, List, [], ◌∷◌, ◌++◌, length, map, filter_map, Option, Some, None, option_map, refl, sym, ap, ◌∙◌, arith, length-append}
 use Rattle.std.specs.Prelude.{unwrap_or, is_some}
 use Rattle.std.specs.List.{AllByRecursion, AllZip, flat_map, list_any, cons_option}
 use Rattle.std.specs.FinMap.{get}
@@ -12,7 +12,6 @@ use Rattle.cs_value.proofs.ListLemmas.{PairsByRecursion, recursion_from_AllPairs
 use Rattle.cs_wire.specs.declared.entry.Entry.{Entry}
 use Rattle.cs_wire.specs.Changeset.{HeaderData, GroupData}
 use Rattle.cs_wire.specs.Inverse.{IsInverseGroup, IsInverseEntry}
-use Rattle.cs_store.specs.Records.{same_bytes}
 use Rattle.cs_group.specs.declared.conflict.Kind.{Kind}
 use Rattle.cs_group.specs.declared.judging.Judgement.TheVariants.{Compatible}
 use Rattle.cs_group.specs.Judging.{judgement, judged}
@@ -27,12 +26,12 @@ use Rattle.cs_shell.specs.Turns.{seen_table}
 
 -- ---- keys that are noted
 
-first_some : (firsts : List FirstImage) (key : List ℕ) → is_some (first_at firsts key) ≡ list_any (λ k. same_bytes k key) (map (λ (f : FirstImage). f.key) firsts)
+first_some : (firsts : List FirstImage) (key : List ℕ) → is_some (first_at firsts key) ≡ list_any (λ k. bytes_eq k key) (map (λ (f : FirstImage). f.key) firsts)
 first_some [] key = refl
-first_some (f ∷ firsts) key = at (same_bytes f.key key) (first_some firsts key)
+first_some (f ∷ firsts) key = at (bytes_eq f.key key) (first_some firsts key)
   where
-    at : (b : Bool) → is_some (first_at firsts key) ≡ list_any (λ k. same_bytes k key) (map (λ (f : FirstImage). f.key) firsts)
-        → is_some (cond b (Some f.row) (first_at firsts key)) ≡ (b || list_any (λ k. same_bytes k key) (map (λ (f : FirstImage). f.key) firsts))
+    at : (b : Bool) → is_some (first_at firsts key) ≡ list_any (λ k. bytes_eq k key) (map (λ (f : FirstImage). f.key) firsts)
+        → is_some (cond b (Some f.row) (first_at firsts key)) ≡ (b || list_any (λ k. bytes_eq k key) (map (λ (f : FirstImage). f.key) firsts))
     at true others = refl
     at false others = others
 
@@ -40,7 +39,7 @@ noted_keys : (firsts : List FirstImage) (written : List WrittenData)
     → map (λ (f : FirstImage). f.key) (noted firsts written) ≡ with_keys (map (λ (f : FirstImage). f.key) firsts) (map (λ (w : WrittenData). w.key) written)
 noted_keys firsts [] = refl
 noted_keys firsts (w ∷ written) =
-    at (is_some (first_at firsts w.key)) (list_any (λ k. same_bytes k w.key) keys) (first_some firsts w.key)
+    at (is_some (first_at firsts w.key)) (list_any (λ k. bytes_eq k w.key) keys) (first_some firsts w.key)
     (noted_keys firsts written)
     (noted_keys (firsts ++ new ∷ []) written ∙ ap (λ (ks : List (List ℕ)). with_keys ks more) (map-append (λ (f : FirstImage). f.key) firsts (new ∷ [])))
   where
@@ -118,9 +117,9 @@ module _ (state : State) where
   first_apart : (first : FirstImage) (firsts more : List FirstImage) → AllByRecursion (λ (g : FirstImage). first.key ≢ g.key) more → AllByRecursion (λ (g : FirstImage). first_at firsts g.key ≡ Some g.row) more
       → AllByRecursion (λ (g : FirstImage). first_at (first ∷ firsts) g.key ≡ Some g.row) more
   first_apart first firsts [] apart saved = tt
-  first_apart first firsts (g ∷ more) apart saved = (at (same_bytes first.key g.key) refl, first_apart first firsts more apart.1 saved.1)
+  first_apart first firsts (g ∷ more) apart saved = (at (bytes_eq first.key g.key) refl, first_apart first firsts more apart.1 saved.1)
     where
-      at : (b : Bool) → same_bytes first.key g.key ≡ b → cond b (Some first.row) (first_at firsts g.key) ≡ Some g.row
+      at : (b : Bool) → bytes_eq first.key g.key ≡ b → cond b (Some first.row) (first_at firsts g.key) ≡ Some g.row
       at true same = absurd (apart.0 (same_text first.key g.key (sym same)))
       at false same = saved.0
 

@@ -12,9 +12,9 @@ use Rattle.cs_value.proofs.StateLemmas.{table_of_schema}
 use Rattle.cs_wire.specs.Changeset.{GroupData}
 use Rattle.cs_wire.specs.Inverse.{IsInverseGroup}
 use Rattle.cs_wire.specs.Laws.{ChangesetFiles}
-use Rattle.cs_store.specs.declared.edit.Edit.{Edit}
-use Rattle.cs_store.specs.declared.fault.StoreError.{StoreError}
-use Rattle.cs_store.specs.declared.fault.StoreError.TheVariants as store
+use Rattle.cs_rows.specs.declared.edit.Edit.{Edit}
+use Rattle.cs_rows.specs.declared.fault.StoreError.{StoreError}
+use Rattle.cs_rows.specs.declared.fault.StoreError.TheVariants as store
 use Rattle.cs_store.specs.Editing.{Edited, Declares, edited, written_of}
 use Rattle.cs_group.specs.declared.conflict.Noop.{Noop}
 use Rattle.cs_group.specs.declared.conflict.Noop.TheVariants as noop
@@ -34,10 +34,10 @@ use Rattle.cs_session.specs.Undoing.{Undoes}
 use Rattle.cs_session.specs.Runs.{Moment, IsMoment, Step, rows_attached}
 use Rattle.cs_session.proofs.ChangesLemmas.{changes_are}
 use Rattle.cs_session.proofs.RunsLemmas.{rows_from_before, edited_step, applied_step, attached_step, declared_step, undone_step}
-use Rattle.cs_shell.specs.declared.refusal.Refusal.TheVariants as refusal
-use Rattle.cs_shell.specs.ErrorLines.{of_store, of_session}
-use Rattle.cs_shell.specs.Replies.{Reply, Silent, Reported, Refused}
-use Rattle.cs_shell.specs.Report.{told_of}
+use Rattle.cs_replies.specs.declared.refusal.Refusal.TheVariants as refusal
+use Rattle.cs_replies.specs.ErrorLines.{of_store, of_session}
+use Rattle.cs_replies.specs.Replies.{Reply, Silent, Reported, Refused}
+use Rattle.cs_replies.specs.Report.{told_of}
 use Rattle.cs_shell.specs.ShellState.{SlotMap, SessionTable, ShellState, written_to, touch, net_count, put_back}
 use Rattle.cs_shell.specs.Script.{EditGives, ApplyGives, applied, not_applied, AttachGives, attached, already, no_table, UndoGives}
 use Rattle.cs_shell.specs.Turns.{seen_table, seen_session, seen, IsHere, OrUnable}

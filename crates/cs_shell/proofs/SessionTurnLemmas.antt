@@ -9,7 +9,7 @@ use Rattle.sqlite.specs.State.{HasCleanDisk, Survives}
 use Rattle.cs_value.specs.State.{State, IsState}
 use Rattle.cs_wire.specs.Changeset.{GroupData, file_bytes}
 use Rattle.cs_wire.specs.Laws.{ChangesetFiles}
-use Rattle.cs_store.specs.declared.fault.StoreError.TheVariants as store
+use Rattle.cs_rows.specs.declared.fault.StoreError.TheVariants as store
 use Rattle.cs_store.specs.Records.{KeepsContent, KeepsCrash}
 use Rattle.cs_store.specs.Store.{IsAtRest, KeepsStore, tables_in}
 use Rattle.cs_apply.specs.declared.report.Report.{Report}
@@ -20,10 +20,10 @@ use Rattle.cs_session.specs.Attaching.{Attaches, RefusesAttach}
 use Rattle.cs_session.specs.Changes.{IsResource, RefusesChanges}
 use Rattle.cs_store.specs.Crash.{MayLeave}
 use Rattle.cs_session.specs.Undoing.{Undoes, UndoesInto}
-use Rattle.cs_shell.specs.declared.refusal.Refusal.TheVariants as refusal
-use Rattle.cs_shell.specs.ErrorLines.{of_session}
-use Rattle.cs_shell.specs.Replies.{Reply, Silent, Text, Reported, Refused}
-use Rattle.cs_shell.specs.Report.{told_of}
+use Rattle.cs_replies.specs.declared.refusal.Refusal.TheVariants as refusal
+use Rattle.cs_replies.specs.ErrorLines.{of_session}
+use Rattle.cs_replies.specs.Replies.{Reply, Silent, Text, Reported, Refused}
+use Rattle.cs_replies.specs.Report.{told_of}
 use Rattle.cs_shell.specs.Script.{WithSession, AttachGives, ChangesetGives, IsEmptyGives, UndoGives}
 use Rattle.cs_shell.specs.ShellState.{SlotMap, SessionTable, SessionTables, ShellState, net_of}
 use Rattle.cs_shell.specs.Turns.{OrUnable, Gave, GaveOn, Works, WorksOn, IsHere, seen, seen_table}

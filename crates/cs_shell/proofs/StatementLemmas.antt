@@ -11,8 +11,8 @@ use Rattle.cs_value.specs.declared.refusal.OrNoMemory.TheVariants as tool
 use Rattle.cs_value.specs.Refusals.{Refuses}
 use Rattle.sqlite.specs.State.{State as Connection, HasCleanDisk}
 use Rattle.cs_value.specs.State.{SchemaData, TableData, State, schema_at, rows_at, row_at}
-use Rattle.cs_store.specs.declared.fault.StoreError.{StoreError}
-use Rattle.cs_store.specs.declared.fault.StoreError.TheVariants.{NoTable, NoRow}
+use Rattle.cs_rows.specs.declared.fault.StoreError.{StoreError}
+use Rattle.cs_rows.specs.declared.fault.StoreError.TheVariants.{NoTable, NoRow}
 use Rattle.cs_store.specs.Faults as faults
 use Rattle.cs_store.specs.Editing.{either, Declares, schema_of, updated, deleted}
 use Rattle.cs_store.specs.Store.{KeepsStore, tables_in}
@@ -21,11 +21,11 @@ use Rattle.cs_lines.specs.Commands.{AssignmentData}
 use Rattle.cs_statements.specs.declared.fault.UnknownColumn.{UnknownColumn as NoColumn}
 use Rattle.cs_statements.specs.Columns.{AreColumns, NamesKey, marks_of, columns_of}
 use Rattle.cs_statements.specs.Rows.{with_assigned}
-use Rattle.cs_shell.specs.declared.refusal.Refusal.{Refusal}
-use Rattle.cs_shell.specs.declared.refusal.Refusal.TheVariants.{Store, NoMemory}
+use Rattle.cs_replies.specs.declared.refusal.Refusal.{Refusal}
+use Rattle.cs_replies.specs.declared.refusal.Refusal.TheVariants.{Store, NoMemory}
 use Rattle.cs_shell.specs.declared.statements.Place.{Place}
-use Rattle.cs_shell.specs.ErrorLines.{of_store, of_column}
-use Rattle.cs_shell.specs.Replies.{Reply, Silent, Listed, Refused}
+use Rattle.cs_replies.specs.ErrorLines.{of_store, of_column}
+use Rattle.cs_replies.specs.Replies.{Reply, Silent, Listed, Refused}
 use Rattle.cs_shell.specs.Script.{CreateGives, unknown_key, declared, not_declared, declared_schema, EditGives, SelectGives, RowPlace, FindsRow}
 use Rattle.cs_shell.specs.Script.{unknown_column, no_table, null_key, found, DeleteGives, not_deleted, deletes_row, UpdateGives, not_updated, no_row, updates_row}
 use Rattle.cs_shell.specs.ShellState.{SlotMap, ShellState}

@@ -5,8 +5,8 @@ use Rattle.sqlite_trees.specs.Tree.{Trees}
 use Rattle.sqlite.specs.Effect.{Database}
 use Rattle.sqlite.specs.State.{State, HasCleanDisk, Survives}
 use Rattle.cs_value.specs.State as tables
-use Rattle.cs_store.specs.declared.fault.StoreError.{StoreError}
-use Rattle.cs_store.specs.declared.fault.StoreError.TheVariants as store
+use Rattle.cs_rows.specs.declared.fault.StoreError.{StoreError}
+use Rattle.cs_rows.specs.declared.fault.StoreError.TheVariants as store
 use Rattle.cs_store.specs.Faults as faults
 use Rattle.cs_store.specs.Laws.{was_clean}
 use Rattle.cs_store.specs.Records.{KeepsContent, KeepsCrash, IsUndone}
@@ -16,10 +16,10 @@ use Rattle.cs_apply.specs.Running as applies
 use Rattle.cs_session.specs.declared.fault.SessionFault.{SessionFault}
 use Rattle.cs_session.specs.Changes as sessions
 use Rattle.cs_session.specs.FirstImages.{Notes}
-use Rattle.cs_shell.specs.declared.refusal.Refusal.{Refusal}
-use Rattle.cs_shell.specs.declared.refusal.Refusal.TheVariants.{NoMemory, Store}
-use Rattle.cs_shell.specs.ErrorLines.{of_store, of_apply, of_session}
-use Rattle.cs_shell.specs.Replies.{Reply, Refused}
+use Rattle.cs_replies.specs.declared.refusal.Refusal.{Refusal}
+use Rattle.cs_replies.specs.declared.refusal.Refusal.TheVariants.{NoMemory, Store}
+use Rattle.cs_replies.specs.ErrorLines.{of_store, of_apply, of_session}
+use Rattle.cs_replies.specs.Replies.{Reply, Refused}
 use Rattle.cs_shell.specs.Script.{IsResource}
 use Rattle.cs_shell.specs.ShellState.{SlotMap, ShellState}
 use Rattle.cs_shell.specs.Stores.{Shows, TellsFailures}

@@ -8,11 +8,11 @@ use Rattle.cs_files.specs.declared.fault.OutputFault.{OutputFault as Fault}
 use Rattle.cs_files.specs.Calls.{AppendsFront}
 use Rattle.cs_words.specs.Words.{Asked, Shell, Refuses}
 use Rattle.cs_words.specs.declared.fault.WordsFault.TheVariants as fault
-use Rattle.cs_shell.specs.declared.refusal.Refusal.{Refusal}
-use Rattle.cs_shell.specs.declared.refusal.Refusal.TheVariants.{NoMemory, Input, Output}
+use Rattle.cs_replies.specs.declared.refusal.Refusal.{Refusal}
+use Rattle.cs_replies.specs.declared.refusal.Refusal.TheVariants.{NoMemory, Input, Output}
 use Rattle.cs_shell.specs.declared.script.Status.{Status}
 use Rattle.cs_shell.specs.declared.script.Status.TheVariants.{Done, LinesRefused, TooLong, InputFault, OutputFault}
-use Rattle.cs_shell.specs.ErrorLines.{refusal_text}
+use Rattle.cs_replies.specs.ErrorLines.{refusal_text}
 use Rattle.cs_shell.specs.Runs.{RunsInput}
 use Rattle.cs_shell.specs.Script.{LineGives, IsResource}
 use Rattle.cs_shell.specs.Stores.{beginning}

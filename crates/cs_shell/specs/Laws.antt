@@ -2,8 +2,8 @@
 use Rattle.std.proofs.Common.{ℕ, Bool, List, inl, refl, arith}
 use Rattle.sqlite.specs.State.{State}
 use Rattle.cs_shell.specs.declared.workspace.Workspace.{Workspace}
-use Rattle.cs_shell.specs.declared.refusal.Refusal.TheVariants.{NoMemory}
-use Rattle.cs_shell.specs.Replies.{Refused}
+use Rattle.cs_replies.specs.declared.refusal.Refusal.TheVariants.{NoMemory}
+use Rattle.cs_replies.specs.Replies.{Refused}
 use Rattle.cs_shell.specs.Script.{unanswered}
 use Rattle.cs_shell.specs.Turns.{Answers}
 

@@ -1,5 +1,3 @@
-pub mod ErrorLines
-pub mod Replies
 pub mod ShellState
 pub mod Script
 pub mod Turns
@@ -8,7 +6,6 @@ pub mod Stores
 pub mod CommandLine
 pub mod Runs
 pub mod Progress
-pub mod Report
 pub use Rattle.cs_value.specs.Value
 pub use Rattle.cs_value.specs.Varint
 pub use Rattle.cs_value.specs.Spelling
@@ -25,7 +22,7 @@ pub use Rattle.cs_wire.specs.ReadFaults
 pub use Rattle.cs_group.specs.Inverse
 pub use Rattle.cs_group.specs.Net
 pub use Rattle.cs_group.specs.Joining
-pub use Rattle.cs_store.specs.Editing
+pub use Rattle.cs_rows.specs.Editing
 pub use Rattle.cs_apply.specs.Running
 pub use Rattle.cs_statements.specs.Columns
 pub use Rattle.cs_statements.specs.Rows
@@ -38,3 +35,6 @@ pub use Rattle.cs_files.specs.Calls
 pub use Rattle.cs_files.specs.Told
 pub use Rattle.cs_files.specs.Texts
 pub use Rattle.cs_words.specs.Words
+pub use Rattle.cs_replies.specs.ErrorLines
+pub use Rattle.cs_replies.specs.Replies
+pub use Rattle.cs_replies.specs.Report

@@ -12,7 +12,7 @@ use Rattle.cs_shell.specs.declared.script.Status.{Status}
 use Rattle.cs_shell.specs.declared.script.Status.TheVariants.{TooLong, InputFault, OutputFault}
 use Rattle.cs_shell.specs.declared.script.Stop.{Stop}
 use Rattle.cs_shell.specs.declared.script.Stop.TheVariants as stop
-use Rattle.cs_shell.specs.Replies.{Reply, reply_text, replies_text, is_refused}
+use Rattle.cs_replies.specs.Replies.{Reply, reply_text, replies_text, is_refused}
 use Rattle.cs_shell.specs.Runs.{Splits, LinesGive, Answers, AnswersAll, SCRIPT_LIMIT}
 
 -- ---- the line that is read

@@ -6,11 +6,11 @@ use Rattle.std.specs.Io.KnownBytes.{Appends, Consumes, IsAtEnd}
 use Rattle.cs_files.specs.declared.told.Told.{Told}
 use Rattle.cs_files.specs.Told.{has_failed, known}
 use Rattle.cs_files.specs.Calls.{AppendsFront}
-use Rattle.cs_shell.specs.declared.refusal.Refusal.TheVariants.{ScriptTooLong}
+use Rattle.cs_replies.specs.declared.refusal.Refusal.TheVariants.{ScriptTooLong}
 use Rattle.cs_shell.specs.declared.script.Status.{Status}
 use Rattle.cs_shell.specs.declared.script.Status.TheVariants.{Done, LinesRefused, TooLong, InputFault, OutputFault}
-use Rattle.cs_shell.specs.ErrorLines.{refusal_text}
-use Rattle.cs_shell.specs.Replies.{Reply, replies_text, is_refused}
+use Rattle.cs_replies.specs.ErrorLines.{refusal_text}
+use Rattle.cs_replies.specs.Replies.{Reply, replies_text, is_refused}
 
 -- ---- lines
 

@@ -14,8 +14,8 @@ use Rattle.cs_wire.specs.ReadFaults.{ReadFails}
 use Rattle.cs_group.specs.declared.conflict.Choice.{Choice}
 use Rattle.cs_group.specs.declared.conflict.Noop.{Noop}
 use Rattle.cs_group.specs.declared.conflict.Noop.TheVariants as noop
-use Rattle.cs_store.specs.declared.fault.StoreError.{StoreError}
-use Rattle.cs_store.specs.declared.fault.StoreError.TheVariants.{NoTable, NullInKey, NoRow, StoreFault}
+use Rattle.cs_rows.specs.declared.fault.StoreError.{StoreError}
+use Rattle.cs_rows.specs.declared.fault.StoreError.TheVariants.{NoTable, NullInKey, NoRow, StoreFault}
 use Rattle.cs_store.specs.Editing.{either, Edited, Declares, inserted, updated, deleted, written_of}
 use Rattle.cs_apply.specs.declared.report.Report.{Report}
 use Rattle.cs_apply.specs.declared.running.Direction.{Direction}
@@ -33,13 +33,13 @@ use Rattle.cs_lines.specs.Commands.{SessionIsEmpty, SessionUndo, SessionClose}
 use Rattle.cs_lines.specs.Lines.{IsNothing, Spelled}
 use Rattle.cs_statements.specs.Columns.{AreColumns, NamesKey, marks_of, columns_of}
 use Rattle.cs_statements.specs.Rows.{named_key, with_assigned}
-use Rattle.cs_shell.specs.declared.refusal.Refusal.{Refusal}
-use Rattle.cs_shell.specs.declared.refusal.Refusal.TheVariants as refusal
-use Rattle.cs_shell.specs.declared.refusal.Refusal.TheVariants.{NoMemory, Read, Files, Syntax, EmptySlot, BadHex}
-use Rattle.cs_shell.specs.declared.refusal.Refusal.TheVariants.{LineText, UnknownColumn, NoSession, Session}
-use Rattle.cs_shell.specs.ErrorLines.{of_apply}
-use Rattle.cs_shell.specs.Replies.{Reply, Silent, Text, Dumped, Listed, Reported, Refused}
-use Rattle.cs_shell.specs.Report.{told_of}
+use Rattle.cs_replies.specs.declared.refusal.Refusal.{Refusal}
+use Rattle.cs_replies.specs.declared.refusal.Refusal.TheVariants as refusal
+use Rattle.cs_replies.specs.declared.refusal.Refusal.TheVariants.{NoMemory, Read, Files, Syntax, EmptySlot, BadHex}
+use Rattle.cs_replies.specs.declared.refusal.Refusal.TheVariants.{LineText, UnknownColumn, NoSession, Session}
+use Rattle.cs_replies.specs.ErrorLines.{of_apply}
+use Rattle.cs_replies.specs.Replies.{Reply, Silent, Text, Dumped, Listed, Reported, Refused}
+use Rattle.cs_replies.specs.Report.{told_of}
 use Rattle.cs_shell.specs.ShellState.{SlotMap, SessionTables, ShellState, written_to, net_of, net_count, put_back}
 
 -- ---- slots

@@ -1,14 +1,13 @@
 -- What the lines of a script are run on: tables, slots, and at most one session. A session is the one of SQLite's session
 -- extension, said over whole tables: of each that is attached it has the rows as they stood then, and which keys were
 -- written since.
-use Rattle.std.specs.Prelude.{ℕ, if◌then◌else◌, List, [], ◌∷◌, ◌++◌, length, map, filter_map, Option, option_map}
+use Rattle.std.specs.Prelude.{bytes_eq, ℕ, if◌then◌else◌, List, [], ◌∷◌, ◌++◌, length, map, filter_map, Option, option_map}
 use Rattle.std.specs.List.{flat_map, list_any}
 use Rattle.std.specs.FinMap as map
 use Rattle.cs_value.specs.Maps.{ByBytes}
 use Rattle.cs_value.specs.State.{SchemaData, RowMap, State, WrittenData, row_at, with_rows}
 use Rattle.cs_wire.specs.declared.entry.Entry.{Entry}
 use Rattle.cs_wire.specs.Changeset.{GroupData}
-use Rattle.cs_store.specs.Records.{same_bytes}
 use Rattle.cs_group.specs.JoinLaw.{net_entry}
 use Rattle.cs_session.specs.FirstImages.{group_of, writes_of}
 
@@ -39,7 +38,7 @@ pub record ShellState : Type 0 where
 abbrev pub with_keys : List (List ℕ) → List (List ℕ) → List (List ℕ)
 with_keys keys [] = keys
 with_keys keys (key ∷ more) =
-    if list_any (λ k. same_bytes k key) keys then with_keys keys more else with_keys (keys ++ key ∷ []) more
+    if list_any (λ k. bytes_eq k key) keys then with_keys keys more else with_keys (keys ++ key ∷ []) more
 
 -- a table, with what of the writes is its own
 abbrev pub touch : List WrittenData → SessionTable → SessionTable

@@ -7,9 +7,9 @@ use Rattle.cs_store.specs.Store.{IsAtRest, tables_in}
 use Rattle.cs_session.specs.FirstImages.{AttachedTable, Notes, rewound_rows}
 use Rattle.cs_session.specs.Runs.{IsMoment}
 use Rattle.cs_lines.specs.Commands.{AssignmentData}
-use Rattle.cs_shell.specs.declared.refusal.Refusal.{Refusal}
+use Rattle.cs_replies.specs.declared.refusal.Refusal.{Refusal}
 use Rattle.cs_shell.specs.declared.statements.Place.{Place}
-use Rattle.cs_shell.specs.Replies.{Reply, Refused}
+use Rattle.cs_replies.specs.Replies.{Reply, Refused}
 use Rattle.cs_shell.specs.declared.workspace.Workspace.{Workspace}
 use Rattle.cs_shell.specs.Script.{RowPlace, FindsRow, IsResource, LineGives}
 use Rattle.cs_shell.specs.ShellState.{SlotMap, SessionTable, SessionTables, ShellState}

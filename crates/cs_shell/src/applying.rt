@@ -2,14 +2,13 @@
 ghost use Rattle.std.specs.Prelude.{None, Some};
 ghost use Rattle.sqlite.specs.Held.{state};
 ghost use Rattle.cs_apply.specs.declared.running.Direction.TheVariants.{Forward};
-ghost use Rattle.cs_shell.specs.Replies.{answer_of};
+ghost use Rattle.cs_replies.specs.Replies.{answer_of};
 ghost use Rattle.cs_shell.specs.Script.{ApplyGives, ByKind, RevertGives};
 ghost use Rattle.cs_shell.specs.Turns.{Works};
 
-use crate::refusal::Refusal;
-use crate::reply::Reply;
 use cs_apply::{Choice, Conflict, Noop, Policy, apply, revert};
 use cs_files::invert_bytes;
+use cs_replies::{Refusal, Reply};
 use cs_session::Session;
 use cs_store::Store;
 use sqlite::Alter;

@@ -1,12 +1,11 @@
 //! What lines do with the changesets in slots.
 ghost use Rattle.cs_lines.specs.Commands as lines;
 ghost use Rattle.cs_shell.specs.Script.{SlotsGive};
-ghost use Rattle.cs_shell.specs.Replies.{answer_of};
+ghost use Rattle.cs_replies.specs.Replies.{answer_of};
 
-use crate::refusal::Refusal;
-use crate::reply::Reply;
 use crate::slots::Slots;
 use cs_files::{concat_bytes, invert_bytes};
+use cs_replies::{Refusal, Reply};
 use cs_wire::read;
 use std::alloc::Global;
 

@@ -3,11 +3,9 @@ ghost use Rattle.std.specs.Prelude.{◌≤◌, length, IfOk};
 
 use crate::applying::apply_unnoted;
 use crate::output::write_file;
-use crate::print::write_reply;
-use crate::refusal::Refusal;
-use crate::reply::Reply;
 use cs_apply::{Noop, Policy};
 use cs_files::{OutputFault, Told, concat_bytes, invert_bytes, print_dump, print_sql};
+use cs_replies::{Refusal, Reply, write_reply};
 use cs_store::{Store, StoreError};
 use cs_words::IN_MEMORY;
 use sqlite::{FileFrom, FileStore, Unknown};
@@ -111,10 +109,7 @@ pub(crate) fn open_store(
 
 /// Closes the store in a file, so that the one file stands.
 pub(crate) fn close_store(store: Store<FileStore<FileFrom<Unknown>>>) -> Result<(), Refusal> {
-    match store.into_connection().close() {
-        Ok(()) => Ok(()),
-        Err(error) => Err(Refusal::from(StoreError::from(error))),
-    }
+    Ok(store.close()?)
 }
 
 /// Applies bytes to the store in a file.

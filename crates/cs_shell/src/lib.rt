@@ -12,23 +12,18 @@
 //! assert_eq!(rt; output, b"'x'\n");
 //! ```
 //!
-//! `script` reads lines by a `reader`, has them answered by a machine, and prints the answers; `shell` is that
-//! machine over a store: a `workspace` has its `slots` and its session. What lines do stands in `statements`,
-//! on tables; `changesets`, on slots; `applying`; and `sessions`. A line is answered with a `reply`, or with a
-//! `refusal`, as a command line is, and `print` says how these are printed. `words` has the command line, whose
-//! words [`cs_words`] reads; `command` what that does with files and stores, `output` how it writes a file, and
-//! `report` the text of what an apply did.
+//! `script` reads lines by a `reader`, has them answered by a machine, and prints the answers. `shell` is that machine
+//! over a store; its `workspace` has its `slots` and its session. `statements` has what lines do with tables, `changesets`
+//! what they do with slots, `applying` the applies and `sessions` the lines of a session. `words` has the command line,
+//! whose words [`cs_words`] reads, `command` what it does with files and stores, and `output` how it writes a file.
+//! [`cs_replies`] has the answers and how they are printed.
 #![tactic(auto)]
 
 mod applying;
 mod changesets;
 mod command;
 mod output;
-mod print;
 mod reader;
-mod refusal;
-mod reply;
-mod report;
 mod script;
 mod sessions;
 mod shell;
@@ -43,9 +38,9 @@ pub use cs_files::{
 };
 pub use cs_group::SchemaFault;
 pub use cs_lines::{Assignment, Command, LineFault, SyntaxFault, parse_line};
+pub use cs_replies::report_text;
 pub use cs_wire::{ReadError, ReadFault, ReadFaultKind};
 pub use cs_words::{Action, WordsFault, parse_words};
-pub use report::report_text;
 pub use script::Status;
 pub use shell::run_script;
 pub use words::{print_usage, run_words};

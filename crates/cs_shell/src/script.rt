@@ -2,20 +2,18 @@
 ghost use Rattle.std.specs.Prelude.{◌≡◌, ◌<◌, ◌≤◌, ◌∷◌, [], ℕ, List, if◌then◌else◌, length, IsTrue};
 ghost use Rattle.std.specs.Prelude.{IfOk, IfErr, OnOk, OnErr};
 ghost use Rattle.std.specs.Io.KnownBytes.{Consumes, IsAtEnd, Keeps};
-ghost use Rattle.cs_shell.specs.declared.refusal.Refusal.TheVariants as refusal;
+ghost use Rattle.cs_replies.specs.declared.refusal.Refusal.TheVariants as refusal;
 ghost use Rattle.cs_shell.specs.declared.script.Status.TheVariants.{Done as EndsDone, LinesRefused as EndsRefused};
 ghost use Rattle.cs_shell.specs.declared.script.Stop.TheVariants.{Output};
 ghost use Rattle.cs_files.specs.Told.{has_failed, known};
-ghost use Rattle.cs_shell.specs.Replies.{Reply as ReplyData, Refused, answer_of};
+ghost use Rattle.cs_replies.specs.Replies.{Reply as ReplyData, Refused, answer_of};
 ghost use Rattle.cs_shell.specs.Runs.{Runs};
 ghost use Rattle.cs_shell.specs.Progress.{Holds, IsFresh, running, EndsLine, Advances, Breaks, Finishes};
 ghost use Rattle.cs_shell.specs.Progress.{Unfinished, HasRead, ReadsText, status_of};
 
-use crate::print::{write_answer, write_refusal};
 use crate::reader::LineReader;
-use crate::refusal::Refusal;
-use crate::reply::Reply;
 use cs_files::{OutputFault, Told};
+use cs_replies::{Refusal, Reply, write_answer, write_refusal};
 use std::alloc::Global;
 use std::io::{Read, Write};
 

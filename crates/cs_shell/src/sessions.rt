@@ -2,15 +2,14 @@
 ghost use Rattle.std.specs.Prelude.{◌≡◌};
 ghost use Rattle.sqlite.specs.Held.{state};
 ghost use Rattle.cs_value.specs.State.{State};
-ghost use Rattle.cs_shell.specs.Replies.{answer_of};
+ghost use Rattle.cs_replies.specs.Replies.{answer_of};
 ghost use Rattle.cs_shell.specs.Script.{WithSession, OpenGives, AttachGives, ChangesetGives};
 ghost use Rattle.cs_shell.specs.Script.{IsEmptyGives, UndoGives, CloseGives};
 ghost use Rattle.cs_shell.specs.ShellState.{SlotMap};
 ghost use Rattle.cs_shell.specs.Turns.{IsHere, OrUnable, Works, WorksOn, seen};
 
-use crate::refusal::Refusal;
-use crate::reply::Reply;
 use crate::slots::Slots;
+use cs_replies::{Refusal, Reply};
 use cs_session::Session;
 use cs_store::Store;
 use cs_wire::{changeset_files_law, write};

@@ -1,9 +1,9 @@
 //! The slots of a script: bytes under names.
 ghost use Rattle.std.specs.Prelude.{◌≡◌, OnOk, OnErr, None, Some, MatchResult};
 ghost use Rattle.std.specs.FinMap as map;
-ghost use Rattle.cs_shell.specs.declared.refusal.Refusal.TheVariants.{EmptySlot};
+ghost use Rattle.cs_replies.specs.declared.refusal.Refusal.TheVariants.{EmptySlot};
 
-use crate::refusal::Refusal;
+use cs_replies::Refusal;
 use cs_value::NoMemory;
 use std::alloc::Global;
 use std::collections::BTreeMap;

@@ -4,13 +4,12 @@ ghost use Rattle.sqlite.specs.Held.{state};
 ghost use Rattle.cs_store.specs.Editing.{edited, inserted};
 ghost use Rattle.cs_session.specs.FirstImages.{Notes};
 ghost use Rattle.cs_lines.specs.Commands.{assignment_of};
-ghost use Rattle.cs_shell.specs.Replies.{answer_of};
+ghost use Rattle.cs_replies.specs.Replies.{answer_of};
 ghost use Rattle.cs_shell.specs.Script.{CreateGives, EditGives, UpdateGives, DeleteGives, SelectGives};
 ghost use Rattle.cs_shell.specs.Turns.{Reads, Works, Finds};
 
-use crate::refusal::Refusal;
-use crate::reply::Reply;
 use cs_lines::Assignment;
+use cs_replies::{Refusal, Reply};
 use cs_session::Session;
 use cs_statements::{assign, check_assignments, check_conditions, key_marks, named_key};
 use cs_store::{Edit, Schema, Store, StoreError};

@@ -11,11 +11,10 @@ ghost use Rattle.cs_shell.specs.CommandLine.{Reports, ReportsStatus, RunsInMemor
 
 use crate::command;
 use crate::command::{close_store, open_store};
-use crate::print::write_refusal;
-use crate::refusal::Refusal;
 use crate::script::Status;
 use crate::shell::run_script;
 use cs_files::{OutputFault, Told, write_whole};
+use cs_replies::{Refusal, write_refusal};
 use cs_store::{Store, memory_law};
 use cs_words::{Action, IN_MEMORY, WordsFault, parse_words};
 use std::alloc::Global;

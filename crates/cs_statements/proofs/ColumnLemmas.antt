@@ -1,5 +1,5 @@
 -- Columns that are named, one name after the other.
-use Rattle.std.proofs.Common.{◌≡◌, ◌≢◌, ℕ, ◌+◌, ◌<◌, List, [], ◌∷◌, ◌++◌, length, get_or, take, map, Bool, true, false, cond, not, ◌&&◌, ◌||◌, Bor, refl, sym, ap, subst, ◌∙◌, true≢false, arith}
+use Rattle.std.proofs.Common.{bytes_eq, ◌≡◌, ◌≢◌, ℕ, ◌+◌, ◌<◌, List, [], ◌∷◌, ◌++◌, length, get_or, take, map, Bool, true, false, cond, not, ◌&&◌, ◌||◌, Bor, refl, sym, ap, subst, ◌∙◌, true≢false, arith}
 use Rattle.std.specs.List.{list_any, All, Any, Contains}
 use Rattle.std.specs.BTreeSet.{BTreeSet, UpdatesBy}
 use Rattle.std.specs.Cmp.Lexicographic.{slice_cmp}
@@ -12,7 +12,6 @@ use Rattle.std.proofs.lemmas.List.Quantifiers.{all_pairs_push}
 use Rattle.std.proofs.lemmas.Map.Views.{All-from_any}
 use Rattle.std.specs.List.{AllByRecursion}
 use Rattle.cs_value.specs.State.{SchemaData}
-use Rattle.cs_store.specs.Records.{same_bytes}
 use Rattle.cs_lines.specs.Commands.{AssignmentData}
 use Rattle.cs_statements.specs.Columns.{AreColumns, NamesKey, columns_of, key_names, marks_of}
 use Rattle.cs_statements.specs.Names.{has_name, HasOthers}
@@ -32,8 +31,8 @@ list_any-map p f (x ∷ xs) = ap (λ b. p (f x) || b) (list_any-map p f xs)
 
 -- ---- a set from which the names so far are taken
 
-pub HasOthers-none : (columns : List (List ℕ)) (set : BTreeSet (Bor (List ℕ))) → ((name : List ℕ) → has_name set name ≡ list_any (same_bytes name) columns) → HasOthers columns [] set
-HasOthers-none columns set has = record { each = λ name. has name ∙ alone (list_any (same_bytes name) columns) }
+pub HasOthers-none : (columns : List (List ℕ)) (set : BTreeSet (Bor (List ℕ))) → ((name : List ℕ) → has_name set name ≡ list_any (bytes_eq name) columns) → HasOthers columns [] set
+HasOthers-none columns set has = record { each = λ name. has name ∙ alone (list_any (bytes_eq name) columns) }
   where
     alone : (b : Bool) → b ≡ (b && not false)
     alone true = refl
@@ -50,7 +49,7 @@ pub record TakenSoFar (columns names : List (List ℕ)) (i : ℕ) (set : BTreeSe
   pub known : AreColumns columns (take i names)
   pub others : HasOthers columns (take i names) set
 
-pub TakenSoFar-none : (columns names : List (List ℕ)) (set : BTreeSet (Bor (List ℕ))) → ((name : List ℕ) → has_name set name ≡ list_any (same_bytes name) columns) → TakenSoFar columns names 0 set
+pub TakenSoFar-none : (columns names : List (List ℕ)) (set : BTreeSet (Bor (List ℕ))) → ((name : List ℕ) → has_name set name ≡ list_any (bytes_eq name) columns) → TakenSoFar columns names 0 set
 TakenSoFar-none columns names set has = record { known = AreColumns-none columns; others = HasOthers-none columns set has }
 
 -- a column that is none of the names
@@ -92,9 +91,9 @@ module _ (columns names : List (List ℕ)) (i : ℕ) (set : BTreeSet (Bor (List 
         others = record {
           each = λ q. rw more (
               has_after set next name false updates q
-              ∙ ap (λ b. cond (same_bytes q name.now) false b) (so.others.each q)
-              ∙ taken (same_bytes q name.now) (list_any (same_bytes q) columns) (list_any (same_bytes q) (take i names))
-              ∙ ap (λ b. list_any (same_bytes q) columns && not b) (sym (found_more (take i names) name.now q)));
+              ∙ ap (λ b. cond (bytes_eq q name.now) false b) (so.others.each q)
+              ∙ taken (bytes_eq q name.now) (list_any (bytes_eq q) columns) (list_any (bytes_eq q) (take i names))
+              ∙ ap (λ b. list_any (bytes_eq q) columns && not b) (sym (found_more (take i names) name.now q)));
         };
       }
 
@@ -112,10 +111,10 @@ map_same f g (x ∷ xs) each = cc (each.0, map_same f g xs each.1)
 -- the columns that the set does not have are those of the key
 pub marked : (columns keys : List (List ℕ)) (set : BTreeSet (Bor (List ℕ))) → HasOthers columns keys set → map (λ name. not (has_name set name)) columns ≡ marks_of columns keys
 marked columns keys set others =
-    let same : List ℕ → Type 0 = λ name. not (has_name set name) ≡ list_any (same_bytes name) keys in
-    map_same (λ name. not (has_name set name)) (λ name. list_any (same_bytes name) keys) columns
+    let same : List ℕ → Type 0 = λ name. not (has_name set name) ≡ list_any (bytes_eq name) keys in
+    map_same (λ name. not (has_name set name)) (λ name. list_any (bytes_eq name) keys) columns
     (recursion_from_All same columns (All-from_any nat_list_eq_equiv same columns (λ name found.
-    twice (list_any (same_bytes name) columns) (list_any (same_bytes name) keys) (has_name set name) (others.each name) found)))
+    twice (list_any (bytes_eq name) columns) (list_any (bytes_eq name) keys) (has_name set name) (others.each name) found)))
 
 -- the same of lists that are these columns and names
 pub marked_as : (columns keys listed named all : List (List ℕ)) (set : BTreeSet (Bor (List ℕ))) → HasOthers listed named set → listed ≡ columns → named ≡ keys → all ≡ columns
@@ -133,8 +132,8 @@ module _ (schema : SchemaData) (conditions : List AssignmentData) (set : BTreeSe
   -- where the set has nothing, each column of the key is named
   pub each_named : length set.keys ≡ 0 → All (λ name. Any (λ a. a.column ≡ name) conditions) (key_names schema)
   each_named empty = All-from_any nat_list_eq_equiv (λ name. Any (λ a. a.column ≡ name) conditions) (key_names schema) (λ name found.
-      let named : list_any (same_bytes name) (columns_of conditions) ≡ true = either _ _ (sym (others.each name) ∙ nothing_found _ set.keys empty) found in
-      let one = Any-from_list_any (λ (a : AssignmentData). same_bytes name a.column) conditions (sym (list_any-map (same_bytes name) (λ a. a.column) conditions) ∙ named) in
+      let named : list_any (bytes_eq name) (columns_of conditions) ≡ true = either _ _ (sym (others.each name) ∙ nothing_found _ set.keys empty) found in
+      let one = Any-from_list_any (λ (a : AssignmentData). bytes_eq name a.column) conditions (sym (list_any-map (bytes_eq name) (λ a. a.column) conditions) ∙ named) in
       (one.0, one.1, one.2, one.3, sym (one_name name one.1.column one.4)))
 
   -- where it has something, a column of the key is not
@@ -147,8 +146,8 @@ module _ (schema : SchemaData) (conditions : List AssignmentData) (set : BTreeSe
           let parts = both _ _ (sym (others.each first.now) ∙ has_first set first keys is) in
           let place = Contains-found (key_names schema) first.now parts.0 in
           let one = subst (λ n. Any (λ a. a.column ≡ n) conditions) place.2 (names.each place.0 first.now place.1) in
-          let named = list_any-from_Any (λ (a : AssignmentData). same_bytes first.now a.column) conditions (one.0, one.1, one.2, one.3, same_name first.now one.1.column (sym one.4)) in
-          true≢false (sym (list_any-map (same_bytes first.now) (λ a. a.column) conditions ∙ named) ∙ parts.1)
+          let named = list_any-from_Any (λ (a : AssignmentData). bytes_eq first.now a.column) conditions (one.0, one.1, one.2, one.3, same_name first.now one.1.column (sym one.4)) in
+          true≢false (sym (list_any-map (bytes_eq first.now) (λ a. a.column) conditions ∙ named) ∙ parts.1)
 
 -- the same of lists that are the key's columns and the conditions'
 module _ (schema : SchemaData) (conditions : List AssignmentData) (listed named : List (List ℕ)) (set : BTreeSet (Bor (List ℕ))) (is_listed : listed ≡ key_names schema) (is_named : named ≡ columns_of conditions) (others : HasOthers listed named set) where

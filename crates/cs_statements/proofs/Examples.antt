@@ -1,14 +1,13 @@
 -- The definitions of statements, on a table of two columns, `a` and `b`, of which the first is the key, and the second
 -- refuses NULL.
-use Rattle.std.proofs.Common.{◌≡◌, zero, suc, true, false, [], ◌∷◌, Some, None, true≢false, codes, refl, ap, ◌∙◌, arith, pos}
+use Rattle.std.proofs.Common.{bytes_eq, ◌≡◌, zero, suc, true, false, [], ◌∷◌, Some, None, true≢false, codes, refl, ap, ◌∙◌, arith, pos}
 use Rattle.std.specs.List.{Any}
 use Rattle.std.proofs.lemmas.List.Elements.{All-from_recursion}
 use Rattle.cs_value.specs.declared.value.OwnedValue.TheVariants.{Int, Text, Null}
 use Rattle.cs_value.specs.Key.{row_key}
 use Rattle.cs_value.specs.State.{SchemaData}
-use Rattle.cs_store.specs.declared.fault.StoreError.TheVariants.{NullInKey, NotNull}
-use Rattle.cs_store.specs.Records.{same_bytes}
-use Rattle.cs_store.specs.Editing.{row_fault}
+use Rattle.cs_rows.specs.declared.fault.StoreError.TheVariants.{NullInKey, NotNull}
+use Rattle.cs_rows.specs.Editing.{row_fault}
 use Rattle.cs_lines.specs.Commands.{AssignmentData}
 use Rattle.cs_statements.specs.Columns.{AreColumns, NamesKey, marks_of, columns_of, key_names}
 use Rattle.cs_statements.specs.Rows.{named_key, with_assigned}
@@ -43,7 +42,7 @@ key_is_marked : marks_of (codes "a" ∷ codes "b" ∷ []) (codes "a" ∷ []) ≡
 key_is_marked = refl
 
 other_name : codes "b" ≡ codes "a" → ⊥
-other_name same = true≢false (ap (same_bytes (codes "b")) same)
+other_name same = true≢false (ap (bytes_eq (codes "b")) same)
 
 -- a column that is assigned once is one of the table's
 one_assigned : AreColumns table.columns (columns_of (other_is_y ∷ []))
@@ -61,8 +60,8 @@ unknown_assigned : AreColumns table.columns (codes "c" ∷ []) → ⊥
 unknown_assigned fit = at (fit.known 0 (codes "c") (omega arith))
   where
     at : Any (λ column. column ≡ codes "c") table.columns → ⊥
-    at (zero, column, within, is, same) = true≢false (ap (same_bytes (codes "a")) (is ∙ same))
-    at (suc zero, column, within, is, same) = true≢false (ap (same_bytes (codes "b")) (is ∙ same))
+    at (zero, column, within, is, same) = true≢false (ap (bytes_eq (codes "a")) (is ∙ same))
+    at (suc zero, column, within, is, same) = true≢false (ap (bytes_eq (codes "b")) (is ∙ same))
     at (suc (suc k), column, within, is, same) = absurd (omega arith)
 
 -- WHERE a=1 names a row
@@ -80,7 +79,7 @@ other_names_no_row : NamesKey table (other_is_one ∷ []) → ⊥
 other_names_no_row names = at (names.columns.known 0 (codes "b") (omega arith))
   where
     at : Any (λ column. column ≡ codes "b") (key_names table) → ⊥
-    at (zero, column, within, is, same) = true≢false (ap (same_bytes (codes "a")) (is ∙ same))
+    at (zero, column, within, is, same) = true≢false (ap (bytes_eq (codes "a")) (is ∙ same))
     at (suc k, column, within, is, same) = absurd (omega arith)
 
 -- rows

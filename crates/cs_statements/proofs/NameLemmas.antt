@@ -1,5 +1,5 @@
 -- Names that are looked up in sets.
-use Rattle.std.proofs.Common.{◌≡◌, ℕ, ◌+◌, ◌<◌, List, [], ◌∷◌, ◌++◌, length, get_or, take, map, Bool, true, false, cond, ◌||◌, Bor, refl, sym, ap, ◌∙◌}
+use Rattle.std.proofs.Common.{bytes_eq, ◌≡◌, ℕ, ◌+◌, ◌<◌, List, [], ◌∷◌, ◌++◌, length, get_or, take, map, Bool, true, false, cond, ◌||◌, Bor, refl, sym, ap, ◌∙◌}
 use Rattle.std.specs.List.{list_any, Contains}
 use Rattle.std.specs.BTreeSet.{BTreeSet, Updates, UpdatesBy}
 use Rattle.std.specs.Cmp.Lexicographic.{slice_cmp}
@@ -11,7 +11,6 @@ use Rattle.std.proofs.lemmas.List.Folds.{list_any-append}
 use Rattle.std.proofs.lemmas.Map.Text.{is_eq-slice_cmp}
 use Rattle.std.proofs.lemmas.Map.Views.{Contains-from_any, list_any-from_Contains}
 use Rattle.std.proofs.lemmas.Slice.Eq.{bytes_eq-Decides}
-use Rattle.cs_store.specs.Records.{same_bytes}
 use Rattle.cs_statements.specs.Names.{texts_of, has_name}
 
 -- the order of borrowed names
@@ -24,16 +23,16 @@ lent name = record { ref_ptr = (0, 0); now = name }
 
 -- ---- lists of names
 
-pub one_name : (x y : List ℕ) → same_bytes x y ≡ true → x ≡ y
+pub one_name : (x y : List ℕ) → bytes_eq x y ≡ true → x ≡ y
 one_name x y = (bytes_eq-Decides x y).0
 
-pub same_name : (x y : List ℕ) → x ≡ y → same_bytes x y ≡ true
+pub same_name : (x y : List ℕ) → x ≡ y → bytes_eq x y ≡ true
 same_name x y = (bytes_eq-Decides x y).1
 
-pub Contains-found : (names : List (List ℕ)) (name : List ℕ) → list_any (same_bytes name) names ≡ true → Contains names name
+pub Contains-found : (names : List (List ℕ)) (name : List ℕ) → list_any (bytes_eq name) names ≡ true → Contains names name
 Contains-found names name = Contains-from_any one_name name names
 
-pub found-Contains : (names : List (List ℕ)) (name : List ℕ) → Contains names name → list_any (same_bytes name) names ≡ true
+pub found-Contains : (names : List (List ℕ)) (name : List ℕ) → Contains names name → list_any (bytes_eq name) names ≡ true
 found-Contains names name = list_any-from_Contains nat_list_eq_equiv name names
 
 -- a test of one element more
@@ -43,14 +42,14 @@ any_more true false = refl
 any_more false true = refl
 any_more false false = refl
 
-pub found_more : (before : List (List ℕ)) (name q : List ℕ) → list_any (same_bytes q) (before ++ name ∷ []) ≡ cond (same_bytes q name) true (list_any (same_bytes q) before)
-found_more before name q = list_any-append (same_bytes q) before (name ∷ []) ∙ any_more (same_bytes q name) (list_any (same_bytes q) before)
+pub found_more : (before : List (List ℕ)) (name q : List ℕ) → list_any (bytes_eq q) (before ++ name ∷ []) ≡ cond (bytes_eq q name) true (list_any (bytes_eq q) before)
+found_more before name q = list_any-append (bytes_eq q) before (name ∷ []) ∙ any_more (bytes_eq q name) (list_any (bytes_eq q) before)
 
 -- ---- sets of names
 
 -- what a set has once a name is put in or taken out
 pub has_after : (old new : BTreeSet (Bor (List ℕ))) (name : Bor (List ℕ)) (b : Bool) → UpdatesBy name_cmp (λ text. slice_cmp nat_cmp name.now text.now) old new b
-    → (q : List ℕ) → has_name new q ≡ cond (same_bytes q name.now) b (has_name old q)
+    → (q : List ℕ) → has_name new q ≡ cond (bytes_eq q name.now) b (has_name old q)
 has_after old new name b updates q =
     updates.0 (lent q) ∙ ap (λ t. cond t b (has_name old q)) (is_eq-slice_cmp name.now q ∙ nat_list_eq_equiv.symm name.now q)
 
@@ -65,14 +64,14 @@ has_first set first others is =
 module _ (names : List (Bor (List ℕ))) (i : ℕ) (d : Bor (List ℕ)) (within : i < length names) where
   -- one name more in a set
   pub set_more : (old new : BTreeSet (Bor (List ℕ))) → Updates name_cmp old new (get_or names i d) true
-      → ((q : List ℕ) → has_name old q ≡ list_any (same_bytes q) (texts_of (take i names)))
-      → (q : List ℕ) → has_name new q ≡ list_any (same_bytes q) (texts_of (take (i + 1) names))
+      → ((q : List ℕ) → has_name old q ≡ list_any (bytes_eq q) (texts_of (take i names)))
+      → (q : List ℕ) → has_name new q ≡ list_any (bytes_eq q) (texts_of (take (i + 1) names))
   set_more old new updates so q =
       let name : List ℕ = (get_or names i d).now in
       has_after old new (get_or names i d) true updates q
-      ∙ ap (λ b. cond (same_bytes q name) true b) (so q)
+      ∙ ap (λ b. cond (bytes_eq q name) true b) (so q)
       ∙ sym (found_more (texts_of (take i names)) name q)
-      ∙ ap (list_any (same_bytes q)) (sym (map_more (λ text. text.now) names i d within))
+      ∙ ap (list_any (bytes_eq q)) (sym (map_more (λ text. text.now) names i d within))
 
   -- one mark more
   pub mark_more : (f : List ℕ → Bool) (mark : Bool) (old new : List Bool) → mark ≡ f (get_or names i d).now → new ≡ old ++ mark ∷ []

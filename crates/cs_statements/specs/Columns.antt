@@ -1,10 +1,9 @@
 -- The columns that statements name. The statements are this project's own: of SQL they have the few forms that tables and
 -- rows need.
-use Rattle.std.specs.Prelude.{◌≡◌, ◌≢◌, ℕ, List, map, Bool, All, Any, AllPairs}
+use Rattle.std.specs.Prelude.{bytes_eq, ◌≡◌, ◌≢◌, ℕ, List, map, Bool, All, Any, AllPairs}
 use Rattle.std.specs.List.{list_any}
 use Rattle.cs_value.specs.Key.{key_columns}
 use Rattle.cs_value.specs.State.{SchemaData}
-use Rattle.cs_store.specs.Records.{same_bytes}
 use Rattle.cs_lines.specs.Commands.{AssignmentData}
 
 -- each of the names is that of a column, and none stands twice
@@ -14,7 +13,7 @@ pub record AreColumns (columns names : List (List ℕ)) : Type 0 where
 
 -- for each column whether it is one of the key
 abbrev pub marks_of : List (List ℕ) → List (List ℕ) → List Bool
-marks_of columns keys = map (λ column. list_any (same_bytes column) keys) columns
+marks_of columns keys = map (λ column. list_any (bytes_eq column) keys) columns
 
 -- the columns that assignments, or conditions, name
 abbrev pub columns_of : List AssignmentData → List (List ℕ)

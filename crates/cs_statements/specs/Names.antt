@@ -1,5 +1,5 @@
 -- Names that are looked up: the names of a list, a set of names, and values by names.
-use Rattle.std.specs.Prelude.{◌≡◌, ℕ, List, Bool, map, not, ◌&&◌, option_map}
+use Rattle.std.specs.Prelude.{bytes_eq, ◌≡◌, ℕ, List, Bool, map, not, ◌&&◌, option_map}
 use Rattle.std.specs.Borrow.{Bor}
 use Rattle.std.specs.List.{list_any}
 use Rattle.std.specs.Ordering.{nat_cmp}
@@ -7,7 +7,6 @@ use Rattle.std.specs.Cmp.Lexicographic.{slice_cmp}
 use Rattle.std.specs.BTreeSet.{BTreeSet, contains_by}
 use Rattle.std.specs.BTreeMap.{BTreeMap, get_by}
 use Rattle.cs_value.specs.declared.value.OwnedValue.{OwnedValue}
-use Rattle.cs_store.specs.Records.{same_bytes}
 use Rattle.cs_lines.specs.Commands.{AssignmentData}
 use Rattle.cs_statements.specs.Rows.{assigned}
 
@@ -22,7 +21,7 @@ has_name set name = contains_by (λ text. slice_cmp nat_cmp name text.now) set
 -- the set has the columns that are none of the names
 pub record HasOthers (columns names : List (List ℕ)) (set : BTreeSet (Bor (List ℕ))) : Type 0 where
   pub each : (name : List ℕ)
-      → has_name set name ≡ (list_any (same_bytes name) columns && not (list_any (same_bytes name) names))
+      → has_name set name ≡ (list_any (bytes_eq name) columns && not (list_any (bytes_eq name) names))
 
 -- the map has at each column the value that it is assigned
 pub record HasAssigned (assignments : List AssignmentData) (values : BTreeMap (Bor (List ℕ)) (Bor OwnedValue)) : Type 0

@@ -1,18 +1,17 @@
 -- The row that conditions name, and what assignments make of a row.
-use Rattle.std.specs.Prelude.{ℕ, List, [], ◌∷◌, Bool, true, false, if◌then◌else◌, filter_map, Option, None, Some, unwrap_or}
+use Rattle.std.specs.Prelude.{bytes_eq, ℕ, List, [], ◌∷◌, Bool, true, false, if◌then◌else◌, filter_map, Option, None, Some, unwrap_or}
 use Rattle.std.specs.List.{list_any}
 use Rattle.cs_value.specs.declared.value.OwnedValue.{OwnedValue}
 use Rattle.cs_value.specs.declared.value.OwnedValue.TheVariants.{Null}
 use Rattle.cs_value.specs.Spelling.{row_bytes}
 use Rattle.cs_value.specs.State.{SchemaData}
-use Rattle.cs_store.specs.Records.{same_bytes}
 use Rattle.cs_lines.specs.Commands.{AssignmentData}
 use Rattle.cs_statements.specs.Columns.{key_names}
 
 -- the value that a column is assigned, or none
 abbrev pub assigned : List AssignmentData → List ℕ → Option OwnedValue
 assigned [] column = None
-assigned (a ∷ assignments) column = if same_bytes a.column column then Some a.value else assigned assignments column
+assigned (a ∷ assignments) column = if bytes_eq a.column column then Some a.value else assigned assignments column
 
 -- the row, with the values that are assigned in their columns
 abbrev pub with_assigned : List AssignmentData → List (List ℕ) → List OwnedValue → List OwnedValue

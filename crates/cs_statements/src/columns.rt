@@ -8,7 +8,7 @@ ghost use Rattle.cs_statements.specs.Names.{texts_of, has_name, HasOthers};
 use crate::fault::{ColumnFault, UnknownColumn};
 use crate::names::{assigned_names, borrowed_names, name_set, names_of_key};
 use cs_lines::Assignment;
-use cs_store::Schema;
+use cs_rows::Schema;
 use cs_value::OrNoMemory;
 use std::alloc::{AllocError, Global};
 use std::collections::BTreeSet;

@@ -1,13 +1,12 @@
 //! The names of columns, borrowed: those of lists, of assignments and of keys.
-ghost use Rattle.std.specs.Prelude.{◌≡◌, ℕ, List, IfOk, map, string_bytes};
+ghost use Rattle.std.specs.Prelude.{bytes_eq, ◌≡◌, ℕ, List, IfOk, map, string_bytes};
 ghost use Rattle.std.specs.List.{list_any};
-ghost use Rattle.cs_store.specs.Records.{same_bytes};
 ghost use Rattle.cs_lines.specs.Commands.{assignment_of};
 ghost use Rattle.cs_statements.specs.Columns.{columns_of, key_names};
 ghost use Rattle.cs_statements.specs.Names.{texts_of, has_name};
 
 use cs_lines::Assignment;
-use cs_store::Schema;
+use cs_rows::Schema;
 use cs_value::NoMemory;
 use std::alloc::Global;
 use std::collections::BTreeSet;
@@ -54,7 +53,7 @@ pub(crate) fn names_of_key(alloc: Global, schema: &Schema) -> Result<Vec<&str>, 
 /// The names as a set.
 pub(crate) fn name_set<'a>(alloc: Global, names: &[&'a str]) -> Result<BTreeSet<&'a str>, NoMemory>
     ensures { IfOk result (λ set. (name : List ℕ)
-        → has_name set name ≡ list_any (same_bytes name) (texts_of names.now)) }
+        → has_name set name ≡ list_any (bytes_eq name) (texts_of names.now)) }
 {
     let mut set = BTreeSet::new(alloc);
     for name in names {

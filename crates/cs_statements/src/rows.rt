@@ -8,7 +8,7 @@ ghost use Rattle.cs_statements.specs.Names.{HasAssigned};
 
 use crate::names::names_of_key;
 use cs_lines::Assignment;
-use cs_store::Schema;
+use cs_rows::Schema;
 use cs_value::{Key, NoMemory, OwnedValue, Row};
 use std::alloc::Global;
 use std::collections::BTreeMap;

@@ -1,5 +1,5 @@
 -- What the steps of an adoption find and make.
-use Rattle.std.proofs.Common.{◌≡◌, ◌≢◌, ◌⊎◌, ℕ, List, [], ◌∷◌, Some, None, Result, Ok, Err, IfErr, IsTrue, true, ◌&&◌, cond, length, inl, inr, refl, sym, ap, subst, ◌∙◌, arith}
+use Rattle.std.proofs.Common.{bytes_eq, ◌≡◌, ◌≢◌, ◌⊎◌, ℕ, List, [], ◌∷◌, Some, None, Result, Ok, Err, IfErr, IsTrue, true, ◌&&◌, cond, length, inl, inr, refl, sym, ap, subst, ◌∙◌, arith}
 use Rattle.std.specs.FinMap as map
 use Rattle.sqlite_value.specs.Order.{Row, column}
 use Rattle.sqlite_schema.specs.declared.schema.Schema.{Schema}
@@ -10,10 +10,10 @@ use Rattle.sqlite.proofs.StateLemmas.{survives_then}
 use Rattle.sqlite.specs.Start.{FindsIn}
 use Rattle.sqlite.specs.Files.{AreFoundIn}
 use Rattle.sqlite_wal.specs.Recovery.{Image}
-use Rattle.cs_store.specs.declared.fault.StoreError.{StoreError}
-use Rattle.cs_store.specs.declared.fault.StoreError.TheVariants.{DamagedStore, NoMemory}
-use Rattle.cs_store.specs.Faults.{IsResource}
-use Rattle.cs_store.specs.Records.{RecordData, HoldsRecords, ListsAll, Sets, GoesOn, KeepsCrash, changed, content, same_bytes, is_under, records_of, records_in, record_schema, empty_schema}
+use Rattle.cs_rows.specs.declared.fault.StoreError.{StoreError}
+use Rattle.cs_rows.specs.declared.fault.StoreError.TheVariants.{DamagedStore, NoMemory}
+use Rattle.cs_rows.specs.Faults.{IsResource}
+use Rattle.cs_records.specs.Records.{RecordData, HoldsRecords, ListsAll, Sets, GoesOn, KeepsCrash, changed, content, is_under, records_of, records_in, record_schema, empty_schema}
 use Rattle.cs_store.specs.Stored.{version, stored_under, StoresIn, StoresInSome}
 use Rattle.cs_store.specs.Valid.{AreValid}
 use Rattle.sqlite_trees.specs.View.{doubt}
@@ -22,7 +22,7 @@ use Rattle.cs_store.specs.Crash.{MayLeave}
 use Rattle.cs_store.specs.Laws.{was_clean}
 use Rattle.cs_store.proofs.CheckLemmas.{listed_there}
 use Rattle.cs_store.proofs.CrashLemmas.{crash_then, may_leave}
-use Rattle.cs_store.proofs.RowLemmas.{same_itself}
+use Rattle.cs_records.proofs.RowLemmas.{same_itself}
 use Rattle.cs_store.proofs.StateOf.{records_first}
 use Rattle.cs_store.proofs.StoredLemmas.{not_former, stores_nothing}
 use Rattle.cs_store.proofs.ValidLemmas.{valid_stores, stores_valid}
@@ -41,7 +41,7 @@ none_listed [] lists = refl
 none_listed (row ∷ rows) lists = absurd (
     let tab = content (column row 1) in
     let key = content (column row 2) in
-    let own : is_under tab key row ≡ true = ap (λ b. b && same_bytes key key) (same_itself tab) ∙ same_itself key in
+    let own : is_under tab key row ≡ true = ap (λ b. b && bytes_eq key key) (same_itself tab) ∙ same_itself key in
     let some = records_first tab key row rows ∙ ap (λ b. cond b (Some (content (column row 3))) (records_of rows tab key)) own in
     let e = lists.each tab key ∙ some in cc)
 

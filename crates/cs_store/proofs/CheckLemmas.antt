@@ -1,5 +1,5 @@
 -- What is checked of records that are listed in their order: that they are those of tables.
-use Rattle.std.proofs.Common.{◌≡◌, ◌≢◌, ◌⊎◌, ℕ, List, [], ◌∷◌, ◌++◌, Option, Some, None, Result, Ok, Err, IfErr, OnOk, Bool, true, false, cond, ◌&&◌, find, inl, inr, refl, sym, ap, subst, ◌∙◌}
+use Rattle.std.proofs.Common.{bytes_eq, ◌≡◌, ◌≢◌, ◌⊎◌, ℕ, List, [], ◌∷◌, ◌++◌, Option, Some, None, Result, Ok, Err, IfErr, OnOk, Bool, true, false, cond, ◌&&◌, find, inl, inr, refl, sym, ap, subst, ◌∙◌}
 use Rattle.std.specs.Option.{option_map, IsSome}
 use Rattle.std.specs.List.{AllByRecursion}
 use Rattle.std.specs.FinMap as map
@@ -14,16 +14,16 @@ use Rattle.sqlite_trees.specs.Tree.{IsAscending}
 use Rattle.cs_value.specs.Table.{IsName}
 use Rattle.cs_value.specs.State.{SchemaData, IsSchema, IsRowAt}
 use Rattle.cs_value.proofs.ByteMaps.{tied_bytes}
-use Rattle.cs_store.specs.declared.fault.StoreError.{StoreError}
-use Rattle.cs_store.specs.declared.fault.StoreError.TheVariants.{DamagedStore, NoMemory}
-use Rattle.cs_store.specs.Records.{Records, RecordData, same_bytes, record_cmp, ListsAll}
+use Rattle.cs_rows.specs.declared.fault.StoreError.{StoreError}
+use Rattle.cs_rows.specs.declared.fault.StoreError.TheVariants.{DamagedStore, NoMemory}
+use Rattle.cs_records.specs.Records.{Records, RecordData, record_cmp, ListsAll}
 use Rattle.cs_store.specs.declared.version.Version.{Version}
 use Rattle.cs_store.specs.declared.version.Version.TheVariants.{Current, Former}
 use Rattle.cs_store.specs.Declaration.{declaration_bytes, IsFormer}
 use Rattle.cs_store.specs.Stored.{former_version, IsVersion}
 use Rattle.cs_store.specs.Versions.{bytes_of}
 use Rattle.cs_store.specs.Valid.{IsDeclarationIn, IsStoredRow, AreValid, IsTableRecord, DeclaresTable, IsGoodTable, Schemas, AreDeclared, IsRowRecord, IsGoodRow}
-use Rattle.cs_store.proofs.RowLemmas.{same_is, same_itself, ascending_from_pairs}
+use Rattle.cs_records.proofs.RowLemmas.{same_is, same_itself, ascending_from_pairs}
 use Rattle.cs_store.proofs.DeclarationLemmas.{declarations_apart}
 
 -- each version that is found is one that is read
@@ -90,13 +90,13 @@ declared_table written xs r schemas name schema so here = record { found = found
 module _ (records : Records) (listed : List RecordData) (all : ListsAll records listed) where
   -- the test that a record is the one with this name and key
   abbrev is_named : List ℕ → List ℕ → RecordData → Bool
-  is_named tab key r = same_bytes r.tab tab && same_bytes r.key key
+  is_named tab key r = bytes_eq r.tab tab && bytes_eq r.key key
 
   -- a record below another is not it
   below_apart : (r s : RecordData) → record_cmp r s ≡ Less → is_named s.tab s.key r ≡ false
   below_apart r s below = elim (cases_Bool (is_named s.tab s.key r)) [
     | inl same ↦ absurd (
-        let parts = and_parts (same_bytes r.tab s.tab) (same_bytes r.key s.key) same in
+        let parts = and_parts (bytes_eq r.tab s.tab) (bytes_eq r.key s.key) same in
         let tied : record_cmp r s ≡ Equal =
         ap (λ (t : List ℕ). ordering_then (slice_cmp nat_cmp t s.tab) (slice_cmp nat_cmp r.key s.key)) (same_is r.tab s.tab parts.0)
         ∙ ap (λ (k : List ℕ). ordering_then (slice_cmp nat_cmp s.tab s.tab) (slice_cmp nat_cmp k s.key)) (same_is r.key s.key parts.1)
@@ -107,7 +107,7 @@ module _ (records : Records) (listed : List RecordData) (all : ListsAll records 
   ]
 
   itself : (r : RecordData) → is_named r.tab r.key r ≡ true
-  itself r = ap (λ b. b && same_bytes r.key r.key) (same_itself r.tab) ∙ same_itself r.key
+  itself r = ap (λ b. b && bytes_eq r.key r.key) (same_itself r.tab) ∙ same_itself r.key
 
   -- a record is found by its own name and key
   find_own : (xs : List RecordData) (r : RecordData) → IsAscending (λ a b. record_cmp a b ≡ Less) xs → Has xs r → find (is_named r.tab r.key) xs ≡ Some r
@@ -128,7 +128,7 @@ module _ (records : Records) (listed : List RecordData) (all : ListsAll records 
       at None none e = absurd (cc)
       at (Some r) found e =
           let here = has_found (is_named tab key) listed r found in
-          let parts = and_parts (same_bytes r.tab tab) (same_bytes r.key key) here.1 in
+          let parts = and_parts (bytes_eq r.tab tab) (bytes_eq r.key key) here.1 in
           (r, here.0, same_is r.tab tab parts.0, same_is r.key key parts.1, let same : r.value ≡ value = cc in same)
 
   -- ---- what is checked is valid

@@ -3,7 +3,7 @@ use Rattle.std.proofs.Common.{◌≡◌, ℕ, zero, suc, ◌<◌, Bool, true, fa
 use Rattle.std.specs.List.{AllByRecursion}
 use Rattle.cs_value.specs.State.{SchemaData, AreRules, IsSchema, marks}
 use Rattle.cs_store.specs.Declaration.{column_code, column_codes, ColumnsData, flag_of, schema_of_columns}
-use Rattle.cs_store.proofs.RuleLemmas.{rules_length}
+use Rattle.cs_rows.proofs.RuleLemmas.{rules_length}
 
 -- there is a byte for each column
 pub codes_length : (flags : List ℕ) (refuses : List Bool) → length flags ≡ length refuses → length (column_codes flags refuses) ≡ length flags

@@ -7,26 +7,14 @@ use Rattle.sqlite.specs.Held.{Held, state}
 use Rattle.sqlite.specs.State.{State, HasCleanDisk, KeepsCommit, Shows, Survives}
 use Rattle.sqlite.proofs.StateLemmas.{survives_then, survives_weaker}
 use Rattle.cs_value.specs.State as tables
-use Rattle.cs_store.specs.declared.fault.StoreError.{StoreError}
-use Rattle.cs_store.specs.Records.{IsUndone, KeepsContent, KeepsCrash}
+use Rattle.cs_rows.specs.declared.fault.StoreError.{StoreError}
+use Rattle.cs_records.specs.Records.{IsUndone, KeepsContent, KeepsCrash}
 use Rattle.cs_store.specs.Stored.{state_of}
 use Rattle.cs_store.specs.Store.{HoldsState, HoldsTables, IsSound, IsInside, KeepsStore, Begins, Ends, tables_in}
 use Rattle.cs_store.specs.Crash.{MayLeave, LeavesOnly, LeavesTakenOver, CanBegin, IsAtomic}
 use Rattle.cs_store.specs.Laws.{was_clean, keeps_itself}
+use Rattle.cs_records.proofs.ContentLemmas.{crash_weaker, idle_survives}
 use Rattle.cs_store.proofs.WriteLemmas.{shows_state}
-
--- ---- nothing is done
-
--- outside a transaction, where what is shown was committed, all is as after a rollback
-pub idle_undone : (s : State) → s.in_transaction ≡ false → (IsTrue s.is_open → s.now ≡ s.committed) → IsUndone s s
-idle_undone s closed settled = record { autocommit = closed; was_open = λ k. k; now = settled; committed = λ k. refl }
-
--- a crash leaves what it left
-pub crash_weaker : (old new : State) (May : Trees → Type 0) → KeepsCrash old new → Survives old new May
-crash_weaker old new May = survives_weaker old new _ May (λ clean db none. absurd none)
-
-pub idle_survives : (s : State) (May : Trees → Type 0) → Survives s s May
-idle_survives s May = crash_weaker s s May (keeps_itself {s = s}).crash
 
 -- one call that commits nothing after another
 pub crash_then : (a b c : State) → KeepsCrash a b → KeepsCrash b c → KeepsCrash a c

@@ -10,8 +10,8 @@ use Rattle.cs_value.specs.Varint.{varint}
 use Rattle.cs_value.specs.Spelling.{counted}
 use Rattle.cs_value.proofs.ListLemmas.{AllByRecursion-push, same_from_append}
 use Rattle.cs_value.proofs.Spellings.{varint_spellings}
-use Rattle.cs_store.specs.declared.fault.StoreError.{StoreError}
-use Rattle.cs_store.specs.declared.fault.StoreError.TheVariants.{DamagedStore, NoMemory}
+use Rattle.cs_rows.specs.declared.fault.StoreError.{StoreError}
+use Rattle.cs_rows.specs.declared.fault.StoreError.TheVariants.{DamagedStore, NoMemory}
 use Rattle.cs_store.specs.Declaration.{column_codes, columns_bytes, declaration_bytes, IsDeclaration, ColumnsData, schema_of_columns, BeginsWithColumn, AreColumns}
 use Rattle.cs_store.proofs.CodeLemmas.{codes_again, columns_of, columns_length, made_again}
 

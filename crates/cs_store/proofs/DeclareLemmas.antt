@@ -3,11 +3,11 @@ use Rattle.std.proofs.Common.{◌≡◌, ◌⊎◌, ℕ, List, Result, Ok, Err, 
 use Rattle.cs_value.specs.State as tables
 use Rattle.sqlite.specs.Effect.{Database}
 use Rattle.sqlite.specs.State.{State, HasCleanDisk}
-use Rattle.cs_store.specs.declared.fault.StoreError.{StoreError}
-use Rattle.cs_store.specs.declared.fault.StoreError.TheVariants.{TableExists}
-use Rattle.cs_store.specs.Faults.{IsResource}
-use Rattle.cs_store.specs.Rows.{IsDeclared}
-use Rattle.cs_store.specs.Editing.{IsDeclarable, Declares}
+use Rattle.cs_rows.specs.declared.fault.StoreError.{StoreError}
+use Rattle.cs_rows.specs.declared.fault.StoreError.TheVariants.{TableExists}
+use Rattle.cs_rows.specs.Faults.{IsResource}
+use Rattle.cs_rows.specs.Rows.{IsDeclared}
+use Rattle.cs_rows.specs.Editing.{IsDeclarable, Declares}
 use Rattle.cs_store.specs.Store.{AddsTable, Begins, Ends, KeepsStore, tables_in}
 use Rattle.cs_store.proofs.CrashLemmas.{begun_tables}
 

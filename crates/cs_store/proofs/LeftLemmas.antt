@@ -10,10 +10,10 @@ use Rattle.sqlite.specs.Effect.{Database}
 use Rattle.sqlite.specs.Files.{HoldsDatabase}
 use Rattle.sqlite.specs.State.{State}
 use Rattle.cs_value.specs.State as tables
-use Rattle.cs_store.specs.declared.fault.StoreError.{StoreError}
-use Rattle.cs_store.specs.declared.fault.StoreError.TheVariants.{DamagedStore}
-use Rattle.cs_store.specs.Faults.{IsResource}
-use Rattle.cs_store.specs.Records.{HoldsRecords, records_in, records_of}
+use Rattle.cs_rows.specs.declared.fault.StoreError.{StoreError}
+use Rattle.cs_rows.specs.declared.fault.StoreError.TheVariants.{DamagedStore}
+use Rattle.cs_rows.specs.Faults.{IsResource}
+use Rattle.cs_records.specs.Records.{HoldsRecords, records_in, records_of}
 use Rattle.cs_store.specs.Stored.{version, Stores}
 use Rattle.cs_store.specs.Store.{HoldsTables, Adopts, OpensFiles, tables_in}
 use Rattle.cs_store.specs.Crash.{MayLeave, IsLeftOf}

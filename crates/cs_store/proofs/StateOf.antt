@@ -1,5 +1,5 @@
 -- The state that records store is read from their rows, and is the only one.
-use Rattle.std.proofs.Common.{◌≡◌, ◌&&◌, ℕ, List, [], ◌∷◌, ◌++◌, length, inl, inr, Option, Some, None, Bool, true, false, cond, option_map, find, refl, sym, ap, ◌∙◌, arith}
+use Rattle.std.proofs.Common.{bytes_eq, ◌≡◌, ◌&&◌, ℕ, List, [], ◌∷◌, ◌++◌, length, inl, inr, Option, Some, None, Bool, true, false, cond, option_map, find, refl, sym, ap, ◌∙◌, arith}
 use Rattle.std.specs.Option.{IsSome, is_some, option_and_then, option_to_list}
 use Rattle.std.specs.List.{flat_map}
 use Rattle.std.specs.Ordering.{nat_cmp, eq_by_cmp}
@@ -13,11 +13,11 @@ use Rattle.cs_value.specs.Spelling.{row_bytes}
 use Rattle.cs_value.specs.State.{SchemaData, IsSchema, TableData, IsRowAt, IsTable, State, IsState}
 use Rattle.cs_value.proofs.ByteMaps.{same_maps, tied_bytes}
 use Rattle.cs_value.proofs.KeyedRows.{length-IsKeyedRow}
-use Rattle.cs_store.specs.Records.{Records, content, same_bytes, is_under, records_of}
+use Rattle.cs_records.specs.Records.{Records, content, is_under, records_of}
 use Rattle.cs_store.specs.Declaration.{declaration_bytes}
 use Rattle.cs_store.specs.Stored.{StoresIn, values_at, entries_under, table_in, state_of}
-use Rattle.cs_store.proofs.MemoryLemmas.{row_at_found}
-use Rattle.cs_store.proofs.RowLemmas.{same_is}
+use Rattle.cs_rows.proofs.MemoryLemmas.{row_at_found}
+use Rattle.cs_records.proofs.RowLemmas.{same_is}
 use Rattle.cs_store.proofs.StoredReading.{values_again, schema_again, one_schema}
 
 -- the first of the rows is found, or what the others hold
@@ -31,10 +31,10 @@ module _ {X : Type 0} (read : List ℕ → List ℕ → Option X) (name : List �
   -- the entry of a row, if it is under the name and read
   abbrev entry_of : Row → List (List ℕ × X)
   entry_of row =
-      cond (same_bytes (content (column row 1)) name) (option_to_list (option_map (λ x. (content (column row 2), x)) (read (content (column row 2)) (content (column row 3))))) []
+      cond (bytes_eq (content (column row 1)) name) (option_to_list (option_map (λ x. (content (column row 2), x)) (read (content (column row 2)) (content (column row 3))))) []
 
   -- one step of a search among entries and of the same among records
-  found_step : (key here value : List ℕ) (n s : Bool) (o : Option X) (es : List (List ℕ × X)) (records : Option (List ℕ)) → same_bytes here key ≡ s → read here value ≡ o
+  found_step : (key here value : List ℕ) (n s : Bool) (o : Option X) (es : List (List ℕ × X)) (records : Option (List ℕ)) → bytes_eq here key ≡ s → read here value ≡ o
       → ((v : List ℕ) → cond (n && s) (Some value) records ≡ Some v → IsSome (read key v))
       → (((v : List ℕ) → records ≡ Some v → IsSome (read key v)) → find_entry (slice_cmp nat_cmp) key es ≡ option_and_then (read key) records)
       → find_entry (slice_cmp nat_cmp) key (cond n (option_to_list (option_map (λ x. (here, x)) o)) [] ++ es) ≡ option_and_then (read key) (cond (n && s) (Some value) records)
@@ -53,7 +53,7 @@ module _ {X : Type 0} (read : List ℕ → List ℕ → Option X) (name : List �
   unfolding records_of
   find_entries key [] reads = refl
   find_entries key (row ∷ rows) reads =
-      found_step key (content (column row 2)) (content (column row 3)) (same_bytes (content (column row 1)) name) _ _ (flat_map entry_of rows) (records_of rows name key) refl refl
+      found_step key (content (column row 2)) (content (column row 3)) (bytes_eq (content (column row 1)) name) _ _ (flat_map entry_of rows) (records_of rows name key) refl refl
       (λ v e. reads v (records_first name key row rows ∙ e)) (find_entries key rows)
       ∙ ap (option_and_then (read key)) (sym (records_first name key row rows))
 
@@ -65,7 +65,7 @@ module _ {X : Type 0} (read : List ℕ → List ℕ → Option X) (name : List �
   -- a key at which nothing is read has nothing
   find_unread : (key : List ℕ) (rows : List Row) → ((v : List ℕ) → read key v ≡ None) → find_entry (slice_cmp nat_cmp) key (flat_map entry_of rows) ≡ None
   find_unread key [] unread = refl
-  find_unread key (row ∷ rows) unread = at (same_bytes (content (column row 1)) name) _ refl (find_unread key rows unread)
+  find_unread key (row ∷ rows) unread = at (bytes_eq (content (column row 1)) name) _ refl (find_unread key rows unread)
     where
       at : (n : Bool) (o : Option X) → read (content (column row 2)) (content (column row 3)) ≡ o
           → find_entry (slice_cmp nat_cmp) key (flat_map entry_of rows) ≡ None

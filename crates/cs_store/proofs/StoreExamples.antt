@@ -1,5 +1,5 @@
 -- A store of two tables, and stores that are damaged, worked as examples.
-use Rattle.std.proofs.Common.{◌≡◌, inl, inr, ℕ, ℤ, pos, Bool, true, false, ◌&&◌, cond, List, [], ◌∷◌, length, Some, None, get_or, unwrap_or, true≢false, codes, refl, sym, ap, ◌∙◌, subst, arith}
+use Rattle.std.proofs.Common.{bytes_eq, ◌≡◌, inl, inr, ℕ, ℤ, pos, Bool, true, false, ◌&&◌, cond, List, [], ◌∷◌, length, Some, None, get_or, unwrap_or, true≢false, codes, refl, sym, ap, ◌∙◌, subst, arith}
 use Rattle.std.specs.Char.{encode_utf8}
 use Rattle.std.specs.Str.{chars, is_utf8}
 use Rattle.std.specs.Option.{option_map}
@@ -19,13 +19,13 @@ use Rattle.cs_value.specs.Table.{IsName}
 use Rattle.cs_value.specs.Reading.{number_from, number_at, integer_at, counted_at, text_at, blob_at, field_at}
 use Rattle.cs_value.specs.State.{SchemaData, IsColumnName, IsSchema, TableData, RowMap, IsRowAt, IsTable, State, IsState, rows_at}
 use Rattle.cs_value.proofs.StateLemmas.{empty_table, table_insert, empty_state, state_insert}
-use Rattle.cs_store.specs.Records.{Records, same_bytes, records_of}
+use Rattle.cs_records.specs.Records.{Records, records_of}
 use Rattle.cs_store.specs.Declaration.{IsFormer, declaration_bytes}
 use Rattle.cs_store.specs.Stored.{version, former_version, stored_under, StoresIn, StoresInSome, Stores, values_at, columns_at, schema_in, state_of}
 use Rattle.cs_store.specs.Valid.{AreValid}
-use Rattle.cs_store.proofs.Examples.{two_columns, refusing_columns, columns_are_schema}
+use Rattle.cs_rows.proofs.Examples.{two_columns, refusing_columns, one_column, table_t, table_u, tables, row, key, held, state, state_is_state, tables_at, rows_of_tables}
 use Rattle.cs_store.proofs.StateOf.{records_first, fitting_read, state_is}
-use Rattle.cs_store.proofs.StoredLemmas.{get_put}
+use Rattle.cs_rows.proofs.MapLemmas.{get_put}
 use Rattle.cs_store.proofs.StoredReading.{schema_again}
 use Rattle.cs_store.proofs.ValidLemmas.{stores_valid}
 
@@ -41,74 +41,6 @@ spelling = tt
 reading : Unit {0}
 unfolding texts number_from number_at integer_at counted_at text_at blob_at field_at values_at columns_at
 reading = tt
-
--- ---- two tables
-
--- a table of one column, which is its key
-abbrev pub one_column : List ℕ → SchemaData
-one_column name = record { columns = name ∷ []; flags = 1 ∷ []; refuses = true ∷ [] }
-
--- the table t with these rows, and the table u of column c, which is empty
-abbrev pub table_t : RowMap → TableData
-table_t rows = record { schema = two_columns; rows = rows }
-
-abbrev pub table_u : TableData
-table_u = record { schema = one_column (codes "c"); rows = empty }
-
-abbrev pub tables : RowMap → State
-tables rows = insert (insert empty (codes "u") table_u) (codes "t") (table_t rows)
-
--- the row (1, 'x') and its key
-abbrev pub row : List OwnedValue
-row = Int (pos 1) ∷ Text (codes "x") ∷ []
-
-abbrev pub key : List ℕ
-key = 0x01 ∷ 0 ∷ 0 ∷ 0 ∷ 0 ∷ 0 ∷ 0 ∷ 0 ∷ 1 ∷ []
-
--- t with that row
-abbrev pub held : RowMap
-held = insert empty key row
-
-abbrev pub state : State
-state = tables held
-
--- they are states
-
-c_is_name : IsColumnName (codes "c")
-unfolding texts
-c_is_name = record { some = omega arith; text = IsUtf8-from_is_utf8 (codes "c") refl; short = omega arith }
-
-pub one_column_is_schema : (name : List ℕ) → IsColumnName name → IsSchema (one_column name)
-one_column_is_schema name named = record {
-  flags = record { bytes = (omega arith, tt); few = omega arith; some_key = (0, 1, omega arith, refl, omega arith) };
-  bits = (omega arith, tt);
-  rules = (refl, tt);
-  as_many = refl;
-  named = (named, tt);
-  apart = λ i j d lt below. absurd (omega arith);
-}
-
-pub t_is_name : IsName (codes "t")
-unfolding texts
-t_is_name = record { some = omega arith; text = IsUtf8-from_is_utf8 (codes "t") refl; no_zero = (λ same. absurd (omega (arith, same)), tt) }
-
-pub u_is_name : IsName (codes "u")
-unfolding texts
-u_is_name = record { some = omega arith; text = IsUtf8-from_is_utf8 (codes "u") refl; no_zero = (λ same. absurd (omega (arith, same)), tt) }
-
-row_is : IsRow row
-unfolding texts
-row_is = (record { sfits = omega arith }, ((IsUtf8-from_is_utf8 (codes "x") refl, omega arith), tt))
-
-row_fits : IsRowAt two_columns key row
-unfolding spelling
-row_fits = record { values = row_is; keyed = (λ same. cc, tt); obeys = refl; own = refl }
-
-table_t_is : IsTable (table_t held)
-table_t_is = table_insert (table_t empty) key row (empty_table two_columns (columns_are_schema false)) row_fits
-
-state_is_state : IsState state
-state_is_state = state_insert _ (codes "t") _ (state_insert empty (codes "u") table_u empty_state u_is_name (empty_table (one_column (codes "c")) (one_column_is_schema (codes "c") c_is_name))) t_is_name table_t_is
 
 -- ---- their records
 
@@ -146,24 +78,8 @@ abbrev pub rows : List Row
 rows = rows_in version
 
 -- a test of bytes may be turned
-turned : {X : Type 0} (s q : List ℕ) (x y : X) → cond (same_bytes s q) x y ≡ cond (same_bytes q s) x y
+turned : {X : Type 0} (s q : List ℕ) (x y : X) → cond (bytes_eq s q) x y ≡ cond (bytes_eq q s) x y
 turned s q x y = ap (λ b. cond b x y) (nat_list_eq_equiv.symm s q)
-
--- the tables by name
-pub tables_at : (m : RowMap) (name : List ℕ) → get (tables m) name ≡ cond (same_bytes name (codes "t")) (Some (table_t m)) (cond (same_bytes name (codes "u")) (Some table_u) None)
-tables_at m name =
-    get_put (insert empty (codes "u") table_u) (codes "t") (table_t m) name
-    ∙ ap (cond (same_bytes name (codes "t")) (Some (table_t m))) (get_put empty (codes "u") table_u name ∙ ap (cond (same_bytes name (codes "u")) (Some table_u)) (get-empty (slice_cmp nat_cmp) name))
-
--- and their rows
-rows_of_tables : (m : RowMap) (name : List ℕ) → rows_at (tables m) name ≡ cond (same_bytes name (codes "t")) m empty
-rows_of_tables m name =
-    ap (λ o. unwrap_or (option_map (λ (t : TableData). t.rows) o) empty) (tables_at m name) ∙ at (same_bytes name (codes "t")) (same_bytes name (codes "u"))
-  where
-    at : (t u : Bool) → unwrap_or (option_map (λ (t : TableData). t.rows) (cond t (Some (table_t m)) (cond u (Some table_u) None))) empty ≡ cond t m empty
-    at true u = refl
-    at false true = refl
-    at false false = refl
 
 -- the declarations that stand in the rows are those of the tables
 declarations_stored : (written : List ℕ) (b : ℕ) (name : List ℕ) → records_of (rows_in written) [] (b ∷ name) ≡ stored_under written state [] (b ∷ name)
@@ -171,9 +87,9 @@ unfolding records_of spelling
 declarations_stored written b name =
     let n = b ∷ name in
     records_first [] n (declaration_row declaration) (other_row ∷ keyed_row key value ∷ [])
-    ∙ ap (cond (same_bytes (codes "t") n) (Some declaration)) (records_first [] n other_row (keyed_row key value ∷ []) ∙ turned (codes "u") n _ _)
+    ∙ ap (cond (bytes_eq (codes "t") n) (Some declaration)) (records_first [] n other_row (keyed_row key value ∷ []) ∙ turned (codes "u") n _ _)
     ∙ turned (codes "t") n _ _
-    ∙ at (same_bytes n (codes "t")) (same_bytes n (codes "u"))
+    ∙ at (bytes_eq n (codes "t")) (bytes_eq n (codes "u"))
     ∙ sym (ap (option_map (λ (t : TableData). declaration_bytes t.schema)) (tables_at held n))
   where
     at : (t u : Bool) → cond t (Some declaration) (cond u (Some (0x01 ∷ 0x01 ∷ 0x01 ∷ 0x63 ∷ [])) None)
@@ -188,10 +104,10 @@ unfolding records_of spelling
 row_stored written b name k =
     let n = b ∷ name in
     records_first n k (keyed_row key value) []
-    ∙ at (same_bytes (codes "t") n) (same_bytes key k)
+    ∙ at (bytes_eq (codes "t") n) (bytes_eq key k)
     ∙ turned (codes "t") n _ _
-    ∙ ap (λ o. cond (same_bytes n (codes "t")) (option_map row_bytes o) None) (turned key k _ _ ∙ sym here)
-    ∙ into (same_bytes n (codes "t"))
+    ∙ ap (λ o. cond (bytes_eq n (codes "t")) (option_map row_bytes o) None) (turned key k _ _ ∙ sym here)
+    ∙ into (bytes_eq n (codes "t"))
     ∙ sym (ap (λ (r : RowMap). option_map row_bytes (get r k)) (rows_of_tables held n))
   where
     at : (t r : Bool) → cond (t && r) (Some value) None ≡ cond t (option_map row_bytes (cond r (Some row) None)) None
@@ -202,8 +118,8 @@ row_stored written b name k =
     none : get (empty {K = List ℕ} {X = List OwnedValue} {R = slice_cmp nat_cmp}) k ≡ None
     none = get-empty (slice_cmp nat_cmp) k
 
-    here : get held k ≡ cond (same_bytes k key) (Some row) None
-    here = get_put empty key row k ∙ ap (cond (same_bytes k key) (Some row)) none
+    here : get held k ≡ cond (bytes_eq k key) (Some row) None
+    here = get_put empty key row k ∙ ap (cond (bytes_eq k key) (Some row)) none
 
     into : (t : Bool) → cond t (option_map row_bytes (get held k)) None ≡ option_map row_bytes (get (cond t held empty) k)
     into true = refl
@@ -220,7 +136,7 @@ rows_store_in written = record { is_state = state_is_state; each = each; former 
     each (b ∷ name) key = row_stored written b name key
 
     former : (name : List ℕ) (table : TableData) → get state name ≡ Some table → IsFormer table.schema
-    former name table found = at (same_bytes name (codes "t")) (same_bytes name (codes "u")) (sym (tables_at held name) ∙ found)
+    former name table found = at (bytes_eq name (codes "t")) (bytes_eq name (codes "u")) (sym (tables_at held name) ∙ found)
       where
         at : (t u : Bool) → cond t (Some (table_t held)) (cond u (Some table_u) None) ≡ Some table → IsFormer table.schema
         at true u is = let same : table_t held ≡ table = cc in subst (λ (t : TableData). IsFormer t.schema) same refl

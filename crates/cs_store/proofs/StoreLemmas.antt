@@ -1,9 +1,10 @@
 -- Stores stay stores, whatever a call answers.
 use Rattle.std.proofs.Common.{◌≡◌, Bool, true, false, not, IsTrue, Result, Ok, Err, OnOk, OnErr, inl, inr, refl, sym, subst, ◌∙◌, true≢false}
 use Rattle.sqlite.specs.State.{State, HasCleanDisk, KeepsCommit, Shows, IsUnchanged, IsRolledBack}
-use Rattle.cs_store.specs.Records.{Rests, GoesOn, IsUndone, KeepsContent, KeepsCrash}
+use Rattle.cs_records.specs.Records.{Rests, GoesOn, IsUndone, KeepsContent, KeepsCrash}
 use Rattle.cs_store.specs.Store.{HoldsState, IsStore, Begins, KeepsStore}
 use Rattle.cs_store.specs.Laws.{was_clean}
+use Rattle.cs_records.proofs.ContentLemmas.{rests_keeps_content}
 
 unchanged_store : (old new : State) → IsUnchanged old new → IsStore old → IsStore new
 unchanged_store old new same was = record {
@@ -61,23 +62,6 @@ goes_on_store old new on holds was = record {
   committed = λ k. subst HoldsState (sym on.committed_is) (was.committed on.was_open);
 }
 
--- outside a transaction, where what is shown was committed, a call that rests keeps both
-pub rests_keeps_content : (old new : State) → Rests old new → old.in_transaction ≡ false → (IsTrue old.is_open → old.now ≡ old.committed) → KeepsContent old new
-rests_keeps_content old new (inl same) closed settled = record {
-  was_open = λ k. same.0.was_open;
-  mode = same.0.mode;
-  inside = λ k was. same.0.is_open;
-  now = λ k. same.0.now_is;
-  committed = λ k. same.0.committed_is;
-}
-rests_keeps_content old new (inr undone) closed settled = record {
-  was_open = undone.was_open;
-  mode = undone.autocommit ∙ sym closed;
-  inside = λ k was. absurd (true≢false (sym k ∙ undone.autocommit));
-  now = λ k. (undone.undone k).0 ∙ sym (settled (undone.was_open k));
-  committed = λ k. (undone.undone k).1;
-}
-
 -- where the content is kept, a store stays one
 pub content_store : (old new : State) → KeepsContent old new → IsStore old → IsStore new
 content_store old new kept was = record {
@@ -127,13 +111,3 @@ undone_content old begun mid new begins keeps undone = record {
 -- and so does a batch
 pub undone_batch : (old begun mid new : State) → (HasCleanDisk begun → Begins old begun) → KeepsStore begun mid → HasCleanDisk mid → IsUndone mid new → KeepsContent old new
 undone_batch old begun mid new begins keeps clean undone = undone_content old begun mid new (begins (was_clean begun mid keeps.crash clean)) (keeps.commit clean) undone
-
--- a connection that is not in autocommit is in a transaction
-pub in_transaction : (b : Bool) → false ≡ not b → IsTrue b
-in_transaction true e = refl
-in_transaction false e = absurd (true≢false (sym e))
-
--- and one that is in autocommit is in none
-pub in_autocommit : (b : Bool) → true ≡ not b → b ≡ false
-in_autocommit true e = absurd (true≢false e)
-in_autocommit false e = refl

@@ -1,5 +1,5 @@
 -- What a change of the records does to the state that they store.
-use Rattle.std.proofs.Common.{◌≡◌, ◌≢◌, ℕ, ◌&&◌, List, [], ◌∷◌, Option, Some, None, Bool, true, false, cond, get_or, refl, sym, ap, ◌∙◌, subst, unwrap_or, arith}
+use Rattle.std.proofs.Common.{bytes_eq, ◌≡◌, ◌≢◌, ℕ, ◌&&◌, List, [], ◌∷◌, Option, Some, None, Bool, true, false, cond, get_or, refl, sym, ap, ◌∙◌, subst, unwrap_or, arith}
 use Rattle.std.specs.Option.{option_map, IsSome}
 use Rattle.std.specs.Ordering.{nat_cmp}
 use Rattle.std.specs.Cmp.Lexicographic.{slice_cmp, nat_list_cmp_total, texts_ties}
@@ -10,31 +10,17 @@ use Rattle.cs_value.specs.Spelling.{row_bytes}
 use Rattle.cs_value.specs.Maps.{ByBytes}
 use Rattle.cs_value.specs.State.{SchemaData, IsSchema, RowMap, TableData, IsTable, State, IsState, rows_at, row_at, with_table, with_rows, with_row, without_row}
 use Rattle.cs_value.proofs.StateLemmas.{empty_table, table_insert, table_remove, empty_state, state_insert}
-use Rattle.cs_store.specs.Rows.{IsDeclared, Fits}
-use Rattle.cs_store.specs.Records.{Records, same_bytes, changed}
+use Rattle.cs_rows.specs.Rows.{IsDeclared, Fits}
+use Rattle.cs_records.specs.Records.{Records, changed}
 use Rattle.cs_store.specs.Declaration.{declaration_bytes}
 use Rattle.cs_store.specs.Stored.{version, former_version, stored_under, StoresIn, Stores}
-use Rattle.cs_store.proofs.MemoryLemmas.{with_rows_found, rows_at_found, rows_at_absent}
-use Rattle.cs_store.proofs.RowLemmas.{same_is}
+use Rattle.cs_rows.proofs.MapLemmas.{get_put, get_taken, rows_at_put}
+use Rattle.cs_rows.proofs.MemoryLemmas.{with_rows_found, rows_at_found, rows_at_absent}
+use Rattle.cs_records.proofs.RowLemmas.{same_is}
 
 -- the version that stores are written in is not the former one
 pub not_former : version ≢ former_version
 not_former same = absurd (omega (arith, ap (λ (l : List ℕ). get_or l 0 0) same))
-
--- ---- maps
-
--- what a map has once an entry is put, and once one is taken away
-pub get_put : {X : Type 0} (m : ByBytes X) (k : List ℕ) (v : X) (q : List ℕ) → get (insert m k v) q ≡ cond (same_bytes q k) (Some v) (get m q)
-get_put m k v q = get-insert nat_list_cmp_total m k v q ∙ ap (λ b. cond b (Some v) (get m q)) (sym (texts_ties q k))
-
-pub get_taken : {X : Type 0} (m : ByBytes X) (k q : List ℕ) → get (remove m k) q ≡ cond (same_bytes q k) None (get m q)
-get_taken m k q = get-remove nat_list_cmp_total m k q ∙ ap (λ b. cond b None (get m q)) (sym (texts_ties q k))
-
--- the rows under a name once a table is put
-pub rows_at_put : (state : State) (name : List ℕ) (table : TableData) (q : List ℕ) → rows_at (insert state name table) q ≡ cond (same_bytes q name) table.rows (rows_at state q)
-rows_at_put state name table q =
-    ap (λ o. unwrap_or (option_map (λ (t : TableData). t.rows) o) empty) (get_put state name table q)
-    ∙ elim (same_bytes q name) as (λ b. unwrap_or (option_map (λ (t : TableData). t.rows) (cond b (Some table) (get state q))) empty ≡ cond b table.rows (rows_at state q)) [ true ↦ refl | false ↦ refl ]
 
 -- what is stored of a table
 abbrev spelled : Option TableData → Option (List ℕ)
@@ -43,9 +29,9 @@ spelled o = option_map (λ t. declaration_bytes t.schema) o
 -- the declarations stay where the rows of a table change
 declarations_kept : (state : State) (name : List ℕ) (table : TableData) (rows : RowMap) (q : List ℕ) → get state name ≡ Some table
     → spelled (get (insert state name (record table { rows = rows })) q) ≡ spelled (get state q)
-declarations_kept state name table rows q found = ap spelled (get_put state name (record table { rows = rows }) q) ∙ at (same_bytes q name) refl
+declarations_kept state name table rows q found = ap spelled (get_put state name (record table { rows = rows }) q) ∙ at (bytes_eq q name) refl
   where
-    at : (b : Bool) → same_bytes q name ≡ b → spelled (cond b (Some (record table { rows = rows })) (get state q)) ≡ spelled (get state q)
+    at : (b : Bool) → bytes_eq q name ≡ b → spelled (cond b (Some (record table { rows = rows })) (get state q)) ≡ spelled (get state q)
     at true is = sym (ap spelled (ap (get state) (same_is q name is) ∙ found))
     at false is = refl
 
@@ -58,7 +44,7 @@ no_empty_name state table is found = let named = (is [] table found).named in om
 -- what stands under one key of the rows of a table changes
 rows_change : (new records : Records) (state : State) (name key : List ℕ) (table : TableData) (rows : RowMap) (here : Option (List OwnedValue))
     → Stores records state → get state name ≡ Some table → IsTable (record table { rows = rows })
-    → ((k : List ℕ) → get rows k ≡ cond (same_bytes k key) here (get table.rows k))
+    → ((k : List ℕ) → get rows k ≡ cond (bytes_eq k key) here (get table.rows k))
     → ((t k : List ℕ) → new t k ≡ changed records name key (option_map row_bytes here) t k) → Stores new (with_rows state name rows)
 rows_change new records state [] key table rows here is found fit put change = absurd (no_empty_name state table is.is_state found)
 rows_change new records state (n ∷ name) key table rows here is found fit put change =
@@ -68,7 +54,7 @@ rows_change new records state (n ∷ name) key table rows here is found fit put 
       former = λ old. absurd (not_former old);
     })
   where
-    rows_read : (t k : List ℕ) (b c : Bool) → same_bytes t (n ∷ name) ≡ b → same_bytes k key ≡ c
+    rows_read : (t k : List ℕ) (b c : Bool) → bytes_eq t (n ∷ name) ≡ b → bytes_eq k key ≡ c
         → cond (b && c) (option_map row_bytes here) (option_map row_bytes (get (rows_at state t) k)) ≡ option_map row_bytes (get (cond b rows (rows_at state t)) k)
     rows_read t k true true e f = sym (ap (option_map row_bytes) (put k ∙ ap (λ c. cond c here (get table.rows k)) f))
     rows_read t k true false e f =
@@ -81,7 +67,7 @@ rows_change new records state (n ∷ name) key table rows here is found fit put 
     at [] (b ∷ q) = change [] (b ∷ q) ∙ is.each [] (b ∷ q) ∙ sym (declarations_kept state (n ∷ name) table rows (b ∷ q) found)
     at (b ∷ q) k =
         change (b ∷ q) k
-        ∙ ap (cond (same_bytes (b ∷ q) (n ∷ name) && same_bytes k key) (option_map row_bytes here)) (is.each (b ∷ q) k)
+        ∙ ap (cond (bytes_eq (b ∷ q) (n ∷ name) && bytes_eq k key) (option_map row_bytes here)) (is.each (b ∷ q) k)
         ∙ rows_read (b ∷ q) k _ _ refl refl
         ∙ sym (ap (λ (r : RowMap). option_map row_bytes (get r k)) (rows_at_put state (n ∷ name) (record table { rows = rows }) (b ∷ q)))
 
@@ -122,7 +108,7 @@ stores_table new records state (n ∷ name) schema is named fit absent change = 
     declared o true = refl
     declared o false = refl
 
-    rows_read : (t : List ℕ) (b : Bool) → same_bytes t (n ∷ name) ≡ b → rows_at state t ≡ cond b empty (rows_at state t)
+    rows_read : (t : List ℕ) (b : Bool) → bytes_eq t (n ∷ name) ≡ b → rows_at state t ≡ cond b empty (rows_at state t)
     rows_read t true e = rows_at_absent state t (ap (get state) (same_is t (n ∷ name) e) ∙ absent)
     rows_read t false e = refl
 
@@ -130,8 +116,8 @@ stores_table new records state (n ∷ name) schema is named fit absent change = 
     at [] [] = change [] [] ∙ is.each [] []
     at [] (b ∷ q) =
         change [] (b ∷ q)
-        ∙ ap (cond (same_bytes (b ∷ q) (n ∷ name)) (Some (declaration_bytes schema))) (is.each [] (b ∷ q))
-        ∙ declared (get state (b ∷ q)) (same_bytes (b ∷ q) (n ∷ name))
+        ∙ ap (cond (bytes_eq (b ∷ q) (n ∷ name)) (Some (declaration_bytes schema))) (is.each [] (b ∷ q))
+        ∙ declared (get state (b ∷ q)) (bytes_eq (b ∷ q) (n ∷ name))
         ∙ sym (ap spelled (get_put state (n ∷ name) (record { schema = schema; rows = empty }) (b ∷ q)))
     at (b ∷ q) k =
         change (b ∷ q) k

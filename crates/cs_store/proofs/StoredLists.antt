@@ -19,17 +19,17 @@ use Rattle.cs_value.specs.State.{SchemaData, RowMap, TableData, State, IsState, 
 use Rattle.cs_value.proofs.ByteMaps.{tied_bytes}
 use Rattle.cs_value.proofs.KeyedRows.{length-IsKeyedRow}
 use Rattle.cs_value.proofs.Spellings.{row_bytes_same}
-use Rattle.cs_store.specs.Records.{Records, ListsTable}
+use Rattle.cs_records.specs.Records.{Records, ListsTable}
 use Rattle.cs_store.specs.Declaration.{declaration_bytes}
 use Rattle.cs_store.specs.Stored.{version, Stores}
-use Rattle.cs_store.specs.declared.fault.StoreError.{StoreError}
-use Rattle.cs_store.specs.declared.fault.StoreError.TheVariants.{DamagedStore}
-use Rattle.cs_store.specs.Faults.{IsResource, IsReadRefusal}
-use Rattle.cs_store.specs.Rows.{IsRowIn}
+use Rattle.cs_rows.specs.declared.fault.StoreError.{StoreError}
+use Rattle.cs_rows.specs.declared.fault.StoreError.TheVariants.{DamagedStore}
+use Rattle.cs_rows.specs.Faults.{IsResource, IsReadRefusal}
+use Rattle.cs_rows.specs.Rows.{IsRowIn}
 use Rattle.cs_store.specs.Store.{AreNamed, AreStored, RecoversList}
 use Rattle.cs_value.proofs.ListLemmas.{AllByRecursion-push}
 use Rattle.std.proofs.lemmas.List.{map-append}
-use Rattle.cs_store.proofs.MemoryLemmas.{rows_at_found}
+use Rattle.cs_rows.proofs.MemoryLemmas.{rows_at_found}
 use Rattle.cs_store.proofs.StoredLemmas.{row_stored}
 
 -- entries by lists of bytes, and whether their keys rise

@@ -10,7 +10,7 @@ use Rattle.cs_value.specs.declared.value.OwnedField.TheVariants.{Undefined, Defi
 use Rattle.cs_value.specs.Value.{IsRecord}
 use Rattle.cs_value.specs.Spelling.{record_bytes, row_bytes, BeginsWith}
 use Rattle.cs_value.specs.State.{SchemaData}
-use Rattle.cs_store.specs.Rows.{IsRowIn}
+use Rattle.cs_rows.specs.Rows.{IsRowIn}
 use Rattle.cs_value.proofs.KeyedRows.{length-IsKeyedRow}
 use Rattle.cs_value.proofs.RowImages.{record_bytes-map, IsRecord-map}
 

@@ -7,11 +7,11 @@ use Rattle.cs_value.specs.declared.value.OwnedValue.{OwnedValue}
 use Rattle.cs_value.specs.Spelling.{row_bytes}
 use Rattle.cs_value.specs.Table.{IsName}
 use Rattle.cs_value.specs.State.{SchemaData, IsSchema, TableData, IsRowAt, State, IsNamedTable, IsState, row_at}
-use Rattle.cs_store.specs.Records.{Records, records_of}
+use Rattle.cs_records.specs.Records.{Records, records_of}
 use Rattle.cs_store.specs.Declaration.{declaration_bytes, IsFormer}
 use Rattle.cs_store.specs.Stored.{former_version, stored_under, StoresIn, StoresInSome, values_at, entries_under, table_in, state_of}
 use Rattle.cs_store.specs.Valid.{IsDeclarationIn, IsStoredRow, AreValid}
-use Rattle.cs_store.proofs.MemoryLemmas.{row_at_found, row_at_absent}
+use Rattle.cs_rows.proofs.MemoryLemmas.{row_at_found, row_at_absent}
 use Rattle.cs_store.proofs.StateOf.{get_entries, get_unread, fitting_read}
 use Rattle.cs_store.proofs.StoredLemmas.{declaration_stored, row_stored}
 use Rattle.cs_store.proofs.StoredReading.{schema_again, one_schema}

@@ -8,8 +8,8 @@ use Rattle.cs_value.specs.Spelling.{row_bytes}
 use Rattle.cs_value.specs.State as tables
 use Rattle.sqlite.specs.Effect.{Database}
 use Rattle.sqlite.specs.State.{State, HasCleanDisk}
-use Rattle.cs_store.specs.Records.{HoldsRecords, Sets, GoesOn, Rests, KeepsCrash, records_in}
-use Rattle.cs_store.specs.Rows.{IsDeclared, Fits}
+use Rattle.cs_records.specs.Records.{HoldsRecords, Sets, GoesOn, Rests, KeepsCrash, records_in}
+use Rattle.cs_rows.specs.Rows.{IsDeclared, Fits}
 use Rattle.cs_store.specs.Stored.{Stores}
 use Rattle.cs_store.specs.Store.{HoldsState, IsSound, KeepsStore, tables_in}
 use Rattle.cs_store.proofs.StateOf.{state_is}

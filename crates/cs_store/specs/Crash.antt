@@ -5,7 +5,7 @@ use Rattle.sqlite_trees.specs.Tree.{Trees}
 use Rattle.sqlite.specs.Effect.{Database, IsDatabase}
 use Rattle.sqlite.specs.State.{State, HasCleanDisk, Survives}
 use Rattle.cs_value.specs.State as tables
-use Rattle.cs_store.specs.Records.{KeepsCrash}
+use Rattle.cs_records.specs.Records.{KeepsCrash}
 use Rattle.cs_store.specs.Stored.{state_of}
 use Rattle.cs_store.specs.Store.{HoldsState, HoldsTables, tables_in}
 

@@ -4,7 +4,8 @@ use Rattle.sqlite_trees.specs.Tree.{Trees}
 use Rattle.sqlite.specs.State.{State, HasCleanDisk, Survives}
 use Rattle.sqlite.proofs.StateLemmas.{survives_then}
 use Rattle.cs_value.specs.State as tables
-use Rattle.cs_store.specs.Records.{KeepsContent}
+use Rattle.cs_records.specs.Records.{KeepsContent}
+use Rattle.cs_records.proofs.ContentLemmas.{crash_itself}
 use Rattle.cs_store.specs.Crash.{LeavesOnly}
 use Rattle.cs_store.specs.Store.{KeepsStore}
 
@@ -34,14 +35,7 @@ content_then {a} {b} {c} one two = record {
 -- a store is kept by doing nothing
 pub keeps_itself : {s : State} → KeepsStore s s
 keeps_itself {s} = record {
-  crash = record {
-    clean = omega arith;
-    counts = omega arith;
-    limit = refl;
-    closes = λ clean k. inl k;
-    shield = λ k. k;
-    crash = λ clean db k. inl k;
-  };
+  crash = crash_itself;
   commit = λ clean. record { was_open = λ k. k; committed = λ k. refl };
   sound = λ k. k;
   outside = λ clean out settled. content_itself;

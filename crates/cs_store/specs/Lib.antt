@@ -1,7 +1,3 @@
-pub mod Faults
-pub mod Records
-pub mod Rows
-pub mod Statements
 pub mod Declaration
 pub mod Stored
 pub mod Versions
@@ -9,7 +5,10 @@ pub mod Valid
 pub mod Store
 pub mod Crash
 pub mod Laws
-pub mod Editing
+pub use Rattle.cs_records.specs.Records
+pub use Rattle.cs_rows.specs.Faults
+pub use Rattle.cs_rows.specs.Rows
+pub use Rattle.cs_rows.specs.Editing
 pub use Rattle.cs_value.specs.Value
 pub use Rattle.cs_value.specs.Key
 pub use Rattle.cs_value.specs.Table

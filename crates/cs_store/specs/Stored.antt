@@ -1,6 +1,6 @@
 -- What the records of a store are: one for the version of the format, one for each table, one for each row. This
 -- project's own.
-use Rattle.std.specs.Prelude.{◌≡◌, ◌⊎◌, ℕ, zero, suc, if◌then◌else◌, List, [], ◌∷◌, length}
+use Rattle.std.specs.Prelude.{bytes_eq, ◌≡◌, ◌⊎◌, ℕ, zero, suc, if◌then◌else◌, List, [], ◌∷◌, length}
 use Rattle.std.specs.Prelude.{take, drop, Option, Some, None, option_map, Result, Ok, Err}
 use Rattle.std.specs.Option.{option_to_list}
 use Rattle.std.specs.List.{flat_map}
@@ -14,7 +14,7 @@ use Rattle.cs_value.specs.Spelling.{row_bytes}
 use Rattle.cs_value.specs.Maps.{ByBytes}
 use Rattle.cs_value.specs.Reading.{number_at, field_at}
 use Rattle.cs_value.specs.State.{SchemaData, TableData, State, IsState, row_at}
-use Rattle.cs_store.specs.Records.{Records, content, same_bytes}
+use Rattle.cs_records.specs.Records.{Records, content}
 use Rattle.cs_store.specs.Declaration.{ColumnsData, IsFormer, declaration_bytes, schema_of_columns}
 
 -- ---- what is stored of a state
@@ -93,7 +93,7 @@ schema_in bytes = counted_columns bytes (number_at bytes)
 -- what the rows under a name hold that is read by key and value, by key
 abbrev pub entries_under : {X : Type 0} → (List ℕ → List ℕ → Option X) → List ℕ → List Row → ByBytes X
 entries_under read name rows =
-    map.from_entries (flat_map (λ row. if same_bytes (content (column row 1)) name
+    map.from_entries (flat_map (λ row. if bytes_eq (content (column row 1)) name
     then option_to_list (option_map (λ x. (content (column row 2), x))
     (read (content (column row 2)) (content (column row 3)))) else []) rows)
 

@@ -7,7 +7,7 @@ use Rattle.cs_value.specs.declared.value.OwnedValue.{OwnedValue}
 use Rattle.cs_value.specs.Spelling.{row_bytes}
 use Rattle.cs_value.specs.Table.{IsName}
 use Rattle.cs_value.specs.State.{SchemaData, IsSchema, IsRowAt}
-use Rattle.cs_store.specs.Records.{Records, RecordData}
+use Rattle.cs_records.specs.Records.{Records, RecordData}
 use Rattle.cs_store.specs.Declaration.{declaration_bytes, IsFormer}
 use Rattle.cs_store.specs.Stored.{former_version, IsVersion}
 

@@ -4,21 +4,22 @@ ghost use Rattle.cs_value.specs.State as tables;
 ghost use Rattle.sqlite.specs.State.{HasCleanDisk, KeepsCommit, IsUnchanged, Survives};
 ghost use Rattle.sqlite.specs.Effect.{IsDatabase};
 ghost use Rattle.sqlite.specs.Held.{state};
-ghost use Rattle.cs_store.specs.declared.fault.StoreError.TheVariants.{DamagedStore as Damaged};
-ghost use Rattle.cs_store.specs.Faults.{IsResource, IsReadRefusal};
-ghost use Rattle.cs_store.specs.Records.{HoldsRecords, ListsAll, KeepsContent, record_schema, empty_schema};
-ghost use Rattle.cs_store.specs.Records.{records_in, KeepsCrash};
+ghost use Rattle.cs_rows.specs.declared.fault.StoreError.TheVariants.{DamagedStore as Damaged};
+ghost use Rattle.cs_rows.specs.Faults.{IsResource, IsReadRefusal};
+ghost use Rattle.cs_records.specs.Records.{HoldsRecords, ListsAll, KeepsContent, record_schema, empty_schema};
+ghost use Rattle.cs_records.specs.Records.{records_in, KeepsCrash};
 ghost use Rattle.cs_store.specs.Valid.{AreValid};
 ghost use Rattle.cs_store.specs.Versions.{bytes_of};
 ghost use Rattle.cs_store.specs.Crash.{CanBegin, MayLeave};
 ghost use Rattle.cs_store.specs.Store.{Adopts, HoldsTables, SetsUp, IsInside};
 
+use crate::batch::commit;
 use crate::check::check_records;
-use crate::fault::StoreError;
-use crate::layout::{declares_nothing, declares_records, misdeclares_records};
-use crate::records::{Record, all_records, find_record, has_row_numbers, make_table, put_record};
-use crate::transactions;
+use crate::refusal::refused;
 use crate::version::{VERSION, Version, version_of};
+use cs_records::{Record, all_records, find_record, has_row_numbers, make_table, put_record};
+use cs_records::{declares_nothing, declares_records, misdeclares_records, transactions};
+use cs_rows::StoreError;
 use sqlite::{Alter, Connection};
 use std::alloc::Global;
 
@@ -37,9 +38,12 @@ pub(crate) fn adopt<S: Alter>(conn: &mut Connection<S>, alloc: Global) -> Result
     ensures unstarted { ¬ CanBegin (state S.Store conn.old)
         → KeepsCrash (state S.Store conn.old) (state S.Store conn.new) }
 {
-    transactions::begin(conn)?;
+    match transactions::begin(conn) {
+        Ok(()) => {}
+        Err(error) => return Err(refused(error)),
+    }
     match set_up(conn, alloc) {
-        Ok(()) => transactions::commit(conn),
+        Ok(()) => commit(conn),
         Err(error) => {
             transactions::roll_back(conn);
             Err(error)
@@ -83,8 +87,10 @@ fn make_store<S: Alter>(conn: &mut Connection<S>) -> Result<(), StoreError>
         → OnErr result (KeepsCommit (state S.Store conn.old) (state S.Store conn.new)) }
     ensures survives { KeepsCrash (state S.Store conn.old) (state S.Store conn.new) }
 {
-    make_table(conn)?;
-    write_version(conn)
+    match make_table(conn) {
+        Ok(()) => write_version(conn),
+        Err(error) => Err(refused(error)),
+    }
 }
 
 /// Writes the version of stores, where there is no record yet, or where the records are valid.
@@ -99,7 +105,10 @@ fn write_version<S: Alter>(conn: &mut Connection<S>) -> Result<(), StoreError>
         → OnErr result (KeepsCommit (state S.Store conn.old) (state S.Store conn.new)) }
     ensures survives { KeepsCrash (state S.Store conn.old) (state S.Store conn.new) }
 {
-    put_record(conn, "", b"", VERSION, false)
+    match put_record(conn, "", b"", VERSION, false) {
+        Ok(()) => Ok(()),
+        Err(error) => Err(refused(error)),
+    }
 }
 
 /// Checks the store of a database that declares the table of records, or makes one where that is
@@ -120,7 +129,7 @@ fn check_store<S: Alter>(conn: &mut Connection<S>, alloc: Global) -> Result<(), 
     match has_row_numbers(conn) {
         Ok(true) => check_numbered(conn, alloc),
         Ok(false) => Err(StoreError::DamagedStore),
-        Err(error) => Err(error),
+        Err(error) => Err(refused(error)),
     }
 }
 
@@ -140,7 +149,7 @@ fn check_numbered<S: Alter>(conn: &mut Connection<S>, alloc: Global) -> Result<(
     match all_records(conn, alloc) {
         Ok(listed) if listed.is_empty() => write_version(conn),
         Ok(listed) => take_over(conn, alloc, &listed),
-        Err(error) => Err(error),
+        Err(error) => Err(refused(error)),
     }
 }
 
@@ -212,6 +221,6 @@ fn read_version<S: Alter>(conn: &mut Connection<S>) -> Result<Version, StoreErro
     match find_record(conn, "", b"") {
         Ok(Some(bytes)) => version_of(bytes.as_slice()).ok_or(StoreError::DamagedStore),
         Ok(None) => Err(StoreError::DamagedStore),
-        Err(error) => Err(error),
+        Err(error) => Err(refused(error)),
     }
 }

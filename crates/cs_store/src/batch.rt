@@ -1,22 +1,22 @@
 //! Batches: rows of a store that are written together.
-ghost use Rattle.std.specs.Prelude.{◌≡◌, ◌⊎◌, IsTrue, OnOk, OnErr, IfErr};
-ghost use Rattle.sqlite.specs.State.{HasCleanDisk};
+ghost use Rattle.std.specs.Prelude.{◌≡◌, ◌⊎◌, IsTrue, OnOk, OnErr, IfErr, false};
+ghost use Rattle.sqlite.specs.State.{HasCleanDisk, Shows, Survives};
 ghost use Rattle.sqlite.specs.Held.{state};
 ghost use Rattle.cs_value.specs.Table.{IsName};
-ghost use Rattle.cs_store.specs.declared.fault.StoreError.TheVariants.{TableExists as TakenName};
-ghost use Rattle.cs_store.specs.Faults.{IsResource, IsReadRefusal};
-ghost use Rattle.cs_store.specs.Rows.{IsDeclared};
-ghost use Rattle.cs_store.specs.Records.{IsUndone, KeepsCrash};
+ghost use Rattle.cs_rows.specs.declared.fault.StoreError.TheVariants.{TableExists as TakenName};
+ghost use Rattle.cs_rows.specs.Faults.{IsResource, IsReadRefusal};
+ghost use Rattle.cs_rows.specs.Rows.{IsDeclared};
+ghost use Rattle.cs_records.specs.Records.{IsUndone, KeepsCrash};
 ghost use Rattle.cs_store.specs.Crash.{IsAtomic, LeavesOnly};
 ghost use Rattle.cs_store.specs.Store.{AddsTable, Ends, IsInside, KeepsStore, tables_in};
 
-use crate::fault::StoreError;
-use crate::rows::Rows;
-use crate::schema::Schema;
+use crate::known;
+use crate::refusal::refused;
 use crate::store::Store;
-use crate::{known, transactions};
+use cs_records::transactions;
+use cs_rows::{Rows, Schema, StoreError};
 use cs_value::{Key, Row};
-use sqlite::Alter;
+use sqlite::{Alter, Connection};
 use std::alloc::Global;
 
 /// A batch of writes to a store. Dropping it undoes them.
@@ -64,7 +64,7 @@ impl<S: Alter> SqlBatch<'_, S> {
     {
         let SqlBatch { store } = self;
         store.known = None;
-        transactions::commit(&mut store.conn)
+        commit(&mut store.conn)
     }
 }
 
@@ -125,5 +125,23 @@ impl<S: Alter> Rows for SqlBatch<'_, S> {
     fn list(&mut self, alloc: Global, table: &str) -> Result<Vec<Row>, StoreError> {
         let store = &mut *self.store;
         known::list_rows(&mut store.conn, &mut store.known, alloc, table)
+    }
+}
+
+/// Commits the transaction of a connection.
+pub(crate) fn commit<S: Alter>(conn: &mut Connection<S>) -> Result<(), StoreError>
+    ensures committed { HasCleanDisk (state S.Store conn.new)
+        → OnOk result (IsTrue (state S.Store conn.old).in_transaction
+        × Shows (state S.Store conn.old) (state S.Store conn.new)
+        (state S.Store conn.old).now (state S.Store conn.old).now false) }
+    ensures refused { IfErr result IsResource }
+    ensures undone { HasCleanDisk (state S.Store conn.new)
+        → OnErr result (IsUndone (state S.Store conn.old) (state S.Store conn.new)) }
+    ensures survives { Survives (state S.Store conn.old) (state S.Store conn.new)
+        (λ db. (db ≡ (state S.Store conn.old).now.trees) × IsTrue (state S.Store conn.old).in_transaction) }
+{
+    match transactions::commit(conn) {
+        Ok(()) => Ok(()),
+        Err(error) => Err(refused(error)),
     }
 }

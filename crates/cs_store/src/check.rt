@@ -4,9 +4,9 @@ ghost use Rattle.std.specs.Prelude.{List, [], ◌∷◌, ◌++◌, string_bytes}
 ghost use Rattle.std.specs.Option.{option_copied};
 ghost use Rattle.std.specs.List.{AllByRecursion};
 ghost use Rattle.std.specs.FinMap as map;
-ghost use Rattle.cs_store.specs.declared.fault.StoreError.TheVariants.{DamagedStore as Damaged};
-ghost use Rattle.cs_store.specs.declared.fault.StoreError.TheVariants.{NoMemory as OutOfMemory};
-ghost use Rattle.cs_store.specs.Records.{Records, RecordData, ListsAll};
+ghost use Rattle.cs_rows.specs.declared.fault.StoreError.TheVariants.{DamagedStore as Damaged};
+ghost use Rattle.cs_rows.specs.declared.fault.StoreError.TheVariants.{NoMemory as OutOfMemory};
+ghost use Rattle.cs_records.specs.Records.{Records, RecordData, ListsAll};
 ghost use Rattle.cs_store.specs.Declaration.{declaration_bytes, IsFormer};
 ghost use Rattle.cs_store.specs.Stored.{former_version};
 ghost use Rattle.cs_store.specs.Versions.{bytes_of};
@@ -16,11 +16,10 @@ ghost use Rattle.cs_value.specs.Table.{IsName};
 ghost use Rattle.cs_value.specs.State.{IsSchema, is_marked as is_marked_by};
 
 use crate::declaration::read_declaration;
-use crate::fault::StoreError;
-use crate::records::Record;
-use crate::schema::{Schema, is_marked};
 use crate::stored_row::read_row;
 use crate::version::Version;
+use cs_records::Record;
+use cs_rows::{Schema, StoreError};
 use cs_value::{Key, NoMemory, is_table_name};
 use std::alloc::Global;
 use std::collections::BTreeMap;
@@ -159,7 +158,7 @@ fn is_former(schema: &Schema) -> bool
     ensures { IsTrue result ↔ IsFormer schema.now }
 {
     for (column, flag) in schema.flags().iter().enumerate() {
-        if !is_former_rule(*flag, is_marked(schema.refuses(), column)) {
+        if !is_former_rule(*flag, schema.refuses_at(column)) {
             return false;
         }
     }

@@ -9,11 +9,10 @@ ghost use Rattle.cs_value.specs.Spelling.{counted};
 ghost use Rattle.cs_store.specs.Declaration.{column_code, column_codes, flag_of as flag_by};
 ghost use Rattle.cs_store.specs.Declaration.{columns_bytes, declaration_bytes, IsDeclaration};
 ghost use Rattle.cs_store.specs.Declaration.{ColumnsData, schema_of_columns, BeginsWithColumn, AreColumns};
-ghost use Rattle.cs_store.specs.declared.fault.StoreError.TheVariants.{DamagedStore as Damaged};
-ghost use Rattle.cs_store.specs.declared.fault.StoreError.TheVariants.{NoMemory as OutOfMemory};
+ghost use Rattle.cs_rows.specs.declared.fault.StoreError.TheVariants.{DamagedStore as Damaged};
+ghost use Rattle.cs_rows.specs.declared.fault.StoreError.TheVariants.{NoMemory as OutOfMemory};
 
-use crate::fault::StoreError;
-use crate::schema::{Schema, checked, is_marked};
+use cs_rows::{Schema, StoreError};
 use cs_value::{NoMemory, varint_read, varint_write};
 use std::alloc::{AllocError, Global};
 use std::str;
@@ -38,7 +37,7 @@ fn codes_of(alloc: Global, schema: &Schema) -> Result<Vec<u8>, NoMemory>
 {
     let mut codes = Vec::new(alloc);
     for (column, flag) in schema.flags().iter().enumerate() {
-        codes.push(code_of(*flag, is_marked(schema.refuses(), column)))?;
+        codes.push(code_of(*flag, schema.refuses_at(column)))?;
     }
     Ok(codes)
 }
@@ -99,7 +98,7 @@ fn schema_by(alloc: Global, columns: Vec<String>, codes: &[u8]) -> Result<Schema
 {
     let flags = flags_of(alloc, codes)?;
     let refuses = marks_of(alloc, codes)?;
-    match checked(alloc, columns, flags, refuses) {
+    match Schema::from_parts(alloc, columns, flags, refuses) {
         Err(StoreError::BadSchema) => Err(StoreError::DamagedStore),
         answer => answer,
     }

@@ -5,16 +5,15 @@ ghost use Rattle.std.specs.Prelude.{◌≡◌, ◌⊎◌, IsTrue, IfOk, IfErr, O
 ghost use Rattle.std.specs.FinMap as map;
 ghost use Rattle.cs_value.specs.Table.{IsName};
 ghost use Rattle.cs_value.specs.State.{schema_at, row_at, rows_at, with_row, without_row};
-ghost use Rattle.cs_store.specs.declared.fault.StoreError.TheVariants.{TableExists as TakenName};
-ghost use Rattle.cs_store.specs.Faults.{IsResource, IsReadRefusal};
-ghost use Rattle.cs_store.specs.Rows.{IsDeclared, Fits};
+ghost use Rattle.cs_rows.specs.declared.fault.StoreError.TheVariants.{TableExists as TakenName};
+ghost use Rattle.cs_rows.specs.Faults.{IsResource, IsReadRefusal};
+ghost use Rattle.cs_rows.specs.Rows.{IsDeclared, Fits};
 ghost use Rattle.cs_store.specs.Store.{AddsTable, IsSound, KeepsStore, Knows, IsFreeKey, RefusesShut, tables_in, without_free_key};
 ghost use Rattle.sqlite.specs.State.{HasCleanDisk};
 ghost use Rattle.sqlite.specs.Held.{state};
 
-use crate::fault::StoreError;
-use crate::schema::Schema;
 use crate::tables;
+use cs_rows::{Schema, StoreError};
 use cs_value::{Key, Row};
 use sqlite::{Alter, Connection};
 use std::alloc::Global;

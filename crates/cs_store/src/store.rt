@@ -4,13 +4,13 @@ ghost use Rattle.std.specs.Prelude.{map as map_list, string_bytes};
 ghost use Rattle.std.specs.FinMap as map;
 ghost use Rattle.cs_value.specs.State as tables;
 ghost use Rattle.cs_value.specs.State.{schema_at, row_at, rows_at};
-ghost use Rattle.cs_store.specs.declared.fault.StoreError.TheVariants.{DamagedStore as Damaged, NoTable as NoSuchTable};
-ghost use Rattle.cs_store.specs.declared.fault.StoreError.TheVariants.{BadSchema as NoSchema, TableExists as TakenName};
-ghost use Rattle.cs_store.specs.Faults.{IsResource, IsReadRefusal, IsEditRefusal};
-ghost use Rattle.cs_store.specs.Editing.{Declares, EditsInto, schema_of, edited, written_of};
+ghost use Rattle.cs_rows.specs.declared.fault.StoreError.TheVariants.{DamagedStore as Damaged, NoTable as NoSuchTable};
+ghost use Rattle.cs_rows.specs.declared.fault.StoreError.TheVariants.{BadSchema as NoSchema, TableExists as TakenName};
+ghost use Rattle.cs_rows.specs.Faults.{IsResource, IsReadRefusal, IsEditRefusal};
+ghost use Rattle.cs_rows.specs.Editing.{Declares, EditsInto, schema_of, edited, written_of};
 ghost use Rattle.cs_store.specs.Crash.{CanBegin, IsAtomic, IsLeftOf, LeavesOnly, LeavesTakenOver, MayLeave};
-ghost use Rattle.cs_store.specs.Records.{KeepsContent, KeepsCrash};
-ghost use Rattle.cs_store.specs.Rows.{IsDeclared, Fits};
+ghost use Rattle.cs_records.specs.Records.{KeepsContent, KeepsCrash};
+ghost use Rattle.cs_rows.specs.Rows.{IsDeclared, Fits};
 ghost use Rattle.sqlite.specs.Effect.{IsDatabase};
 ghost use Rattle.sqlite.specs.State.{HasCleanDisk, Survives};
 ghost use Rattle.sqlite.specs.Held.{state};
@@ -22,12 +22,11 @@ ghost use Rattle.cs_store.specs.Store.{Adopts, Begins, HoldsTables, IsAtRest, Ke
 ghost use Rattle.cs_store.specs.Store.{RefusesShut, tables_in};
 
 use crate::batch::SqlBatch;
-use crate::edit::{Edit, Written};
-use crate::editing::edit_in;
-use crate::fault::StoreError;
 use crate::known::KnownTable;
-use crate::schema::Schema;
-use crate::{adoption, known, tables, transactions};
+use crate::refusal::refused;
+use crate::{adoption, known, tables};
+use cs_records::{RecordsError, transactions};
+use cs_rows::{Edit, Schema, StoreError, Written, edit_in};
 use cs_value::{Key, Row, is_table_name};
 use sqlite::{Alter, Connection, FileFrom, FileStore, MemStore, Start};
 use std::alloc::Global;
@@ -65,10 +64,12 @@ impl Store<MemStore> {
         ensures at_rest { IfOk result (λ s. IsAtRest (state over_memory s)) }
         ensures named { IfErr result IsResource }
     {
-        let conn = Connection::open_in_memory(alloc)?;
-        match Store::adopt(alloc, conn) {
-            Ok(store) => Ok(store),
-            Err((error, _conn)) => Err(error),
+        match Connection::open_in_memory(alloc) {
+            Ok(conn) => match Store::adopt(alloc, conn) {
+                Ok(store) => Ok(store),
+                Err((error, _conn)) => Err(error),
+            },
+            Err(error) => Err(refused(RecordsError::from(error))),
         }
     }
 }
@@ -98,7 +99,21 @@ impl<S: Start> Store<FileStore<FileFrom<S>>> {
                 Ok(store) => Ok(store),
                 Err((error, _conn)) => Err(error),
             },
-            Err((error, _files)) => Err(StoreError::from(error)),
+            Err((error, _files)) => Err(refused(RecordsError::from(error))),
+        }
+    }
+
+    /// Closes the store, so that its tables are in the database file, with no log beside it.
+    ///
+    /// # Errors
+    ///
+    /// `StoreFault` if the database refuses, and `NoMemory` if out of memory. What was committed stays.
+    pub fn close(self) -> Result<(), StoreError>
+        ensures named { IfErr result IsResource }
+    {
+        match self.into_connection().close() {
+            Ok(()) => Ok(()),
+            Err(error) => Err(refused(RecordsError::from(error))),
         }
     }
 }
@@ -208,7 +223,7 @@ impl<S: Alter> Store<S> {
         self.known = None;
         match transactions::begin(&mut self.conn) {
             Ok(()) => Ok(SqlBatch { store: self }),
-            Err(error) => Err(error),
+            Err(error) => Err(refused(error)),
         }
     }
 

@@ -3,12 +3,11 @@ ghost use Rattle.std.specs.Prelude.{◌≡◌, ◌≢◌, ◌⊎◌, List, map, 
 ghost use Rattle.cs_value.specs.declared.value.OwnedValue.{OwnedValue};
 ghost use Rattle.cs_value.specs.declared.value.OwnedField.TheVariants.{Defined};
 ghost use Rattle.cs_value.specs.Spelling.{row_bytes};
-ghost use Rattle.cs_store.specs.Rows.{IsRowIn};
-ghost use Rattle.cs_store.specs.declared.fault.StoreError.TheVariants.{DamagedStore as Damaged};
-ghost use Rattle.cs_store.specs.declared.fault.StoreError.TheVariants.{NoMemory as OutOfMemory};
+ghost use Rattle.cs_rows.specs.Rows.{IsRowIn};
+ghost use Rattle.cs_rows.specs.declared.fault.StoreError.TheVariants.{DamagedStore as Damaged};
+ghost use Rattle.cs_rows.specs.declared.fault.StoreError.TheVariants.{NoMemory as OutOfMemory};
 
-use crate::fault::StoreError;
-use crate::schema::Schema;
+use cs_rows::{Schema, StoreError};
 use cs_value::{Image, ImageFault, OwnedField, Row, image_read};
 use std::alloc::Global;
 

@@ -1,6 +1,6 @@
 //! The tables of a store, one call at a time: what its records stand for.
 ghost use Rattle.std.specs.FinMap as map;
-ghost use Rattle.cs_store.specs.declared.fault.StoreError.TheVariants.{DamagedStore as Damaged};
+ghost use Rattle.cs_rows.specs.declared.fault.StoreError.TheVariants.{DamagedStore as Damaged};
 ghost use Rattle.std.specs.Prelude.{◌≡◌, ◌⊎◌, map as map_list, IsTrue, OnOk, IfOk};
 ghost use Rattle.std.specs.Prelude.{IfErr, IfSome, Option, Some, None, ℕ, List, [], ◌∷◌, option_map, string_bytes};
 ghost use Rattle.std.specs.List.{AllByRecursion};
@@ -12,17 +12,17 @@ ghost use Rattle.cs_value.specs.State.{with_row, without_row};
 ghost use Rattle.cs_store.specs.Declaration.{declaration_bytes};
 ghost use Rattle.sqlite.specs.State.{HasCleanDisk};
 ghost use Rattle.sqlite.specs.Held.{state};
-ghost use Rattle.cs_store.specs.Faults.{IsResource, IsReadRefusal};
-ghost use Rattle.cs_store.specs.Rows.{IsDeclared, Fits, IsRowIn};
+ghost use Rattle.cs_rows.specs.Faults.{IsResource, IsReadRefusal};
+ghost use Rattle.cs_rows.specs.Rows.{IsDeclared, Fits, IsRowIn};
 ghost use Rattle.cs_store.specs.Store.{IsSound, KeepsStore, Recovers, RecoversList, RefusesShut};
 ghost use Rattle.cs_store.specs.Store.{AddsTable, AreNamed, AreStored, HoldsState, tables_in};
 
 use crate::check::read_name;
 use crate::declaration::{read_declaration, write_declaration};
-use crate::fault::StoreError;
-use crate::records::{Keyed, find_record, list_records, put_record, remove_record};
-use crate::schema::Schema;
+use crate::refusal::refused;
 use crate::stored_row::read_row;
+use cs_records::{Keyed, find_record, list_records, put_record, remove_record};
+use cs_rows::{Schema, StoreError};
 use cs_value::{Key, Row, row_write};
 use sqlite::{Alter, Connection};
 use std::alloc::Global;
@@ -43,12 +43,12 @@ pub(crate) fn find_schema<S: Alter>(
     ensures named { IfErr result IsReadRefusal }
     ensures kept { KeepsStore (state S.Store conn.old) (state S.Store conn.new) }
 {
-    let found = find_record(conn, "", name.as_bytes())?;
-    if name.is_empty() {
-        // what stands there is the version of the format
-        return Ok(None);
+    match find_record(conn, "", name.as_bytes()) {
+        // the record under the empty name is the version of the format
+        Ok(_) if name.is_empty() => Ok(None),
+        Ok(found) => schema_in(alloc, found),
+        Err(error) => Err(refused(error)),
     }
-    schema_in(alloc, found)
 }
 
 /// The schema whose declaration is stored, if one is.
@@ -85,7 +85,7 @@ pub(crate) fn find_row<S: Alter>(
 {
     match find_record(conn, name, key.bytes()) {
         Ok(found) => row_in(alloc, schema, found),
-        Err(error) => Err(error),
+        Err(error) => Err(refused(error)),
     }
 }
 
@@ -122,7 +122,7 @@ pub(crate) fn list_rows<S: Alter>(
 {
     match list_records(conn, alloc, name) {
         Ok(listed) => rows_in(alloc, schema, &listed),
-        Err(error) => Err(error),
+        Err(error) => Err(refused(error)),
     }
 }
 
@@ -166,7 +166,10 @@ pub(crate) fn put_row<S: Alter>(
 {
     let mut bytes = Vec::new(alloc);
     row_write(&mut bytes, row)?;
-    put_record(conn, name, key.bytes(), &bytes, is_new)
+    match put_record(conn, name, key.bytes(), &bytes, is_new) {
+        Ok(()) => Ok(()),
+        Err(error) => Err(refused(error)),
+    }
 }
 
 /// Removes the row under a key of a declared table, if there is one, inside a transaction.
@@ -184,7 +187,10 @@ pub(crate) fn remove_row<S: Alter>(
     ensures kept { IsSound (state S.Store conn.old) → IsTrue (state S.Store conn.old).in_transaction
         → KeepsStore (state S.Store conn.old) (state S.Store conn.new) }
 {
-    remove_record(conn, name, key.bytes())
+    match remove_record(conn, name, key.bytes()) {
+        Ok(()) => Ok(()),
+        Err(error) => Err(refused(error)),
+    }
 }
 
 /// The names of the tables, by their bytes.
@@ -204,7 +210,7 @@ pub(crate) fn list_tables<S: Alter>(
 {
     match list_records(conn, alloc, "") {
         Ok(listed) => names_behind(alloc, &listed),
-        Err(error) => Err(error),
+        Err(error) => Err(refused(error)),
     }
 }
 
@@ -255,5 +261,8 @@ pub(crate) fn put_table<S: Alter>(
         → KeepsStore (state S.Store conn.old) (state S.Store conn.new) }
 {
     let bytes = write_declaration(alloc, schema)?;
-    put_record(conn, "", name.as_bytes(), &bytes, false)
+    match put_record(conn, "", name.as_bytes(), &bytes, false) {
+        Ok(()) => Ok(()),
+        Err(error) => Err(refused(error)),
+    }
 }

@@ -4,7 +4,7 @@ use Rattle.std.specs.Prelude.{string_bytes}
 use Rattle.std.proofs.lemmas.Result.{err_from_is_err_and}
 use Rattle.sqlite.specs.Held.{state}
 use Rattle.cs_store.specs.Store.{tables_in}
-use Rattle.cs_shell.specs.Replies.{Silent}
+use Rattle.cs_replies.specs.Replies.{Silent}
 use Rattle.cs_shell.specs.Script.{CreateGives}
 use Rattle.cs_shell.specs.Turns.{Gave}
 use Rattle.cs_shell.proofs.StatementLemmas.{create_unknown, create_refused, create_declares}

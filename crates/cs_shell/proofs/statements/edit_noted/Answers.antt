@@ -4,8 +4,8 @@ use Rattle.std.proofs.lemmas.Result.{err_from_is_err_and}
 use Rattle.sqlite.specs.Held.{state}
 use Rattle.cs_store.specs.Editing.{edited}
 use Rattle.cs_store.specs.Store.{tables_in}
-use Rattle.cs_shell.specs.ErrorLines.{of_session}
-use Rattle.cs_shell.specs.Replies.{Silent}
+use Rattle.cs_replies.specs.ErrorLines.{of_session}
+use Rattle.cs_replies.specs.Replies.{Silent}
 use Rattle.cs_shell.specs.Script.{EditGives}
 use Rattle.cs_shell.specs.Turns.{Gave}
 use Rattle.cs_shell.proofs.SessionLemmas.{session_edits, session_refuses_edit}

@@ -1,7 +1,7 @@
 -- `adoption::check_listed`: the clause `valid`.
 use Rattle.sqlite.specs.Held.{state}
 use Rattle.cs_store.specs.Laws.{was_clean}
-use Rattle.cs_store.specs.Records.{records_in}
+use Rattle.cs_records.specs.Records.{records_in}
 use Rattle.cs_store.proofs.adoption.check_listed.Goals as goal
 
 pub returns-clause-valid : goal.returns-clause-valid

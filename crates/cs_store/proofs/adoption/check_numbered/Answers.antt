@@ -3,7 +3,7 @@ use Rattle.std.proofs.Common.{◌≡◌, ◌≢◌, ◌⊎◌, inl, ◌==◌, []
 use Rattle.sqlite.specs.Held.{state}
 use Rattle.sqlite.specs.Effect.{Database}
 use Rattle.cs_store.specs.Laws.{was_clean}
-use Rattle.cs_store.specs.Records.{HoldsRecords, records_in}
+use Rattle.cs_records.specs.Records.{HoldsRecords, records_in}
 use Rattle.cs_store.specs.Valid.{AreValid}
 use Rattle.cs_store.proofs.WriteLemmas.{on_ok_then}
 use Rattle.cs_store.proofs.ReadLemmas.{no_elements}

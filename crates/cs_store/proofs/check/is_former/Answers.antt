@@ -1,7 +1,7 @@
 -- `check::is_former`: what it ensures.
 use Rattle.std.proofs.Common.{◌≡◌, ◌<◌, List, ℕ, Bool, false, length, get_or, sym, ap, ◌∙◌, arith}
 use Rattle.cs_value.specs.State.{is_marked}
-use Rattle.cs_store.proofs.RuleLemmas.{rules_length, former_at, former_of_columns}
+use Rattle.cs_rows.proofs.RuleLemmas.{rules_length, former_at, former_of_columns}
 use Rattle.cs_store.proofs.check.is_former.Goals as goal
 
 pub returns-then-not-is_former_rule : goal.returns-then-not-is_former_rule
@@ -11,7 +11,7 @@ returns-then-not-is_former_rule c =
     let i = c.loop-column.column in
     let same = c.flags-flag-items.ensures.same in
     let within : i < length flags = omega (arith, c.loop-column-test.true, ap (λ (l : List ℕ). length l) same) in
-    let mark : c.is_marked.result ≡ get_or refuses i false = c.is_marked.ensures ∙ ap (λ (l : List Bool). get_or l i false) c.refuses.ensures in
+    let mark : c.refuses_at.result ≡ get_or refuses i false = c.refuses_at.ensures in
     (λ e. absurd cc, λ former. c.if-not-is_former_rule.ensures.1 (mark ∙ former_at flags refuses i within former ∙ ap (λ (l : List ℕ). is_marked (get_or l i 0)) (sym same)))
 
 pub returns : goal.returns

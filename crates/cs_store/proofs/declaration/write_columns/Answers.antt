@@ -5,7 +5,7 @@ use Rattle.std.proofs.lemmas.Slice.Zip.{zip_turn, zip_end}
 use Rattle.cs_value.specs.State.{IsColumnName}
 use Rattle.cs_value.specs.Spelling.{counted}
 use Rattle.cs_store.specs.Declaration.{columns_bytes}
-use Rattle.cs_store.proofs.SchemaLemmas.{name_all}
+use Rattle.cs_rows.proofs.SchemaLemmas.{name_all}
 use Rattle.cs_store.proofs.DeclarationLemmas.{columns_bytes-more}
 use Rattle.cs_store.proofs.declaration.write_columns.Goals as goal
 

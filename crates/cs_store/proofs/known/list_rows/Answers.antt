@@ -4,7 +4,7 @@ use Rattle.std.specs.FinMap as map
 use Rattle.std.specs.Option.{option_map}
 use Rattle.cs_value.specs.State.{RowMap}
 use Rattle.cs_store.specs.Laws.{keeps_then}
-use Rattle.cs_store.proofs.MemoryLemmas.{no_values}
+use Rattle.cs_rows.proofs.MemoryLemmas.{no_values}
 use Rattle.cs_store.proofs.ReadLemmas.{no_rows_at}
 use Rattle.cs_store.proofs.known.list_rows.Goals as goal
 

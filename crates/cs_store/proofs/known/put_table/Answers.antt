@@ -1,5 +1,5 @@
 -- `known::put_table`: the clause `kept`.
-use Rattle.cs_store.proofs.StoreLemmas.{in_transaction}
+use Rattle.cs_records.proofs.ContentLemmas.{in_transaction}
 use Rattle.cs_store.proofs.known.put_table.Goals as goal
 
 pub returns-clause-kept : goal.returns-clause-kept

@@ -2,7 +2,7 @@
 use Rattle.std.proofs.Common.{inl, ap, ◌∙◌}
 use Rattle.sqlite.specs.Held.{state}
 use Rattle.cs_value.specs.State.{row_at}
-use Rattle.cs_store.specs.Records.{records_in}
+use Rattle.cs_records.specs.Records.{records_in}
 use Rattle.cs_store.specs.Store.{tables_in}
 use Rattle.cs_store.proofs.StoredLemmas.{row_stored}
 use Rattle.cs_store.proofs.StoreLemmas.{rests_keeps}

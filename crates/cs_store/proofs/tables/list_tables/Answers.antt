@@ -2,7 +2,7 @@
 use Rattle.sqlite.specs.Held.{state}
 use Rattle.sqlite.specs.State.{HasCleanDisk}
 use Rattle.std.specs.FinMap as map
-use Rattle.cs_store.specs.Records.{records_in}
+use Rattle.cs_records.specs.Records.{records_in}
 use Rattle.cs_store.specs.Store.{IsSound, AreNamed, tables_in}
 use Rattle.cs_store.proofs.ReadLemmas.{shows_read}
 use Rattle.cs_store.proofs.StoredLists.{names_listed, names_are, named_ok, named_err}

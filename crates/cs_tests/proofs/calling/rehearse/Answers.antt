@@ -5,7 +5,7 @@ use Rattle.sqlite.specs.Effect.{Database}
 use Rattle.sqlite.specs.State.{HasCleanDisk}
 use Rattle.sqlite.specs.Held.{state}
 use Rattle.cs_value.specs.State.{State, WrittenData, rows_at}
-use Rattle.cs_store.specs.declared.edit.Edit.{Edit}
+use Rattle.cs_rows.specs.declared.edit.Edit.{Edit}
 use Rattle.cs_store.specs.Editing.{written_of}
 use Rattle.cs_store.specs.Store.{tables_in}
 use Rattle.cs_group.specs.declared.conflict.Noop.{Noop}

@@ -1,6 +1,6 @@
 -- `script::Script::answer_line`: what it ensures.
 use Rattle.std.proofs.Common.{subst}
-use Rattle.cs_shell.specs.Replies.{answer_of}
+use Rattle.cs_replies.specs.Replies.{answer_of}
 use Rattle.cs_shell.proofs.script.Script.answer_line.Goals as goal
 
 pub returns-in-Some : goal.returns-in-Some

@@ -1,10 +1,10 @@
 -- `script::Script::end_line`: what it ensures.
 use Rattle.std.proofs.Common.{◌≡◌, Result, Ok, Err, refl, ◌∙◌, rules}
 use Rattle.std.specs.Prelude.{is_err}
-use Rattle.cs_shell.specs.declared.refusal.Refusal.{Refusal}
-use Rattle.cs_shell.specs.declared.reply.Reply.{Reply}
-use Rattle.cs_shell.specs.declared.reply.Reply.TheVariants.{Silent, Text, Dump, Rows, Report}
-use Rattle.cs_shell.specs.Replies.{answer_of, is_refused}
+use Rattle.cs_replies.specs.declared.refusal.Refusal.{Refusal}
+use Rattle.cs_replies.specs.declared.reply.Reply.{Reply}
+use Rattle.cs_replies.specs.declared.reply.Reply.TheVariants.{Silent, Text, Dump, Rows, Report}
+use Rattle.cs_replies.specs.Replies.{answer_of, is_refused}
 use Rattle.cs_shell.proofs.script.Script.end_line.Goals as goal
 
 -- what is refused is an error of the code

@@ -2,7 +2,7 @@
 use Rattle.std.specs.Option.{option_copied}
 use Rattle.std.specs.String.{string_bytes}
 use Rattle.cs_value.proofs.ByteMaps.{got_seen}
-use Rattle.cs_store.proofs.Found.{seen}
+use Rattle.cs_rows.proofs.Found.{seen}
 use Rattle.cs_store.proofs.check.Schemas.get.Goals as goal
 
 pub returns : goal.returns

@@ -2,15 +2,15 @@
 use Rattle.std.proofs.Common.{◌≡◌, rules}
 use Rattle.std.specs.Prelude.{map, OnErr}
 use Rattle.sqlite.specs.Held.{state}
-use Rattle.cs_store.specs.Editing.{EditsInto, written_of}
+use Rattle.cs_rows.specs.Editing.{EditsInto, written_of}
 use Rattle.sqlite.specs.State.{HasCleanDisk}
 use Rattle.cs_store.specs.Laws.{was_clean}
-use Rattle.cs_store.specs.Records.{KeepsContent, KeepsCrash}
+use Rattle.cs_records.specs.Records.{KeepsContent, KeepsCrash}
 use Rattle.cs_store.specs.Crash.{CanBegin}
 use Rattle.cs_store.specs.Store.{tables_in}
 use Rattle.cs_store.proofs.CrashLemmas.{idle_atomic, dropped_atomic, made_atomic, left_new, refused_stands}
 use Rattle.cs_store.proofs.StoreLemmas.{undone_batch}
-use Rattle.cs_store.proofs.QueryLemmas.{on_err}
+use Rattle.cs_records.proofs.QueryLemmas.{on_err}
 use Rattle.cs_store.proofs.store.Store.edit.Goals as goal
 
 pub returns-in_err-written-clause-kept : goal.returns-in_err-written-clause-kept

@@ -1,0 +1,17 @@
+pub mod AddLemmas
+pub mod AnswerLemmas
+pub mod ContentLemmas
+pub mod EditLemmas
+pub mod FoundRows
+pub mod ListedRows
+pub mod NumberedRows
+pub mod OrderLemmas
+pub mod PutLemmas
+pub mod QueryLemmas
+pub mod QueryTexts
+pub mod RemoveLemmas
+pub mod RowLemmas
+pub mod SetLemmas
+pub mod StatementLemmas
+pub mod TableLemmas
+pub mod TransactionLemmas

@@ -1,0 +1,175 @@
+-- Numbers that rise along what the query for them shows, and what they say of the rows of the table.
+use Rattle.std.proofs.Common.{◌≡◌, ◌≢◌, ℕ, suc, ◌+◌, ◌<◌, ℤ, ◌<ℤ◌, ◌≤ℤ◌, false, List, [], ◌∷◌, ◌++◌, length, get_or, take, drop, map, Option, Some, None, IfSome, inl, inr, refl, sym, ap, subst, ◌∙◌, arith}
+use Rattle.std.specs.List.{AllByRecursion}
+use Rattle.std.specs.List.Sorted.{IsPermutation}
+use Rattle.std.specs.Ordering.{is_lt, MatchOrdering}
+use Rattle.std.specs.declared.cmp.Ordering.{Ordering}
+use Rattle.std.specs.declared.cmp.Ordering.TheVariants.{Less, Equal, Greater}
+use Rattle.std.proofs.lemmas.Int.{ints}
+use Rattle.std.proofs.lemmas.Cmp.{int_ranked, tied_itself}
+use Rattle.std.proofs.lemmas.List.Sorted.{IsPermutation-sym}
+use Rattle.std.proofs.lemmas.List.{take-append-drop, take_more}
+use Rattle.std.proofs.Math.Seq.{drop-cons}
+use Rattle.sqlite_value.specs.declared.value.Value.TheVariants.{Int}
+use Rattle.sqlite_value.specs.Order.{Row, column, value_cmp}
+use Rattle.sqlite_value.proofs.OrderLemmas.{value_cmp-Int, value_cmp_total, then-Equal}
+use Rattle.sqlite_trees.specs.Tree.{rowid, IsAscending}
+use Rattle.sqlite_trees.proofs.ListLemmas.{filter_all, all_of, all-map, all-append, all_from_map, all-permutation, ascending-map, ascending_from_map, ascending_weaker}
+use Rattle.sqlite_rules.specs.Lists.{Has}
+use Rattle.sqlite_rules.proofs.ListLemmas.{all_has, has_either, has_right}
+use Rattle.sqlite_catalog.proofs.ListFacts.{ascending_push}
+use Rattle.sqlite.specs.State.{State, Shown}
+use Rattle.cs_records.specs.Records.{record_schema, AreNumbered, AreRisingNumbers}
+use Rattle.cs_records.proofs.RowLemmas.{ascending_from_pairs, pairs_from_ascending, ascending-permutation, ascending_of_members}
+use Rattle.cs_records.proofs.OrderLemmas.{below_from, ascending_both}
+use Rattle.cs_records.proofs.QueryTexts.{number_text, number_query, number_asks}
+use Rattle.cs_records.proofs.AnswerLemmas.{passes_where, sorts, ShowsChosen, shows_chosen}
+
+-- ---- numbers
+
+-- what SQL's order of two numbers says of them
+ranked_numbers : (m n : ℤ) → MatchOrdering (value_cmp (Int m) (Int n)) (m <ℤ n) (m ≡ n) (n <ℤ m)
+ranked_numbers m n = int_ranked m n _ (value_cmp-Int m n)
+
+-- a number below another is below it in that order
+below_numbers : (m n : ℤ) → m <ℤ n → value_cmp (Int m) (Int n) ≡ Less
+below_numbers m n h = of_order (value_cmp (Int m) (Int n)) (ranked_numbers m n)
+  where
+    of_order : (o : Ordering) → MatchOrdering o (m <ℤ n) (m ≡ n) (n <ℤ m) → o ≡ Less
+    of_order Less is = refl
+    of_order Equal is = absurd (omega (arith, ints, is, h))
+    of_order Greater is = absurd (omega (arith, ints, is, h))
+
+-- numbers that the order puts below another are below it, and those that tie are one
+numbers_below : (m n : ℤ) → value_cmp (Int m) (Int n) ≡ Less → m <ℤ n
+numbers_below m n h = subst (λ o. MatchOrdering o (m <ℤ n) (m ≡ n) (n <ℤ m)) h (ranked_numbers m n)
+
+tied_numbers : (m n : ℤ) → value_cmp (Int m) (Int n) ≡ Equal → m ≡ n
+tied_numbers m n h = subst (λ o. MatchOrdering o (m <ℤ n) (m ≡ n) (n <ℤ m)) h (ranked_numbers m n)
+
+-- ---- the rows that were read so far
+
+-- their numbers rise up to this one
+pub record RiseUpTo (rows : List Row) (last : ℤ) : Type 0 where
+  pub numbers : AreRisingNumbers rows
+  pub below : (row : Row) → Has rows row → (n : ℤ) × (column row 0 ≡ Int n) × (n ≤ℤ last)
+  pub reached : (row : Row) × Has rows row × (column row 0 ≡ Int last)
+
+-- no row was read, or the last number is this
+abbrev pub RiseTo : List Row → Option ℤ → Type 0
+RiseTo rows None = rows ≡ []
+RiseTo rows (Some last) = RiseUpTo rows last
+
+-- one more number, above the last
+rise_after : (rows : List Row) (last number : ℤ) (row : Row) → RiseUpTo rows last → column row 0 ≡ Int number → last <ℤ number → RiseUpTo (rows ++ row ∷ []) number
+rise_after rows last number row h is above = record {
+  numbers = record {
+    each = all-append (λ r. (n : ℤ) × (column r 0 ≡ Int n)) rows (row ∷ []) h.numbers.each ((number, is), tt);
+    rising = ascending_push (λ a b. value_cmp (column a 0) (column b 0) ≡ Less) rows row h.numbers.rising (λ other has.
+        let it = h.below other has in
+        rw (it.1, is) (below_numbers it.0 number (let low = it.2 in omega (arith, ints, low, above))));
+  };
+  below = λ other has. elim (has_either rows (row ∷ []) other has) [
+    | inl before ↦ (let it = h.below other before in (it.0, it.1, (let low = it.2 in omega (arith, ints, low, above))))
+    | inr here ↦ elim here [ inl same ↦ (number, ap (λ r. column r 0) same ∙ is, omega (arith, ints)) | inr none ↦ absurd none ]
+  ];
+  reached = (row, has_right rows (row ∷ []) row (inl refl), is);
+}
+
+-- the first number
+rise_from : (number : ℤ) (row : Row) → column row 0 ≡ Int number → RiseUpTo (row ∷ []) number
+rise_from number row is = record {
+  numbers = record { each = ((number, is), tt); rising = (tt, tt) };
+  below = λ other here. elim here [ inl same ↦ (number, ap (λ r. column r 0) same ∙ is, omega (arith, ints)) | inr none ↦ absurd none ];
+  reached = (row, inl refl, is);
+}
+
+-- one more number, whether one was read before or not
+rise_on : (rows : List Row) (last : Option ℤ) (number : ℤ) (row : Row) → RiseTo rows last → column row 0 ≡ Int number → IfSome last (λ before. before <ℤ number)
+    → RiseTo (rows ++ row ∷ []) (Some number)
+rise_on rows None number row none is above = subst (λ l. RiseUpTo (l ++ row ∷ []) number) (sym none) (rise_from number row is)
+rise_on rows (Some last) number row h is above = rise_after rows last number row h is above
+
+-- an element before another is below it
+before_is_below : {X : Type 0} (R : X → X → Type 0) (xs ys : List X) (x y : X) → IsAscending R (xs ++ y ∷ ys) → Has xs x → R x y
+before_is_below R [] ys x y up has = absurd has
+before_is_below R (z ∷ xs) ys x y up (inl same) = subst (λ w. R w y) (sym same) (all_has (R z) (xs ++ y ∷ ys) y up.0 (has_right xs (y ∷ ys) y (inl refl)))
+before_is_below R (z ∷ xs) ys x y up (inr later) = before_is_below R xs ys x y up.1 later
+
+-- a number that is not above the last ends the rise
+rise_ends : (rows more : List Row) (last : Option ℤ) (number : ℤ) (row : Row) → RiseTo rows last → column row 0 ≡ Int number → (IfSome last (λ before. before <ℤ number) → ⊥)
+    → AreRisingNumbers (rows ++ row ∷ more) → ⊥
+rise_ends rows more None number row none is low h = low tt
+rise_ends rows more (Some last) number row h is low numbers =
+    let top = h.reached in
+    let less : value_cmp (Int last) (Int number) ≡ Less =
+    rw (top.2, is) at (before_is_below (λ a b. value_cmp (column a 0) (column b 0) ≡ Less) rows more top.0 row numbers.rising top.1) in
+    low (numbers_below last number less)
+
+-- the same at a place of the rows
+pub rise_at : (rows : List Row) (i : ℕ) (last : Option ℤ) (number : ℤ) (row : Row) → i < length rows → row ≡ get_or rows i row → RiseTo (take i rows) last → column row 0 ≡ Int number
+    → IfSome last (λ before. before <ℤ number) → RiseUpTo (take (i + 1) rows) number
+rise_at rows i last number row low here h is above =
+    let more : take (i + 1) rows ≡ take i rows ++ row ∷ [] = take_more rows i row low ∙ ap (λ r. take i rows ++ r ∷ []) (sym here) in
+    subst (λ l. RiseUpTo l number) (sym more) (rise_on (take i rows) last number row h is above)
+
+pub ends_at : (rows : List Row) (i : ℕ) (last : Option ℤ) (number : ℤ) (row : Row) → i < length rows → row ≡ get_or rows i row → RiseTo (take i rows) last → column row 0 ≡ Int number
+    → (IfSome last (λ before. before <ℤ number) → ⊥) → AreRisingNumbers rows → ⊥
+ends_at rows i last number row low here h is stays numbers =
+    let whole : rows ≡ take i rows ++ row ∷ drop (suc i) rows =
+    sym (take-append-drop i rows) ∙ ap (λ l. take i rows ++ l) (drop-cons rows i row low ∙ ap (λ r. r ∷ drop (suc i) rows) (sym here)) in
+    rise_ends (take i rows) (drop (suc i) rows) last number row h is stays (subst AreRisingNumbers whole numbers)
+
+-- ---- the query for the numbers
+
+-- what the query shows of a row, and what it sorts by
+abbrev numbered_of : Row → Row
+numbered_of row = column row 0 ∷ []
+
+number_sorts : (a b : Row) → sorts number_query [] a b ≡ value_cmp (rowid a) (rowid b)
+number_sorts a b = then-Equal (value_cmp (rowid a) (rowid b))
+
+module _ (old new : State) (rows : List Row) (has : old.now.schema ≡ record_schema) (shown : Shown number_text [] old new rows) where
+  -- the query shows the number of each row of the table
+  all_shown : ShowsChosen number_query (old.now.trees 0) [] rows
+  all_shown = shows_chosen number_text _ _ _ number_asks [] old new rows has shown
+
+  all_chosen : IsPermutation (old.now.trees 0) all_shown.chosen
+  all_chosen = subst (λ l. IsPermutation l all_shown.chosen) (filter_all (passes_where number_query []) (old.now.trees 0) (all_of _ (λ row. refl) (old.now.trees 0))) all_shown.same
+
+  -- where the numbers rise, each row has one, and no two the same
+  pub numbered : AreRisingNumbers rows → AreNumbered (old.now.trees 0)
+  numbered h =
+      let all = old.now.trees 0 in
+      let s = all_shown in
+      let rising : AreRisingNumbers (map numbered_of s.chosen) = subst AreRisingNumbers s.is h in
+      let back = IsPermutation-sym all s.chosen all_chosen in
+      let apart : IsAscending (λ a b. rowid a ≢ rowid b) s.chosen =
+      ascending_weaker (λ a b. value_cmp (rowid a) (rowid b) ≡ Less) (λ a b. rowid a ≢ rowid b)
+      (λ a b less same. let equal : value_cmp (rowid a) (rowid b) ≡ Equal = subst (λ v. value_cmp (rowid a) v ≡ Equal) same (tied_itself value_cmp_total (rowid a)) in cc)
+      s.chosen (ascending_from_map (λ a b. value_cmp (column a 0) (column b 0) ≡ Less) numbered_of s.chosen rising.rising) in
+      record {
+        each = all-permutation (λ row. (n : ℤ) × (rowid row ≡ Int n)) s.chosen all back (all_from_map (λ row. (n : ℤ) × (column row 0 ≡ Int n)) numbered_of s.chosen rising.each);
+        once = pairs_from_ascending (λ a b. rowid a ≢ rowid b) all (ascending-permutation (λ a b. rowid a ≢ rowid b) (λ a b other same. other (sym same)) s.chosen all back apart);
+      }
+
+  -- and where each row has one, and no two the same, they rise
+  pub rising_if_numbered : AreNumbered (old.now.trees 0) → AreRisingNumbers rows
+  rising_if_numbered h =
+      let all = old.now.trees 0 in
+      let s = all_shown in
+      let each : AllByRecursion (λ row. (n : ℤ) × (rowid row ≡ Int n)) s.chosen = all-permutation (λ row. (n : ℤ) × (rowid row ≡ Int n)) all s.chosen all_chosen h.each in
+      let apart : IsAscending (λ a b. rowid a ≢ rowid b) s.chosen =
+      ascending-permutation (λ a b. rowid a ≢ rowid b) (λ a b other same. other (sym same)) all s.chosen all_chosen (ascending_from_pairs (λ a b. rowid a ≢ rowid b) all h.once) in
+      let up : IsAscending (λ a b. value_cmp (rowid a) (rowid b) ≡ Less) s.chosen =
+      ascending_of_members (λ a b. (is_lt (sorts number_query [] b a) ≡ false) × (rowid a ≢ rowid b)) (λ a b. value_cmp (rowid a) (rowid b) ≡ Less) s.chosen
+      (λ a b p q both.
+      let m = all_has (λ row. (n : ℤ) × (rowid row ≡ Int n)) s.chosen a each p in
+      let n = all_has (λ row. (n : ℤ) × (rowid row ≡ Int n)) s.chosen b each q in
+      below_from value_cmp value_cmp_total (rowid a) (rowid b) (subst (λ o. is_lt o ≡ false) (number_sorts b a) both.0)
+      (λ tied. both.1 (m.1 ∙ ap Int (tied_numbers m.0 n.0 (rw (m.1, n.1) at tied)) ∙ sym n.1)))
+      (ascending_both (λ a b. is_lt (sorts number_query [] b a) ≡ false) (λ a b. rowid a ≢ rowid b) s.chosen s.rising apart) in
+      subst AreRisingNumbers (sym s.is) (record {
+        each = all-map (λ row. (n : ℤ) × (column row 0 ≡ Int n)) numbered_of s.chosen each;
+        rising = ascending-map (λ a b. value_cmp (column a 0) (column b 0) ≡ Less) numbered_of s.chosen up;
+      })

@@ -1,0 +1,28 @@
+-- `transactions::commit`: the clauses `undone`, `survives` and `committed`.
+use Rattle.std.proofs.Common.{refl}
+use Rattle.sqlite.specs.Held.{state}
+use Rattle.cs_records.proofs.ContentLemmas.{idle_undone, idle_survives}
+use Rattle.cs_records.proofs.QueryLemmas.{on_err}
+use Rattle.cs_records.proofs.ContentLemmas.{in_autocommit, in_transaction}
+use Rattle.cs_records.proofs.TransactionLemmas.{commits, commit_undone, commit_survives}
+use Rattle.cs_records.proofs.transactions.commit.Goals as goal
+
+pub returns-then-is_autocommit-clause-undone : goal.returns-then-is_autocommit-clause-undone
+returns-then-is_autocommit-clause-undone g c clean =
+    let known = c.if-is_autocommit.ensures in
+    idle_undone (state g.S.Store c.args.conn.now) (in_autocommit _ known.value) (known.settled refl)
+
+pub returns-then-is_autocommit-clause-survives : goal.returns-then-is_autocommit-clause-survives
+returns-then-is_autocommit-clause-survives g c = idle_survives (state g.S.Store c.args.conn.now) _
+
+pub returns-in_err-execute-clause-undone : goal.returns-in_err-execute-clause-undone
+returns-in_err-execute-clause-undone g c clean = on_err c.from_residual.result _ (commit_undone _ _ (in_transaction _ c.if-is_autocommit.ensures.value) _ (c.in_err-execute.ensures.runs clean))
+
+pub returns-in_err-execute-clause-survives : goal.returns-in_err-execute-clause-survives
+returns-in_err-execute-clause-survives g c = commit_survives _ _ (in_transaction _ c.if-is_autocommit.ensures.value) c.execute.ensures.survives
+
+pub returns-clause-committed : goal.returns-clause-committed
+returns-clause-committed g c clean = commits _ _ _ (c.in_ok-execute.ensures.runs clean)
+
+pub returns-clause-survives : goal.returns-clause-survives
+returns-clause-survives g c = commit_survives _ _ (in_transaction _ c.if-is_autocommit.ensures.value) c.execute.ensures.survives

@@ -1,0 +1,34 @@
+//! Why a call on records is refused.
+use sqlite::{Error, ErrorCode};
+use std::alloc::{AllocError, AllocFailed};
+use thiserror::Error as ErrorOf;
+
+/// Why a call on records is refused.
+#[derive(Clone, Copy, Debug, PartialEq, Eq, ErrorOf)]
+pub enum RecordsError {
+    #[error("out of memory")]
+    NoMemory,
+    #[error("the database refused")]
+    Database,
+}
+
+impl From<Error> for RecordsError {
+    fn from(error: Error) -> RecordsError {
+        match error {
+            Error::SqliteFailure(ErrorCode::OutOfMemory) => RecordsError::NoMemory,
+            _ => RecordsError::Database,
+        }
+    }
+}
+
+impl From<AllocError> for RecordsError {
+    fn from(_refusal: AllocError) -> RecordsError {
+        RecordsError::NoMemory
+    }
+}
+
+impl<T: Drop> From<AllocFailed<T>> for RecordsError {
+    fn from(_refusal: AllocFailed<T>) -> RecordsError {
+        RecordsError::NoMemory
+    }
+}

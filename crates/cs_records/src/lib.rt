@@ -1,0 +1,28 @@
+//! One SQL table of records, a statement at a time.
+//!
+//! A record has the name of a table, a key and a value; no two records have the same name and key. The records are the
+//! rows of the table `rec` of a database.
+//!
+//! ```rust
+//! let mut conn = Connection::open_in_memory(alloc)?;
+//! transactions::begin(&mut conn)?;
+//! make_table(&mut conn)?;
+//! put_record(&mut conn, "t", b"key", b"value", true)?;
+//! transactions::commit(&mut conn)?;
+//! assert_eq!(rt; find_record(&mut conn, "t", b"key")?, Some(value));
+//! ```
+//!
+//! `records` has the statements that read and write records, `layout` compares the schema of a database with the table
+//! of records, `transactions` has the statements that begin and end a transaction, and `fault` says why a call is refused.
+#![tactic(auto)]
+
+mod fault;
+mod layout;
+mod records;
+pub mod transactions;
+
+pub use fault::RecordsError;
+pub use layout::{declares_nothing, declares_records, misdeclares_records};
+pub use records::{Keyed, Record};
+pub use records::{all_records, find_record, has_row_numbers, list_records};
+pub use records::{make_table, put_record, remove_record};

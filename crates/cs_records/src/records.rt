@@ -1,0 +1,309 @@
+//! The table of records, one statement at a time: a record has the name of a table, a key and a
+//! value. A call that is refused leaves the database as it was, or takes it back to its last commit.
+ghost use Rattle.std.specs.Prelude.{◌≡◌, ◌↔◌, ◌<ℤ◌, [], false, Some, None, option_map, map};
+ghost use Rattle.std.specs.Prelude.{IsTrue, IfOk, IfErr, IfSome, OnOk, OnErr};
+ghost use Rattle.sqlite.specs.Effect.{IsDatabase};
+ghost use Rattle.sqlite.specs.State.{HasCleanDisk, IsUnchanged, Shown, Survives};
+ghost use Rattle.sqlite.specs.Held.{state};
+ghost use Rattle.sqlite.specs.Values.{bound};
+ghost use Rattle.cs_records.specs.Records.{HoldsRecords, Sets, ListsAll, ListsTable};
+ghost use Rattle.cs_records.specs.Records.{records_in, Rests, GoesOn, KeepsCrash};
+ghost use Rattle.cs_records.specs.Records.{IsQuery, shown_record, shown_keyed};
+ghost use Rattle.cs_records.specs.Records.{AreNumbered, AreRisingNumbers, record_schema, empty_schema};
+ghost use Rattle.cs_records.specs.Statements.{put_text as text_that_puts};
+
+use crate::fault::RecordsError;
+use sqlite::types::ValueRef;
+use sqlite::{Alter, Connection, Row, params};
+use std::alloc::Global;
+use std::marker::Model;
+
+/// A record: the name of a table, a key and a value.
+#[derive(Debug, Drop)]
+pub struct Record {
+    pub tab: String,
+    pub key: Vec<u8>,
+    pub value: Vec<u8>,
+}
+
+impl Model for Record {
+    ghost use Rattle.std.specs.Prelude.{string_bytes};
+    ghost use Rattle.cs_records.specs.Records.{RecordData};
+
+    ghost Value = { RecordData };
+
+    ghost view = { λ r. record { tab = string_bytes r.tab; key = r.key.items; value = r.value.items } };
+}
+
+/// A key and a value, of a record of a known table.
+#[derive(Debug, Drop)]
+pub struct Keyed {
+    pub key: Vec<u8>,
+    pub value: Vec<u8>,
+}
+
+impl Model for Keyed {
+    ghost use Rattle.std.specs.Prelude.{List, ℕ};
+
+    ghost Value = { List ℕ × List ℕ };
+
+    ghost view = { λ r. (r.key.items, r.value.items) };
+}
+
+/// The rows that a text shows which asks for nothing but rows.
+fn query_rows<S: Alter>(
+    conn: &mut Connection<S>,
+    sql: &str,
+    params: &[ValueRef<'_>],
+) -> Result<Vec<Row>, RecordsError>
+    requires { IsQuery sql.now }
+    ensures shown { HasCleanDisk (state S.Store conn.new)
+        → IfOk result (λ rows. Shown sql.now (bound params.now) (state S.Store conn.old)
+        (state S.Store conn.new) rows.items) }
+    ensures reads { HasCleanDisk (state S.Store conn.new)
+        → OnOk result (IsUnchanged (state S.Store conn.old) (state S.Store conn.new)) }
+    ensures rests { HasCleanDisk (state S.Store conn.new)
+        → OnErr result (Rests (state S.Store conn.old) (state S.Store conn.new)) }
+    ensures keeps_crash { KeepsCrash (state S.Store conn.old) (state S.Store conn.new) }
+{
+    Ok(conn.query_all(sql, params)?)
+}
+
+/// The value of the record under a table's name and a key.
+pub fn find_record<S: Alter>(
+    conn: &mut Connection<S>,
+    tab: &str,
+    key: &[u8],
+) -> Result<Option<Vec<u8>>, RecordsError>
+    ensures found { HasCleanDisk (state S.Store conn.new) → HoldsRecords (state S.Store conn.old).now
+        → IfOk result (λ o. option_map (λ v. v.items) o ≡ records_in (state S.Store conn.old).now tab.now key.now) }
+    ensures reads { HasCleanDisk (state S.Store conn.new)
+        → OnOk result (IsUnchanged (state S.Store conn.old) (state S.Store conn.new)) }
+    ensures rests { HasCleanDisk (state S.Store conn.new)
+        → OnErr result (Rests (state S.Store conn.old) (state S.Store conn.new)) }
+    ensures keeps_crash { KeepsCrash (state S.Store conn.old) (state S.Store conn.new) }
+{
+    let rows = query_rows(
+        conn,
+        "SELECT rowb FROM rec WHERE tab = ?1 AND keyb = ?2",
+        params![tab, key],
+    )?;
+    match rows.first() {
+        Some(row) => Ok(Some(row.get(0)?)),
+        None => Ok(None),
+    }
+}
+
+/// The text that puts a record: a new one, which is refused where one is there, or one in place of that which is there.
+fn put_text(is_new: bool) -> &'static str
+    ensures { result.now ≡ text_that_puts is_new }
+{
+    if is_new {
+        "INSERT INTO rec VALUES(?1, ?2, ?3)"
+    } else {
+        "INSERT INTO rec VALUES(?1, ?2, ?3) ON CONFLICT(tab, keyb) DO UPDATE SET rowb = ?3"
+    }
+}
+
+/// Puts the value under a table's name and a key, inside a transaction: a new record, where it is known that none has
+/// them, so that none is looked for to be replaced.
+pub fn put_record<S: Alter>(
+    conn: &mut Connection<S>,
+    tab: &str,
+    key: &[u8],
+    value: &[u8],
+    is_new: bool,
+) -> Result<(), RecordsError>
+    requires { IsTrue is_new → HasCleanDisk (state S.Store conn.old) → HoldsRecords (state S.Store conn.old).now
+        → records_in (state S.Store conn.old).now tab.now key.now ≡ None }
+    ensures set { HasCleanDisk (state S.Store conn.new) → HoldsRecords (state S.Store conn.old).now
+        → OnOk result (Sets (state S.Store conn.old).now (state S.Store conn.new).now
+        tab.now key.now (Some value.now)) }
+    ensures goes_on { HasCleanDisk (state S.Store conn.new) → HoldsRecords (state S.Store conn.old).now
+        → IsTrue (state S.Store conn.old).in_transaction
+        → OnOk result (GoesOn (state S.Store conn.old) (state S.Store conn.new)) }
+    ensures rests { HasCleanDisk (state S.Store conn.new)
+        → OnErr result (Rests (state S.Store conn.old) (state S.Store conn.new)) }
+    ensures was_clean { HasCleanDisk (state S.Store conn.new) → HasCleanDisk (state S.Store conn.old) }
+    ensures survives { (HasCleanDisk (state S.Store conn.old) → HoldsRecords (state S.Store conn.old).now)
+        → (HasCleanDisk (state S.Store conn.old) → IsTrue (state S.Store conn.old).in_transaction)
+        → KeepsCrash (state S.Store conn.old) (state S.Store conn.new) }
+{
+    conn.execute(put_text(is_new), params![tab, key, value])?;
+    Ok(())
+}
+
+/// Removes the record under a table's name and a key, if there is one, inside a transaction.
+pub fn remove_record<S: Alter>(
+    conn: &mut Connection<S>,
+    tab: &str,
+    key: &[u8],
+) -> Result<(), RecordsError>
+    ensures removed { HasCleanDisk (state S.Store conn.new) → HoldsRecords (state S.Store conn.old).now
+        → OnOk result (Sets (state S.Store conn.old).now (state S.Store conn.new).now tab.now key.now None) }
+    ensures goes_on { HasCleanDisk (state S.Store conn.new) → HoldsRecords (state S.Store conn.old).now
+        → IsTrue (state S.Store conn.old).in_transaction
+        → OnOk result (GoesOn (state S.Store conn.old) (state S.Store conn.new)) }
+    ensures rests { HasCleanDisk (state S.Store conn.new)
+        → OnErr result (Rests (state S.Store conn.old) (state S.Store conn.new)) }
+    ensures survives { (HasCleanDisk (state S.Store conn.old) → HoldsRecords (state S.Store conn.old).now)
+        → (HasCleanDisk (state S.Store conn.old) → IsTrue (state S.Store conn.old).in_transaction)
+        → KeepsCrash (state S.Store conn.old) (state S.Store conn.new) }
+{
+    conn.execute(
+        "DELETE FROM rec WHERE tab = ?1 AND keyb = ?2",
+        params![tab, key],
+    )?;
+    Ok(())
+}
+
+/// A key and a value in a row that shows them.
+fn read_keyed(row: &Row) -> Result<Keyed, RecordsError>
+    ensures read { IfOk result (λ keyed. keyed ≡ shown_keyed row.now) }
+{
+    Ok(Keyed {
+        key: row.get(0)?,
+        value: row.get(1)?,
+    })
+}
+
+/// What the rows of a listing under a name hold.
+fn keyed_rows(alloc: Global, rows: &[Row]) -> Result<Vec<Keyed>, RecordsError>
+    ensures read { IfOk result (λ listed. listed.items ≡ map shown_keyed rows.now) }
+{
+    let mut listed = Vec::new(alloc);
+    for row in rows {
+        listed.push(read_keyed(row)?)?;
+    }
+    Ok(listed)
+}
+
+/// The keys and values under a table's name, by key.
+pub fn list_records<S: Alter>(
+    conn: &mut Connection<S>,
+    alloc: Global,
+    tab: &str,
+) -> Result<Vec<Keyed>, RecordsError>
+    ensures listed { HasCleanDisk (state S.Store conn.new) → HoldsRecords (state S.Store conn.old).now
+        → IfOk result (λ listed. ListsTable (records_in (state S.Store conn.old).now) tab.now listed.items) }
+    ensures reads { HasCleanDisk (state S.Store conn.new)
+        → OnOk result (IsUnchanged (state S.Store conn.old) (state S.Store conn.new)) }
+    ensures rests { HasCleanDisk (state S.Store conn.new)
+        → OnErr result (Rests (state S.Store conn.old) (state S.Store conn.new)) }
+    ensures keeps_crash { KeepsCrash (state S.Store conn.old) (state S.Store conn.new) }
+{
+    let rows = query_rows(
+        conn,
+        "SELECT keyb, rowb FROM rec WHERE tab = ?1 ORDER BY keyb",
+        params![tab],
+    )?;
+    keyed_rows(alloc, rows.as_slice())
+}
+
+/// A record in a row that shows one.
+fn read_record(row: &Row) -> Result<Record, RecordsError>
+    ensures read { IfOk result (λ r. r ≡ shown_record row.now) }
+{
+    Ok(Record {
+        tab: row.get(0)?,
+        key: row.get(1)?,
+        value: row.get(2)?,
+    })
+}
+
+/// What the rows of a listing of all records hold.
+fn record_rows(alloc: Global, rows: &[Row]) -> Result<Vec<Record>, RecordsError>
+    ensures read { IfOk result (λ listed. listed.items ≡ map shown_record rows.now) }
+{
+    let mut listed = Vec::new(alloc);
+    for row in rows {
+        listed.push(read_record(row)?)?;
+    }
+    Ok(listed)
+}
+
+/// All records, by name and then by key.
+pub fn all_records<S: Alter>(
+    conn: &mut Connection<S>,
+    alloc: Global,
+) -> Result<Vec<Record>, RecordsError>
+    ensures listed { HasCleanDisk (state S.Store conn.new) → HoldsRecords (state S.Store conn.old).now
+        → IfOk result (λ listed. ListsAll (records_in (state S.Store conn.old).now) listed.items) }
+    ensures reads { HasCleanDisk (state S.Store conn.new)
+        → OnOk result (IsUnchanged (state S.Store conn.old) (state S.Store conn.new)) }
+    ensures rests { HasCleanDisk (state S.Store conn.new)
+        → OnErr result (Rests (state S.Store conn.old) (state S.Store conn.new)) }
+    ensures keeps_crash { KeepsCrash (state S.Store conn.old) (state S.Store conn.new) }
+{
+    let rows = query_rows(
+        conn,
+        "SELECT tab, keyb, rowb FROM rec ORDER BY tab, keyb",
+        &[],
+    )?;
+    record_rows(alloc, rows.as_slice())
+}
+
+/// Whether the number is above the last, where there was one.
+fn is_above(last: Option<i64>, number: i64) -> bool
+    ensures { IsTrue result ↔ IfSome last (λ before. before <ℤ number) }
+{
+    match last {
+        Some(before) => before < number,
+        None => true,
+    }
+}
+
+/// Whether the rows show numbers that rise.
+fn are_rising(rows: &[Row]) -> Result<bool, RecordsError>
+    ensures rising { IfOk result (λ yes. IsTrue yes → AreRisingNumbers rows.now) }
+    ensures falls { IfOk result (λ yes. yes ≡ false → ¬ AreRisingNumbers rows.now) }
+{
+    let mut last: Option<i64> = None;
+    for row in rows {
+        let number: i64 = row.get(0)?;
+        if !is_above(last, number) {
+            return Ok(false);
+        }
+        last = Some(number);
+    }
+    Ok(true)
+}
+
+/// Whether each row of the table has a number, and no two the same.
+pub fn has_row_numbers<S: Alter>(conn: &mut Connection<S>) -> Result<bool, RecordsError>
+    ensures numbered { HasCleanDisk (state S.Store conn.new) → (state S.Store conn.old).now.schema ≡ record_schema
+        → IsDatabase (state S.Store conn.old).now
+        → IfOk result (λ yes. IsTrue yes → AreNumbered ((state S.Store conn.old).now.trees 0)) }
+    ensures unnumbered { HasCleanDisk (state S.Store conn.new) → (state S.Store conn.old).now.schema ≡ record_schema
+        → IsDatabase (state S.Store conn.old).now
+        → IfOk result (λ yes. yes ≡ false → ¬ AreNumbered ((state S.Store conn.old).now.trees 0)) }
+    ensures reads { HasCleanDisk (state S.Store conn.new)
+        → OnOk result (IsUnchanged (state S.Store conn.old) (state S.Store conn.new)) }
+    ensures rests { HasCleanDisk (state S.Store conn.new)
+        → OnErr result (Rests (state S.Store conn.old) (state S.Store conn.new)) }
+    ensures keeps_crash { KeepsCrash (state S.Store conn.old) (state S.Store conn.new) }
+{
+    let rows = query_rows(conn, "SELECT rowid FROM rec ORDER BY rowid", &[])?;
+    are_rising(rows.as_slice())
+}
+
+/// Makes the table of records, inside a transaction, in a database that declares nothing.
+pub fn make_table<S: Alter>(conn: &mut Connection<S>) -> Result<(), RecordsError>
+    ensures made { HasCleanDisk (state S.Store conn.new) → (state S.Store conn.old).now.schema ≡ empty_schema
+        → OnOk result (HoldsRecords (state S.Store conn.new).now × ((state S.Store conn.new).now.trees 0 ≡ [])) }
+    ensures goes_on { HasCleanDisk (state S.Store conn.new) → (state S.Store conn.old).now.schema ≡ empty_schema
+        → IsTrue (state S.Store conn.old).in_transaction
+        → OnOk result (GoesOn (state S.Store conn.old) (state S.Store conn.new)) }
+    ensures rests { HasCleanDisk (state S.Store conn.new)
+        → OnErr result (Rests (state S.Store conn.old) (state S.Store conn.new)) }
+    ensures was_clean { HasCleanDisk (state S.Store conn.new) → HasCleanDisk (state S.Store conn.old) }
+    ensures survives { (HasCleanDisk (state S.Store conn.old) → (state S.Store conn.old).now.schema ≡ empty_schema)
+        → (HasCleanDisk (state S.Store conn.old) → IsTrue (state S.Store conn.old).in_transaction)
+        → KeepsCrash (state S.Store conn.old) (state S.Store conn.new) }
+{
+    conn.execute(
+        "CREATE TABLE IF NOT EXISTS rec(tab TEXT NOT NULL, keyb BLOB NOT NULL, rowb BLOB NOT NULL, PRIMARY KEY(tab, keyb)) STRICT",
+        &[],
+    )?;
+    Ok(())
+}

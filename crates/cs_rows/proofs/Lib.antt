@@ -1,0 +1,9 @@
+pub mod EditExamples
+pub mod EditingLemmas
+pub mod Examples
+pub mod Found
+pub mod MapLemmas
+pub mod MemoryLemmas
+pub mod MoveLemmas
+pub mod RuleLemmas
+pub mod SchemaLemmas

@@ -1,6 +1,0 @@
--- `memory::MemRowsRows::TheImpl`: what it ensures.
-use Rattle.cs_store.proofs.memory.MemRowsRows.TheImpl.Goals as goal
-
--- rows in memory are honest
-pub put-asks : goal.put-asks
-put-asks c = c.requires tt

@@ -1,7 +1,0 @@
-use Rattle.std.proofs.Common.{ℕ, ◌<◌}
-use Rattle.cs_store.proofs.RuleLemmas.{IsRule}
-use Rattle.cs_store.proofs.schema.are_rules.Given as goal
-
--- the marks so far are right
-abbrev pub invariant-loop-column : goal.invariant-loop-column
-invariant-loop-column l = (k : ℕ) → k < l.column → IsRule l.flags l.refuses k

@@ -1,6 +1,0 @@
-use Rattle.std.proofs.Common.{◌≡◌, map, take, string_bytes}
-use Rattle.cs_store.proofs.schema.copy_names.Given as goal
-
--- the names so far are copied
-abbrev pub invariant-loop-name : goal.invariant-loop-name
-invariant-loop-name l = map string_bytes l.copies.items ≡ map string_bytes (take l.name-index l.names)

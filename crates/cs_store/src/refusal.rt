@@ -1,0 +1,15 @@
+//! The refusals of a store by its database.
+ghost use Rattle.cs_store.specs.Faults.{IsResource};
+
+use cs_records::RecordsError;
+use cs_rows::StoreError;
+
+/// Returns the refusal of a store whose records are refused.
+pub(crate) fn refused(error: RecordsError) -> StoreError
+    ensures { IsResource result }
+{
+    match error {
+        RecordsError::NoMemory => StoreError::NoMemory,
+        RecordsError::Database => StoreError::StoreFault,
+    }
+}
