@@ -131,6 +131,6 @@ fn apply_rows<B: Rows, H: Fn(&Conflict) -> Choice>(
 {
     check_tables(alloc, rows, tables.as_slice())?;
     let report = run_in(alloc, rows, file, Direction::Forward, noop, handler)?;
-    tables.note_copies(alloc, &report.written)?;
+    tables.note_all(alloc, &report.written)?;
     Ok(report)
 }

@@ -118,7 +118,7 @@ fn edit_rows<B: Rows>(
 {
     check_named(alloc, rows, tables, edited_table(edit))?;
     let written = edit_in(alloc, rows, edit)?;
-    tables.note_all(alloc, written)
+    tables.note_all(alloc, &written)
 }
 
 /// The name of the table that an edit is of.

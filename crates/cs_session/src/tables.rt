@@ -91,36 +91,13 @@ impl Tables {
         Ok(())
     }
 
-    /// Notes the keys that were written, with the rows that stood there, each in its table.
+    /// Notes copies of the keys that were written and of the rows before, each in its table.
     ///
-    /// Refuses with [`NoMemory`](SessionFault::NoMemory), and with
-    /// [`DamagedStore`](cs_store::StoreError::DamagedStore) for a former row that cannot have stood there.
-    /// What was noted at the last commit stands then.
+    /// # Errors
+    ///
+    /// `NoMemory` if out of memory, and [`DamagedStore`](cs_store::StoreError::DamagedStore) for a former row that does not
+    /// fit its table. What was noted at the last commit stays.
     pub(crate) fn note_all(
-        &mut self,
-        alloc: Global,
-        written: Vec<Written>,
-    ) -> Result<(), SessionFault>
-        requires { AreApart (map attached_of self.old) }
-        ensures noted { OnOk result (map attached_of self.new
-            ≡ recorded (map attached_of self.old) (map written_of written.items)) }
-        ensures formers { OnOk result (AreFormers (map attached_of self.old) (map written_of written.items)) }
-        ensures kept { map kept_of self.new ≡ map kept_of self.old }
-        ensures refused { IfErr result (λ e. (e ≡ OutOfMemory)
-            ⊎ (IsDamage e × ¬ AreFormers (map attached_of self.old) (map written_of written.items))) }
-    {
-        for one in written {
-            let Some(place) = self.place_for(alloc, &one)? else {
-                continue;
-            };
-            self.note_at(place, one)?;
-        }
-        Ok(())
-    }
-
-    /// Notes copies of the keys that were written, and of the rows, and refuses, as
-    /// [`note_all`](Tables::note_all) does.
-    pub(crate) fn note_copies(
         &mut self,
         alloc: Global,
         written: &[Written],

@@ -15,9 +15,9 @@ returns-in_err-report-clause-refused g c = λ honest.
     let refused = rw (c.in_ok-check_tables.ensures.same before) at (c.in_err-report.ensures.refused honest) in
     rw (p.1, p.2) (refuses_applying (FnReturnsAt g.H.Fn c.args.handler.now) c.args.noop c.args.file.now state (map attached_of c.args.tables.now) (rw c.as_slice.ensures at (c.in_ok-check_tables.ensures.attached before)) _ refused)
 
-pub returns-in_err-note_copies-clause-refused : goal.returns-in_err-note_copies-clause-refused
-returns-in_err-note_copies-clause-refused g c = λ honest.
-    let p = err_from_is_err_and c.from_residual-in_err-note_copies.result c.from_residual-in_err-note_copies.ensures.1 in
+pub returns-in_err-note_all-clause-refused : goal.returns-in_err-note_all-clause-refused
+returns-in_err-note_all-clause-refused g c = λ honest.
+    let p = err_from_is_err_and c.from_residual-in_err-note_all.result c.from_residual-in_err-note_all.ensures.1 in
     let before = c.run_in.ensures.was_honest honest in
     let was = c.check_tables.ensures.was_honest before in
     let state = g.B.Rows.state c.args.rows.now in
@@ -25,9 +25,9 @@ returns-in_err-note_copies-clause-refused g c = λ honest.
     let notes = map attached_of c.args.tables.now in
     let applied = rw (c.in_ok-check_tables.ensures.same before) at (c.in_ok-report.ensures.applied honest) in
     let formers = applies_formers chooses c.args.noop c.args.file.now state notes c.in_ok-report.report _ applied (c.requires.state was) (rw c.as_slice.ensures at (c.in_ok-check_tables.ensures.attached before)) in
-    let refused = rw c.deref.ensures.value at c.in_err-note_copies.ensures.refused in
+    let refused = rw c.deref.ensures.value at c.in_err-note_all.ensures.refused in
     rw (p.1, p.2) (refuses_noting chooses c.args.noop c.args.file.now state notes _ _ formers refused)
 
 pub returns-clause-well_formed : goal.returns-clause-well_formed
 returns-clause-well_formed g c =
-    rw (c.in_ok-note_copies.ensures.noted) (recorded_are _ (map attached_of c.args.tables.now) c.requires.notes c.in_ok-note_copies.ensures.formers)
+    rw (c.in_ok-note_all.ensures.noted) (recorded_are _ (map attached_of c.args.tables.now) c.requires.notes c.in_ok-note_all.ensures.formers)

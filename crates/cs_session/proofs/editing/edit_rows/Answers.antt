@@ -20,4 +20,4 @@ returns-clause-refused g c = λ honest.
     let has = rw c.edited_table.ensures at (c.in_ok-check_named.ensures.attached before) in
     let done = rw same at (c.in_ok-written.ensures.edited honest) in
     let formers = edited_formers state edit _ done (c.requires.state was) notes has in
-    IfErr-weaker c.note_all.result _ _ (λ e refused. refuses_noting state edit notes _ e formers refused) c.note_all.ensures.refused
+    IfErr-weaker c.note_all.result _ _ (λ e refused. refuses_noting state edit notes _ e formers refused) (rw c.deref.ensures.value at c.note_all.ensures.refused)

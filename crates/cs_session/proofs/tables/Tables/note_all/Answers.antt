@@ -1,16 +1,16 @@
 -- `tables::Tables::note_all`: what `place_for` and `note_at` ask for, the invariant of the loop at `one`, the clause `refused`.
-use Rattle.std.proofs.Common.{◌≡◌, map, refl, ap, rules}
-use Rattle.std.specs.Vec.Iter.{into_iter_items}
+use Rattle.std.proofs.Common.{[], ◌∷◌, map, refl, ap, ◌∙◌}
 use Rattle.std.proofs.lemmas.Result.{err_from_is_err_and}
+use Rattle.cs_value.specs.State.{WrittenData}
 use Rattle.cs_store.specs.Editing.{written_of}
+use Rattle.cs_session.specs.FirstImages.{recorded}
 use Rattle.cs_session.specs.Views.{attached_of, kept_of}
-use Rattle.cs_session.proofs.TablesLemmas.{start_noted, still_apart, one_noted, one_refused}
+use Rattle.cs_session.proofs.TablesLemmas.{start_noted, still_apart, one_noted, one_refused, drop_map_at}
 use Rattle.cs_session.proofs.tables.Tables.note_all.Goals as goal
 
 pub loop-one-init : goal.loop-one-init
 loop-one-init c =
-    let same : into_iter_items c.into_iter-one-iterator.result ≡ c.args.written.items = search rules in
-    start_noted c.args.self.now _ _ (ap (map written_of) same)
+    start_noted c.args.self.now _ _ refl
 
 pub place_for-requires : goal.place_for-requires
 place_for-requires c = still_apart (map attached_of c.args.self.now) _ _ _ c.loop-one.self c.requires c.loop-one.invariant
@@ -22,14 +22,15 @@ pub returns-in_err-place-clause-refused : goal.returns-in_err-place-clause-refus
 returns-in_err-place-clause-refused c =
     let p = err_from_is_err_and c.from_residual.result c.from_residual.ensures.1 in
     rw (p.1, p.2)
-    (one_refused (map attached_of c.args.self.now) (map kept_of c.args.self.now) _ _ _ (written_of c.in-Some.one) c.loop-one.self (ap (map written_of) c.in-Some.ensures.steps.0) c.loop-one.invariant _ c.in_err-place.ensures.refused)
+    (one_refused (map attached_of c.args.self.now) (map kept_of c.args.self.now) _ _ _ (written_of c.one-item.result) c.loop-one.self (drop_map_at written_of c.args.written.now c.loop-one.one-index c.one-item.result c.loop-one-test.true c.one-item.is) c.loop-one.invariant _ c.in_err-place.ensures.refused)
 
 pub loop-one-preserved-in_default : goal.loop-one-preserved-in_default
 loop-one-preserved-in_default c =
-    one_noted (map attached_of c.args.self.now) (map kept_of c.args.self.now) _ _ _ (written_of c.in-Some.one) c.loop-one.self c.loop-one.self (ap (map written_of) c.in-Some.ensures.steps.0) c.loop-one.invariant
+    one_noted (map attached_of c.args.self.now) (map kept_of c.args.self.now) _ _ _ (written_of c.one-item.result) c.loop-one.self c.loop-one.self (drop_map_at written_of c.args.written.now c.loop-one.one-index c.one-item.result c.loop-one-test.true c.one-item.is) c.loop-one.invariant
     (rw c.in_default.is at c.in_ok-place.ensures.nowhere) c.in_ok-place.ensures.formers refl
 
 pub loop-one-preserved : goal.loop-one-preserved
 loop-one-preserved c =
-    one_noted (map attached_of c.args.self.now) (map kept_of c.args.self.now) _ _ _ (written_of c.in-Some.one) c.loop-one.self c.note_at.new.self (ap (map written_of) c.in-Some.ensures.steps.0) c.loop-one.invariant
-    c.in_ok-note_at.ensures.noted c.in_ok-place.ensures.formers c.note_at.ensures.kept
+    let copied = ap (λ (w : WrittenData). recorded (map attached_of c.loop-one.self) (w ∷ [])) c.in_ok-copy_of.ensures in
+    one_noted (map attached_of c.args.self.now) (map kept_of c.args.self.now) _ _ _ (written_of c.one-item.result) c.loop-one.self c.note_at.new.self (drop_map_at written_of c.args.written.now c.loop-one.one-index c.one-item.result c.loop-one-test.true c.one-item.is) c.loop-one.invariant
+    (c.in_ok-note_at.ensures.noted ∙ copied) c.in_ok-place.ensures.formers c.note_at.ensures.kept
