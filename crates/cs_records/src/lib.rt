@@ -23,6 +23,7 @@ pub mod transactions;
 
 pub use fault::RecordsError;
 pub use layout::{declares_nothing, declares_records, misdeclares_records};
-pub use records::{Keyed, Record};
-pub use records::{all_records, find_record, has_row_numbers, list_records};
-pub use records::{make_table, put_record, remove_record};
+pub use records::{
+    Keyed, Record, all_records, find_record, has_row_numbers, list_records, make_table, put_record,
+    remove_record,
+};

@@ -1,5 +1,5 @@
 -- What writes of records make of the state that is stored.
-use Rattle.std.proofs.Common.{◌≡◌, ℕ, List, [], Option, Some, None, option_map, Result, Ok, Err, OnOk, OnErr, IsTrue, refl, sym, ap, subst, ◌∙◌}
+use Rattle.std.proofs.Common.{◌≡◌, ℕ, List, [], MatchResult, IsErrAnd, Option, Some, None, option_map, Result, Ok, Err, OnOk, OnErr, IsTrue, refl, sym, ap, subst, ◌∙◌}
 use Rattle.std.specs.FinMap as map
 use Rattle.cs_value.specs.Table.{IsName}
 use Rattle.cs_store.specs.Declaration.{declaration_bytes}
@@ -58,6 +58,13 @@ on_ok_then (Err e) P Q f p = tt
 pub on_err_then : {X E : Type 0} (r : Result X E) (P Q : Type 0) → (P → Q) → OnErr r P → OnErr r Q
 on_err_then (Ok x) P Q f p = tt
 on_err_then (Err e) P Q f p = f p
+
+-- what holds of an answer holds of it with another refusal
+pub mapped : {X E F : Type 0} (Q : E → F → Type 0) (answer : Result X E) (result : Result X F) (P : Type 0)
+    → MatchResult answer (λ x. result ≡ Ok x) (λ e. IsErrAnd result (Q e)) → OnOk answer P → OnOk result P
+mapped Q (Ok x) result P is p = subst (λ r. OnOk r P) (sym is) p
+mapped Q (Err e) (Ok x) P is p = absurd is
+mapped Q (Err e) (Err f) P is p = tt
 
 -- a table is declared
 pub table_put : (old new : Database) (name : List ℕ) (schema : tables.SchemaData) → HoldsState old → IsName name → tables.IsSchema schema → tables.schema_at (tables_in old) name ≡ None

@@ -17,8 +17,10 @@ use crate::batch::commit;
 use crate::check::check_records;
 use crate::refusal::refused;
 use crate::version::{VERSION, Version, version_of};
-use cs_records::{Record, all_records, find_record, has_row_numbers, make_table, put_record};
-use cs_records::{declares_nothing, declares_records, misdeclares_records, transactions};
+use cs_records::{
+    Record, all_records, declares_nothing, declares_records, find_record, has_row_numbers,
+    make_table, misdeclares_records, put_record, transactions,
+};
 use cs_rows::StoreError;
 use sqlite::{Alter, Connection};
 use std::alloc::Global;
@@ -105,10 +107,7 @@ fn write_version<S: Alter>(conn: &mut Connection<S>) -> Result<(), StoreError>
         → OnErr result (KeepsCommit (state S.Store conn.old) (state S.Store conn.new)) }
     ensures survives { KeepsCrash (state S.Store conn.old) (state S.Store conn.new) }
 {
-    match put_record(conn, "", b"", VERSION, false) {
-        Ok(()) => Ok(()),
-        Err(error) => Err(refused(error)),
-    }
+    put_record(conn, "", b"", VERSION, false).map_err(refused)
 }
 
 /// Checks the store of a database that declares the table of records, or makes one where that is

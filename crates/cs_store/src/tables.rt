@@ -45,8 +45,13 @@ pub(crate) fn find_schema<S: Alter>(
 {
     match find_record(conn, "", name.as_bytes()) {
         // the record under the empty name is the version of the format
-        Ok(_) if name.is_empty() => Ok(None),
-        Ok(found) => schema_in(alloc, found),
+        Ok(found) => {
+            if name.is_empty() {
+                Ok(None)
+            } else {
+                schema_in(alloc, found)
+            }
+        }
         Err(error) => Err(refused(error)),
     }
 }
@@ -166,10 +171,7 @@ pub(crate) fn put_row<S: Alter>(
 {
     let mut bytes = Vec::new(alloc);
     row_write(&mut bytes, row)?;
-    match put_record(conn, name, key.bytes(), &bytes, is_new) {
-        Ok(()) => Ok(()),
-        Err(error) => Err(refused(error)),
-    }
+    put_record(conn, name, key.bytes(), &bytes, is_new).map_err(refused)
 }
 
 /// Removes the row under a key of a declared table, if there is one, inside a transaction.
@@ -187,10 +189,7 @@ pub(crate) fn remove_row<S: Alter>(
     ensures kept { IsSound (state S.Store conn.old) → IsTrue (state S.Store conn.old).in_transaction
         → KeepsStore (state S.Store conn.old) (state S.Store conn.new) }
 {
-    match remove_record(conn, name, key.bytes()) {
-        Ok(()) => Ok(()),
-        Err(error) => Err(refused(error)),
-    }
+    remove_record(conn, name, key.bytes()).map_err(refused)
 }
 
 /// The names of the tables, by their bytes.
@@ -261,8 +260,5 @@ pub(crate) fn put_table<S: Alter>(
         → KeepsStore (state S.Store conn.old) (state S.Store conn.new) }
 {
     let bytes = write_declaration(alloc, schema)?;
-    match put_record(conn, "", name.as_bytes(), &bytes, false) {
-        Ok(()) => Ok(()),
-        Err(error) => Err(refused(error)),
-    }
+    put_record(conn, "", name.as_bytes(), &bytes, false).map_err(refused)
 }
