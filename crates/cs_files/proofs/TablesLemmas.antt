@@ -4,7 +4,7 @@ use Rattle.std.specs.List.{flat_map}
 use Rattle.std.proofs.lemmas.Grind.{flat_map-append}
 use Rattle.cs_wire.specs.declared.entry.Entry.{Entry}
 use Rattle.cs_wire.specs.Changeset.{HeaderData, GroupData}
-use Rattle.cs_wire.specs.Tables.{TablesData, AreLeft}
+use Rattle.cs_tables.specs.Tables.{TablesData, AreLeft}
 use Rattle.cs_files.specs.declared.told.Told.{Told}
 use Rattle.cs_files.specs.Gathering.{Gathered}
 use Rattle.cs_files.specs.declared.texts.form.Form.{Form}

@@ -14,7 +14,8 @@ use crate::joining::join_tables;
 use crate::numbering::write_numbered;
 use crate::texts::{Form, write_tables};
 use crate::told::Told;
-use cs_wire::{NamedTables, ReadError, Tables};
+use cs_tables::{NamedTables, Tables};
+use cs_wire::ReadError;
 use std::alloc::Global;
 use std::io::Write;
 

@@ -2,12 +2,12 @@
 ghost use Rattle.std.specs.Prelude.{◌≡◌, ◌≤◌, ◌++◌, [], List, OnOk, map};
 ghost use Rattle.cs_wire.specs.declared.entry.Entry.{Entry as EntryData};
 ghost use Rattle.cs_wire.specs.Changeset.{GroupData, entries_bytes, file_bytes};
-ghost use Rattle.cs_wire.specs.Tables.{AreLeft};
+ghost use Rattle.cs_tables.specs.Tables.{AreLeft};
 ghost use Rattle.cs_wire.specs.Views.{inverse_entry};
 ghost use Rattle.cs_group.specs.Inverse.{inverse_group};
 
+use cs_tables::Tables;
 use cs_value::NoMemory;
-use cs_wire::Tables;
 
 /// Appends what undoes the tables that are left.
 pub(crate) fn write_inverse(out: &mut Vec<u8>, tables: Tables<'_>) -> Result<(), NoMemory>

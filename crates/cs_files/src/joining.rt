@@ -2,7 +2,7 @@
 ghost use Rattle.std.specs.Prelude.{◌≡◌, [], List, IfErr, IfOk};
 ghost use Rattle.cs_value.specs.Refusals.{Refuses};
 ghost use Rattle.cs_wire.specs.Changeset.{GroupData, IsChangeset, file_bytes};
-ghost use Rattle.cs_wire.specs.Tables.{AreLeft};
+ghost use Rattle.cs_tables.specs.Tables.{AreLeft};
 ghost use Rattle.cs_group.specs.Joining.{AreJoinable, joined};
 ghost use Rattle.cs_files.specs.Files.{AreUnjoined};
 
@@ -14,7 +14,7 @@ use crate::fault::{FileFault, ToolFault};
 use crate::joining::columns::first_clash;
 use crate::joining::tables::{write_kept_tables, write_new_tables};
 use cs_group::SchemaFault;
-use cs_wire::{NamedTables, Tables};
+use cs_tables::{NamedTables, Tables};
 use std::alloc::Global;
 
 /// The join of two files that were read, in memory that is taken once.

@@ -3,14 +3,15 @@ ghost use Rattle.std.specs.Prelude.{◌≡◌, ◌++◌, List, OnOk, map};
 ghost use Rattle.cs_wire.specs.declared.entry.Entry.{Entry as EntryData};
 ghost use Rattle.cs_wire.specs.Changeset.{GroupData, IsHeader, file_bytes, group_bytes};
 ghost use Rattle.cs_wire.specs.Items.{header_of};
-ghost use Rattle.cs_wire.specs.Named.{AreListed};
-ghost use Rattle.cs_wire.specs.Tables.{AreLeft};
+ghost use Rattle.cs_tables.specs.Named.{AreListed};
+ghost use Rattle.cs_tables.specs.Tables.{AreLeft};
 ghost use Rattle.cs_group.specs.Numbering.{numbered, numbered_group};
 
 use crate::joining::tables::write_table;
 use cs_group::number_flags;
+use cs_tables::{NamedTables, Tables};
 use cs_value::NoMemory;
-use cs_wire::{HeaderRef, NamedTables, Tables};
+use cs_wire::HeaderRef;
 use std::alloc::Global;
 
 /// Appends these tables, with the columns of their keys numbered.

@@ -1,7 +1,7 @@
 //! The readable texts of changesets.
 ghost use Rattle.std.specs.Prelude.{[], List};
 ghost use Rattle.cs_wire.specs.Changeset.{GroupData};
-ghost use Rattle.cs_wire.specs.Tables.{AreLeft};
+ghost use Rattle.cs_tables.specs.Tables.{AreLeft};
 ghost use Rattle.cs_files.specs.Calls.{Writes};
 ghost use Rattle.cs_files.specs.Texts.{dump_of, sql_of};
 ghost use Rattle.cs_files.specs.Forms.{form_text};
@@ -18,7 +18,8 @@ mod tables;
 use crate::fault::OutputFault;
 use crate::gather::Gather;
 use crate::told::Told;
-use cs_wire::{Changeset, Group, Tables};
+use cs_tables::Tables;
+use cs_wire::{Changeset, Group};
 pub(crate) use form::Form;
 use groups::add_groups;
 pub use piece::{Piece, add_pieces};

@@ -1,10 +1,11 @@
 //! The parts of changesets. Changesets and their files are in `calling`.
 
 use crate::{INSERT, UPDATE};
+use cs_tables::Tables;
 use cs_value::{Field, OwnedValue, Row, Value};
 use cs_wire::{
     Change, Cursor, Entry, EntryRef, Group, Header, Item, ReadError, ReadFault, ReadFaultKind,
-    Tables, changeset_files_law, entry_inverses_law, read, row_keys_law,
+    changeset_files_law, entry_inverses_law, read, row_keys_law,
 };
 use std::process::Abort;
 

@@ -9,20 +9,10 @@ use Rattle.cs_value.specs.declared.TheConstants.{MAX_CONTENT_LEN}
 use Rattle.cs_value.specs.Value.{AreBytes}
 use Rattle.cs_value.specs.Varint.{varint}
 use Rattle.cs_value.specs.Spelling.{BeginsWith}
-use Rattle.cs_value.specs.declared.refusal.OrNoMemory.{OrNoMemory}
-use Rattle.cs_value.specs.declared.refusal.OrNoMemory.TheVariants.{Fault, NoMemory}
-use Rattle.cs_wire.specs.declared.fault.ReadFault.{ReadFault}
-use Rattle.cs_wire.specs.declared.fault.ReadFaultKind.{ReadFaultKind}
 use Rattle.cs_value.specs.Table.{IsFlags}
 use Rattle.cs_value.specs.Table.{IsName}
 use Rattle.cs_wire.specs.Changeset.{HeaderData, flags_bytes, header_bytes}
 use Rattle.cs_wire.specs.ReadFaults.{Stands}
-use Rattle.cs_wire.specs.Reading.{IsBecause}
-
--- a fault is as it was said
-pub because : (e : OrNoMemory ReadFault) (P Q : ReadFaultKind → ℕ → Type 0) → ((kind : ReadFaultKind) (place : ℕ) → P kind place → Q kind place) → IsBecause e P → IsBecause e Q
-because (Fault f) P Q weaker h = weaker f.kind f.place h
-because NoMemory P Q weaker h = tt
 
 -- one text and then another
 pub Stands-then : (file : List ℕ) (a b c : ℕ) (s t : List ℕ) → Stands file a s b → Stands file b t c → Stands file a (s ++ t) c

@@ -6,14 +6,10 @@ pub mod ReadFaults
 pub mod Views
 pub mod Items
 pub mod Keyed
-pub mod Named
 pub mod Records
 pub mod Cursor
 pub mod Seen
-pub mod Distinct
-pub mod Checked
 pub mod Walk
-pub mod Tables
 pub mod Reading
 pub use Rattle.cs_value.specs.Value
 pub use Rattle.cs_value.specs.Varint

@@ -2,7 +2,7 @@
 -- steps of a reader. The order of the format is that of the format comment of SQLite's sqlite3session.c; the faults,
 -- their numbers and their names are this project's own.
 use Rattle.std.specs.Prelude.{◌≡◌, ◌≢◌, ℕ, ◌+◌, ◌<◌, ◌≤◌, ◌⊎◌, Bool, if◌then◌else◌, List, [], ◌∷◌, ◌++◌, length}
-use Rattle.std.specs.Prelude.{take, drop, slice_index, slice_index_or, slice_get, Some, All, AllPairs, IsUtf8, codes}
+use Rattle.std.specs.Prelude.{take, drop, slice_index, slice_index_or, slice_get, Some, All, AllPairs, IsUtf8, codes, Result, Ok, Err}
 use Rattle.std.specs.List.{AllByRecursion}
 use Rattle.cs_value.specs.declared.TheConstants.{MAX_CONTENT_LEN}
 use Rattle.cs_value.specs.declared.fault.FieldFaultKind.{FieldFaultKind}
@@ -18,6 +18,7 @@ use Rattle.cs_value.specs.FieldFaults.{VarintFails, FieldFails}
 use Rattle.cs_wire.specs.declared.entry.Change.{Change}
 use Rattle.cs_wire.specs.declared.entry.Change.TheVariants.{Insert, Delete, Update}
 use Rattle.cs_wire.specs.declared.entry.Entry.{Entry}
+use Rattle.cs_wire.specs.declared.fault.ReadFault.{ReadFault}
 use Rattle.cs_wire.specs.declared.fault.ReadFaultKind.{ReadFaultKind}
 use Rattle.cs_wire.specs.declared.fault.ReadFaultKind.TheVariants.{Truncated, NotTable, Patchset, BadVarint}
 use Rattle.cs_wire.specs.declared.fault.ReadFaultKind.TheVariants.{ColumnCount, NoKey, BadName, DuplicateTable}
@@ -342,3 +343,8 @@ ReadCase file DuplicateKey place = RepeatsKey file place
 pub record ReadFails (file : List ℕ) (kind : ReadFaultKind) (place : ℕ) : Type 0 where
   pub refused : IsAccepted file → ⊥
   pub case : ReadCase file kind place
+
+-- a fault is as Why says of its kind and place
+abbrev pub FaultIs : {X : Type 0} → Result X ReadFault → (ReadFaultKind → ℕ → Type 0) → Type 0
+FaultIs (Ok x) Why = Unit {0}
+FaultIs (Err fault) Why = Why fault.kind fault.place

@@ -2,7 +2,7 @@
 -- ReadFaults.
 use Rattle.std.specs.Prelude.{◌≡◌, ℕ, ◌+◌, ◌<◌, ◌==◌, ◌⊎◌, Bool, true, false, not, if◌then◌else◌}
 use Rattle.std.specs.Prelude.{List, [], ◌∷◌, ◌++◌, length, map, take, drop, slice_index, slice_index_or, slice_get}
-use Rattle.std.specs.Prelude.{Option, Some, None, Result, Ok, Err}
+use Rattle.std.specs.Prelude.{Option, Some, None}
 use Rattle.cs_value.specs.declared.fault.FieldFaultKind.{FieldFaultKind}
 use Rattle.cs_value.specs.declared.value.OwnedValue.TheVariants.{Int, Text, Blob, Null}
 use Rattle.cs_value.specs.declared.value.OwnedField.{OwnedField}
@@ -12,33 +12,16 @@ use Rattle.cs_value.specs.Spelling.{field_bytes, record_bytes}
 use Rattle.cs_value.specs.FieldFaults.{VarintFails, FieldFails}
 use Rattle.cs_wire.specs.declared.entry.Change.{Change}
 use Rattle.cs_wire.specs.declared.entry.Change.TheVariants.{Insert, Delete, Update}
-use Rattle.cs_value.specs.declared.refusal.OrNoMemory.{OrNoMemory}
-use Rattle.cs_value.specs.Refusals.{Refuses}
 pub use Rattle.cs_wire.specs.declared.reader.record.Want.{Want}
 pub use Rattle.cs_wire.specs.declared.reader.record.Want.TheVariants.{KeyValue, AnyValue, AnyField, NewValue, Nothing}
 use Rattle.cs_wire.specs.declared.reader.record.Columns.{Columns}
 use Rattle.cs_wire.specs.declared.reader.record.Columns.TheVariants.{Row, Old, New}
-use Rattle.cs_wire.specs.declared.fault.ReadFault.{ReadFault}
 use Rattle.cs_wire.specs.declared.fault.ReadFaultKind.{ReadFaultKind}
 use Rattle.cs_wire.specs.declared.fault.ReadFaultKind.TheVariants.{Truncated, BadFlag, BadOp}
 use Rattle.cs_wire.specs.declared.fault.ReadFaultKind.TheVariants.{UndefinedField, Unpaired, NullKey}
 use Rattle.cs_wire.specs.Entry.{IsChange, operation, fields_of}
 use Rattle.cs_wire.specs.Items.{fields_in}
 use Rattle.cs_wire.specs.ReadFaults.{kind_of, Stands, IsOperation}
-
--- a fault is as Why says of its kind and place
-abbrev pub FaultIs : {X : Type 0} → Result X ReadFault → (ReadFaultKind → ℕ → Type 0) → Type 0
-FaultIs (Ok x) Why = Unit {0}
-FaultIs (Err fault) Why = Why fault.kind fault.place
-
--- memory is refused, or Why holds of the fault's kind and place
-abbrev pub IsBecause : OrNoMemory ReadFault → (ReadFaultKind → ℕ → Type 0) → Type 0
-IsBecause refusal Why = Refuses (λ f. Why f.kind f.place) refusal
-
--- the same where memory may be refused
-abbrev pub Fails : {X : Type 0} → Result X (OrNoMemory ReadFault) → (ReadFaultKind → ℕ → Type 0) → Type 0
-Fails (Ok x) Why = Unit {0}
-Fails (Err e) Why = IsBecause e Why
 
 -- what follows the entries of a table: nothing, or a header
 abbrev pub EndsGroup : List ℕ → Type 0

@@ -1,9 +1,9 @@
 //! Changesets and their files: the format of SQLite's session extension.
 //!
-//! A changeset is a list of groups, one for each table. A group has a header, the table's name and
-//! the flags of its columns, and entries: inserts, deletes and updates of rows. The bytes follow
-//! the format comment of SQLite's `sqlite3session.c`; a file is read exactly where it is the file of
-//! a changeset, and why another is not is told by kind and place.
+//! A changeset is a list of groups, one for each table. A group has a header, which is the table's
+//! name and the flags of its columns, and entries: inserts, deletes and updates of rows. The bytes
+//! follow the format comment of SQLite's `sqlite3session.c`. A file is accepted if and only if it is
+//! the file of a changeset; a fault has a kind and a byte offset.
 //!
 //! ```rust
 //! // An INSERT of ('x') into the table t of one column.
@@ -12,7 +12,7 @@
 //! assert_eq!(rt; changeset.groups().len(), 1);
 //! assert_eq!(rt; write(alloc, &changeset)?, file);
 //!
-//! // The same file, one item after another.
+//! // The same file, item by item.
 //! let mut cursor = Cursor::new(alloc, file);
 //! while let Some(item) = cursor.next()? {
 //!     match item {
@@ -22,22 +22,19 @@
 //! }
 //! ```
 //!
-//! `header`, `entry`, `group` and `changeset` are what a file holds, `reader` and `writer` go from
-//! bytes to that and back, `fault` says why a file is refused, and `format` has the bytes that tell
-//! its parts apart. A `cursor` goes through a file by a `walk`, until its `ending`, and hands out
-//! each `item` where it stands; what it has `seen` before refuses the file. A `draft` is what `reader`
-//! has of a table so far, and `tables` go through a file once more that was read to its end, or was
-//! `checked` in a quick pass, in which numbers tell that its keys are `distinct`. An `entry_ref` has
-//! `fields`, of a `record_ref` that is `spelled` in a file, or owned. `places` finds entries and
-//! groups that are owned; tables of a file are found when they are `named`, and entries when they are
-//! `keyed`, by `hashed` places. `inverse` undoes entries, and `laws` has what holds of all changesets.
-//! `CALLING.md`, beside this folder, shows a caller.
+//! `header`, `entry`, `group` and `changeset` are what a file holds. `reader` and `writer` go from
+//! bytes to that and back, `fault` says why a file is refused, and `format` names the bytes of the
+//! format. A `cursor` goes through a file by a `walk`, until its `ending`, and returns each `item`
+//! borrowed from the file; a name or a key that it has `seen` before is a fault. `draft` collects the
+//! tables that `reader` reads. An `entry_ref` has `fields`, of a `record_ref`, which is `spelled` in a
+//! file or owned. `places` indexes owned entries and groups, `inverse` inverts entries, and `laws` has
+//! what holds of all changesets. `CALLING.md`, next to this folder, shows a caller.
+//!
+//! `read_header`, `has_entry`, `read_entry` and `word_of` are for the crate above, `cs_tables`.
 #![tactic(auto)]
 
 mod changeset;
-mod checked;
 mod cursor;
-mod distinct;
 mod draft;
 mod ending;
 mod entry;
@@ -46,19 +43,15 @@ mod fault;
 mod fields;
 mod format;
 mod group;
-mod hashed;
 mod header;
 mod inverse;
 mod item;
-mod keyed;
 mod laws;
-mod named;
 mod places;
 mod reader;
 mod record_ref;
 mod seen;
 mod spelled;
-mod tables;
 mod walk;
 mod writer;
 
@@ -71,9 +64,8 @@ pub use fields::Fields;
 pub use group::Group;
 pub use header::{Header, HeaderRef};
 pub use item::Item;
-pub use keyed::KeyedEntries;
 pub use laws::{changeset_files_law, entry_inverses_law, row_keys_law};
-pub use named::NamedTables;
-pub use reader::read;
-pub use tables::Tables;
+pub use reader::header::read_header;
+pub use reader::{has_entry, read, read_entry};
+pub use seen::word_of;
 pub use writer::write;

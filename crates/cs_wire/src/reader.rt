@@ -1,21 +1,21 @@
 //! Reading the files of changesets.
 //!
-//! Each reader takes the file and the place where to begin, and answers what stands there and the
-//! place behind it. A fault has the place that section "Read faults" of `docs/FORMAT.md` gives it.
-ghost use Rattle.std.specs.Prelude.{◌≡◌, ◌≢◌, ◌≤◌, ◌<◌, ◌++◌, ◌∷◌, ◌↔◌, ◌+◌, [], ℕ};
-ghost use Rattle.std.specs.Prelude.{List, Bool, length, drop, All, Err, IfOk, IfErr, IsOkAnd, OnOk, IsTrue, if◌then◌else◌};
+//! Each reader takes the file and a byte offset, and returns what is read there and the offset after
+//! it. A fault has the offset that section "Read faults" of `docs/FORMAT.md` defines.
+ghost use Rattle.std.specs.Prelude.{◌≡◌, ◌≤◌, ◌<◌, ◌++◌, ◌∷◌, ◌↔◌, [], ℕ};
+ghost use Rattle.std.specs.Prelude.{List, Bool, length, drop, Err, IfOk, IfErr, IsOkAnd, IsTrue, if◌then◌else◌};
 ghost use Rattle.cs_value.specs.Spelling.{record_bytes};
 ghost use Rattle.cs_wire.specs.declared.entry.Change.{Change as ChangeData};
 ghost use Rattle.cs_wire.specs.declared.entry.Entry.{Entry as EntryData};
-ghost use Rattle.cs_wire.specs.Entry.{IsChange, IsEntry, operation, fields_of, key_of, entry_bytes};
-ghost use Rattle.cs_wire.specs.Changeset.{HeaderData, GroupData, IsNewKey, IsNewName, IsGroup};
-ghost use Rattle.cs_wire.specs.Changeset.{IsChangeset, entries_bytes, group_bytes, file_bytes};
-ghost use Rattle.cs_wire.specs.ReadFaults.{Stands, HasEntry, TableStart, EntryStart, ReadCase, ReadFails};
+ghost use Rattle.cs_wire.specs.Entry.{IsChange, IsEntry, operation, fields_of, entry_bytes};
+ghost use Rattle.cs_wire.specs.Changeset.{HeaderData};
+ghost use Rattle.cs_wire.specs.Changeset.{IsChangeset, file_bytes};
+ghost use Rattle.cs_wire.specs.ReadFaults.{FaultIs, Stands, HasEntry, EntryStart, ReadCase, ReadFails};
 ghost use Rattle.cs_wire.specs.Views.{byte_of};
 ghost use Rattle.cs_value.specs.declared.refusal.OrNoMemory.TheVariants as tool;
-ghost use Rattle.cs_value.specs.Refusals.{Answers, Refuses};
+ghost use Rattle.cs_value.specs.Refusals.{Refuses};
 ghost use Rattle.cs_wire.specs.Items.{IsFirst, change_in};
-ghost use Rattle.cs_wire.specs.Reading.{Fails, FaultIs, EndsGroup, ChangeRefused, NoOperation, NoFlag};
+ghost use Rattle.cs_wire.specs.Reading.{ChangeRefused, NoOperation, NoFlag};
 
 pub(crate) mod header;
 mod record;
@@ -29,12 +29,12 @@ use crate::format::{DELETE, INSERT, PATCHSET, TABLE, UPDATE};
 use record::{Columns, read_record};
 use std::alloc::Global;
 
-/// The changeset whose file this is.
+/// Returns the changeset of a file.
 ///
 /// # Errors
 ///
-/// `Fault` where it is the file of none: the first fault that is met, in the order of the file.
-/// `NoMemory` where memory is refused.
+/// `Fault` if the file is not the file of a changeset: the first fault, in the order of the file.
+/// `NoMemory` if memory runs out.
 pub fn read(alloc: Global, file: &[u8]) -> Result<Changeset, ReadError>
     ensures found { IfOk result (λ c. IsChangeset c × (file.now ≡ file_bytes c)) }
     ensures refused { IfErr result (Refuses (λ f. ReadFails file.now f.kind f.place)) }
@@ -44,22 +44,26 @@ pub fn read(alloc: Global, file: &[u8]) -> Result<Changeset, ReadError>
     Ok(Changeset::from_groups(alloc, groups)?)
 }
 
-/// Whether an entry is to be read, and no header.
-pub(crate) fn has_entry(file: &[u8], at: usize) -> bool
+/// Returns whether there is a byte at an offset that begins no header, so that an entry has to be there.
+pub fn has_entry(file: &[u8], at: usize) -> bool
     ensures { IsTrue result ↔ HasEntry file.now at }
 {
     at < file.len() && file[at] != TABLE && file[at] != PATCHSET
 }
 
-/// Refuses the file for what stands at a place.
+/// Refuses the file for what is at an offset.
 pub(crate) fn refuse<T: Drop>(kind: ReadFaultKind, place: usize) -> Result<T, ReadError>
     ensures { result ≡ Err (tool.Fault (record { kind = kind; place = place })) }
 {
     Err(ReadError::Fault(fault_at(kind, place)))
 }
 
-/// An entry of a table with these flags, and the place behind it.
-pub(crate) fn read_entry<'a>(
+/// Returns the entry at an offset of a table with these flags, and the offset after it.
+///
+/// # Errors
+///
+/// The fault of the file, if an entry can begin there.
+pub fn read_entry<'a>(
     file: &'a [u8],
     at: usize,
     flags: &'a [u8],
@@ -81,7 +85,7 @@ pub(crate) fn read_entry<'a>(
     ))
 }
 
-/// What an entry does.
+/// The operation of an entry.
 fn read_operation(file: &[u8], at: usize) -> Result<(Operation, usize), ReadFault>
     requires { at < length file.now }
     ensures found { IfOk result (λ r. Stands file.now at (byte_of r.0 ∷ []) r.1) }
@@ -113,8 +117,8 @@ fn read_indirect(file: &[u8], at: usize) -> Result<(bool, usize), ReadFault>
     }
 }
 
-/// The records of a change with this operation: the bytes of the row, or of an update's old record; and of its new
-/// one; and the place behind them.
+/// The records of a change with this operation: the bytes of the row, or of an update's old record; those of its new
+/// record; and the offset after them.
 fn read_records<'a>(
     file: &'a [u8],
     at: usize,
@@ -144,7 +148,7 @@ fn read_records<'a>(
     }
 }
 
-/// What is left of the file from a place on.
+/// The rest of the file from an offset on.
 pub(crate) fn rest_from(file: &[u8], at: usize) -> &[u8]
     requires { at ≤ length file.now }
     ensures { result.now ≡ drop at file.now }

@@ -1,4 +1,4 @@
-//! Texts that were met.
+//! Sets of texts.
 ghost use Rattle.std.specs.Prelude.{◌≡◌, ◌≢◌, ◌↔◌, ℕ, List, [], All, get_or, IfOk, IsTrue, OnOk, OnErr};
 ghost use Rattle.std.specs.Cow.{cow_slice_items};
 ghost use Rattle.cs_wire.specs.Seen as seen;
@@ -9,17 +9,17 @@ use std::borrow::CowSlice;
 use std::collections::BTreeSet;
 use std::marker::Model;
 
-/// A text, and the word of its first bytes, by which most texts are told apart.
+/// A text, and the word of its first bytes, by which most texts are compared.
 #[derive(Debug, PartialEq, Eq, PartialOrd, Ord, Drop)]
 struct Text<'a> {
     word: u64,
     bytes: CowSlice<'a, u8, Global>,
 }
 
-/// Texts, which are lists of bytes, each there once. Contracts see the list of them. They stand in
-/// the order of their words, and under one word in that of their bytes, so that mostly two numbers
-/// are compared and no text is read. Adding one takes time in proportion to the logarithm of their
-/// count, and to its length where others have its word.
+/// A set of texts, which are lists of bytes. Contracts see the list of them. They are ordered by
+/// their words, and by their bytes where these are equal, so that mostly two numbers are compared and
+/// no text is read. Adding one takes time proportional to the logarithm of their count, and to its
+/// length where others have its word.
 #[derive(Debug, Drop)]
 pub(crate) struct Seen<'a> {
     texts: BTreeSet<Text<'a>>,
@@ -38,7 +38,7 @@ impl<'a> Model for Seen<'a> {
 }
 
 impl<'a> Seen<'a> {
-    /// No text was met.
+    /// The empty set.
     pub(crate) fn new(alloc: Global) -> Seen<'a>
         ensures { result ≡ [] }
     {
@@ -47,7 +47,7 @@ impl<'a> Seen<'a> {
         }
     }
 
-    /// Adds a text, and answers whether it is new. [`NoMemory`] leaves all as it was.
+    /// Adds a text, and returns whether it is new. [`NoMemory`] leaves the set unchanged.
     pub(crate) fn insert(&mut self, text: CowSlice<'a, u8, Global>) -> Result<bool, NoMemory>
         ensures is_new { IfOk result (λ is_new. IsTrue is_new ↔ All (λ t. t ≢ cow_slice_items text.entry) self.old) }
         ensures added { OnOk result ((t : List ℕ) → All (λ s. s ≢ t) self.new ↔ ((cow_slice_items text.entry ≢ t) × All (λ s. s ≢ t) self.old)) }
@@ -58,7 +58,7 @@ impl<'a> Seen<'a> {
         Ok(is_new)
     }
 
-    /// Forgets all texts.
+    /// Removes all texts.
     pub(crate) fn clear(&mut self)
         ensures { self.new ≡ [] }
     {
@@ -66,9 +66,9 @@ impl<'a> Seen<'a> {
     }
 }
 
-/// The eight bytes behind the first of a text, as a number that is written big end first. A byte
-/// that is not there counts as 0.
-pub(crate) fn word_of(text: &[u8]) -> u64
+/// Returns the eight bytes after the first of a text as a big-endian number. A missing byte counts
+/// as 0.
+pub fn word_of(text: &[u8]) -> u64
     ensures { result ≡ seen.word_of text.now }
 {
     u64::from_be_bytes([
@@ -83,8 +83,8 @@ pub(crate) fn word_of(text: &[u8]) -> u64
     ])
 }
 
-/// A byte of a text, and 0 past its end.
-pub(crate) fn byte_at(text: &[u8], place: usize) -> u8
+/// A byte of a text, or 0 past its end.
+fn byte_at(text: &[u8], place: usize) -> u8
     ensures { result ≡ get_or text.now place 0 }
 {
     if place < text.len() { text[place] } else { 0 }

@@ -19,7 +19,7 @@ mod answer;
 pub use answer::{FaultReport, NO_ROOM, OK};
 use answer::{hand_out, report, report_plain};
 use cs_files::{concat_bytes, dump_file, first_fault, invert_bytes, number_keys_bytes, sql_file};
-use cs_wire::Tables;
+use cs_tables::Tables;
 use std::alloc::Global;
 
 /// The version of the library, as one number: a million times the major one, a thousand times the minor one,

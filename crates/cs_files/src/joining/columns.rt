@@ -2,12 +2,13 @@
 ghost use Rattle.std.specs.Prelude.{◌≡◌, ◌↔◌, List, IfNone, IfSome, IsTrue};
 ghost use Rattle.cs_wire.specs.Changeset.{GroupData, IsChangeset};
 ghost use Rattle.cs_wire.specs.Items.{header_of};
-ghost use Rattle.cs_wire.specs.Named.{AreListed};
+ghost use Rattle.cs_tables.specs.Named.{AreListed};
 ghost use Rattle.cs_group.specs.Joining.{AgreesWith, AreJoinable, FirstClash, key_places, table_name, with_text};
 ghost use Rattle.cs_files.specs.Writing.{IsPartner};
 
 use cs_group::have_same_columns;
-use cs_wire::{HeaderRef, NamedTables, Tables};
+use cs_tables::{NamedTables, Tables};
+use cs_wire::HeaderRef;
 
 /// The place, among the tables of the second file, of the first one that has other columns or another key in the first.
 pub(crate) fn first_clash<'a>(known: &NamedTables<'a>, added: &NamedTables<'a>) -> Option<usize>

@@ -3,15 +3,16 @@ ghost use Rattle.std.specs.Prelude.{◌≡◌, ◌≢◌, ◌<◌, ◌++◌, [],
 ghost use Rattle.cs_wire.specs.declared.entry.Entry.{Entry as EntryData};
 ghost use Rattle.cs_wire.specs.Entry.{entry_bytes, key_of};
 ghost use Rattle.cs_wire.specs.Changeset.{GroupData, entries_bytes};
-ghost use Rattle.cs_wire.specs.Tables.{AreLeft};
+ghost use Rattle.cs_tables.specs.Tables.{AreLeft};
 ghost use Rattle.cs_wire.specs.Views.{IsPlaceOf};
 ghost use Rattle.cs_group.specs.Joining.{entry_key, is_new, joined_entries, joined_entry, key_places, left_of, merged, outcome};
 ghost use Rattle.cs_group.specs.Marks.{AreApart, AreMet};
 ghost use Rattle.cs_files.specs.Writing.{some_bytes};
 
 use cs_group::{Merged, merge_refs};
+use cs_tables::{KeyedEntries, Tables};
 use cs_value::NoMemory;
-use cs_wire::{EntryRef, KeyedEntries, Tables};
+use cs_wire::EntryRef;
 use std::alloc::Global;
 
 /// Appends what the entries that are left of two tables make together.

@@ -3,16 +3,17 @@ ghost use Rattle.std.specs.Prelude.{◌≡◌, ◌++◌, List, IfSome, OnOk, fil
 ghost use Rattle.cs_wire.specs.declared.entry.Entry.{Entry as EntryData};
 ghost use Rattle.cs_wire.specs.Changeset.{GroupData, IsChangeset, IsHeader, file_bytes, group_bytes};
 ghost use Rattle.cs_wire.specs.Items.{header_of};
-ghost use Rattle.cs_wire.specs.Named.{AreListed};
-ghost use Rattle.cs_wire.specs.Tables.{AreLeft};
+ghost use Rattle.cs_tables.specs.Named.{AreListed};
+ghost use Rattle.cs_tables.specs.Tables.{AreLeft};
 ghost use Rattle.cs_group.specs.Joining.{AreJoinable, if_new, is_new, joined_entries, joined_group, key_places, outcome, some_group, table_name, with_text};
 ghost use Rattle.cs_group.specs.Marks.{AreApart};
 ghost use Rattle.cs_files.specs.Writing.{some_bytes};
 
 use crate::joining::columns::partner_of;
 use crate::joining::entries::write_joined;
+use cs_tables::{NamedTables, Tables};
 use cs_value::NoMemory;
-use cs_wire::{HeaderRef, NamedTables, Tables};
+use cs_wire::HeaderRef;
 use std::alloc::Global;
 
 /// Appends what becomes of the tables of the first file.

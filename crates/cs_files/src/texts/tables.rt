@@ -4,7 +4,7 @@ ghost use Rattle.std.specs.List.{flat_map};
 ghost use Rattle.cs_wire.specs.declared.entry.Entry.{Entry as EntryData};
 ghost use Rattle.cs_wire.specs.Changeset.{GroupData};
 ghost use Rattle.cs_wire.specs.Items.{header_of};
-ghost use Rattle.cs_wire.specs.Tables.{AreLeft};
+ghost use Rattle.cs_tables.specs.Tables.{AreLeft};
 ghost use Rattle.cs_files.specs.Gathering.{Gathers};
 ghost use Rattle.cs_files.specs.Forms.{header_part, entry_part, form_text};
 
@@ -12,7 +12,8 @@ use crate::fault::OutputFault;
 use crate::gather::Gather;
 use crate::texts::form::{Form, add_entry, add_header};
 use crate::told::Told;
-use cs_wire::{HeaderRef, Tables};
+use cs_tables::Tables;
+use cs_wire::HeaderRef;
 use std::io::Write;
 
 /// Adds the entries that are left of the table that is open, which has this name.

@@ -7,8 +7,8 @@ ghost use Rattle.cs_value.specs.Table.{IsFlags};
 ghost use Rattle.cs_value.specs.Table.{IsName};
 ghost use Rattle.cs_wire.specs.Changeset.{HeaderData, GroupData, IsHeader, flags_bytes, header_bytes};
 ghost use Rattle.cs_wire.specs.Items.{header_of};
-ghost use Rattle.cs_wire.specs.ReadFaults.{Stands, HasEntry, TableStart, HeaderPart, ReadCase};
-ghost use Rattle.cs_wire.specs.Reading.{FaultIs, CountFails};
+ghost use Rattle.cs_wire.specs.ReadFaults.{FaultIs, Stands, HasEntry, TableStart, HeaderPart, ReadCase};
+ghost use Rattle.cs_wire.specs.Reading.{CountFails};
 
 use crate::fault::{ReadFault, ReadFaultKind, fault_at, fault_behind};
 use crate::format::{PATCHSET, TABLE};
@@ -17,8 +17,12 @@ use crate::reader::rest_from;
 use cs_value::{MAX_COLUMNS, varint_read};
 use std::str;
 
-/// The header of a table.
-pub(crate) fn read_header(file: &[u8], at: usize) -> Result<(HeaderRef<'_>, usize), ReadFault>
+/// Returns the header of a table at an offset, and the offset after it.
+///
+/// # Errors
+///
+/// The fault of the file, if a table has to begin there.
+pub fn read_header(file: &[u8], at: usize) -> Result<(HeaderRef<'_>, usize), ReadFault>
     requires { at < length file.now }
     ensures found { IfOk result (λ r. IsHeader (header_of r.0) × Stands file.now at (header_bytes (header_of r.0)) r.1) }
     ensures only { (header : HeaderData) (rest : List ℕ) → IsHeader header
@@ -37,7 +41,7 @@ pub(crate) fn read_header(file: &[u8], at: usize) -> Result<(HeaderRef<'_>, usiz
     Ok((HeaderRef { name, flags }, at))
 }
 
-/// The count of columns, and a flag for each.
+/// The number of columns, and a flag for each.
 fn read_flags(file: &[u8], at: usize) -> Result<(&[u8], usize), ReadFault>
     requires { at ≤ length file.now }
     ensures found { IfOk result (λ r. IsFlags r.0.now × Stands file.now at (flags_bytes r.0.now) r.1) }
@@ -74,7 +78,7 @@ fn read_count(file: &[u8], at: usize) -> Result<(usize, usize), ReadFault>
     }
 }
 
-/// The name of a table, and the zero byte behind it.
+/// The name of a table, and the zero byte after it.
 fn read_name(file: &[u8], at: usize) -> Result<(&str, usize), ReadFault>
     requires { at ≤ length file.now }
     ensures found { IfOk result (λ r. IsName r.0.now × Stands file.now at (r.0.now ++ 0 ∷ []) r.1) }
@@ -97,7 +101,7 @@ fn read_name(file: &[u8], at: usize) -> Result<(&str, usize), ReadFault>
     }
 }
 
-/// The place of the first zero byte.
+/// The offset of the first zero byte.
 fn zero_at(bytes: &[u8]) -> Option<usize>
     ensures found { IfSome result (λ n. (n < length bytes.now) × (slice_index bytes.now n ≡ 0)
         × ((k : ℕ) → k < n → slice_index bytes.now k ≢ 0)) }

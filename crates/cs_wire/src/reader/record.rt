@@ -1,11 +1,11 @@
-//! Passing over the records of changes.
+//! The records of changes.
 ghost use Rattle.std.specs.Prelude.{◌≡◌, ◌≤◌, ◌++◌, ◌∷◌, ℕ, List, length, drop, IfOk, IsOkAnd, None};
 ghost use Rattle.cs_value.specs.declared.value.OwnedField.{OwnedField};
 ghost use Rattle.cs_value.specs.Value.{IsField, IsRecord, field_of};
 ghost use Rattle.cs_value.specs.Spelling.{field_bytes, record_bytes};
 ghost use Rattle.cs_wire.specs.Items.{fields_in};
-ghost use Rattle.cs_wire.specs.ReadFaults.{Stands};
-ghost use Rattle.cs_wire.specs.Reading.{FaultIs, Meets, IsFieldAt, IsRecordAt, FieldRefused, RecordRefused};
+ghost use Rattle.cs_wire.specs.ReadFaults.{FaultIs, Stands};
+ghost use Rattle.cs_wire.specs.Reading.{Meets, IsFieldAt, IsRecordAt, FieldRefused, RecordRefused};
 ghost use Rattle.cs_wire.specs.Reading.{in_new, is_modified, wants_in, refusal};
 
 use crate::fault::{ReadFault, ReadFaultKind, fault_at, fault_behind};
@@ -13,7 +13,7 @@ use crate::reader::rest_from;
 use crate::spelled::front_field;
 use cs_value::{Field, Value, field_read};
 
-/// What a record may have in a column.
+/// What a record can have in a column.
 #[derive(Clone, Copy, Debug)]
 pub(crate) enum Want {
     /// A value other than NULL.
@@ -24,12 +24,12 @@ pub(crate) enum Want {
     AnyField,
     /// A value of an update's new record.
     NewValue,
-    /// Nothing there.
+    /// An undefined field.
     Nothing,
 }
 
 impl Want {
-    /// Why a field is not what is wanted.
+    /// Why a field is refused, if it is.
     fn refusal(self, field: Field) -> Option<ReadFaultKind>
         ensures { result ≡ refusal self (field_of field.entry) }
     {
@@ -45,7 +45,7 @@ impl Want {
         }
     }
 
-    /// What an update's new record has in a column with this flag, whose field in the old one this is.
+    /// What an update's new record has in a column with this flag and this field in the old record.
     fn beside(old: Field, flag: u8) -> Want
         ensures { result ≡ in_new (is_modified flag (field_of old.entry)) }
     {
@@ -56,19 +56,19 @@ impl Want {
     }
 }
 
-/// The columns of a record that are left, which want this or that by their flags.
+/// The remaining columns of a record, by which each field is judged with its flag.
 #[derive(Clone, Copy, Debug)]
 pub(crate) enum Columns<'a> {
     /// Those of a row.
     Row,
     /// Those of an update's old record.
     Old,
-    /// Those of an update's new record, with the bytes that the old one has from there on.
+    /// Those of an update's new record, with the remaining bytes of the old one.
     New(&'a [u8]),
 }
 
 impl<'a> Columns<'a> {
-    /// What is wanted in the next column, which has this flag, and the columns behind it.
+    /// What the next column wants, which has this flag, and the columns after it.
     #[tactic(auto, unfolding(crate::specs::Items::fields_in))]
     fn next(self, flag: u8) -> (Want, Columns<'a>)
         ensures { (flags : List ℕ) → wants_in self.entry (flag ∷ flags) ≡ result.0 ∷ wants_in result.1 flags }
@@ -85,8 +85,7 @@ impl<'a> Columns<'a> {
     }
 }
 
-/// The bytes of the record that begins at a place, which has in each column a field that is wanted there, and the
-/// place behind it.
+/// The bytes of the record at an offset, which has in each column a field that is wanted there, and the offset after it.
 pub(crate) fn read_record<'a>(
     file: &'a [u8],
     at: usize,
@@ -106,7 +105,7 @@ pub(crate) fn read_record<'a>(
     Ok((part(file, at, end), end))
 }
 
-/// What stands in the file from one place to another.
+/// The bytes of the file from one offset to another.
 fn part(file: &[u8], from: usize, to: usize) -> &[u8]
     requires { (from ≤ to) × (to ≤ length file.now) }
     ensures { (text : List ℕ) → Stands file.now from text to → result.now ≡ text }
@@ -114,7 +113,7 @@ fn part(file: &[u8], from: usize, to: usize) -> &[u8]
     &file[from..to]
 }
 
-/// The place behind the record that begins at a place, which has in each column a field that is wanted there.
+/// The offset after the record at an offset, which has in each column a field that is wanted there.
 fn pass_record(file: &[u8], at: usize, flags: &[u8], columns: Columns) -> Result<usize, ReadFault>
     requires { at ≤ length file.now }
     ensures forward { IfOk result (λ end. (at ≤ end) × (end ≤ length file.now)) }
@@ -136,7 +135,7 @@ fn pass_record(file: &[u8], at: usize, flags: &[u8], columns: Columns) -> Result
     Ok(end)
 }
 
-/// A field that is wanted, which borrows from the file, and the place behind it.
+/// The field at an offset, which is wanted there and borrows from the file, and the offset after it.
 fn read_wanted(file: &[u8], at: usize, want: Want) -> Result<(Field<'_>, usize), ReadFault>
     requires { at ≤ length file.now }
     ensures found { IfOk result (λ r. IsFieldAt want file.now at (field_of r.0) r.1) }

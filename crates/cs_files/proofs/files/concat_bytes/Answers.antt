@@ -1,7 +1,7 @@
 -- `files::concat_bytes`: the clauses `joined` and `length`.
 use Rattle.std.proofs.Common.{◌≡◌, [], List, rules}
 use Rattle.cs_wire.specs.Changeset.{GroupData, IsFileOf, file_bytes}
-use Rattle.cs_wire.specs.Tables.{AreLeft}
+use Rattle.cs_tables.specs.Tables.{AreLeft}
 use Rattle.cs_group.specs.Joining.{joined}
 use Rattle.cs_files.proofs.JoiningLemmas.{joins}
 use Rattle.cs_files.proofs.files.concat_bytes.Goals as goal

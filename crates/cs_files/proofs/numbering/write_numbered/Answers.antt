@@ -2,7 +2,7 @@
 use Rattle.std.proofs.Common.{◌++◌, [], suc, drop, sym, ap, arith}
 use Rattle.std.proofs.lemmas.List.Folds.{flat_map-map}
 use Rattle.cs_wire.specs.Changeset.{GroupData, group_bytes}
-use Rattle.cs_wire.proofs.NamedLemmas.{tables_length}
+use Rattle.cs_tables.proofs.NamedLemmas.{tables_length}
 use Rattle.cs_group.specs.Numbering.{numbered_group}
 use Rattle.cs_files.proofs.JoiningLemmas.{group_at, group_within, group_at_is, group_under, table_of_group}
 use Rattle.cs_files.proofs.PassLemmas.{written_next, written_last}

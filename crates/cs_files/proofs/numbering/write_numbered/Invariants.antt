@@ -2,7 +2,7 @@
 use Rattle.std.proofs.Common.{◌≡◌, ◌++◌, List, take}
 use Rattle.std.specs.List.{flat_map}
 use Rattle.cs_wire.specs.Changeset.{GroupData, group_bytes}
-use Rattle.cs_wire.specs.Named.{AreListed}
+use Rattle.cs_tables.specs.Named.{AreListed}
 use Rattle.cs_group.specs.Numbering.{numbered_group}
 use Rattle.cs_files.proofs.numbering.write_numbered.Given as goal
 

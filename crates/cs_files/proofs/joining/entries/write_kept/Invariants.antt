@@ -3,7 +3,7 @@ use Rattle.std.proofs.Common.{◌≡◌, ◌-◌, List, length}
 use Rattle.cs_wire.specs.declared.entry.Entry.{Entry}
 use Rattle.cs_wire.specs.Entry.{entry_bytes, key_of}
 use Rattle.cs_wire.specs.Changeset.{GroupData}
-use Rattle.cs_wire.specs.Tables.{AreLeft}
+use Rattle.cs_tables.specs.Tables.{AreLeft}
 use Rattle.cs_group.specs.Joining.{joined_entry, outcome}
 use Rattle.cs_group.specs.Marks.{AreApart, AreMet}
 use Rattle.cs_files.specs.Writing.{some_bytes}

@@ -3,7 +3,7 @@ use Rattle.std.proofs.Common.{◌-◌, List, length}
 use Rattle.cs_wire.specs.declared.entry.Entry.{Entry}
 use Rattle.cs_wire.specs.Entry.{entry_bytes}
 use Rattle.cs_wire.specs.Changeset.{GroupData}
-use Rattle.cs_wire.specs.Tables.{AreLeft}
+use Rattle.cs_tables.specs.Tables.{AreLeft}
 use Rattle.cs_files.proofs.PassLemmas.{WritesEntries}
 use Rattle.cs_files.proofs.joining.tables.write_table.Given as goal
 

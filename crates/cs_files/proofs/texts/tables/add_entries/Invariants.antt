@@ -1,7 +1,7 @@
 use Rattle.std.proofs.Common.{◌≡◌, ◌≤◌, ◌-◌, List, length}
 use Rattle.cs_wire.specs.declared.entry.Entry.{Entry}
 use Rattle.cs_wire.specs.Changeset.{GroupData}
-use Rattle.cs_wire.specs.Tables.{AreLeft}
+use Rattle.cs_tables.specs.Tables.{AreLeft}
 use Rattle.cs_files.specs.Forms.{entry_part}
 use Rattle.cs_files.proofs.TablesLemmas.{GathersEntries}
 use Rattle.cs_files.proofs.texts.tables.add_entries.Given as goal

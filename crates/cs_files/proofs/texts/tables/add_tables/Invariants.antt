@@ -1,6 +1,6 @@
 use Rattle.std.proofs.Common.{[], ◌-◌, List, length}
 use Rattle.cs_wire.specs.Changeset.{GroupData}
-use Rattle.cs_wire.specs.Tables.{AreLeft}
+use Rattle.cs_tables.specs.Tables.{AreLeft}
 use Rattle.cs_files.specs.Forms.{group_part}
 use Rattle.cs_files.proofs.TablesLemmas.{GathersGroups}
 use Rattle.cs_files.proofs.texts.tables.add_tables.Given as goal

@@ -1,0 +1,88 @@
+-- A quick pass through a file.
+use Rattle.std.proofs.Common.{◌≡◌, ◌≢◌, ℕ, ◌<◌, ◌≤◌, List, [], ◌∷◌, ◌++◌, length, AllPairs, refl, sym, ap, ◌∙◌, subst, arith}
+use Rattle.std.proofs.lemmas.List.{append-nil, drop_all, length-map, map-append}
+use Rattle.std.proofs.lemmas.List.Concat.{flat_map-append}
+use Rattle.std.proofs.lemmas.List.Elements.{All-nil, All-push}
+use Rattle.cs_wire.specs.declared.entry.Entry.{Entry}
+use Rattle.cs_wire.specs.Entry.{IsEntry, entry_bytes, key_of}
+use Rattle.cs_wire.specs.Changeset.{HeaderData, GroupData, IsAccepted, IsGroup, IsHeader, header_bytes, entries_bytes, group_bytes, file_bytes}
+use Rattle.cs_tables.specs.Checked.{HasEntries, HasGroup, HasGroups}
+use Rattle.cs_tables.specs.Distinct.{number_of}
+use Rattle.cs_wire.specs.Items.{FlaggedEntry}
+use Rattle.cs_wire.specs.ReadFaults.{Stands}
+use Rattle.cs_tables.proofs.DistinctLemmas.{texts_differ}
+use Rattle.cs_wire.proofs.GroupsLemmas.{Stands-group, group_bytes_some}
+use Rattle.cs_wire.proofs.ReadingLemmas.{Stands-moves, Stands-then}
+
+-- no entry was passed
+pub HasEntries-none : (file : List ℕ) (at : ℕ) (flags : List ℕ) → at ≤ length file → HasEntries file at flags [] at
+HasEntries-none file at flags le = record {
+  entries = [];
+  each = All-nil (IsEntry flags);
+  stand = record { spelled = refl; within = le };
+  keys_are = refl;
+}
+
+-- one more was
+pub HasEntries-push : (file : List ℕ) (at : ℕ) (flags keys : List ℕ) (place : ℕ) → HasEntries file at flags keys place → (seen : FlaggedEntry) (end number : ℕ) (grown : List ℕ)
+    → seen.flags ≡ flags → IsEntry flags seen.entry → Stands file place (entry_bytes seen.entry) end → number ≡ number_of (key_of seen.flags seen.entry.change) → grown ≡ keys ++ number ∷ []
+    → HasEntries file at flags grown end
+HasEntries-push file at flags keys place so seen end number grown same is stands number_is grown_is =
+    let number_by : Entry → ℕ = λ e. number_of (key_of flags e.change) in
+    let one : number ≡ number_by seen.entry = number_is ∙ ap (λ (fs : List ℕ). number_of (key_of fs seen.entry.change)) same in record {
+      entries = so.entries ++ seen.entry ∷ [];
+      each = All-push (IsEntry flags) so.entries seen.entry so.each is;
+      stand = rw (flat_map-append entry_bytes so.entries (seen.entry ∷ []), append-nil) (Stands-then file at place end (entries_bytes so.entries) (entry_bytes seen.entry) so.stand stands);
+      keys_are = rw (grown_is, one, so.keys_are) (sym (map-append number_by so.entries (seen.entry ∷ [])));
+    }
+
+-- a header and entries whose keys differ are a group
+pub HasGroup-read : (file : List ℕ) (at start end : ℕ) (header : HeaderData) (before names keys : List ℕ) → IsHeader header → Stands file at (header_bytes header) start
+    → HasEntries file start header.flags keys end → 0 < length keys → AllPairs (λ m n. m ≢ n) keys
+    → (name : List ℕ) (number : ℕ) → name ≡ header.name → number ≡ number_of name → names ≡ before ++ number ∷ [] → HasGroup file at before names end
+HasGroup-read file at start end header before names keys is stands so some apart name number name_is number_is grown_is =
+    let group : GroupData = record { header = header; entries = so.entries } in
+    let number : Entry → ℕ = λ e. number_of (key_of header.flags e.change) in record {
+      group = group;
+      is_group = record {
+        header = is;
+        some = omega (arith, some, ap length so.keys_are, length-map so.entries number);
+        each = so.each;
+        once = texts_differ (λ (e : Entry). key_of header.flags e.change) so.entries (subst (λ (ks : List ℕ). AllPairs (λ m n. m ≢ n) ks) so.keys_are apart);
+      };
+      stands = Stands-group file at start end group stands so.stand;
+      names_are = rw (grown_is, number_is, name_is) refl;
+    }
+
+-- a header and entries have some byte
+pub group_moves : (file : List ℕ) (at start end : ℕ) (header : HeaderData) (keys : List ℕ) → Stands file at (header_bytes header) start → HasEntries file start header.flags keys end → at < length file → at < end
+group_moves file at start end header keys stands so within =
+    let group : GroupData = record { header = header; entries = so.entries } in
+    Stands-moves file at end (group_bytes group) (Stands-group file at start end group stands so.stand) (group_bytes_some group) within
+
+-- no group was passed
+pub HasGroups-none : (file : List ℕ) → HasGroups file [] 0
+HasGroups-none file = record {
+  groups = [];
+  each = All-nil IsGroup;
+  stand = record { spelled = refl; within = omega arith };
+  names_are = refl;
+}
+
+-- one more was
+pub HasGroups-push : (file names grown : List ℕ) (place end : ℕ) → HasGroups file names place → HasGroup file place names grown end → HasGroups file grown end
+HasGroups-push file names grown place end so next =
+    let number : GroupData → ℕ = λ g. number_of g.header.name in record {
+      groups = so.groups ++ next.group ∷ [];
+      each = All-push IsGroup so.groups next.group so.each next.is_group;
+      stand = rw (flat_map-append group_bytes so.groups (next.group ∷ []), append-nil) (Stands-then file 0 place end (file_bytes so.groups) (group_bytes next.group) so.stand next.stands);
+      names_are = next.names_are ∙ ap (λ (ns : List ℕ). ns ++ number next.group ∷ []) so.names_are ∙ sym (map-append number so.groups (next.group ∷ []));
+    }
+
+-- at the end of the file, groups whose names differ are a changeset
+pub IsAccepted-read : (file names : List ℕ) (place : ℕ) → HasGroups file names place → length file ≤ place → AllPairs (λ m n. m ≢ n) names → IsAccepted file
+IsAccepted-read file names place so le apart = (
+  so.groups,
+  record { each = so.each; once = texts_differ (λ (g : GroupData). g.header.name) so.groups (subst (λ (ns : List ℕ). AllPairs (λ m n. m ≢ n) ns) so.names_are apart) },
+  so.stand.spelled ∙ ap (λ (x : List ℕ). file_bytes so.groups ++ x) (drop_all place file le) ∙ append-nil (file_bytes so.groups),
+)

@@ -1,0 +1,5 @@
+pub mod CheckedLemmas
+pub mod DistinctLemmas
+pub mod HashedLemmas
+pub mod NamedLemmas
+pub mod TablesLemmas

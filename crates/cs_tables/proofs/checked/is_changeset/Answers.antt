@@ -1,0 +1,13 @@
+-- `checked::is_changeset`: the loop, and what it ensures.
+use Rattle.cs_tables.proofs.CheckedLemmas.{HasGroups-push, IsAccepted-read}
+use Rattle.cs_tables.proofs.checked.is_changeset.Goals as goal
+
+pub tables-preserved : goal.tables-preserved
+tables-preserved c =
+    let ensured = c.in_ok-end.ensures in (
+      HasGroups-push c.args.file.now c.tables.names.items c.pass_table.new.names.items c.tables.place c.in-Some.end c.tables.invariant.0 (rw c.in-Some.is at ensured.table),
+      rw c.in-Some.is at ensured.no_key,
+    )
+
+pub returns : goal.returns
+returns c = λ yes. IsAccepted-read c.args.file.now c.tables.names.items c.tables.place c.tables.invariant.0 c.tables-test.false (c.take_distinct.ensures.distinct yes)

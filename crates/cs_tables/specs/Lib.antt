@@ -1,0 +1,12 @@
+pub mod Tables
+pub mod Named
+pub mod Distinct
+pub mod Checked
+pub use Rattle.cs_value.specs.Maps
+pub use Rattle.cs_value.specs.Refusals
+pub use Rattle.cs_wire.specs.Entry
+pub use Rattle.cs_wire.specs.Changeset
+pub use Rattle.cs_wire.specs.ReadFaults
+pub use Rattle.cs_wire.specs.Items
+pub use Rattle.cs_wire.specs.Views
+pub use Rattle.cs_wire.specs.Keyed

@@ -1,0 +1,31 @@
+//! The tables of a changeset's file, for what goes through a file whole: inverses, concatenations and texts.
+//!
+//! `Tables::read` checks a file once, and then hands out its tables and entries, which borrow from the file. The tables
+//! can be indexed by their names, and the entries of a table by their keys.
+//!
+//! ```rust
+//! // An INSERT of ('x') into the table t of one column.
+//! let mut tables = Tables::read(alloc, b"\x54\x01\x01t\x00\x12\x00\x03\x01x")?;
+//! while let Some(header) = tables.next_table() {
+//!     assert_eq!(rt; header.name, "t");
+//!     while let Some(entry) = tables.next_entry() {
+//!         assert_eq!(rt; entry.operation(), 0x12);
+//!     }
+//! }
+//! ```
+//!
+//! `tables` has the iterator, and `checked` the quick check of a file, which compares numbers of names and keys that
+//! `distinct` computes. `named` indexes tables by their names and `keyed` entries by their keys, both by `hashed`.
+//! `CALLING.md`, next to this folder, shows a caller.
+#![tactic(auto)]
+
+mod checked;
+mod distinct;
+mod hashed;
+mod keyed;
+mod named;
+mod tables;
+
+pub use keyed::KeyedEntries;
+pub use named::NamedTables;
+pub use tables::Tables;
