@@ -14,18 +14,18 @@ use Rattle.cs_rows.specs.declared.fault.StoreError.{StoreError}
 use Rattle.cs_rows.specs.declared.fault.StoreError.TheVariants.{DamagedStore, NoMemory}
 use Rattle.cs_rows.specs.Faults.{IsResource}
 use Rattle.cs_records.specs.Records.{RecordData, HoldsRecords, ListsAll, Sets, GoesOn, KeepsCrash, changed, content, is_under, records_of, records_in, record_schema, empty_schema}
-use Rattle.cs_store.specs.Stored.{version, stored_under, StoresIn, StoresInSome}
-use Rattle.cs_store.specs.Valid.{AreValid}
+use Rattle.cs_stored.specs.Stored.{version, stored_under, StoresIn, StoresInSome}
+use Rattle.cs_stored.specs.Valid.{AreValid}
 use Rattle.sqlite_trees.specs.View.{doubt}
 use Rattle.cs_store.specs.Store.{HoldsState, HoldsTables, Adopts, OpensFiles, SetsUp, MemoryIsHonest, tables_in}
 use Rattle.cs_store.specs.Crash.{MayLeave}
 use Rattle.cs_store.specs.Laws.{was_clean}
-use Rattle.cs_store.proofs.CheckLemmas.{listed_there}
+use Rattle.cs_stored.proofs.CheckLemmas.{listed_there}
 use Rattle.cs_store.proofs.CrashLemmas.{crash_then, may_leave}
 use Rattle.cs_records.proofs.RowLemmas.{same_itself}
-use Rattle.cs_store.proofs.StateOf.{records_first}
-use Rattle.cs_store.proofs.StoredLemmas.{not_former, stores_nothing}
-use Rattle.cs_store.proofs.ValidLemmas.{valid_stores, stores_valid}
+use Rattle.cs_stored.proofs.StateOf.{records_first}
+use Rattle.cs_stored.proofs.StoredLemmas.{not_former, stores_nothing}
+use Rattle.cs_stored.proofs.ValidLemmas.{valid_stores, stores_valid}
 use Rattle.cs_store.proofs.WriteLemmas.{holds_next}
 
 -- ---- no record

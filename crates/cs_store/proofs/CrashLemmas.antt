@@ -9,7 +9,7 @@ use Rattle.sqlite.proofs.StateLemmas.{survives_then, survives_weaker}
 use Rattle.cs_value.specs.State as tables
 use Rattle.cs_rows.specs.declared.fault.StoreError.{StoreError}
 use Rattle.cs_records.specs.Records.{IsUndone, KeepsContent, KeepsCrash}
-use Rattle.cs_store.specs.Stored.{state_of}
+use Rattle.cs_stored.specs.Stored.{state_of}
 use Rattle.cs_store.specs.Store.{HoldsState, HoldsTables, IsSound, IsInside, KeepsStore, Begins, Ends, tables_in}
 use Rattle.cs_store.specs.Crash.{MayLeave, LeavesOnly, LeavesTakenOver, CanBegin, IsAtomic}
 use Rattle.cs_store.specs.Laws.{was_clean, keeps_itself}

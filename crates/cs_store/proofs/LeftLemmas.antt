@@ -14,11 +14,11 @@ use Rattle.cs_rows.specs.declared.fault.StoreError.{StoreError}
 use Rattle.cs_rows.specs.declared.fault.StoreError.TheVariants.{DamagedStore}
 use Rattle.cs_rows.specs.Faults.{IsResource}
 use Rattle.cs_records.specs.Records.{HoldsRecords, records_in, records_of}
-use Rattle.cs_store.specs.Stored.{version, Stores}
+use Rattle.cs_stored.specs.Stored.{version, Stores}
 use Rattle.cs_store.specs.Store.{HoldsTables, Adopts, OpensFiles, tables_in}
 use Rattle.cs_store.specs.Crash.{MayLeave, IsLeftOf}
 use Rattle.cs_store.proofs.AdoptionLemmas.{nothing_held, vacant_holds}
-use Rattle.cs_store.proofs.StateOf.{stored_once}
+use Rattle.cs_stored.proofs.StateOf.{stored_once}
 
 -- trees list one schema
 listed_once : (trees : Trees) (s t : Schema) → IsSoundIn s trees → IsSoundIn t trees → s ≡ t

@@ -10,15 +10,15 @@ use Rattle.cs_value.proofs.StateLemmas.{row_at_fits}
 use Rattle.sqlite.specs.Effect.{Database}
 use Rattle.sqlite.specs.State.{State, HasCleanDisk, IsUnchanged}
 use Rattle.cs_rows.specs.declared.fault.StoreError.{StoreError}
-use Rattle.cs_store.specs.Declaration.{declaration_bytes}
+use Rattle.cs_stored.specs.Declaration.{declaration_bytes}
 use Rattle.cs_rows.specs.Faults.{IsResource}
 use Rattle.cs_records.specs.Records.{KeepsCrash, records_in}
 use Rattle.cs_store.specs.Store.{HoldsState, IsSound, Recovers, tables_in}
-use Rattle.cs_store.specs.Stored.{state_of, table_in}
+use Rattle.cs_stored.specs.Stored.{state_of, table_in}
 use Rattle.cs_rows.specs.Rows.{Fits, IsRowIn}
 use Rattle.cs_rows.proofs.MemoryLemmas.{row_at_found, row_at_absent, rows_at_absent}
-use Rattle.cs_store.proofs.StoredLemmas.{declaration_stored, row_stored}
-use Rattle.cs_store.proofs.StateOf.{get_unread}
+use Rattle.cs_stored.proofs.StoredLemmas.{declaration_stored, row_stored}
+use Rattle.cs_stored.proofs.StateOf.{get_unread}
 use Rattle.cs_store.specs.Laws.{was_clean}
 
 -- a sound store that was read shows a state

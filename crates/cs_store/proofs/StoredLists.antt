@@ -20,8 +20,8 @@ use Rattle.cs_value.proofs.ByteMaps.{tied_bytes}
 use Rattle.cs_value.proofs.KeyedRows.{length-IsKeyedRow}
 use Rattle.cs_value.proofs.Spellings.{row_bytes_same}
 use Rattle.cs_records.specs.Records.{Records, ListsTable}
-use Rattle.cs_store.specs.Declaration.{declaration_bytes}
-use Rattle.cs_store.specs.Stored.{version, Stores}
+use Rattle.cs_stored.specs.Declaration.{declaration_bytes}
+use Rattle.cs_stored.specs.Stored.{version, Stores}
 use Rattle.cs_rows.specs.declared.fault.StoreError.{StoreError}
 use Rattle.cs_rows.specs.declared.fault.StoreError.TheVariants.{DamagedStore}
 use Rattle.cs_rows.specs.Faults.{IsResource, IsReadRefusal}
@@ -30,7 +30,7 @@ use Rattle.cs_store.specs.Store.{AreNamed, AreStored, RecoversList}
 use Rattle.cs_value.proofs.ListLemmas.{AllByRecursion-push}
 use Rattle.std.proofs.lemmas.List.{map-append}
 use Rattle.cs_rows.proofs.MemoryLemmas.{rows_at_found}
-use Rattle.cs_store.proofs.StoredLemmas.{row_stored}
+use Rattle.cs_stored.proofs.StoredLemmas.{row_stored}
 
 -- entries by lists of bytes, and whether their keys rise
 abbrev Entries : Type 0 → Type 0

@@ -2,7 +2,7 @@
 use Rattle.std.proofs.Common.{◌≡◌, ℕ, List, [], MatchResult, IsErrAnd, Option, Some, None, option_map, Result, Ok, Err, OnOk, OnErr, IsTrue, refl, sym, ap, subst, ◌∙◌}
 use Rattle.std.specs.FinMap as map
 use Rattle.cs_value.specs.Table.{IsName}
-use Rattle.cs_store.specs.Declaration.{declaration_bytes}
+use Rattle.cs_stored.specs.Declaration.{declaration_bytes}
 use Rattle.cs_value.specs.declared.value.OwnedValue.{OwnedValue}
 use Rattle.cs_value.specs.Spelling.{row_bytes}
 use Rattle.cs_value.specs.State as tables
@@ -10,10 +10,10 @@ use Rattle.sqlite.specs.Effect.{Database}
 use Rattle.sqlite.specs.State.{State, HasCleanDisk}
 use Rattle.cs_records.specs.Records.{HoldsRecords, Sets, GoesOn, Rests, KeepsCrash, records_in}
 use Rattle.cs_rows.specs.Rows.{IsDeclared, Fits}
-use Rattle.cs_store.specs.Stored.{Stores}
+use Rattle.cs_stored.specs.Stored.{Stores}
 use Rattle.cs_store.specs.Store.{HoldsState, IsSound, KeepsStore, tables_in}
-use Rattle.cs_store.proofs.StateOf.{state_is}
-use Rattle.cs_store.proofs.StoredLemmas.{stores_row, stores_no_row, stores_table}
+use Rattle.cs_stored.proofs.StateOf.{state_is}
+use Rattle.cs_stored.proofs.StoredLemmas.{stores_row, stores_no_row, stores_table}
 use Rattle.cs_store.specs.Laws.{was_clean}
 use Rattle.cs_store.proofs.StoreLemmas.{rests_keeps, write_keeps}
 

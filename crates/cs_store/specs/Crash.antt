@@ -6,7 +6,7 @@ use Rattle.sqlite.specs.Effect.{Database, IsDatabase}
 use Rattle.sqlite.specs.State.{State, HasCleanDisk, Survives}
 use Rattle.cs_value.specs.State as tables
 use Rattle.cs_records.specs.Records.{KeepsCrash}
-use Rattle.cs_store.specs.Stored.{state_of}
+use Rattle.cs_stored.specs.Stored.{state_of}
 use Rattle.cs_store.specs.Store.{HoldsState, HoldsTables, tables_in}
 
 -- with the schema of a store, which is that of its one table of records, the trees are those of a state: so they are taken

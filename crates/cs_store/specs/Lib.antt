@@ -1,10 +1,9 @@
-pub mod Declaration
-pub mod Stored
-pub mod Versions
-pub mod Valid
 pub mod Store
 pub mod Crash
 pub mod Laws
+pub use Rattle.cs_stored.specs.Declaration
+pub use Rattle.cs_stored.specs.Stored
+pub use Rattle.cs_stored.specs.Valid
 pub use Rattle.cs_records.specs.Records
 pub use Rattle.cs_rows.specs.Faults
 pub use Rattle.cs_rows.specs.Rows

@@ -19,7 +19,7 @@ use Rattle.sqlite.specs.State.{State, HasCleanDisk, Shows, KeepsCommit}
 use Rattle.cs_rows.specs.declared.fault.StoreError.{StoreError}
 use Rattle.cs_rows.specs.Faults.{IsResource}
 use Rattle.cs_records.specs.Records.{HoldsRecords, records_in, GoesOn, KeepsContent, KeepsCrash, empty_schema}
-use Rattle.cs_store.specs.Stored.{Stores, StoresInSome, state_of}
+use Rattle.cs_stored.specs.Stored.{Stores, StoresInSome, state_of}
 use Rattle.cs_rows.specs.Rows.{IsRowIn}
 
 -- the state that a database's records stand for

@@ -8,20 +8,19 @@ ghost use Rattle.cs_rows.specs.declared.fault.StoreError.TheVariants.{DamagedSto
 ghost use Rattle.cs_rows.specs.Faults.{IsResource, IsReadRefusal};
 ghost use Rattle.cs_records.specs.Records.{HoldsRecords, ListsAll, KeepsContent, record_schema, empty_schema};
 ghost use Rattle.cs_records.specs.Records.{records_in, KeepsCrash};
-ghost use Rattle.cs_store.specs.Valid.{AreValid};
-ghost use Rattle.cs_store.specs.Versions.{bytes_of};
+ghost use Rattle.cs_stored.specs.Valid.{AreValid};
+ghost use Rattle.cs_stored.specs.Versions.{bytes_of};
 ghost use Rattle.cs_store.specs.Crash.{CanBegin, MayLeave};
 ghost use Rattle.cs_store.specs.Store.{Adopts, HoldsTables, SetsUp, IsInside};
 
 use crate::batch::commit;
-use crate::check::check_records;
 use crate::refusal::refused;
-use crate::version::{VERSION, Version, version_of};
 use cs_records::{
     Record, all_records, declares_nothing, declares_records, find_record, has_row_numbers,
     make_table, misdeclares_records, put_record, transactions,
 };
 use cs_rows::StoreError;
+use cs_stored::{VERSION, Version, check_records, version_of};
 use sqlite::{Alter, Connection};
 use std::alloc::Global;
 

@@ -8,26 +8,19 @@
 //! ```
 //!
 //! `store` has what a caller holds, and `batch` the rows of a store inside one transaction. `adoption` makes a database a
-//! store; it checks by `check` that the records of the database are those of tables, in a `version` that it reads.
-//!
-//! Below a batch, `known` has the calls on tables and rows, which read the schema of a table once, and `tables` what they
-//! do with records. `declaration` and `stored_row` have the bytes of schemas and rows. `refusal` turns a refusal of the
-//! database into one of a store.
+//! store. Below a batch, `known` has the calls on tables and rows, which read the schema of a table once, and `tables` what
+//! they do with records. `refusal` turns a refusal of the database into one of a store.
 //!
 //! The names of `cs_rows` are passed on.
 #![tactic(auto)]
 
 mod adoption;
 mod batch;
-mod check;
-mod declaration;
 mod known;
 mod laws;
 mod refusal;
 mod store;
-mod stored_row;
 mod tables;
-mod version;
 
 pub use batch::SqlBatch;
 pub use cs_rows::{Edit, MemRows, Rows, Schema, StoreError, Written, edit_in};

@@ -4,7 +4,7 @@ use Rattle.sqlite.specs.Held.{state}
 use Rattle.sqlite.specs.Effect.{Database}
 use Rattle.cs_store.specs.Laws.{was_clean}
 use Rattle.cs_records.specs.Records.{HoldsRecords, records_in}
-use Rattle.cs_store.specs.Valid.{AreValid}
+use Rattle.cs_stored.specs.Valid.{AreValid}
 use Rattle.cs_store.proofs.WriteLemmas.{on_ok_then}
 use Rattle.cs_store.proofs.ReadLemmas.{no_elements}
 use Rattle.cs_store.proofs.AdoptionLemmas.{none_listed, none_held, read_then, damaged_by}

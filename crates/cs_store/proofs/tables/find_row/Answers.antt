@@ -4,7 +4,7 @@ use Rattle.sqlite.specs.Held.{state}
 use Rattle.cs_value.specs.State.{row_at}
 use Rattle.cs_records.specs.Records.{records_in}
 use Rattle.cs_store.specs.Store.{tables_in}
-use Rattle.cs_store.proofs.StoredLemmas.{row_stored}
+use Rattle.cs_stored.proofs.StoredLemmas.{row_stored}
 use Rattle.cs_store.proofs.StoreLemmas.{rests_keeps}
 use Rattle.cs_store.proofs.ReadLemmas.{shows_read, row_is, declared_named, read_fits}
 use Rattle.cs_store.proofs.tables.find_row.Goals as goal

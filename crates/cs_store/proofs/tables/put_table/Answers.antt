@@ -1,7 +1,7 @@
 -- `tables::put_table`: the clauses `declared` and `kept`.
 use Rattle.std.proofs.Common.{◌≡◌, Some, [], rules}
 use Rattle.sqlite.specs.Held.{state}
-use Rattle.cs_store.specs.Declaration.{declaration_bytes}
+use Rattle.cs_stored.specs.Declaration.{declaration_bytes}
 use Rattle.cs_store.proofs.WriteLemmas.{table_put, no_table, on_ok_then, mapped, written_is, written_keeps}
 use Rattle.cs_store.proofs.tables.put_table.Goals as goal
 

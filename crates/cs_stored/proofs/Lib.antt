@@ -1,0 +1,10 @@
+pub mod CheckLemmas
+pub mod CodeLemmas
+pub mod DeclarationLemmas
+pub mod Examples
+pub mod StateOf
+pub mod StoreExamples
+pub mod StoredLemmas
+pub mod StoredReading
+pub mod StoredRowLemmas
+pub mod ValidLemmas

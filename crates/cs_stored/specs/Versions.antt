@@ -1,0 +1,10 @@
+-- The versions of records as their readers tell them apart. No public contract names this.
+use Rattle.std.specs.Prelude.{ℕ, List}
+use Rattle.cs_stored.specs.declared.version.Version.{Version}
+use Rattle.cs_stored.specs.declared.version.Version.TheVariants.{Current, Former}
+use Rattle.cs_stored.specs.Stored.{version, former_version}
+
+-- the bytes that stand for a version
+abbrev pub bytes_of : Version → List ℕ
+bytes_of Current = version
+bytes_of Former = former_version
