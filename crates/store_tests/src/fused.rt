@@ -2,32 +2,69 @@
 //! leaves of that.
 
 use crate::adoption::{open, opened};
-use crate::rows::{Call, declaration, edit_of, row_of, rows_of};
+use crate::rows::{Call, declaration, edit_of, end, row_of, rows_of};
 use crate::session::{code_of, edited, session_alone};
+use cs_apply::{Choice, Conflict, Noop, apply, revert};
+use cs_session::Session;
 use cs_store::{Store, StoreError, edit_in};
 use cs_value::Value;
 use sqlite::{Alter, Connection};
 use sqlite_disk::{Crash, Disk, Files, Fuse, Memory};
 use std::process::Abort;
 
-/// The calls that are stopped: none, an edit, the commit of a batch, and an edit by a session.
+/// The calls that commit, and none.
 #[derive(Clone, Copy, Debug)]
 enum Action {
     Nothing,
+    Declare,
     Edit,
     CommitBatch,
+    Apply,
+    Revert,
     EditInSession,
+    ApplyInSession,
+    Undo,
 }
 
-const ACTIONS: [Action; 3] = [Action::Edit, Action::CommitBatch, Action::EditInSession];
+/// The row of t, and the number of tables.
+type State = (&'static [Value<'static>], usize);
 
-/// The row of t that each call finds, and the row that it leaves.
-const FIRST: &[Value<'static>] = &[Value::Int(1), Value::Text("x")];
+/// What each call finds.
+const FIRST: State = (&[Value::Int(1), Value::Text("x")], 1);
 
-const SECOND: &[Value<'static>] = &[Value::Int(2), Value::Text("q")];
+/// What each call leaves, but the declaration of another table.
+const SECOND: State = (&[Value::Int(2), Value::Text("q")], 1);
 
-/// The edit by which t has the second row and not the first.
-const MOVE: Call = Call::Update("t", 1, SECOND);
+/// A call, and what it leaves.
+type Case = (Action, State);
+
+const CASES: &[Case] = &[
+    (Action::Declare, (FIRST.0, 2)),
+    (Action::Edit, SECOND),
+    (Action::CommitBatch, SECOND),
+    (Action::Apply, SECOND),
+    (Action::Revert, SECOND),
+    (Action::EditInSession, SECOND),
+    (Action::ApplyInSession, SECOND),
+    (Action::Undo, SECOND),
+];
+
+/// A store is opened, and no more.
+const OPENING: Case = (Action::Nothing, FIRST);
+
+/// The edit by which t has the second row and not the first, and its inverse.
+const MOVE: Call = Call::Update("t", 1, SECOND.0);
+
+const MOVE_BACK: Call = Call::Update("t", 2, FIRST.0);
+
+/// An INSERT of the second row and the DELETE of the first, and their inverse.
+const FORTH: &[u8] = b"T\x02\x01\x00t\x00\
+\x12\x00\x01\x00\x00\x00\x00\x00\x00\x00\x02\x03\x01q\
+\x09\x00\x01\x00\x00\x00\x00\x00\x00\x00\x01\x03\x01x";
+
+const BACK: &[u8] = b"T\x02\x01\x00t\x00\
+\x09\x00\x01\x00\x00\x00\x00\x00\x00\x00\x02\x03\x01q\
+\x12\x00\x01\x00\x00\x00\x00\x00\x00\x00\x01\x03\x01x";
 
 /// Commits a batch with that edit.
 fn commit_batch<S: Alter>(
@@ -39,21 +76,63 @@ fn commit_batch<S: Alter>(
     batch.commit()
 }
 
-/// Has a session carry out that edit. It has noted something if the edit is carried out, and else nothing.
-fn edit_in_session<S: Alter>(rt: &(impl Abort + AllocGlobal), store: &mut Store<S>) -> u8 {
+/// Applies a file, and returns the code of the refusal, or 0.
+fn applied<S: Alter>(rt: &(impl Abort + AllocGlobal), store: &mut Store<S>) -> u8 {
+    let handler = |_: &Conflict| Choice::Abort;
+    code_of(apply(rt.alloc(), store, FORTH, Noop::Report, &handler))
+}
+
+/// Has a session apply a file, and returns the code of the refusal, or 0.
+fn applied_in<S: Alter>(
+    rt: &(impl Abort + AllocGlobal),
+    session: &mut Session,
+    store: &mut Store<S>,
+) -> u8 {
+    let handler = |_: &Conflict| Choice::Abort;
+    code_of(session.apply_recorded(rt.alloc(), store, FORTH, Noop::Report, &handler))
+}
+
+/// Has a session carry out that edit, or apply that file. It has noted something if that is carried out, and else nothing.
+fn call_session<S: Alter>(
+    rt: &(impl Abort + AllocGlobal),
+    store: &mut Store<S>,
+    is_edit: bool,
+) -> u8 {
     let mut session = session_alone(rt);
-    let code = edited(rt, &mut session, store, MOVE);
+    let code = if is_edit {
+        edited(rt, &mut session, store, MOVE)
+    } else {
+        applied_in(rt, &mut session, store)
+    };
     assert!(rt; session.is_empty() == (code != 0));
     code
+}
+
+/// Undoes what a session has noted of another store, in which it moved the second row back.
+fn undone<S: Alter>(rt: &(impl Abort + AllocGlobal), store: &mut Store<S>) -> u8 {
+    let mut other = Store::new_memory(rt.alloc()).expect(rt, "a store");
+    fill(rt, &mut other, SECOND.0);
+    let mut session = Session::new(rt.alloc());
+    session
+        .attach(rt.alloc(), &mut other, "t")
+        .expect(rt, "a table");
+    assert!(rt; edited(rt, &mut session, &mut other, MOVE_BACK) == 0);
+    end(other);
+    code_of(session.undo(rt.alloc(), store))
 }
 
 /// Makes a call, and returns the code of its refusal, or 0.
 fn call<S: Alter>(rt: &(impl Abort + AllocGlobal), store: &mut Store<S>, action: Action) -> u8 {
     match action {
         Action::Nothing => 0,
+        Action::Declare => code_of(declaration(rt, store, "u", &[false, false])),
         Action::Edit => code_of(store.edit(rt.alloc(), &edit_of(rt, MOVE))),
         Action::CommitBatch => code_of(commit_batch(rt, store)),
-        Action::EditInSession => edit_in_session(rt, store),
+        Action::Apply => applied(rt, store),
+        Action::Revert => code_of(revert(rt.alloc(), store, BACK)),
+        Action::EditInSession => call_session(rt, store, true),
+        Action::ApplyInSession => call_session(rt, store, false),
+        Action::Undo => undone(rt, store),
     }
 }
 
@@ -88,17 +167,38 @@ fn called_on<D: Disk + Drop>(
     }
 }
 
-/// Returns the files of a store whose table t has the first row.
+/// Declares t in a store, with this row.
+fn fill<S: Alter>(
+    rt: &(impl Abort + AllocGlobal),
+    store: &mut Store<S>,
+    row: &'static [Value<'static>],
+) {
+    declaration(rt, store, "t", &[false, false]).expect(rt, "a table");
+    let edit = edit_of(rt, Call::Insert("t", row));
+    store.edit(rt.alloc(), &edit).expect(rt, "no refusal");
+}
+
+/// Returns the files of a store with the first state.
 fn first_files(rt: &(impl Abort + AllocGlobal)) -> Files<Memory> {
     let empty = Files {
         log: Memory::new(rt.alloc()),
         db: Memory::new(rt.alloc()),
     };
     let mut store = opened(rt, empty);
-    declaration(rt, &mut store, &[false, false]).expect(rt, "a table");
-    let edit = edit_of(rt, Call::Insert("t", FIRST));
-    store.edit(rt.alloc(), &edit).expect(rt, "no refusal");
+    fill(rt, &mut store, FIRST.0);
     store.into_connection().into_store().close()
+}
+
+/// Returns the files of a store with the first state, in the former version.
+fn former_files(rt: &(impl Abort + AllocGlobal)) -> Files<Memory> {
+    let change = "UPDATE rec SET rowb = X'01' WHERE tab = '' AND keyb = X''";
+    match open(rt, first_files(rt)) {
+        Ok(mut conn) => {
+            assert!(rt; conn.execute(change, &[]) == Ok(1));
+            conn.into_store().close()
+        }
+        Err((error, _)) => panic!(rt; "no database: {error}"),
+    }
 }
 
 /// Returns a file with the bytes of another, all of which are synced.
@@ -127,56 +227,54 @@ fn fused(
     }
 }
 
-/// Whether the table t of a store has this row, and no other.
-fn has<S: Alter>(rt: &(impl Abort + AllocGlobal), store: &mut Store<S>, row: &[Value<'_>]) -> bool {
+/// Whether a store has this many tables, and t this row and no other.
+fn has<S: Alter>(rt: &(impl Abort + AllocGlobal), store: &mut Store<S>, state: State) -> bool {
+    let (row, count) = state;
+    if store.tables(rt.alloc()).expect(rt, "names").len() != count {
+        return false;
+    }
     let rows = rows_of(rt, store);
     rows.len() == 1 && rows.first() == Some(&row_of(rt, row))
 }
 
-/// Whether the store in files has the row that a call leaves, or the row that it finds if it was not carried out.
+/// Whether the store in files has what a call leaves, or what it finds if it was not carried out.
 fn hold<D: Disk + Drop>(
     rt: &(impl Abort + AllocGlobal),
     files: Files<D>,
-    action: Action,
+    after: State,
     is_done: bool,
 ) -> bool {
     let mut store = opened(rt, files);
-    match action {
-        Action::Nothing => has(rt, &mut store, FIRST),
-        _ => has(rt, &mut store, SECOND) || (!is_done && has(rt, &mut store, FIRST)),
-    }
+    has(rt, &mut store, after) || (!is_done && has(rt, &mut store, FIRST))
 }
 
 /// Whether a call is carried out on the store in fused files. What the disks hold then, and what a crash leaves of that,
-/// is a store with one of the two rows.
-fn is_carried_out(
-    rt: &(impl Abort + AllocGlobal),
-    files: Files<Fuse<Memory>>,
-    action: Action,
-) -> bool {
+/// is a store with what the call leaves or what it finds.
+fn is_carried_out(rt: &(impl Abort + AllocGlobal), files: Files<Fuse<Memory>>, case: Case) -> bool {
+    let (action, after) = case;
     let (is_done, mut files) = called_on(rt, files, action);
     let kept = Files {
         log: copy_of(rt, files.log.inner()),
         db: copy_of(rt, files.db.inner()),
     };
-    assert!(rt; hold(rt, kept, action, is_done), "{action:?}");
+    assert!(rt; hold(rt, kept, after, is_done), "{action:?}");
     files.log.crash();
     files.db.crash();
-    assert!(rt; hold(rt, files, action, is_done), "{action:?} and a crash");
+    assert!(rt; hold(rt, files, after, is_done), "{action:?} and a crash");
     is_done
 }
 
 /// Returns the number of calls that the log, or else the database, has to answer so that a call is carried out. The disk
-/// stops after this many calls, and after each number from there on.
+/// stops after this many calls, and after each number from the least on.
 fn count_calls(
     rt: &(impl Abort + AllocGlobal),
     files: &Files<Memory>,
-    action: Action,
+    case: Case,
     is_log: bool,
     least: u64,
 ) -> u64 {
     for calls in least..1000 {
-        if is_carried_out(rt, fused(rt, files, is_log, calls), action) {
+        if is_carried_out(rt, fused(rt, files, is_log, calls), case) {
             return calls;
         }
     }
@@ -187,10 +285,20 @@ fn count_calls(
 fn a_disk_that_stops_leaves_a_store(rt: HostRuntime) {
     let files = first_files(&rt);
     for is_log in [true, false] {
-        let opening = count_calls(&rt, &files, Action::Nothing, is_log, 0);
-        for action in ACTIONS {
-            let calls = count_calls(&rt, &files, action, is_log, opening);
-            assert!(rt; calls > opening, "{action:?}");
+        let opening = count_calls(&rt, &files, OPENING, is_log, 0);
+        for (place, case) in CASES.iter().enumerate() {
+            let calls = count_calls(&rt, &files, *case, is_log, opening);
+            assert!(rt; calls > opening, "at {place}");
         }
+    }
+}
+
+#[test]
+fn a_disk_that_stops_leaves_a_store_of_either_version(rt: HostRuntime) {
+    let (former, current) = (former_files(&rt), first_files(&rt));
+    for is_log in [true, false] {
+        let calls = count_calls(&rt, &former, OPENING, is_log, 0);
+        let fewer = count_calls(&rt, &current, OPENING, is_log, 0);
+        assert!(rt; calls > fewer || (calls == fewer && !is_log));
     }
 }

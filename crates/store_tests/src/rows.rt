@@ -93,20 +93,21 @@ pub(crate) fn tables(rt: &(impl Abort + AllocGlobal)) -> MemRows {
     rows
 }
 
-/// Declares t in a store. It refuses NULL in the columns with these marks.
+/// Declares a table in a store, with the columns of t. It refuses NULL in the columns with these marks.
 pub(crate) fn declaration<S: Alter>(
     rt: &(impl Abort + AllocGlobal),
     store: &mut Store<S>,
+    name: &str,
     refuses: &[bool],
 ) -> Result<(), StoreError> {
     let columns = names(rt, "a", "b");
-    store.declare(rt.alloc(), "t", &columns, &[true, false], refuses)
+    store.declare(rt.alloc(), name, &columns, &[true, false], refuses)
 }
 
 /// Returns a store in memory with t, which refuses NULL in the columns with these marks and has no rows.
 pub(crate) fn store_of(rt: &(impl Abort + AllocGlobal), refuses: &[bool]) -> Store<MemStore> {
     let mut store = Store::new_memory(rt.alloc()).expect(rt, "a store");
-    declaration(rt, &mut store, refuses).expect(rt, "a table");
+    declaration(rt, &mut store, "t", refuses).expect(rt, "a table");
     store
 }
 
@@ -139,7 +140,7 @@ fn refuses_fewer_and_more_marks_in_memory(rt: HostRuntime) {
 fn refuses_fewer_and_more_marks_before_a_taken_name(rt: HostRuntime) {
     let mut store = store_of(&rt, &[false, false]);
     for refuses in OTHER_LENGTHS {
-        assert!(rt; declaration(&rt, &mut store, refuses) == Err(StoreError::BadSchema));
+        assert!(rt; declaration(&rt, &mut store, "t", refuses) == Err(StoreError::BadSchema));
     }
     end(store);
 }
