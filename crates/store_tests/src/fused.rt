@@ -29,17 +29,22 @@ enum Action {
 /// The row of t, and the number of tables.
 type State = (&'static [Value<'static>], usize);
 
+/// The row of t that each call finds, and the one that most leave.
+const FIRST_ROW: &[Value<'static>] = &[Value::Int(1), Value::Text("x")];
+
+const SECOND_ROW: &[Value<'static>] = &[Value::Int(2), Value::Text("q")];
+
 /// What each call finds.
-const FIRST: State = (&[Value::Int(1), Value::Text("x")], 1);
+const FIRST: State = (FIRST_ROW, 1);
 
 /// What each call leaves, but the declaration of another table.
-const SECOND: State = (&[Value::Int(2), Value::Text("q")], 1);
+const SECOND: State = (SECOND_ROW, 1);
 
 /// A call, and what it leaves.
 type Case = (Action, State);
 
 const CASES: &[Case] = &[
-    (Action::Declare, (FIRST.0, 2)),
+    (Action::Declare, (FIRST_ROW, 2)),
     (Action::Edit, SECOND),
     (Action::CommitBatch, SECOND),
     (Action::Apply, SECOND),
@@ -53,9 +58,9 @@ const CASES: &[Case] = &[
 const OPENING: Case = (Action::Nothing, FIRST);
 
 /// The edit by which t has the second row and not the first, and its inverse.
-const MOVE: Call = Call::Update("t", 1, SECOND.0);
+const MOVE: Call = Call::Update("t", 1, SECOND_ROW);
 
-const MOVE_BACK: Call = Call::Update("t", 2, FIRST.0);
+const MOVE_BACK: Call = Call::Update("t", 2, FIRST_ROW);
 
 /// An INSERT of the second row and the DELETE of the first, and their inverse.
 const FORTH: &[u8] = b"T\x02\x01\x00t\x00\
@@ -111,7 +116,7 @@ fn call_session<S: Alter>(
 /// Undoes what a session has noted of another store, in which it moved the second row back.
 fn undone<S: Alter>(rt: &(impl Abort + AllocGlobal), store: &mut Store<S>) -> u8 {
     let mut other = Store::new_memory(rt.alloc()).expect(rt, "a store");
-    fill(rt, &mut other, SECOND.0);
+    fill(rt, &mut other, SECOND_ROW);
     let mut session = Session::new(rt.alloc());
     session
         .attach(rt.alloc(), &mut other, "t")
@@ -185,7 +190,7 @@ fn first_files(rt: &(impl Abort + AllocGlobal)) -> Files<Memory> {
         db: Memory::new(rt.alloc()),
     };
     let mut store = opened(rt, empty);
-    fill(rt, &mut store, FIRST.0);
+    fill(rt, &mut store, FIRST_ROW);
     store.into_connection().into_store().close()
 }
 
