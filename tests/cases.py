@@ -1,53 +1,112 @@
 #!/usr/bin/env python3
-"""Runs the script of `crates/cases`, and names the case where something else is printed than has to be, or the one behind
-it where it prints too little.
+"""Runs the table of cases on the built program.
 
-python3 tests/cases.py [PROGRAM], where PROGRAM runs its standard input as a script, as `crates/changeset/out/changeset`
-does, which it is unless it is named."""
+`cases/` has one file for each topic. A topic is a script, and after each line the text that the program prints for it,
+with `= ` before each printed line, or `=` before an empty one. Each topic is run with a store of its own, and without the
+last line feed. Build the program first, as the gate does, or by `rt run` in `crates/changeset`.
+
+usage: tests/cases.py [PROGRAM]
+"""
+import collections
+import pathlib
 import subprocess
 import sys
-from pathlib import Path
+import unittest
 
-CRATES = Path(__file__).resolve().parent.parent / "crates"
+HERE = pathlib.Path(__file__).resolve().parent
+TABLE = HERE / "cases"
+PROGRAM = HERE.parent / "crates/changeset/out/changeset"
+
+# How many seconds one run may take.
+PATIENCE = 120
+
+# A line of a topic: its number in the file, its bytes, the bytes that it prints, and the comment of its case.
+Line = collections.namedtuple("Line", "number text printed case")
 
 
-def printed(program, lines):
-    """What the program prints of lines of a script."""
-    return subprocess.run([program], input=b"".join(lines), stdout=subprocess.PIPE).stdout
+def read_topic(file):
+    """Return the lines of the script of a topic."""
+    lines, case = [], []
+    for number, text in enumerate(file.read_bytes().split(b"\n")[:-1], 1):
+        if text.startswith(b"="):
+            lines[-1] = lines[-1]._replace(printed=lines[-1].printed + text[2:] + b"\n")
+            continue
+        if text.startswith(b"-- "):
+            is_next = bool(lines) and lines[-1].text.startswith(b"-- ")
+            case = [*case, text] if is_next else [text]
+        lines.append(Line(number, text, b"", b"\n".join(case)))
+    return lines
 
 
-def first_wrong(program, script, wanted):
-    """The count of lines of the script, as few as there may be, of which something else is printed."""
-    right, wrong = 0, len(script)
+def read_topics():
+    """Return the lines of each topic, by the name of its file."""
+    return {file.name: read_topic(file) for file in sorted(TABLE.iterdir())}
+
+
+def run(lines):
+    """Run lines as a script, and return the exit status and the text of both streams."""
+    script = b"\n".join(line.text for line in lines)
+    done = subprocess.run([PROGRAM], input=script, capture_output=True, timeout=PATIENCE)
+    return done.returncode, done.stdout, done.stderr
+
+
+def expected(lines):
+    """Return what `run` has to return: the status is 1 if a line is refused."""
+    is_refused = any(line.printed.startswith(b"error ") for line in lines)
+    return int(is_refused), b"".join(line.printed for line in lines), b""
+
+
+def first_wrong(lines):
+    """Return the number of lines in the shortest front of a script that does not run as expected, by halving."""
+    right, wrong = 0, len(lines)
     while right + 1 < wrong:
         middle = (right + wrong) // 2
-        if wanted.startswith(printed(program, script[:middle])):
+        if run(lines[:middle]) == expected(lines[:middle]):
             right = middle
         else:
             wrong = middle
     return wrong
 
 
-def case_of(script, count):
-    """The comment that stands last in so many lines of the script: it says what its case shows."""
-    end = next((n for n in range(count, 0, -1) if script[n - 1].startswith(b"-- ")), 0)
-    start = end
-    while start > 0 and script[start - 1].startswith(b"--"):
-        start -= 1
-    return b"".join(script[start:end]).decode().strip()
+def difference(topic, lines):
+    """Return a message: the line that does not run as expected, its case, and what is printed from there on."""
+    front = lines[:first_wrong(lines)]
+    line = front[-1]
+    status, printed, errors = run(front)
+    start = len(expected(front[:-1])[1])
+    return (
+        f"\ntests/cases/{topic}, line {line.number}: {line.text[:200]!r}\nin the case\n{line.case.decode(errors='replace')}\n"
+        f"expected {line.printed[:500]!r}\nprinted  {printed[start:][:500]!r}\nexit status {status}, {errors[:500]!r}"
+    )
 
 
-def main(program):
-    script = (CRATES / "cases/stdin").read_bytes().splitlines(keepends=True)
-    wanted = (CRATES / "cases/stdout").read_bytes()
-    if not Path(program).exists():
-        sys.exit(f"tests/cases.py: there is no {program}; `rt run` in crates/changeset builds it")
-    if printed(program, script) == wanted:
-        print("each case prints what it has to")
-        return
-    count = first_wrong(program, script, wanted)
-    sys.exit(f"tests/cases.py: line {count} of crates/cases/stdin prints something else, in the case\n{case_of(script, count)}")
+class Cases(unittest.TestCase):
+    """Each topic prints what its file says."""
+
+
+def test_of(topic, lines):
+    """Return the test of a topic."""
+
+    def test(self):
+        if run(lines) != expected(lines):
+            self.fail(difference(topic, lines))
+
+    return test
+
+
+for name, script_lines in read_topics().items():
+    setattr(Cases, f"test_{name}", test_of(name, script_lines))
+
+
+def main():
+    global PROGRAM
+    words = sys.argv[1:]
+    if words and not words[0].startswith("-"):
+        PROGRAM = pathlib.Path(words.pop(0)).resolve()
+    if not PROGRAM.is_file():
+        sys.exit(f"no program at {PROGRAM}: build it by `rt run` in crates/changeset")
+    unittest.main(argv=[sys.argv[0], *words])
 
 
 if __name__ == "__main__":
-    main(sys.argv[1] if len(sys.argv) > 1 else CRATES / "changeset/out/changeset")
+    main()

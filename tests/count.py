@@ -3,9 +3,9 @@
 import re
 import sys
 
-# How many parts are told by unittest, or as it tells them: three of the bindings, two of the examples, one of both
-# with SQLite, and seven of the program.
-PARTS = 13
+# The number of parts that unittest reports, or that print as it does: three of the bindings, two of the examples, one of
+# both with SQLite, and eight of the program.
+PARTS = 14
 
 said = sys.stdin.read()
 gate = [tuple(map(int, counts)) for counts in re.findall(r"^(\d+) passed, (\d+) failed$", said, re.M)]

@@ -2,7 +2,7 @@
 """Tests of the library as it is linked: the calls on files of the module `vollikash`, and those of vollikash.h by `bindings/c/check.c`.
 
 What is wanted is what the changeset program does with the same files: the recorded ones of `examples/` and
-`tests/recorded`, their prefixes, and those of the stored run of `crates/cases`, most of which are damaged.
+`tests/recorded`, their prefixes, and those that the table of cases `tests/cases` loads, most of which are damaged.
 `bindings/check` builds what this needs, and runs it.
 
 usage: bindings/python/test_vollikash.py
@@ -105,8 +105,8 @@ def prefixes():
 
 
 def loaded():
-    """The files that the stored run of the shell loads."""
-    lines = (TOP / "crates/cases/stdin").read_bytes().splitlines()
+    """Return the files that the table of cases loads."""
+    lines = [line for topic in (TOP / "tests/cases").iterdir() for line in topic.read_bytes().splitlines()]
     loads = [re.fullmatch(rb"\.load \w+ ((?:[0-9a-f]{2})+)", line) for line in lines]
     return sorted({bytes.fromhex(load[1].decode()) for load in loads if load})
 

@@ -1,5 +1,4 @@
-//! Tests of scripts, of what no contract and no line of a script says. They stand by themselves, since they are proved
-//! behind the shell: the tests of the crates below it, `cs_tests`, are proved beside it.
+//! Tests of scripts whose streams fail. The tests of the crates below the shell are `format_tests` and `store_tests`.
 #![tactic(auto)]
 
 #[cfg(test)]

@@ -1,84 +1,18 @@
-//! Callers of `cs_wire`, `cs_group`, `cs_store`, `cs_apply` and `cs_session`, as `CALLING.md` of these
-//! crates shows them.
+//! Callers of `cs_store`, `cs_apply` and `cs_session`, as `CALLING.md` of these crates shows them.
 ghost use Rattle.std.specs.Prelude.{◌≡◌, OnOk};
 ghost use Rattle.sqlite.specs.State.{HasCleanDisk};
 ghost use Rattle.sqlite.specs.Held.{state};
 ghost use Rattle.cs_value.specs.State.{rows_at};
 ghost use Rattle.cs_store.specs.Store.{tables_in};
 
-use crate::store::insertion;
-use crate::stores::{end, rows_of, store_with_table};
-use crate::{DELETE, INSERT, UPDATE, WIDER_INSERT};
+use crate::rows::{Call, edit_of, end, rows_of, store_of};
+use crate::{DELETE, INSERT, UPDATE};
 use cs_apply::{ApplyFault, Choice, Conflict, Noop, Policy, Report, apply};
-use cs_group::{ConcatFault, concat, invert};
 use cs_session::{Session, SessionFault, runs_law};
 use cs_store::{Edit, Rows, Store, StoreError, edit_in};
 use cs_value::{OwnedValue, Row, Value};
-use cs_wire::{Changeset, Entry, ReadError, read, write};
 use sqlite::Alter;
 use std::alloc::Global;
-use std::process::Abort;
-
-/// The file with one more entry in each table whose columns it fits and that has not its key yet.
-fn add_to_each(alloc: Global, file: &[u8], entry: &Entry) -> Result<Vec<u8>, ReadError> {
-    let mut all = Changeset::new(alloc);
-    for mut group in read(alloc, file)?.into_groups() {
-        if group.header().admits(entry) {
-            let key = group.key_of(alloc, entry)?;
-            if group.find(&key).is_none() {
-                group.push_with_key(key, entry.copy(alloc)?)?;
-            }
-        }
-        if all.find(group.header().name()).is_none() {
-            all.push(group)?;
-        }
-    }
-    Ok(write(alloc, &all)?)
-}
-
-/// The entry of a file that has one.
-fn only_entry(rt: &(impl Abort + AllocGlobal), file: &[u8]) -> Entry {
-    let changeset = read(rt.alloc(), file).expect(rt, "a changeset");
-    let group = changeset.groups().first().expect(rt, "a table");
-    let entry = group.entries().first().expect(rt, "an entry");
-    entry.copy(rt.alloc()).expect(rt, "memory")
-}
-
-#[test]
-fn adds_an_entry(rt: HostRuntime) {
-    let entry = only_entry(&rt, b"\x54\x01\x01t\x00\x12\x00\x03\x01b");
-    let both = add_to_each(rt.alloc(), b"\x54\x01\x01u\x00\x12\x00\x03\x01a", &entry).expect(
-        &rt, "memory",
-    );
-    assert!(rt;
-        both.as_slice() == b"\x54\x01\x01u\x00\x12\x00\x03\x01a\x12\x00\x03\x01b".as_slice()
-    );
-    let same = add_to_each(rt.alloc(), &both, &entry).expect(&rt, "memory");
-    assert!(rt; same == both);
-}
-
-/// The file that undoes two others, the one after the other, or None where a table of theirs
-/// differs.
-fn undo_of(alloc: Global, first: &[u8], second: &[u8]) -> Result<Option<Vec<u8>>, ReadError> {
-    let (first, second) = (read(alloc, first)?, read(alloc, second)?);
-    match concat(alloc, &first, &second) {
-        Ok(both) => Ok(Some(write(alloc, &invert(alloc, both)?)?)),
-        Err(ConcatFault::Fault(_)) => Ok(None),
-        Err(ConcatFault::NoMemory) => Err(ReadError::NoMemory),
-    }
-}
-
-#[test]
-fn undoes_two_files(rt: HostRuntime) {
-    for (first, second, undone) in [
-        (DELETE, INSERT, Some(b"".as_slice())),
-        (DELETE, UPDATE, Some(INSERT)),
-        (INSERT, WIDER_INSERT, None),
-    ] {
-        let undo = undo_of(rt.alloc(), first, second).expect(&rt, "memory");
-        assert!(rt; undo.as_deref() == undone);
-    }
-}
 
 /// Inserts the row of a key into t.
 fn insert<B: Rows>(alloc: Global, rows: &mut B, key: i64) -> Result<(), StoreError> {
@@ -102,7 +36,7 @@ fn fill<S: Alter>(alloc: Global, store: &mut Store<S>, count: i64) -> Result<(),
 
 #[test]
 fn fills_a_table(rt: HostRuntime) {
-    let mut store = store_with_table(&rt);
+    let mut store = store_of(&rt, &[false, false]);
     fill(rt.alloc(), &mut store, 10).expect(&rt, "no refusal");
     assert!(rt; rows_of(&rt, &mut store).len() == 10);
     end(store);
@@ -123,7 +57,7 @@ fn replay<S: Alter>(alloc: Global, store: &mut Store<S>, file: &[u8]) -> Result<
 
 #[test]
 fn replays_files(rt: HostRuntime) {
-    let mut store = store_with_table(&rt);
+    let mut store = store_of(&rt, &[false, false]);
     for (file, count) in [(INSERT, 1), (INSERT, 1), (DELETE, 1), (DELETE, 0)] {
         let written = replay(rt.alloc(), &mut store, file).expect(&rt, "no refusal");
         assert!(rt; written == count);
@@ -149,15 +83,13 @@ fn edit_all<S: Alter>(
 
 #[test]
 fn undoes_what_a_refused_edit_follows(rt: HostRuntime) {
-    let mut store = store_with_table(&rt);
+    let mut store = store_of(&rt, &[false, false]);
     let mut session = Session::new(rt.alloc());
     session
         .attach(rt.alloc(), &mut store, "t")
         .expect(&rt, "a table");
-    let edits = [
-        insertion(&rt, "t", &[Value::Int(1), Value::Null]),
-        insertion(&rt, "t", &[Value::Int(1), Value::Null]),
-    ];
+    let call = Call::Insert("t", &[Value::Int(1), Value::Null]);
+    let edits = [edit_of(&rt, call), edit_of(&rt, call)];
     let answer = edit_all(rt.alloc(), &mut session, &mut store, &edits);
     assert!(rt; matches!(answer, Err(SessionFault::Store(StoreError::KeyTaken))));
     assert!(rt; rows_of(&rt, &mut store).is_empty());
@@ -188,8 +120,8 @@ fn rehearse<S: Alter>(
 
 #[test]
 fn rehearses_an_apply(rt: HostRuntime) {
-    let mut store = store_with_table(&rt);
-    let edit = insertion(&rt, "t", &[Value::Int(1), Value::Text("x")]);
+    let mut store = store_of(&rt, &[false, false]);
+    let edit = edit_of(&rt, Call::Insert("t", &[Value::Int(1), Value::Text("x")]));
     let report = rehearse(rt.alloc(), &mut store, "t", &edit, UPDATE).expect(&rt, "no refusal");
     assert!(rt; report.written.len() == 1);
     assert!(rt; rows_of(&rt, &mut store).is_empty());

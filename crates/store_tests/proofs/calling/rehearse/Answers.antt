@@ -1,4 +1,4 @@
--- An undo behind an attach, an edit and an apply gives the table its rows back, by the law of runs.
+-- An undo after an attach, an edit and an apply restores the rows of the table, by the law of runs.
 use Rattle.std.proofs.Common.{◌≡◌, ◌≢◌, ℕ, List, [], ◌∷◌, map, ap, subst, ◌∙◌, arith}
 use Rattle.std.proofs.lemmas.List.Elements.{All-from_recursion}
 use Rattle.sqlite.specs.Effect.{Database}
@@ -18,7 +18,7 @@ use Rattle.cs_session.specs.Undoing.{Undoes}
 use Rattle.cs_session.specs.Runs.{Moment, Run, KeepsBefore, RowsFromBefore}
 use Rattle.cs_value.proofs.ListLemmas.{AllPairs-from_recursion}
 use Rattle.cs_session.proofs.RunsLemmas.{attached_step, edited_step, applied_step}
-use Rattle.cs_tests.proofs.calling.rehearse.Goals as goal
+use Rattle.store_tests.proofs.calling.rehearse.Goals as goal
 
 module _ (chooses : Handler) (noop : Noop) (file name : List ℕ) (edit : Edit) (s0 s1 s2 s3 s4 : State) (n1 n2 n3 : Notes) (report undone : Report) where
   given_back : RowsFromBefore → Attaches s0 name [] n1 → s1 ≡ s0 → Records s1 edit n1 s2 n2 → RecordsApply chooses noop file s2 n2 report s3 n3

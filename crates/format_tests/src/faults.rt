@@ -1,9 +1,7 @@
-//! Numbers, classes, names and texts of what calls refuse with.
+//! Numbers, classes, names and texts of faults.
 
-use cs_apply::ApplyFault;
 use cs_files::{FileFault, OutputFault, ToolFault};
 use cs_group::SchemaFault;
-use cs_store::StoreError;
 use cs_value::{Fault, FieldFault, FieldFaultKind, ImageFault, NoMemory};
 use cs_wire::{ReadError, ReadFault, ReadFaultKind};
 use std::fmt::Display;
@@ -21,7 +19,7 @@ const READ_FAULT: ReadFault = ReadFault {
     place: 20,
 };
 
-/// What the faults of fields are printed as.
+/// The texts of the faults of fields.
 const FIELD_TEXTS: &[(FieldFaultKind, &str)] = &[
     (FieldFaultKind::Truncated, "the bytes end inside a field"),
     (
@@ -33,7 +31,7 @@ const FIELD_TEXTS: &[(FieldFaultKind, &str)] = &[
     (FieldFaultKind::BadText, "a text is not UTF-8"),
 ];
 
-/// What the faults of files are printed as.
+/// The texts of the faults of files.
 const FILE_TEXTS: &[(ReadFaultKind, &str)] = &[
     (ReadFaultKind::Truncated, "the file ends inside a part"),
     (
@@ -79,8 +77,8 @@ const FILE_TEXTS: &[(ReadFaultKind, &str)] = &[
     (ReadFaultKind::DuplicateKey, "a key stands twice in a table"),
 ];
 
-/// Asserts what is printed of a fault.
-pub(crate) fn expect_text(rt: &(impl Abort + AllocGlobal), fault: &impl Display, text: &str) {
+/// Asserts the text of a fault.
+fn expect_text(rt: &(impl Abort + AllocGlobal), fault: &impl Display, text: &str) {
     let shown = format!(in rt.alloc(); "{fault}").expect(rt, "memory");
     assert!(rt; shown.as_str() == text, "at {text}");
 }
@@ -106,7 +104,7 @@ fn prints_places(rt: HostRuntime) {
 }
 
 #[test]
-fn prints_want_of_memory(rt: HostRuntime) {
+fn prints_out_of_memory(rt: HostRuntime) {
     expect_text(&rt, &NoMemory, "out of memory");
     expect_text(&rt, &ImageFault::NoMemory, "out of memory");
     expect_text(&rt, &ReadError::NoMemory, "out of memory");
@@ -158,7 +156,6 @@ fn numbers_faults_of_files(rt: HostRuntime) {
     expect_named(&rt, &FileFault::First(READ_FAULT), 16, 11, "Unpaired");
     expect_named(&rt, &FileFault::Second(READ_FAULT), 16, 11, "Unpaired");
     expect_named(&rt, &OutputFault, 72, 10, "OutputFault");
-    expect_named(&rt, &ApplyFault::Wider(3), 40, 17, "Wider");
     let text = "a table has other columns or another key at group 3";
     expect_text(&rt, &schema, text);
     expect_text(&rt, &ToolFault::Fault(FileFault::Schema(schema)), text);
@@ -166,27 +163,8 @@ fn numbers_faults_of_files(rt: HostRuntime) {
 }
 
 #[test]
-fn numbers_want_of_memory(rt: HostRuntime) {
+fn numbers_out_of_memory(rt: HostRuntime) {
     expect_named(&rt, &NoMemory, 60, 7, "NoMemory");
     expect_named(&rt, &ImageFault::from(NoMemory), 60, 7, "NoMemory");
     expect_named(&rt, &ReadError::from(NoMemory), 60, 7, "NoMemory");
-}
-
-#[test]
-fn numbers_refusals_of_stores(rt: HostRuntime) {
-    for (error, code, class, name) in [
-        (StoreError::TableExists, 30, 1, "TableExists"),
-        (StoreError::NoTable, 31, 1, "NoTable"),
-        (StoreError::BadSchema, 32, 1, "BadSchema"),
-        (StoreError::KeyTaken, 33, 1, "KeyTaken"),
-        (StoreError::NoRow, 34, 1, "NoRow"),
-        (StoreError::RowWidth, 35, 1, "RowWidth"),
-        (StoreError::NullInKey, 36, 1, "NullInKey"),
-        (StoreError::DamagedStore, 37, 11, "DamagedStore"),
-        (StoreError::StoreFault, 38, 1, "StoreFault"),
-        (StoreError::NotNull, 39, 19, "NotNull"),
-        (StoreError::NoMemory, 60, 7, "NoMemory"),
-    ] {
-        expect_named(&rt, &error, code, class, name);
-    }
 }

@@ -1,0 +1,72 @@
+//! Callers of `cs_wire` and `cs_group`, as `CALLING.md` of these crates shows them.
+
+use crate::{DELETE, INSERT, UPDATE};
+use cs_group::{ConcatFault, concat, invert};
+use cs_wire::{Changeset, Entry, ReadError, read, write};
+use std::alloc::Global;
+use std::process::Abort;
+
+/// An INSERT of (1, NULL, NULL) into a table t of three columns, whose first column is its key.
+const WIDER_INSERT: &[u8] =
+    b"T\x03\x01\x00\x00t\x00\x12\x00\x01\x00\x00\x00\x00\x00\x00\x00\x01\x05\x05";
+
+/// The file with one more entry in each table whose columns it fits and that has not its key yet.
+fn add_to_each(alloc: Global, file: &[u8], entry: &Entry) -> Result<Vec<u8>, ReadError> {
+    let mut all = Changeset::new(alloc);
+    for mut group in read(alloc, file)?.into_groups() {
+        if group.header().admits(entry) {
+            let key = group.key_of(alloc, entry)?;
+            if group.find(&key).is_none() {
+                group.push_with_key(key, entry.copy(alloc)?)?;
+            }
+        }
+        if all.find(group.header().name()).is_none() {
+            all.push(group)?;
+        }
+    }
+    Ok(write(alloc, &all)?)
+}
+
+/// The entry of a file that has one.
+fn only_entry(rt: &(impl Abort + AllocGlobal), file: &[u8]) -> Entry {
+    let changeset = read(rt.alloc(), file).expect(rt, "a changeset");
+    let group = changeset.groups().first().expect(rt, "a table");
+    let entry = group.entries().first().expect(rt, "an entry");
+    entry.copy(rt.alloc()).expect(rt, "memory")
+}
+
+#[test]
+fn adds_an_entry(rt: HostRuntime) {
+    let entry = only_entry(&rt, b"\x54\x01\x01t\x00\x12\x00\x03\x01b");
+    let both = add_to_each(rt.alloc(), b"\x54\x01\x01u\x00\x12\x00\x03\x01a", &entry).expect(
+        &rt, "memory",
+    );
+    assert!(rt;
+        both.as_slice() == b"\x54\x01\x01u\x00\x12\x00\x03\x01a\x12\x00\x03\x01b".as_slice()
+    );
+    let same = add_to_each(rt.alloc(), &both, &entry).expect(&rt, "memory");
+    assert!(rt; same == both);
+}
+
+/// The file that undoes two others, the one after the other, or None where a table of theirs
+/// differs.
+fn undo_of(alloc: Global, first: &[u8], second: &[u8]) -> Result<Option<Vec<u8>>, ReadError> {
+    let (first, second) = (read(alloc, first)?, read(alloc, second)?);
+    match concat(alloc, &first, &second) {
+        Ok(both) => Ok(Some(write(alloc, &invert(alloc, both)?)?)),
+        Err(ConcatFault::Fault(_)) => Ok(None),
+        Err(ConcatFault::NoMemory) => Err(ReadError::NoMemory),
+    }
+}
+
+#[test]
+fn undoes_two_files(rt: HostRuntime) {
+    for (first, second, undone) in [
+        (DELETE, INSERT, Some(b"".as_slice())),
+        (DELETE, UPDATE, Some(INSERT)),
+        (INSERT, WIDER_INSERT, None),
+    ] {
+        let undo = undo_of(rt.alloc(), first, second).expect(&rt, "memory");
+        assert!(rt; undo.as_deref() == undone);
+    }
+}

@@ -1,0 +1,80 @@
+//! Databases that are adopted as stores, or handed back.
+
+use cs_store::{Store, StoreError};
+use sqlite::{Alter, Connection, Error, FileStore, Leftover, MemStore, Options};
+use sqlite_disk::{Disk, Files};
+use std::process::Abort;
+
+/// Returns a database in memory.
+fn database(rt: &(impl Abort + AllocGlobal)) -> Connection<MemStore> {
+    Connection::open_in_memory(rt.alloc()).expect(rt, "memory")
+}
+
+/// Returns the store of a database that is one.
+fn adopted<S: Alter>(rt: &(impl Abort + AllocGlobal), conn: Connection<S>) -> Store<S> {
+    match Store::adopt(rt.alloc(), conn) {
+        Ok(store) => store,
+        Err((error, _)) => panic!(rt; "no store: {error}"),
+    }
+}
+
+/// Opens a database in files. What is written goes to the log at once, and what is in the log is copied back before a
+/// transaction writes.
+pub(crate) fn open<D: Disk + Drop>(
+    rt: &(impl Abort + AllocGlobal),
+    files: Files<D>,
+) -> Result<Connection<FileStore<D>>, (Error, Leftover<D>)> {
+    assert!(rt; files.log.may_be_used() && files.db.may_be_used());
+    let options = Options {
+        cache_pages: 4,
+        spill_pages: 1,
+        checkpoint_frames: 1,
+        seed: 1,
+    };
+    Connection::open_files(rt.alloc(), files, options)
+}
+
+/// Returns the store on disks that answer.
+pub(crate) fn opened<D: Disk + Drop>(
+    rt: &(impl Abort + AllocGlobal),
+    files: Files<D>,
+) -> Store<FileStore<D>> {
+    match open(rt, files) {
+        Ok(conn) => adopted(rt, conn),
+        Err((error, _)) => panic!(rt; "no database: {error}"),
+    }
+}
+
+/// Returns the connection to a database that is refused for this reason.
+fn handed_back<S: Alter>(
+    rt: &(impl Abort + AllocGlobal),
+    conn: Connection<S>,
+    why: StoreError,
+) -> Connection<S> {
+    match Store::adopt(rt.alloc(), conn) {
+        Ok(_) => panic!(rt; "a store"),
+        Err((error, conn)) => {
+            assert!(rt; error == why);
+            conn
+        }
+    }
+}
+
+#[test]
+fn adopts_an_empty_database_and_its_store(rt: HostRuntime) {
+    let store = adopted(&rt, database(&rt));
+    let mut again = adopted(&rt, store.into_connection());
+    assert!(rt; again.tables(rt.alloc()).expect(&rt, "names").is_empty());
+    let _conn = again.into_connection();
+}
+
+#[test]
+fn hands_a_connection_back(rt: HostRuntime) {
+    let mut conn = database(&rt);
+    conn.execute("BEGIN", &[]).expect(&rt, "a transaction");
+    let mut conn = handed_back(&rt, conn, StoreError::StoreFault);
+    conn.execute("CREATE TABLE rec(x)", &[])
+        .expect(&rt, "a table");
+    conn.execute("COMMIT", &[]).expect(&rt, "a commit");
+    let _conn = handed_back(&rt, conn, StoreError::DamagedStore);
+}

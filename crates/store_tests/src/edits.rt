@@ -1,0 +1,140 @@
+//! Edits of rows in memory and in a batch, which return the same.
+
+use crate::rows::{Call, edit_of, end, rows_of, store_of, tables};
+use cs_store::{Rows, Store, StoreError, Written, edit_in};
+use cs_value::{Row, Value};
+use sqlite::Alter;
+use std::process::Abort;
+
+/// An edit, the number of keys that it writes or why it is refused, and the number of rows of t after it.
+type Case = (Call, Result<usize, StoreError>, usize);
+
+/// Edits of a table t that refuses NULL in b and has no rows, in turn.
+const CASES: &[Case] = &[
+    (
+        Call::Insert("t", &[Value::Int(2), Value::Text("x")]),
+        Ok(1),
+        1,
+    ),
+    (
+        Call::Insert("t", &[Value::Text("a"), Value::Blob(b"y")]),
+        Ok(1),
+        2,
+    ),
+    (
+        Call::Insert("u", &[Value::Int(3)]),
+        Err(StoreError::NoTable),
+        2,
+    ),
+    (
+        Call::Insert("t", &[Value::Null]),
+        Err(StoreError::RowWidth),
+        2,
+    ),
+    (
+        Call::Insert("t", &[Value::Null, Value::Null]),
+        Err(StoreError::NullInKey),
+        2,
+    ),
+    (
+        Call::Insert("t", &[Value::Int(2), Value::Null]),
+        Err(StoreError::NotNull),
+        2,
+    ),
+    (
+        Call::Insert("t", &[Value::Int(2), Value::Int(7)]),
+        Err(StoreError::KeyTaken),
+        2,
+    ),
+    (
+        Call::Update("u", 2, &[Value::Int(3)]),
+        Err(StoreError::NoTable),
+        2,
+    ),
+    (
+        Call::Update("t", 1, &[Value::Null]),
+        Err(StoreError::RowWidth),
+        2,
+    ),
+    (
+        Call::Update("t", 1, &[Value::Int(1), Value::Null]),
+        Err(StoreError::NotNull),
+        2,
+    ),
+    (
+        Call::Update("t", 1, &[Value::Int(1), Value::Int(7)]),
+        Err(StoreError::NoRow),
+        2,
+    ),
+    (
+        Call::Update("t", 2, &[Value::Text("a"), Value::Int(7)]),
+        Err(StoreError::KeyTaken),
+        2,
+    ),
+    (
+        Call::Update("t", 2, &[Value::Int(2), Value::Int(7)]),
+        Ok(1),
+        2,
+    ),
+    (
+        Call::Update("t", 2, &[Value::Int(3), Value::Int(7)]),
+        Ok(2),
+        2,
+    ),
+    (Call::Delete("u", 3), Err(StoreError::NoTable), 2),
+    (Call::Delete("t", 2), Err(StoreError::NoRow), 2),
+    (Call::Delete("t", 3), Ok(1), 1),
+];
+
+/// Returns the rows of t.
+fn listed<B: Rows>(rt: &(impl Abort + AllocGlobal), rows: &mut B) -> Vec<Row> {
+    match rows.schema(rt.alloc(), "t").expect(rt, "memory") {
+        Some(_) => rows.list(rt.alloc(), "t").expect(rt, "memory"),
+        None => panic!(rt; "no table"),
+    }
+}
+
+/// Returns the number of keys that were written.
+fn count(answer: Result<Vec<Written>, StoreError>) -> Result<usize, StoreError> {
+    match answer {
+        Ok(written) => Ok(written.len()),
+        Err(error) => Err(error),
+    }
+}
+
+/// Carries out an edit, and returns the number of keys that it writes.
+fn edit<B: Rows>(
+    rt: &(impl Abort + AllocGlobal),
+    rows: &mut B,
+    call: Call,
+) -> Result<usize, StoreError> {
+    count(edit_in(rt.alloc(), rows, &edit_of(rt, call)))
+}
+
+/// Asserts what rows return for the edits, and how many rows there are after each.
+fn expect_answers<B: Rows>(rt: &(impl Abort + AllocGlobal), rows: &mut B) {
+    for (place, case) in CASES.iter().enumerate() {
+        let (call, answer, held) = *case;
+        assert!(rt; edit(rt, rows, call) == answer, "at {place}");
+        assert!(rt; listed(rt, rows).len() == held, "at {place}");
+    }
+}
+
+#[test]
+fn edits_rows_in_memory(rt: HostRuntime) {
+    expect_answers(&rt, &mut tables(&rt));
+}
+
+/// Asserts it of a batch, which is dropped.
+fn expect_answers_in_batch<S: Alter>(rt: &(impl Abort + AllocGlobal), store: &mut Store<S>) {
+    let mut batch = store.begin().expect(rt, "a batch");
+    expect_answers(rt, &mut batch);
+}
+
+#[test]
+fn edits_rows_in_a_batch(rt: HostRuntime) {
+    let mut store = store_of(&rt, &[false, true]);
+    expect_answers_in_batch(&rt, &mut store);
+    assert!(rt; rows_of(&rt, &mut store).is_empty());
+    end(store);
+}

@@ -1,0 +1,43 @@
+//! Tests of the public calls on rows, stores, applies and sessions: of what no contract and no line of a script says.
+//!
+//! `rows` makes rows and edits, and has tables in memory, `edits` the edits of rows in memory and in a batch, `apply`
+//! runs of changesets over rows in memory, `faults` the numbers and texts of refusals, `adoption` databases that are
+//! adopted as stores, `session` stores that are not those of a session, `fused` disks that stop answering, and
+//! `calling` the callers that `CALLING.md` of `cs_store`, `cs_apply` and `cs_session` shows.
+//!
+//! The table t of these tests has the columns a and b, of which a is the key.
+#![tactic(auto)]
+
+#[cfg(test)]
+mod adoption;
+#[cfg(test)]
+mod apply;
+#[cfg(test)]
+mod calling;
+#[cfg(test)]
+mod edits;
+#[cfg(test)]
+mod faults;
+#[cfg(test)]
+mod fused;
+#[cfg(test)]
+mod rows;
+#[cfg(test)]
+mod session;
+
+/// An INSERT of (1, 'x') into the table t, whose first column is its key.
+#[cfg(test)]
+const INSERT: &[u8] = b"T\x02\x01\x00t\x00\x12\x00\x01\x00\x00\x00\x00\x00\x00\x00\x01\x03\x01x";
+
+/// The DELETE of that row.
+#[cfg(test)]
+const DELETE: &[u8] = b"T\x02\x01\x00t\x00\x09\x00\x01\x00\x00\x00\x00\x00\x00\x00\x01\x03\x01x";
+
+/// The UPDATE of that 'x' to 'y'.
+#[cfg(test)]
+const UPDATE: &[u8] =
+    b"T\x02\x01\x00t\x00\x17\x00\x01\x00\x00\x00\x00\x00\x00\x00\x01\x03\x01x\x00\x03\x01y";
+
+/// An INSERT of (1, NULL).
+#[cfg(test)]
+const NULL_INSERT: &[u8] = b"T\x02\x01\x00t\x00\x12\x00\x01\x00\x00\x00\x00\x00\x00\x00\x01\x05";
