@@ -123,7 +123,7 @@ edit_numbered rows news gone numbered keyed fresh = record {
 
 -- ---- the records
 
--- the other rows are as before, and this stands under the name and the key
+-- the other rows are as before, and this is under the name and the key
 pub record Changes (old new : List Row) (tab key : List ℕ) (here : Option (List ℕ)) : Type 0 where
   pub stays : (row : Row) → Has old row → is_under tab key row ≡ false → Has new row
   pub was : (row : Row) → Has new row → is_under tab key row ≡ false → Has old row
@@ -138,7 +138,7 @@ under_once t k tab key row other under = false_from_ne_true _ (λ also.
     let keys : bytes_eq k key ≡ true = subst (λ s. bytes_eq k s ≡ true) (sym a.1 ∙ b.1) (same_itself k) in
     both_ways _ other (rw (tabs, keys)))
 
--- so under another name or key stands what stood there
+-- so under another name or key the value is as before
 elsewhere : (old new : List Row) (tab key : List ℕ) (here : Option (List ℕ)) → Changes old new tab key here → (t k : List ℕ) → (bytes_eq t tab && bytes_eq k key) ≡ false
     → (o : Option (List ℕ)) → IsUnder old t k o → IsUnder new t k o
 elsewhere old new tab key here c t k other None h = λ row has. false_from_ne_true _ (λ under. both_ways _ (h row (c.was row has (under_once t k tab key row other under))) under)
@@ -154,7 +154,7 @@ changed_records old new tab key here sound c t k = elim (cases_Bool (bytes_eq t 
   | inr other ↦ rw other (records_is new t k _ sound (elsewhere old new tab key here c t k other _ (records_under old t k)))
 ]
 
--- an edit that takes out and puts in rows under one name and key alone, and leaves this there
+-- an edit that takes out and puts in rows under only one name and key, and leaves this there
 pub record Replaces (rows : List Row) (tab key : List ℕ) (here : Option (List ℕ)) (after : List Row) : Type 0 where
   pub gone : List ℤ
   pub news : List Row

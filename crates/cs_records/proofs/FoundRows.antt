@@ -58,11 +58,11 @@ none_left : {X : Type 0} (ys : List X) → IsPermutation [] ys → ys ≡ []
 none_left [] same = refl
 none_left (y ∷ ys) same = absurd (let none = length_permutation [] (y ∷ ys) same in omega (arith, none))
 
--- where nothing stands under a name and a key, no row has them
+-- if there is no value under a name and a key, no row has them
 pub filter-none : (rows : List Row) (tab key : List ℕ) → IsUnder rows tab key None → filter (is_under tab key) rows ≡ []
 filter-none rows tab key under = filter_none (is_under tab key) rows (all_from (λ row. is_under tab key row ≡ false) rows under)
 
--- where a value stands, one row has them
+-- if there is a value, one row has them
 pub filter-one : (rows : List Row) (tab key value : List ℕ) → AreRecords rows → (under : IsUnder rows tab key (Some value)) → filter (is_under tab key) rows ≡ under.0 ∷ []
 filter-one rows tab key value h under =
     let mine = under_is tab key under.0 under.2 in
@@ -83,7 +83,7 @@ shown_found rows tab key (Some value) chosen h under same =
     let one = one_permutation under.0 chosen (subst (λ l. IsPermutation l chosen) (filter-one rows tab key value h under) same) in
     ap (map (λ r. column r 3 ∷ [])) one ∙ ap (λ v. (v ∷ []) ∷ []) (value_shown under.0 value (all_has IsRecordRow rows under.0 h.each under.1) under.3)
 
--- the query for one record shows the value that stands there
+-- the query for one record shows its value
 pub finds : (tab key : List ℕ) (old new : State) (rows : List Row) → HoldsRecords old.now → Shown find_text (Text tab ∷ Blob key ∷ []) old new rows
     → rows ≡ found_rows (records_in old.now tab key)
 finds tab key old new rows h shown =

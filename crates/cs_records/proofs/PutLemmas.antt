@@ -32,7 +32,7 @@ source = Values (lit Null ∷ col 0 0 ∷ col 0 1 ∷ col 0 2 ∷ []) 4
 abbrev pub update_query : Query
 update_query = plain_query (op2 (Compare Eq Binary) (col 1 0) (col 0 3) ∷ []) (col 1 0 ∷ col 1 0 ∷ col 1 1 ∷ col 1 2 ∷ col 0 2 ∷ []) []
 
--- that query alone
+-- only that query
 abbrev pub update_program : Program
 update_program = record { lets = []; body = update_query }
 

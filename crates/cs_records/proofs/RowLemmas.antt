@@ -1,4 +1,4 @@
--- The rows of the table of records: what the rules of the schema say of each and of two, and what stands in them.
+-- The rows of the table of records: what the rules of the schema say of each and of two, and their values.
 use Rattle.std.proofs.Common.{bytes_eq, ◌≡◌, ◌≢◌, inl, inr, ℕ, suc, ℤ, Bool, true, false, not, ◌&&◌, ◌<ℤ◌, List, [], ◌∷◌, drop, filter, find, option_map, Option, Some, None, refl, sym, ap, subst, ◌∙◌, arith}
 use Rattle.std.specs.List.{AllByRecursion, AllPairs}
 use Rattle.std.specs.List.Sorted.{IsPermutation}
@@ -197,7 +197,7 @@ one_record db a b h p q same =
 
 -- ---- rows of records, in any order
 
--- rows of records, of which no two have both the name and the key
+-- rows of records; no two have both the name and the key
 pub record AreRecords (rows : List Row) : Type 0 where
   pub each : AllByRecursion IsRecordRow rows
   pub apart : IsAscending (λ a b. ¬ HaveOneKey a b) rows
@@ -242,7 +242,7 @@ records_filtered p rows h = record { each = all-filter IsRecordRow p rows h.each
 pub one_of_records : (rows : List Row) (a b : Row) → AreRecords rows → Has rows a → Has rows b → HaveOneKey a b → a ≡ b
 one_of_records rows a b h = one_member HaveOneKey one_key_back rows h.apart a b
 
--- ---- what stands under a name and a key
+-- ---- the value under a name and a key
 
 -- the row has this name and this key
 pub under_is : (tab key : List ℕ) (row : Row) → is_under tab key row ≡ true → (content (column row 1) ≡ tab) × (content (column row 2) ≡ key)
@@ -252,7 +252,7 @@ pub under_from : (tab key : List ℕ) (row : Row) → content (column row 1) ≡
 under_from tab key row p q =
     and_from _ _ (subst (λ t. bytes_eq t tab ≡ true) (sym p) (same_itself tab)) (subst (λ k. bytes_eq k key ≡ true) (sym q) (same_itself key))
 
--- what stands under a name and a key: no row has them, or one has, with this value
+-- the value under a name and a key: no row has them, or one has, with this value
 abbrev pub IsUnder : List Row → List ℕ → List ℕ → Option (List ℕ) → Type 0
 IsUnder rows tab key None = (row : Row) → Has rows row → is_under tab key row ≡ false
 IsUnder rows tab key (Some value) = (row : Row) × Has rows row × (is_under tab key row ≡ true) × (content (column row 3) ≡ value)
@@ -265,7 +265,7 @@ not_found p (y ∷ xs) x none has = elim (cases_Bool (p y)) [
   | inr fails ↦ elim has [ inl same ↦ ap p same ∙ fails | inr later ↦ not_found p xs x (rw fails at none) later ]
 ]
 
--- what rows hold stands in them
+-- what rows hold is in them
 pub records_under : (rows : List Row) (tab key : List ℕ) → IsUnder rows tab key (records_of rows tab key)
 unfolding records_of
 records_under rows tab key = of_found (find (is_under tab key) rows) refl
@@ -274,7 +274,7 @@ records_under rows tab key = of_found (find (is_under tab key) rows) refl
     of_found None none = λ row has. not_found (is_under tab key) rows row none has
     of_found (Some row) some = let found = has_found (is_under tab key) rows row some in (row, found.0, found.1, refl)
 
--- only one value, or none, stands under a name and a key
+-- a name and a key have one value or none
 one_under : (rows : List Row) (tab key : List ℕ) (a b : Option (List ℕ)) → AreRecords rows → IsUnder rows tab key a → IsUnder rows tab key b → a ≡ b
 one_under rows tab key None None h p q = refl
 one_under rows tab key None (Some v) h p q = absurd (let none = p q.0 q.1 in let some = q.2 in cc)
@@ -285,11 +285,11 @@ one_under rows tab key (Some v) (Some w) h p q =
     let same : p.0 ≡ q.0 = one_of_records rows p.0 q.0 h p.1 q.1 (record { tab = x.0 ∙ sym y.0; key = x.1 ∙ sym y.1 }) in
     ap Some (sym p.3 ∙ ap (λ row. content (column row 3)) same ∙ q.3)
 
--- and what stands in them is what they hold
+-- and what is in them is what they hold
 pub records_is : (rows : List Row) (tab key : List ℕ) (o : Option (List ℕ)) → AreRecords rows → IsUnder rows tab key o → records_of rows tab key ≡ o
 records_is rows tab key o h under = one_under rows tab key _ o h (records_under rows tab key) under
 
--- what stands in rows stands in each order of them
+-- what is in rows is in each order of them
 under_permuted : (xs ys : List Row) (tab key : List ℕ) (o : Option (List ℕ)) → IsPermutation xs ys → IsUnder xs tab key o → IsUnder ys tab key o
 under_permuted xs ys tab key None same h = λ row has. h row (has_permuted ys xs row (IsPermutation-sym xs ys same) has)
 under_permuted xs ys tab key (Some value) same h = (h.0, has_permuted xs ys h.0 same h.1, h.2, h.3)
@@ -305,6 +305,6 @@ pub records_of-filter : (p : Row → Bool) (rows : List Row) (tab key : List ℕ
 unfolding records_of
 records_of-filter p rows tab key so = ap (option_map (λ row. content (column row 3))) (find_within (is_under tab key) p rows so)
 
--- of a database that holds records, what stands in its rows is what it holds
+-- a database that holds records holds what is in its rows
 pub records_in_is : (db : Database) (tab key : List ℕ) (o : Option (List ℕ)) → HoldsRecords db → IsUnder (db.trees 0) tab key o → records_in db tab key ≡ o
 records_in_is db tab key o h under = records_is (db.trees 0) tab key o (are_records db h) under

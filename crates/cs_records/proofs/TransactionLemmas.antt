@@ -67,7 +67,7 @@ outside s command e ends (inr named) = absurd (elim ends [
 ])
 
 module _ (old new : State) where
-  -- BEGIN begins a transaction on what stands
+  -- BEGIN begins a transaction on the current content
   pub begins : (count : ℕ) → Executes begin_text [] old new (Ok count) → (old.in_transaction ≡ false) × Shows old new old.now old.committed true
   begins count h =
       let ran = runs_as begin_text [] old new old.now.schema refl Begin (begin_is old.now.schema) (begin_plain old.now.schema) count h in
@@ -82,13 +82,13 @@ module _ (old new : State) where
         | inr writes ↦ absurd (let refused = writes.3 in cc)
       ])
 
-  -- COMMIT commits what stands
+  -- COMMIT commits the current content
   pub commits : (count : ℕ) → Executes commit_text [] old new (Ok count) → IsTrue old.in_transaction × Shows old new old.now old.now false
   commits count h =
       let ran = runs_as commit_text [] old new old.now.schema refl Commit (commit_is old.now.schema) (commit_plain old.now.schema) count h in
       (ran.0, ran.1)
 
-  -- where it fails, the last commit stands
+  -- if it fails, the last commit stays
   pub commit_undone : IsTrue old.in_transaction → (e : Error) → Executes commit_text [] old new (Err e) → IsUndone old new
   commit_undone inside e h =
       elim (fails_as commit_text [] old.now.schema Commit (commit_is old.now.schema) (commit_plain old.now.schema) (λ none. none) refl old new e refl (commit_whole old.now.schema) h) [
@@ -96,7 +96,7 @@ module _ (old new : State) where
         | inr misplaced ↦ absurd (both_ways _ (outside old Commit e (inl refl) misplaced.0) inside)
       ]
 
-  -- it commits what stands, and nothing else
+  -- it commits the current content, and nothing else
   pub commit_survives : IsTrue old.in_transaction → Survives old new (CommitsBy commit_text [] old) → Survives old new (λ db. (db ≡ old.now.trees) × IsTrue old.in_transaction)
   commit_survives inside = survives_weaker old new _ (λ db. (db ≡ old.now.trees) × IsTrue old.in_transaction) (λ clean db by.
       elim (commits_as commit_text [] old.now.schema Commit (commit_is old.now.schema) (commit_plain old.now.schema) old db refl by) [

@@ -78,7 +78,7 @@ record_schema = record {
 abbrev pub empty_schema : Schema
 empty_schema = record { tables = []; indexes = []; views = [] }
 
--- ---- what stands in it
+-- ---- its records
 
 -- the bytes of a text or a blob
 abbrev pub content : Value → List ℕ
@@ -88,7 +88,7 @@ content Null = []
 content (Int n) = []
 content (Real x) = []
 
--- what stands under each name and key
+-- the value under each name and key
 abbrev pub Records : Type 0
 Records = List ℕ → List ℕ → Option (List ℕ)
 
@@ -100,7 +100,7 @@ is_under tab key row = bytes_eq (content (column row 1)) tab && bytes_eq (conten
 unfoldable pub records_of : List Row → Records
 records_of rows tab key = option_map (λ row. content (column row 3)) (find (is_under tab key) rows)
 
--- the records, but what is here stands under that name and key
+-- the records, with this value, or none, under that name and key
 abbrev pub changed : Records → List ℕ → List ℕ → Option (List ℕ) → Records
 changed records tab key here t k = if bytes_eq t tab && bytes_eq k key then here else records t k
 
@@ -150,18 +150,18 @@ pub record Sets (old new : Database) (tab key : List ℕ) (here : Option (List �
 abbrev pub Rests : State → State → Type 0
 Rests old new = IsUnchanged old new ⊎ IsRolledBack old new
 
--- the transaction goes on, and what was committed stands
+-- the transaction goes on, and what was committed stays
 abbrev pub GoesOn : State → State → Type 0
 GoesOn old new = Shows old new new.now old.committed true
 
--- the database is as the last commit left it, which stands, and no transaction is open
+-- the database is as the last commit left it, and no transaction is open
 pub record IsUndone (old new : State) : Type 0 where
   pub autocommit : new.in_transaction ≡ false
   pub was_open : IsTrue new.is_open → IsTrue old.is_open
   pub now : IsTrue new.is_open → new.now ≡ old.committed
   pub committed : IsTrue new.is_open → new.committed ≡ old.committed
 
--- the connection shows what it showed, and what was committed stands; an open transaction is still open
+-- the connection shows what it showed, what was committed stays, and an open transaction is still open
 pub record KeepsContent (old new : State) : Type 0 where
   pub was_open : IsTrue new.is_open → IsTrue old.is_open
   pub mode : new.in_transaction ≡ old.in_transaction

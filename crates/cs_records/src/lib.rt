@@ -12,8 +12,9 @@
 //! assert_eq!(rt; find_record(&mut conn, "t", b"key")?, Some(value));
 //! ```
 //!
-//! `records` has the statements that read and write records, `layout` compares the schema of a database with the table
-//! of records, `transactions` has the statements that begin and end a transaction, and `fault` says why a call is refused.
+//! `records` has the statements that read and write records, `layout` compares the schema of a database with the
+//! table of records, `transactions` has the statements that begin and end a transaction, and `fault` says why a call
+//! is refused.
 #![tactic(auto)]
 
 mod fault;

@@ -1,4 +1,4 @@
--- The text of what an apply did, on a table `t` of two columns, of which the first is the key.
+-- The text of what an apply did, on a table `t` of two columns, with the first as its key.
 use Rattle.std.proofs.Common.{◌≡◌, false, Some, [], codes, refl}
 use Rattle.std.specs.Fmt.{digits}
 use Rattle.cs_wire.specs.declared.entry.Change.TheVariants.{Insert}
@@ -32,7 +32,7 @@ skip_is_told : skip_text (codes "z") ≡ codes "warning 17 skipped 'z'\n"
 unfolding computing
 skip_is_told = refl
 
--- one entry was ignored, and where none was that is not told
+-- one entry was ignored; a report without such an entry does not say so
 one_is_told : ignored_text 1 ≡ codes "ignored 1\n"
 unfolding computing
 one_is_told = refl

@@ -90,7 +90,7 @@ number_detail n = codes " " ++ decimal n
 abbrev pub conflict_detail : Conflict → List ℕ
 conflict_detail c = codes " " ++ kind_text c.kind ++ codes " " ++ quoted 39 (string_bytes c.table)
 
--- what an error line says of an apply that is refused, behind the name
+-- what an error line says after the name of an apply that is refused
 abbrev pub apply_detail : ApplyFault → List ℕ
 apply_detail (apply.Read fault) = number_detail fault.place
 apply_detail (apply.Wider place) = number_detail place
@@ -120,7 +120,7 @@ detail_in detail.Nothing = []
 detail_in (detail.Number n) = number_detail n
 detail_in (detail.Conflict conflict) = conflict_detail conflict.now
 
--- want of memory is one refusal, whoever tells it
+-- out of memory is one refusal, whichever call reports it
 abbrev pub of_store : StoreError → Refusal
 of_store store.NoMemory = NoMemory
 of_store error = Store error

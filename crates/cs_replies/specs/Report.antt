@@ -26,7 +26,7 @@ unfoldable pub met_text : MetData → List ℕ
 met_text met = codes "conflict " ++ decimal (kind_number met.conflict.kind) ++ codes " " ++ kind_text met.conflict.kind
     ++ codes " " ++ choice_text met.choice ++ codes " " ++ quoted 39 met.conflict.table ++ codes "\n"
 
--- a line with a count behind a word
+-- a line with a word and a count
 abbrev pub counted_text : List ℕ → ℕ → List ℕ
 counted_text word count = word ++ decimal count ++ codes "\n"
 

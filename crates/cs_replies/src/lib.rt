@@ -6,8 +6,8 @@
 //! assert_eq!(rt; output, b"error 31 NoTable\n");
 //! ```
 //!
-//! A line is answered with a `reply` or a `refusal`, and a command line too. `print` writes them, and `report` the text of
-//! what an apply did.
+//! A line is answered with a `reply` or a `refusal`, and a command line too. `print` writes them, and `report` the
+//! text of what an apply did.
 #![tactic(auto)]
 
 mod print;

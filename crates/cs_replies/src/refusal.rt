@@ -43,7 +43,7 @@ pub enum Refusal {
     SessionOpen,
     /// The digits are not hexadecimal, two for each byte.
     BadHex,
-    /// A name is that of no column, or stands twice, or is missing.
+    /// A name is not that of a column, is repeated, or is missing.
     UnknownColumn,
     /// The line is not UTF-8.
     LineText,
@@ -53,7 +53,7 @@ pub enum Refusal {
     Output(OutputFault),
 }
 
-/// What an error line says behind its name.
+/// The rest of an error line, after its name.
 #[derive(Clone, Copy, Debug)]
 pub enum Detail<'a> {
     Nothing,
@@ -131,7 +131,7 @@ impl Fault for Refusal {
 }
 
 impl Refusal {
-    /// What an error line says behind its name.
+    /// The rest of an error line, after its name.
     pub fn detail(&self) -> Detail<'_>
         ensures { detail_in result ≡ detail_of self.now }
     {

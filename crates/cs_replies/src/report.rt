@@ -124,7 +124,7 @@ fn add_count<W: Write>(
     add_counted(gather, out, b"applied ", count)
 }
 
-/// Adds a line with a count behind a word.
+/// Adds a line with a word and a count.
 fn add_counted<W: Write>(
     gather: &mut Gather,
     out: &mut Told<W>,

@@ -111,7 +111,7 @@ with_row_of_t m k r = with_rows_of_t m _ ∙ ap (λ (n : RowMap). tables (insert
 without_row_of_t : (m : RowMap) (k : List ℕ) → without_row (tables m) (codes "t") k ≡ tables (remove m k)
 without_row_of_t m k = with_rows_of_t m _ ∙ ap (λ (n : RowMap). tables (remove n k)) (rows_at_found (tables m) (codes "t") (table_t m) (tables_at m (codes "t")))
 
--- the row with key 1 stands there, and none with key 2
+-- a row has key 1, and none has key 2
 first_stands : row_at state (codes "t") key ≡ Some row
 first_stands = row_of_t held key ∙ get_put empty key row key
 
@@ -123,7 +123,7 @@ module _ (table : String Global) (is_t : string_bytes table ≡ codes "t") where
   in_t : (m : RowMap) (next : List ℕ → TableData → Result Edited StoreError) → in_table (tables m) (string_bytes table) (next (string_bytes table)) ≡ next (codes "t") (table_t m)
   in_t m next = ap (λ name. in_table (tables m) name (next name)) is_t ∙ ap (λ o. found_table o (next (codes "t"))) (tables_at m (codes "t"))
 
-  -- (2, 'y') is inserted: its key is written, under which no row stood
+  -- (2, 'y') is inserted: its key is written, which no row had
   row_is_inserted : edited state (Insert table two_y) ≡ changed_to two_rows (wrote second_key None ∷ [])
   unfolding value_bytes
   row_is_inserted =
@@ -154,7 +154,7 @@ module _ (table : String Global) (is_t : string_bytes table ≡ codes "t") where
       ∙ ap (λ o. unless (when (not (is_some o)) NoRow) (Ok (record { state = with_row state (codes "t") key one_y; written = wrote key o ∷ [] }))) first_stands
       ∙ ap (λ (s : State). Ok (record { state = s; written = wrote key (Some row) ∷ [] })) (with_row_of_t held key one_y ∙ ap tables (put_again empty key row one_y))
 
-  -- and (2, 'y'): both keys are written, and no row stands under the first
+  -- and (2, 'y'): both keys are written, and no row has the first
   row_is_moved : edited state (Update table key two_y) ≡ changed_to (insert empty second_key two_y) (wrote key (Some row) ∷ wrote second_key None ∷ [])
   unfolding value_bytes
   row_is_moved =
@@ -180,7 +180,7 @@ module _ (table : String Global) (is_t : string_bytes table ≡ codes "t") where
       in_t held (λ name t. updated_in state name t second_key two_y)
       ∙ ap (λ o. unless (when (not (is_some o)) NoRow) (Ok (record { state = with_row state (codes "t") second_key two_y; written = wrote second_key o ∷ [] }))) no_second
 
-  -- what is wrong with the new row is told before that there is none to update
+  -- what is wrong with the new row is reported before the missing row
   wrong_row_is_told_first : edited state (Update table second_key (Null ∷ Text (codes "z") ∷ [])) ≡ Err NullInKey
   wrong_row_is_told_first = in_t held (λ name t. updated_in state name t second_key (Null ∷ Text (codes "z") ∷ []))
 
@@ -231,7 +231,7 @@ module _ (table : String Global) (is_n : string_bytes table ≡ codes "n") where
   refused_null_is_not_inserted : edited state_n (Insert table (Int (pos 1) ∷ Null ∷ [])) ≡ Err NotNull
   refused_null_is_not_inserted = in_n (λ name t. inserted_in state_n name t (Int (pos 1) ∷ Null ∷ []))
 
-  -- that NULL is told before that there is no row to update, and behind NULL in the key
+  -- that NULL is reported before the missing row, and after NULL in the key
   refused_null_is_told_first : edited state_n (Update table second_key (Int (pos 1) ∷ Null ∷ [])) ≡ Err NotNull
   refused_null_is_told_first = in_n (λ name t. updated_in state_n name t second_key (Int (pos 1) ∷ Null ∷ []))
 

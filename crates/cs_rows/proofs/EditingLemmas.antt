@@ -1,4 +1,4 @@
--- Rows that may stand in a table, and what edits of them make.
+-- Rows that fit a table, and what edits of them make.
 use Rattle.std.proofs.Common.{◌≡◌, ℕ, zero, suc, Bool, true, false, cond, ◌==◌, List, [], ◌∷◌, length, map as map_list, Option, Some, None, true≢false, refl, sym, ap, subst, ◌∙◌, arith}
 use Rattle.std.specs.Cmp.{nat_eq_equiv}
 use Rattle.cs_value.specs.declared.value.OwnedValue.{OwnedValue}
@@ -43,7 +43,7 @@ no_null_keyed (suc flag ∷ flags) (Text t ∷ row) same h = (λ e. absurd cc, n
 no_null_keyed (suc flag ∷ flags) (Blob b ∷ row) same h = (λ e. absurd cc, no_null_keyed flags row (omega arith) h)
 no_null_keyed (suc flag ∷ flags) (Null ∷ row) same h = absurd (true≢false h)
 
--- a keyed row without a NULL that is refused may stand in the table
+-- a keyed row without a NULL that is refused fits the table
 pub no_fault : (schema : SchemaData) (row : List OwnedValue) → IsKeyedRow schema.flags row → Obeys schema.refuses row → row_fault schema row ≡ None
 no_fault schema row keyed obeys = rw (length-IsKeyedRow schema.flags row keyed, keyed_no_null schema.flags row keyed, same_number (length row), obeys) refl
 

@@ -29,7 +29,7 @@ spelling = tt
 
 -- ---- columns
 
--- the table of columns a and b with key a, of which b refuses NULL where it is marked
+-- the table of columns a and b with key a; b refuses NULL if it is marked
 abbrev pub columns_with : Bool → SchemaData
 columns_with mark = record { columns = codes "a" ∷ codes "b" ∷ []; flags = 1 ∷ 0 ∷ []; refuses = true ∷ mark ∷ [] }
 

@@ -26,7 +26,7 @@ seen_tables es = seen_map string_bytes (λ t. t) es
 abbrev pub is_name : List ℕ → String Global → Ordering
 is_name name = is_key string_bytes (λ (t : TableData). t) name
 
--- what is put under a name where it stands already changes nothing
+-- putting a table under its name again changes nothing
 pub insert_same : (state : State) (name : List ℕ) (table : TableData) → get state name ≡ Some table → insert state name table ≡ state
 insert_same state name table found = same_maps _ _ (λ q. get-insert nat_list_cmp_total state name table q ∙ at q (is_eq (slice_cmp nat_cmp q name)) refl)
   where
@@ -60,7 +60,7 @@ row_at_absent state name key none = ap (λ rows. get rows key) (rows_at_absent s
 pub fits_there : (state : State) (name key : List ℕ) (row : List OwnedValue) (table : TableData) → Fits state name key row → get state name ≡ Some table → IsRowAt table.schema key row
 fits_there state name key row table fits found = let same : fits.table ≡ table = let e = sym fits.found ∙ found in cc in subst (λ (t : TableData). IsRowAt t.schema key row) same fits.fit
 
--- the entry that a look-up finds stands in the state
+-- the entry that a look-up finds is in the state
 pub stands : (es : Tables) (state : State) (name : List ℕ) (table : TableData) → seen_tables es ≡ state → Some table ≡ lookup (is_at (is_name name)) es → get state name ≡ Some table
 stands es state name table is found = ap (λ s. get s name) (sym is) ∙ sym (get_seen string_bytes (λ t. t) es name) ∙ ap (option_map (λ t. t)) (sym found)
 
@@ -82,7 +82,7 @@ module _ (es fs : Tables) (state : State) (name : List ℕ) (table new : TableDa
   pub replaced_is_state : IsState state → IsTable new → IsState (seen_tables fs)
   replaced_is_state states fit = rw replaced (state_insert state name new states (states name table there).named fit)
 
-  -- a change of the rows alone
+  -- a change of only the rows
   pub rows_replaced : (rows : RowMap → RowMap) → new ≡ record table { rows = rows table.rows } → seen_tables fs ≡ with_rows state name (rows (rows_at state name))
   rows_replaced rows e =
       replaced ∙ ap (insert state name) e

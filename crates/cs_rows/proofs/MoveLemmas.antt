@@ -64,7 +64,7 @@ module _ (state : State) (name : List ℕ) (table : TableData) (found : get stat
       ∙ sym (rows_twice taken (insert taken next row))
       ∙ ap (λ (r : RowMap). with_rows (with_rows state name taken) name (insert r next row)) (sym (rows_at_found (with_rows state name taken) name _ (rows_put taken)))
 
--- it stands there as if it had been put behind it
+-- the result is as if it had been put after it
 pub moved_either_way : (state : State) (name key next : List ℕ) (row : List OwnedValue) → Fits state name next row → ¬ (key ≡ next)
     → without_row (with_row state name next row) name key ≡ with_row (without_row state name key) name next row
 moved_either_way state name key next row fits apart = moves state name fits.table fits.found key next row apart

@@ -34,7 +34,7 @@ rules_length (suc flag ∷ flags) [] rules = absurd rules
 rules_length (zero ∷ flags) (mark ∷ refuses) rules = ap suc (rules_length flags refuses rules)
 rules_length (suc flag ∷ flags) (mark ∷ refuses) rules = ap suc (rules_length flags refuses rules.1)
 
--- the mark of this column alone is right
+-- the mark of only this column is right
 abbrev pub IsRule : List ℕ → List Bool → ℕ → Type 0
 IsRule flags refuses column = AreRules (get_or flags column 0 ∷ []) (get_or refuses column false ∷ [])
 
@@ -93,7 +93,7 @@ neither : (a b : Bool) → (a || b) ≡ false → (a ≡ false) × (b ≡ false)
 neither true b none = absurd (true≢false none)
 neither false b none = (refl, none)
 
--- the row of this column alone obeys its mark
+-- the row of only this column obeys its mark
 abbrev pub ObeysAt : List Bool → List OwnedValue → ℕ → Type 0
 ObeysAt refuses row column = Obeys (get_or refuses column false ∷ []) (get_or row column Null ∷ [])
 

@@ -29,7 +29,7 @@ NamesSoFar-none names seen none = record {
   has = λ q. rw none (λ e. absurd (true≢false (sym e)), λ h. absurd (omega (arith, h.1)));
 }
 
--- a name as it is borrowed is the one that stands there
+-- a borrowed name is the one at its index
 pub name_here : (columns : List (String Global)) (i : ℕ) (column : String Global) (d : List ℕ) → i < length columns → column ≡ get_or columns i column → get_or (map string_bytes columns) i d ≡ string_bytes column
 name_here columns i column d within is = get_or-map string_bytes columns i column d within ∙ ap string_bytes (sym is)
 
@@ -76,6 +76,6 @@ module _ (names : List (List ℕ)) (i : ℕ) (seen : BTreeSet (Bor (List ℕ))) 
 pub name_all : (P : List ℕ → Type 0) (names : List (List ℕ)) (i : ℕ) (d : List ℕ) → i < length names → AllByRecursion P names → P (get_or names i d)
 name_all P names i d within h = All-from_recursion P names h i d within
 
--- one more name of which it holds
+-- it holds of one more name
 pub names_more : (P : List ℕ → Type 0) (columns : List (String Global)) (i : ℕ) (d : String Global) → i < length columns → AllByRecursion P (map string_bytes (take i columns)) → P (string_bytes (get_or columns i d)) → AllByRecursion P (map string_bytes (take (i + 1) columns))
 names_more P columns i d within so here = rw (map_more string_bytes columns i d within) (AllByRecursion-push P (map string_bytes (take i columns)) (string_bytes (get_or columns i d)) so here)

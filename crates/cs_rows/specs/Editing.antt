@@ -63,7 +63,7 @@ has_null_key (suc flag ∷ flags) (Null ∷ row) = true
 has_null_key (flag ∷ flags) (value ∷ row) = has_null_key flags row
 has_null_key _ _ = false
 
--- why the row may not stand in the table
+-- why the row does not fit the table
 abbrev pub row_fault : SchemaData → List OwnedValue → Option StoreError
 row_fault schema row =
     if not (length row == length schema.flags) then Some RowWidth
@@ -76,7 +76,7 @@ abbrev pub unless : {X : Type 0} → Option StoreError → Result X StoreError �
 unless None next = next
 unless (Some refusal) next = Err refusal
 
--- a row stands under the key
+-- a row has the key
 abbrev pub has_row : State → List ℕ → List ℕ → Bool
 has_row state name key = is_some (row_at state name key)
 

@@ -9,13 +9,13 @@ use Rattle.cs_value.specs.State.{SchemaData, State, TableData, Obeys, IsRowAt}
 abbrev pub IsDeclared : State → List ℕ → Type 0
 IsDeclared state name = IsSome (map.get state name)
 
--- a row that may stand in a table of this schema
+-- a row that fits a table of this schema
 pub record IsRowIn (schema : SchemaData) (row : List OwnedValue) : Type 0 where
   pub values : IsRow row
   pub keyed : IsKeyedRow schema.flags row
   pub obeys : Obeys schema.refuses row
 
--- the table is declared, and the row may stand in it under the key
+-- the table is declared, and the row fits it under the key
 pub record Fits (state : State) (name key : List ℕ) (row : List OwnedValue) : Type 0 where
   pub table : TableData
   pub found : map.get state name ≡ Some table

@@ -13,10 +13,10 @@ pub enum Edit {
     Delete { table: String, key: Key },
 }
 
-/// A key that was written, and the row that stood under it before.
+/// A key that was written, and the row that it had before.
 #[derive(Debug, Drop)]
 pub struct Written {
-    /// The table's name, which is shared by what one call tells of the table.
+    /// The table's name, which is shared by all writes that one call reports.
     pub table: RcStr,
     pub key: Key,
     pub former: Option<Row>,

@@ -19,14 +19,13 @@ use cs_value::{Key, Row};
 use std::alloc::Global;
 use std::rc::RcStr;
 
-/// Carries out an edit, and tells the keys that it wrote, with the rows that stood there before.
+/// Carries out an edit, and reports the keys that it wrote with the rows that they had before.
 ///
-/// Refuses, in this order: [`NoTable`](StoreError::NoTable); [`RowWidth`](StoreError::RowWidth),
-/// [`NullInKey`](StoreError::NullInKey) and [`NotNull`](StoreError::NotNull) for the given row; for an update and a deletion
-/// [`NoRow`](StoreError::NoRow); for an insertion, and for an update to another key,
-/// [`KeyTaken`](StoreError::KeyTaken). Beside these it refuses only with what the rows refuse with:
-/// [`NoMemory`](StoreError::NoMemory), [`StoreFault`](StoreError::StoreFault) or
-/// [`DamagedStore`](StoreError::DamagedStore).
+/// # Errors
+///
+/// In this order: `NoTable`; `RowWidth`, `NullInKey` and `NotNull` for the given row; `NoRow` for an update and a
+/// deletion; `KeyTaken` for an insertion and for an update to another key. It returns the refusals of the rows too:
+/// `NoMemory`, `StoreFault` and `DamagedStore`.
 pub fn edit_in<B: Rows>(
     alloc: Global,
     rows: &mut B,
@@ -64,7 +63,7 @@ fn find_schema<B: Rows>(alloc: Global, rows: &mut B, table: &str) -> Result<Sche
     }
 }
 
-/// The row that has to stand under a key of a declared table.
+/// Returns the row under a key of a declared table.
 fn find_row<B: Rows>(alloc: Global, rows: &mut B, table: &str, key: &Key) -> Result<Row, StoreError>
     requires { B.is_honest rows.old → IsDeclared (B.state rows.old) table.now }
     ensures found { B.is_honest rows.new → IfOk result (λ row. row_at (B.state rows.old) table.now key.now ≡ Some row) }
@@ -81,7 +80,7 @@ fn find_row<B: Rows>(alloc: Global, rows: &mut B, table: &str, key: &Key) -> Res
     }
 }
 
-/// Refuses where a row stands under a key of a declared table.
+/// Refuses if a row of a declared table has the key.
 fn check_vacant<B: Rows>(
     alloc: Global,
     rows: &mut B,
@@ -103,7 +102,7 @@ fn check_vacant<B: Rows>(
     }
 }
 
-/// The key of a row that may stand in a table of this schema.
+/// Returns the key of a row that fits a table of this schema.
 fn key_for(alloc: Global, schema: &Schema, row: &Row) -> Result<Key, StoreError>
     ensures key { IfOk result (λ key. IsRowAt schema.now key row.now) }
     ensures fits { OnOk result (row_fault schema.now row.now ≡ None) }
@@ -122,7 +121,7 @@ fn key_for(alloc: Global, schema: &Schema, row: &Row) -> Result<Key, StoreError>
     Ok(Key::of_row(alloc, schema.flags(), row)?)
 }
 
-/// What is told of a key that is written.
+/// Returns the report of a key that is written.
 fn note(alloc: Global, table: RcStr, key: &Key, former: Option<Row>) -> Result<Written, StoreError>
     ensures noted { IfOk result (λ w. written_of w
         ≡ record { table = rc_str_bytes table; key = key.now; former = former }) }
@@ -135,7 +134,7 @@ fn note(alloc: Global, table: RcStr, key: &Key, former: Option<Row>) -> Result<W
     })
 }
 
-/// What is told where one key is written.
+/// Returns the report of one key that is written.
 fn note_one(
     alloc: Global,
     table: &str,
@@ -152,7 +151,7 @@ fn note_one(
     Ok(written)
 }
 
-/// What is told where a row gets another key.
+/// Returns the report of a row that gets another key.
 fn note_move(
     alloc: Global,
     table: &str,
@@ -195,7 +194,7 @@ fn insert_row<B: Rows>(
     Ok(written)
 }
 
-/// Puts a row in place of the one that stands under its key.
+/// Puts a row in place of the one that has its key.
 fn replace_row<B: Rows>(
     alloc: Global,
     rows: &mut B,

@@ -9,7 +9,8 @@
 //! ```
 //!
 //! `rows` has the trait of what holds rows: a finite map. `memory` holds them in memory. `schema` has what a table
-//! declares, `edit` the edits of rows, `editing` carries them out over any rows, and `fault` says why a call is refused.
+//! declares, `edit` the edits of rows, `editing` carries them out over any rows, and `fault` says why a call is
+//! refused.
 #![tactic(auto)]
 
 mod edit;

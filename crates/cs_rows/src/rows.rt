@@ -53,7 +53,7 @@ pub trait Rows {
         ensures was_honest { is_honest self.new → is_honest self.old }
         ensures kept { keeps self.old self.new };
 
-    /// Puts the row at its key in a declared table that it fits, in place of the one that stood there.
+    /// Puts the row at its key in a declared table that it fits, in place of the row there.
     fn put(&mut self, alloc: Global, table: &str, key: &Key, row: &Row) -> Result<(), StoreError>
         requires { is_honest self.old → Fits (state self.old) table.now key.now row.now }
         ensures set { is_honest self.new → OnOk result (state self.new

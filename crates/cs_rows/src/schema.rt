@@ -66,13 +66,13 @@ impl Schema {
         Schema::from_parts(alloc, names, flags, rules)
     }
 
-    /// Makes the schema of columns with these names, with a flag for each that is 1 for those of the primary key and 0 for
-    /// the others, and a mark for each that refuses NULL.
+    /// Makes the schema of columns with these names, with a flag for each that is 1 for those of the primary key and
+    /// 0 for the others, and a mark for each that refuses NULL.
     ///
     /// # Errors
     ///
-    /// `BadSchema` as for [`new`](Schema::new), and where a flag is neither 0 nor 1 or a column of the key is not marked.
-    /// `NoMemory` if out of memory.
+    /// `BadSchema` as for [`new`](Schema::new), and where a flag is neither 0 nor 1 or a column of the key is not
+    /// marked. `NoMemory` if out of memory.
     pub fn from_parts(
         alloc: Global,
         columns: Vec<String>,
@@ -182,7 +182,7 @@ fn rules_of(alloc: Global, keys: &[bool], refuses: &[bool]) -> Result<Vec<bool>,
     Ok(rules)
 }
 
-/// Whether a column is marked. One behind the last mark is not.
+/// Returns whether a column is marked. A column past the last mark is not.
 fn is_marked(marks: &[bool], column: usize) -> bool
     ensures { result ≡ get_or marks.now column false }
 {

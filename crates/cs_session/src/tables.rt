@@ -95,8 +95,8 @@ impl Tables {
     ///
     /// # Errors
     ///
-    /// `NoMemory` if out of memory, and [`DamagedStore`](cs_store::StoreError::DamagedStore) for a former row that does not
-    /// fit its table. What was noted at the last commit stays.
+    /// `NoMemory` if out of memory, and [`DamagedStore`](cs_store::StoreError::DamagedStore) for a former row that
+    /// does not fit its table. What was noted at the last commit stays.
     pub(crate) fn note_all(
         &mut self,
         alloc: Global,

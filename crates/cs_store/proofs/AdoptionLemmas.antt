@@ -55,7 +55,7 @@ pub vacant_holds : (db : Database) (held : tables.State) → db.trees 0 ≡ [] �
 vacant_holds db held none (inl vacant) = vacant.1
 vacant_holds db held none (inr stored) = absurd (let e = sym (none_there (db.trees 0) none [] []) ∙ stored.1.2.each [] [] in cc)
 
--- the version alone is written
+-- only the version is written
 sets_version : (old new : Database) → HoldsRecords old → old.trees 0 ≡ [] → Sets old new [] [] (Some version) → HoldsState new × HoldsTables old (tables_in new)
 sets_version old new holds none set =
     let next = holds_next new map.empty set.holds (stores_nothing (records_in new) (records_in old) (none_there (old.trees 0) none) set.change) in
@@ -131,7 +131,7 @@ damaged_by (Ok x) P Q by h = tt
 damaged_by (Err e) P Q by (inl damaged) = inl (damaged.0, by damaged.1)
 damaged_by (Err e) P Q by (inr resource) = inr resource
 
--- a refusal for damage or want of memory
+-- a refusal for damage or because memory is out
 pub refused_memory : {X : Type 0} (result : Result X StoreError) (P Q : Type 0) → (P → Q) → IfErr result (λ e. ((e ≡ DamagedStore) × P) ⊎ (e ≡ NoMemory)) → IfErr result (λ e. ((e ≡ DamagedStore) × Q) ⊎ IsResource e)
 refused_memory (Ok x) P Q by h = tt
 refused_memory (Err e) P Q by (inl damaged) = inl (damaged.0, by damaged.1)

@@ -100,7 +100,7 @@ module _ (old new : State) (last : IsTrue old.is_open → LeavesOnly (λ left. l
     unstarted = unstarted;
   }
 
-  -- that alone, where it commits nothing
+  -- only that, if it commits nothing
   pub idle_atomic : KeepsCrash old new → IsAtomic Starts Commits old new
   idle_atomic keeps = commit_atomic (crash_weaker old new (MayLeave Commits) keeps) (λ none. keeps)
 
@@ -134,7 +134,7 @@ module _ (old begun mid new : State) (last : IsTrue old.is_open → LeavesOnly (
       let began = begun_as (was_clean begun mid keeps.crash (was_clean mid new commits clean)) in
       record { is_open = began.shown.was_open; autocommit = began.autocommit }))
 
--- ---- what is left of a database that is taken over, by the law of what holds it
+-- ---- what is left of a database that is adopted, by the law of what holds it
 
 -- its last commit, or a store with the tables that it held
 pub taken_over : {S : Type 0} (g : Ghosts S) → ((s : S) (trees : Trees) → IsTrue (g.view s).is_open → g.recovers s trees → trees ≡ (g.view s).committed) → (old new : Held S)
@@ -159,7 +159,7 @@ module _ {S : Type 0} (g : Ghosts S) (settled : (s : S) (trees : Trees) → IsTr
       (unstarted_keeps (IsInside (state g h)) (state g h) new _ survives (λ clean trees made.
       record { is_open = (sound (was_clean (state g h) new survives clean)).open_inside made.1; inside = made.1 }))
 
-  -- and once they are, these alone are left
+  -- and once they are, only these are left
   pub ended_left : {X : Type 0} (result : Result X StoreError) (May : Trees → Type 0) (new : Held S) → Survives (state g h) (state g new) May
       → (HasCleanDisk (state g new) → OnOk result (IsTrue (state g h).in_transaction × Shows (state g h) (state g new) (state g h).now (state g h).now false))
       → OnOk result (LeavesOnly (λ left. left ≡ tables_in (state g h).now) (state g new))
@@ -177,12 +177,12 @@ module _ {S : Type 0} (g : Ghosts S) (settled : (s : S) (trees : Trees) → IsTr
       holds_left (state g h).now trees ((sound (was_clean (state g h) (state g begun) keeps clean)).now began.shown.was_open)
       (settled begun.store trees began.shown.is_open may ∙ ap (λ (db : Database). db.trees) (began.shown.committed_is ∙ sym began.settled))
 
--- ---- what is left behind a refusal
+-- ---- what is left after a refusal
 
 module _ {S : Type 0} (g : Ghosts S) (settled : (s : S) (trees : Trees) → IsTrue (g.view s).is_open → g.recovers s trees → trees ≡ (g.view s).committed)
     (stays : (s : S) → IsTrue (g.view s).is_open → g.recovers s (g.view s).committed) (old new : Held S)
     (last : IsTrue (state g old).is_open → LeavesOnly (λ left. left ≡ tables_in (state g old).committed) (state g old)) where
-  -- a store that is open still leaves the last commit, if that stands
+  -- a store that is still open leaves the last commit, if that stays
   last_stands : (HasCleanDisk (state g new) → HasCleanDisk (state g old)) → (HasCleanDisk (state g new) → KeepsCommit (state g old) (state g new))
       → IsTrue (state g new).is_open → LeavesOnly (λ left. left ≡ tables_in (state g old).committed) (state g new)
   last_stands was keeps is_open clean trees may =

@@ -1,4 +1,4 @@
--- What a crash left of a store is taken over with its tables.
+-- What a crash left of a store is adopted with its tables.
 use Rattle.std.proofs.Common.{◌≡◌, ◌⊎◌, inl, inr, refl, sym, subst, ◌∙◌}
 use Rattle.sqlite_schema.specs.declared.schema.Schema.{Schema}
 use Rattle.sqlite_catalog.specs.Listing.{IsSound as IsSoundIn}
@@ -37,7 +37,7 @@ left_stored held db is =
 left_holds : (held : tables.State) (db : Database) → IsLeftOf held db → HoldsTables db held
 left_holds held db is = let own = left_stored held db is in inr (own.0, (version, inl refl, own.1))
 
--- a database holds tables of one state alone
+-- a database holds the tables of only one state
 holds_once : (db : Database) (one other : tables.State) → HoldsTables db one → HoldsTables db other → one ≡ other
 holds_once db one other (inl a) (inl b) = a.1 ∙ sym b.1
 holds_once db one other (inl (inl nothing, e)) (inr b) = e ∙ sym (nothing_held db other nothing (inr b))

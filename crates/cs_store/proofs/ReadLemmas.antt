@@ -90,13 +90,13 @@ row_is state name key schema is has = at (tables.row_at state name key) (row_at_
 pub declared_named : (db : Database) (name : List ℕ) (schema : tables.SchemaData) → tables.schema_at (tables_in db) name ≡ Some schema → name ≢ []
 declared_named db name schema has e = absurd (let k = sym has ∙ ap (tables.schema_at (tables_in db)) e ∙ unnamed db in cc)
 
--- no record stands where no row does
+-- there is no record without a row
 pub no_record : (db : Database) (name key : List ℕ) (row : List OwnedValue) → HoldsState db → Fits (tables_in db) name key row → tables.row_at (tables_in db) name key ≡ None → records_in db name key ≡ None
 no_record db name key row holds fits none =
     let has = ap (option_map (λ (t : tables.TableData). t.schema)) fits.found in
     row_stored (records_in db) (tables_in db) name key holds.stores (declared_named db name fits.table.schema has) ∙ ap (option_map row_bytes) none
 
--- no row stands in a table that is not there
+-- a table that is not there has no row
 pub no_row : (state : tables.State) (name key : List ℕ) → tables.schema_at state name ≡ None → tables.row_at state name key ≡ None
 no_row state name key none = at (map.get state name) refl
   where

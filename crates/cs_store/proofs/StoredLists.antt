@@ -183,7 +183,7 @@ spell t = declaration_bytes t.schema
 abbrev spelled_tables : State → Entries (List ℕ)
 spelled_tables state = map (λ e. (e.0, declaration_bytes e.1.schema)) (entries state)
 
--- under the empty name stand the version and the declarations of the tables, by their names
+-- under the empty name are the version and the declarations of the tables, by their names
 pub tables_listed : (records : Records) (state : State) (listed : Entries (List ℕ)) → Stores records state → ListsTable records [] listed
     → listed ≡ ([], version) ∷ map (λ e. (e.0, declaration_bytes e.1.schema)) (entries state)
 tables_listed records state listed is lists = same_lists listed (([], version) ∷ spelled_tables state) (of_true _ lists.rising) (of_true _ (and_from _ _ below rising)) each
@@ -201,7 +201,7 @@ tables_listed records state listed is lists = same_lists listed (([], version) �
     each [] = lists.each [] ∙ is.each [] []
     each (b ∷ name) = lists.each (b ∷ name) ∙ is.each [] (b ∷ name) ∙ ap (option_map spell) (get-entries state (b ∷ name)) ∙ sym (find_values spell (b ∷ name) (entries state))
 
--- so the keys there are the names of the tables, behind the version's
+-- so the keys there are the names of the tables, after the version's
 pub names_listed : (records : Records) (state : State) (listed : Entries (List ℕ)) → Stores records state → ListsTable records [] listed → map (λ e. e.0) listed ≡ [] ∷ keys state
 names_listed records state listed is lists =
     ap (map (λ e. e.0)) (tables_listed records state listed is lists) ∙ ap (λ (names : List (List ℕ)). [] ∷ names) (map-map (λ e. e.0) (λ e. (e.0, declaration_bytes e.1.schema)) (entries state))

@@ -1,4 +1,4 @@
--- What stands in a state once the rows of a table were written.
+-- The state once the rows of a table were written.
 use Rattle.std.proofs.Common.{◌≡◌, ℕ, Bool, true, false, cond, List, Option, Some, None, option_map, refl, sym, ap, ◌∙◌, true≢false}
 use Rattle.std.specs.Prelude.{unwrap_or, IsSome}
 use Rattle.std.specs.Ordering.{nat_cmp, is_eq}
@@ -16,7 +16,7 @@ module _ (state : State) (table : List ℕ) (found : TableData) (rows : RowMap) 
   with_rows_is : with_rows state table rows ≡ insert state table next
   with_rows_is = rw is refl
 
-  -- what stands at a name
+  -- the table of a name
   at_name : (name : List ℕ) → get (with_rows state table rows) name ≡ cond (is_eq (slice_cmp nat_cmp name table)) (Some next) (get state name)
   at_name name = ap (λ (s : State). get s name) with_rows_is ∙ get-insert nat_list_cmp_total state table next name
 

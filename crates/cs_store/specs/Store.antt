@@ -1,4 +1,4 @@
--- What a store over a connection holds: a state, as its records stand for it.
+-- The state that a store over a connection holds, as its records.
 use Rattle.std.specs.Prelude.{◌≡◌, ◌⊎◌, ℕ, List, [], map as map_list, Vec, IsTrue, true, false}
 use Rattle.std.specs.Prelude.{Option, None, Some, IfSome, option_map, Result, Ok, Err, IsErrAnd, string_bytes}
 use Rattle.std.specs.List.{AllByRecursion}
@@ -22,7 +22,7 @@ use Rattle.cs_records.specs.Records.{HoldsRecords, records_in, GoesOn, KeepsCont
 use Rattle.cs_stored.specs.Stored.{Stores, StoresInSome, state_of}
 use Rattle.cs_rows.specs.Rows.{IsRowIn}
 
--- the state that a database's records stand for
+-- the state that the records of a database are of
 abbrev pub tables_in : Database → tables.State
 tables_in db = state_of (db.trees 0)
 
@@ -108,7 +108,7 @@ pub record IsAtRest (s : State) : Type 0 where
   pub autocommit : s.in_transaction ≡ false
   pub committed : s.committed ≡ s.now
 
--- a store is taken over: no transaction was open, and the tables that the database held are committed
+-- a store is adopted: no transaction was open, and the tables that the database held are committed
 pub record Adopts (old new : State) : Type 0 where
   pub was_clean : HasCleanDisk old
   pub outside : old.in_transaction ≡ false

@@ -1,4 +1,4 @@
-//! How a database is taken over as a store.
+//! How a database is adopted as a store.
 ghost use Rattle.std.specs.Prelude.{◌≡◌, ◌⊎◌, [], Some, IfOk, IfErr, OnOk, OnErr};
 ghost use Rattle.cs_value.specs.State as tables;
 ghost use Rattle.sqlite.specs.State.{HasCleanDisk, KeepsCommit, IsUnchanged, Survives};
@@ -24,8 +24,8 @@ use cs_stored::{VERSION, Version, check_records, version_of};
 use sqlite::{Alter, Connection};
 use std::alloc::Global;
 
-/// Makes a store where the database holds none yet, and else checks the one there, in one transaction.
-/// Where it is refused, the database is as it was.
+/// Makes a store if the database holds none yet, and else checks the one there, in one transaction. A refusal leaves
+/// the database as it was.
 pub(crate) fn adopt<S: Alter>(conn: &mut Connection<S>, alloc: Global) -> Result<(), StoreError>
     ensures adopted { HasCleanDisk (state S.Store conn.new)
         → OnOk result (Adopts (state S.Store conn.old) (state S.Store conn.new)) }
@@ -52,8 +52,7 @@ pub(crate) fn adopt<S: Alter>(conn: &mut Connection<S>, alloc: Global) -> Result
     }
 }
 
-/// Makes a store where the database holds none yet, and else checks the one there, inside a
-/// transaction.
+/// Makes a store if the database holds none yet, and else checks the one there, inside a transaction.
 fn set_up<S: Alter>(conn: &mut Connection<S>, alloc: Global) -> Result<(), StoreError>
     requires { HasCleanDisk (state S.Store conn.old) → IsInside (state S.Store conn.old) }
     ensures set_up { HasCleanDisk (state S.Store conn.new)
@@ -94,7 +93,7 @@ fn make_store<S: Alter>(conn: &mut Connection<S>) -> Result<(), StoreError>
     }
 }
 
-/// Writes the version of stores, where there is no record yet, or where the records are valid.
+/// Writes the version of stores, if there is no record yet or the records are valid.
 fn write_version<S: Alter>(conn: &mut Connection<S>) -> Result<(), StoreError>
     requires inside { HasCleanDisk (state S.Store conn.old) → IsInside (state S.Store conn.old) }
     requires records { HasCleanDisk (state S.Store conn.old) → HoldsRecords (state S.Store conn.old).now
@@ -109,8 +108,7 @@ fn write_version<S: Alter>(conn: &mut Connection<S>) -> Result<(), StoreError>
     put_record(conn, "", b"", VERSION, false).map_err(refused)
 }
 
-/// Checks the store of a database that declares the table of records, or makes one where that is
-/// empty.
+/// Checks the store of a database that declares the table of records, or makes one if that is empty.
 fn check_store<S: Alter>(conn: &mut Connection<S>, alloc: Global) -> Result<(), StoreError>
     requires inside { HasCleanDisk (state S.Store conn.old) → IsInside (state S.Store conn.old) }
     requires declared { (state S.Store conn.old).now.schema ≡ record_schema }
@@ -131,7 +129,7 @@ fn check_store<S: Alter>(conn: &mut Connection<S>, alloc: Global) -> Result<(), 
     }
 }
 
-/// Checks the records, or makes a store where there is none.
+/// Checks the records, or makes a store if there is none.
 fn check_numbered<S: Alter>(conn: &mut Connection<S>, alloc: Global) -> Result<(), StoreError>
     requires inside { HasCleanDisk (state S.Store conn.old) → IsInside (state S.Store conn.old) }
     requires records { HasCleanDisk (state S.Store conn.old) → HoldsRecords (state S.Store conn.old).now }
@@ -151,8 +149,7 @@ fn check_numbered<S: Alter>(conn: &mut Connection<S>, alloc: Global) -> Result<(
     }
 }
 
-/// Checks these records, which are all that there are, and brings them to the version of stores where they are of the
-/// former one.
+/// Checks these records, which are all of the database, and writes the version of stores if they have the former one.
 fn take_over<S: Alter>(
     conn: &mut Connection<S>,
     alloc: Global,
@@ -177,7 +174,7 @@ fn take_over<S: Alter>(
     }
 }
 
-/// Checks these records, which are all that there are, and answers of which version they are.
+/// Checks these records, which are all of the database, and returns their version.
 fn check_listed<S: Alter>(
     conn: &mut Connection<S>,
     alloc: Global,
@@ -202,7 +199,7 @@ fn check_listed<S: Alter>(
     Ok(version)
 }
 
-/// The version of the records.
+/// Returns the version of the records.
 fn read_version<S: Alter>(conn: &mut Connection<S>) -> Result<Version, StoreError>
     requires { HasCleanDisk (state S.Store conn.old) → HoldsRecords (state S.Store conn.old).now }
     ensures read { HasCleanDisk (state S.Store conn.new) → IfOk result (λ v.

@@ -46,9 +46,14 @@ impl<S: Alter> SqlBatch<'_, S> {
         known::add_table(&mut store.conn, &mut store.known, alloc, name, schema)
     }
 
-    /// Commits the writes of the batch. Where it is refused, the store is as when the batch began. A crash
-    /// leaves the tables as when the batch began, or as it has them; once this is done, these alone, and
-    /// once it is refused and the store is open still, those alone.
+    /// Commits the writes of the batch.
+    ///
+    /// A crash leaves the tables as when the batch began, or as it has them; only these once the call is done, and only
+    /// those once it is refused and the store is still open.
+    ///
+    /// # Errors
+    ///
+    /// `StoreFault` if the database refuses, and `NoMemory` if out of memory. The store is as when the batch began.
     pub fn commit(self) -> Result<(), StoreError>
         ensures committed { HasCleanDisk (state S.Store self.exit.0.now)
             → OnOk result (Ends (state S.Store self.entry.store.now) (state S.Store self.exit.0.now)) }

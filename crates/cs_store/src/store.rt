@@ -33,9 +33,10 @@ use std::alloc::Global;
 use std::marker::Model;
 use std::rt::HostRuntime;
 
-/// Tables of rows in a database, in memory or in a file. Where a failure of the disk has shut the connection, each
-/// call that asks the database for anything is refused from then on, with [`StoreFault`](StoreError::StoreFault) or
-/// for memory.
+/// Tables of rows in a database, in memory or in a file.
+///
+/// Once a failure of the disk has shut the connection, each call that asks the database for anything is refused with
+/// [`StoreFault`](StoreError::StoreFault) or [`NoMemory`](StoreError::NoMemory).
 #[derive(Drop)]
 pub struct Store<S: Alter> {
     pub(crate) conn: Connection<S>,
@@ -56,9 +57,11 @@ impl<S: Alter> Model for Store<S> {
 }
 
 impl Store<MemStore> {
-    /// A new store in memory, without tables.
+    /// Returns a new store in memory, without tables.
     ///
-    /// Refused where memory or the database refuses.
+    /// # Errors
+    ///
+    /// `StoreFault` if the database refuses, and `NoMemory` if out of memory.
     pub fn new_memory(alloc: Global) -> Result<Store<MemStore>, StoreError>
         ensures empty { IfOk result (λ s. tables_in (state over_memory s).now ≡ map.empty) }
         ensures at_rest { IfOk result (λ s. IsAtRest (state over_memory s)) }
@@ -75,12 +78,15 @@ impl Store<MemStore> {
 }
 
 impl<S: Start> Store<FileStore<FileFrom<S>>> {
-    /// Opens the store in the database file at a path. Where there is no file one is made, with sums
-    /// of its pages or without. `start` stands for what the files are taken to hold. What a crash left of a
-    /// store is opened with its tables. A store of the former version is of this one from then on.
+    /// Opens the store in the database file at a path.
     ///
-    /// Refused as by [`adopt`](Store::adopt), and with [`StoreFault`](StoreError::StoreFault) for a
-    /// file that is no database or cannot be opened.
+    /// If there is no file, one is made, with checksums of its pages if `new_has_sums` is set. `start` says what the
+    /// files are supposed to hold. What a crash left of a store is opened with its tables. A store of the former
+    /// version gets the current one.
+    ///
+    /// # Errors
+    ///
+    /// Those of [`adopt`](Store::adopt), and `StoreFault` for a file that is no database or cannot be opened.
     pub fn open_from(
         rt: &HostRuntime,
         path: &str,
@@ -103,7 +109,7 @@ impl<S: Start> Store<FileStore<FileFrom<S>>> {
         }
     }
 
-    /// Closes the store, so that its tables are in the database file, with no log beside it.
+    /// Closes the store, so that its tables are in the database file and no log is left.
     ///
     /// # Errors
     ///
@@ -119,16 +125,18 @@ impl<S: Start> Store<FileStore<FileFrom<S>>> {
 }
 
 impl<S: Alter> Store<S> {
-    /// Takes a database over as a store, in one transaction. Where the database declares nothing, or
-    /// its table of records is empty, a new store is made there; else each record is checked, and records of the
-    /// former version are brought to this one, which keeps their tables.
+    /// Adopts a database as a store, in one transaction.
     ///
-    /// Refuses with [`DamagedStore`](StoreError::DamagedStore) where the records are not those of
-    /// tables, or a table of the name `rec` was declared otherwise, and with
-    /// [`StoreFault`](StoreError::StoreFault) where the database has other tables, where a transaction
-    /// is open, and where the database refuses. The connection is handed back as it was. A crash leaves what was
-    /// committed last, or the store with the tables that the database held. What a crash left of a store is taken over
-    /// with its tables, or refused for memory or by the database.
+    /// If the database declares nothing, or its table of records is empty, a new store is made there. Else each record
+    /// is checked, and records of the former version get the current one, which keeps their tables. A crash leaves the
+    /// last commit, or the store with the tables that the database held. What a crash left of a store is adopted with
+    /// its tables, or refused because memory is out or by the database.
+    ///
+    /// # Errors
+    ///
+    /// They come with the connection as it was. `DamagedStore` if the records are not those of tables, or a table of
+    /// the name `rec` is declared otherwise. `StoreFault` if the database has other tables, a transaction is open, or
+    /// the database refuses. `NoMemory` if out of memory.
     pub fn adopt(
         alloc: Global,
         mut conn: Connection<S>,
@@ -158,8 +166,8 @@ impl<S: Alter> Store<S> {
         }
     }
 
-    /// An open store has the tables of a state: names, schemas and rows are well formed. It has no
-    /// effect.
+    /// Has no effect. Its contract says that an open store has the tables of a state: names, schemas and rows are well
+    /// formed.
     pub fn tables_law(&self)
         ensures { HasCleanDisk (state S.Store self.now) → IsTrue (state S.Store self.now).is_open
             → tables.IsState (tables_in (state S.Store self.now).now) }
@@ -167,7 +175,7 @@ impl<S: Alter> Store<S> {
         let _ = &self.conn;
     }
 
-    /// While a store is open, a crash leaves its last commit, and nothing else. It has no effect.
+    /// Has no effect. Its contract says that a crash of an open store leaves its last commit, and nothing else.
     pub fn crash_law(&self)
         ensures { IsTrue (state S.Store self.now).is_open → LeavesOnly
             (λ left. left ≡ tables_in (state S.Store self.now).committed) (state S.Store self.now) }
@@ -175,8 +183,8 @@ impl<S: Alter> Store<S> {
         let _ = &self.conn;
     }
 
-    /// A database that is found with trees which a crash may leave of this store, if it leaves none but those
-    /// of some tables, is what [`adopt`](Store::adopt) takes over with these tables. It has no effect.
+    /// Has no effect. Its contract speaks of a database with trees that a crash may leave of this store, if a crash
+    /// leaves only those of some tables: [`adopt`](Store::adopt) adopts it with these tables.
     pub fn left_law<T: Alter>(&self, found: &Connection<T>)
         ensures { (held : tables.State) → HasCleanDisk (state S.Store self.now)
             → LeavesOnly (λ left. left ≡ held) (state S.Store self.now)
@@ -187,7 +195,7 @@ impl<S: Alter> Store<S> {
         let _ = found;
     }
 
-    /// The connection to the database of the store.
+    /// Returns the connection to the database of the store.
     pub fn into_connection(self) -> Connection<S>
         ensures { result ≡ self }
     {
@@ -200,11 +208,15 @@ impl<S: Alter> Store<S> {
     ghost use Rattle.std.specs.Borrow.{sem, RestsIfErr};
     ghost use Rattle.cs_store.specs.contracts.store.Store.{the_row};
 
-    /// Begins a batch of writes, which last once it is committed and are undone where it is dropped.
+    /// Begins a batch of writes. They last once it is committed, and dropping it undoes them.
     ///
-    /// Refused where the database refuses, and where a transaction is open. A refusal leaves what the
-    /// store shows and what was committed as they were. A crash leaves no more than it could before, and
-    /// once the batch has begun, the tables that the store shows and nothing else.
+    /// A crash leaves no more than it could before, and once the batch has begun, the tables that the store shows and
+    /// nothing else.
+    ///
+    /// # Errors
+    ///
+    /// `StoreFault` if the database refuses or a transaction is open, and `NoMemory` if out of memory. What the store
+    /// shows and what was committed stay.
     pub fn begin(&mut self) -> Result<SqlBatch<'_, S>, StoreError>
         ensures* refused { sem 𝓛 (RestsIfErr (the_row S.row S.Store) self.entry
             (λ b. b.store.ghost_name) result
@@ -227,12 +239,16 @@ impl<S: Alter> Store<S> {
         }
     }
 
-    /// Declares a table without rows: the names of its columns, of which those marked in `keys` are the key, and
-    /// those of the key and those marked in `refuses` refuse NULL. A crash leaves the tables as before, or with
-    /// this one; once this is done, these alone, and once it is refused and the store is open still, those alone.
+    /// Declares a table without rows.
     ///
-    /// Refuses with [`BadSchema`](StoreError::BadSchema) where the name or the columns make no table,
-    /// and then with [`TableExists`](StoreError::TableExists). A refusal changes nothing.
+    /// `columns` has the names of its columns. Those marked in `keys` are the key. Those of the key and those marked in
+    /// `refuses` refuse NULL. A crash leaves the tables as before or with this one; only these once the call is done,
+    /// and only those once it is refused and the store is still open.
+    ///
+    /// # Errors
+    ///
+    /// A refusal changes nothing. `BadSchema` if the name or the columns make no table, and then `TableExists`.
+    /// `DamagedStore`, `StoreFault` and `NoMemory` as of [`tables`](Store::tables).
     pub fn declare(
         &mut self,
         alloc: Global,
@@ -271,7 +287,12 @@ impl<S: Alter> Store<S> {
         batch.commit()
     }
 
-    /// The names of the tables, by their bytes.
+    /// Returns the names of the tables, in the order of their bytes.
+    ///
+    /// # Errors
+    ///
+    /// `StoreFault` if the database refuses, and `NoMemory` if out of memory. `DamagedStore` if the disk does not
+    /// return what was written.
     pub fn tables(&mut self, alloc: Global) -> Result<Vec<String>, StoreError>
         ensures listed { HasCleanDisk (state S.Store self.new) → IfOk result (λ names. map_list string_bytes names.items
             ≡ map.keys (tables_in (state S.Store self.old).now)) }
@@ -287,7 +308,11 @@ impl<S: Alter> Store<S> {
         tables::list_tables(&mut self.conn, alloc)
     }
 
-    /// The schema of a table, and none where no table has the name.
+    /// Returns the schema of a table, or None if no table has the name.
+    ///
+    /// # Errors
+    ///
+    /// Those of [`tables`](Store::tables).
     pub fn schema(&mut self, alloc: Global, name: &str) -> Result<Option<Schema>, StoreError>
         ensures found { HasCleanDisk (state S.Store self.new)
             → IfOk result (λ o. o ≡ schema_at (tables_in (state S.Store self.old).now) name.now) }
@@ -302,9 +327,11 @@ impl<S: Alter> Store<S> {
         known::find_schema(&mut self.conn, &mut self.known, alloc, name)
     }
 
-    /// The rows of a table, by the bytes of their keys.
+    /// Returns the rows of a table, in the order of the bytes of their keys.
     ///
-    /// Refuses with [`NoTable`](StoreError::NoTable).
+    /// # Errors
+    ///
+    /// `NoTable` if no table has the name, and those of [`tables`](Store::tables).
     pub fn rows(&mut self, alloc: Global, name: &str) -> Result<Vec<Row>, StoreError>
         ensures listed { HasCleanDisk (state S.Store self.new)
             → IfOk result (λ rows. rows.items
@@ -327,9 +354,11 @@ impl<S: Alter> Store<S> {
         }
     }
 
-    /// The row of a table under a key, and none where no row has the key.
+    /// Returns the row of a table under a key, or None if no row has the key.
     ///
-    /// Refuses with [`NoTable`](StoreError::NoTable).
+    /// # Errors
+    ///
+    /// `NoTable` if no table has the name, and those of [`tables`](Store::tables).
     pub fn get(&mut self, alloc: Global, name: &str, key: &Key) -> Result<Option<Row>, StoreError>
         ensures found { HasCleanDisk (state S.Store self.new)
             → IfOk result (λ o. o ≡ row_at (tables_in (state S.Store self.old).now) name.now key.now) }
@@ -353,9 +382,14 @@ impl<S: Alter> Store<S> {
         }
     }
 
-    /// Carries out an edit as [`edit_in`] does, and commits it. A refusal changes nothing. A crash leaves
-    /// the tables as before, or as edited; once this is done, these alone, and once it is refused and the
-    /// store is open still, those alone.
+    /// Carries out an edit as [`edit_in`] does, and commits it.
+    ///
+    /// A crash leaves the tables as before or as edited; only these once the call is done, and only those once it is
+    /// refused and the store is still open.
+    ///
+    /// # Errors
+    ///
+    /// Those of [`edit_in`]. A refusal changes nothing.
     pub fn edit(&mut self, alloc: Global, edit: &Edit) -> Result<Vec<Written>, StoreError>
         ensures edited { HasCleanDisk (state S.Store self.new)
             → IfOk result (λ w. edited (tables_in (state S.Store self.old).now) edit.now

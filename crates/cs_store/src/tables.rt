@@ -1,4 +1,4 @@
-//! The tables of a store, one call at a time: what its records stand for.
+//! The tables of a store, one call at a time, by its records.
 ghost use Rattle.std.specs.FinMap as map;
 ghost use Rattle.cs_rows.specs.declared.fault.StoreError.TheVariants.{DamagedStore as Damaged};
 ghost use Rattle.std.specs.Prelude.{◌≡◌, ◌⊎◌, map as map_list, IsTrue, OnOk, IfOk};
@@ -145,8 +145,8 @@ fn rows_in(alloc: Global, schema: &Schema, listed: &[Keyed]) -> Result<Vec<Row>,
     Ok(rows)
 }
 
-/// Puts a row under its key in a table that it fits, inside a transaction: a new row, where it is known that none has the
-/// key.
+/// Puts a row under its key in a table that it fits, inside a transaction: a new row, where it is known that none has
+/// the key.
 pub(crate) fn put_row<S: Alter>(
     conn: &mut Connection<S>,
     alloc: Global,
@@ -211,7 +211,7 @@ pub(crate) fn list_tables<S: Alter>(
     }
 }
 
-/// The names that records under the empty name are of, behind the first, which is the version's.
+/// Returns the names that the records under the empty name are of. The first record is the version's.
 fn names_behind(alloc: Global, listed: &[Keyed]) -> Result<Vec<String>, StoreError>
     ensures read { (names : List (List ℕ)) → map_list (λ e. e.0) listed.now ≡ [] ∷ names → AllByRecursion IsName names
         → AreNamed result names }

@@ -68,7 +68,7 @@ columns_same (f ∷ fs) (g ∷ gs) (n ∷ ns) (m ∷ ms) x y a b len short_n sho
     let others = columns_same fs gs ns ms x y (omega arith) (omega arith) (omega arith) short_n.1 short_m.1 first.2 in
     (cc (first.0, others.0), cc (first.1, others.1), others.2)
 
--- behind fewer columns than there are, the next one begins
+-- after fewer columns than there are, the next one begins
 pub next_column : (fs gs : List ℕ) (ns ms : List (List ℕ)) (left : List ℕ) → length fs ≡ length ns → length gs ≡ length ms → length ns < length ms → AllByRecursion IsShortText ns → AllByRecursion IsShortText ms
     → columns_bytes fs ns ++ left ≡ columns_bytes gs ms → BeginsWithColumn left
 next_column [] gs (n ∷ ns) ms left a b lt short_n short_m e = absurd (omega arith)
@@ -108,7 +108,7 @@ same_columns count c d are_c are_d e =
     let both = columns_same c.bytes d.bytes c.names d.names [] [] (are_c.bytes ∙ sym are_c.names) (are_d.bytes ∙ sym are_d.names) (are_c.names ∙ sym are_d.names) are_c.short are_d.short (ap (λ (l : List ℕ). l ++ []) e) in
     λ i. record { names = both.1 i; bytes = both.0 i }
 
--- the columns that were read, and the bytes behind them
+-- the columns that were read, and the bytes after them
 pub record ColumnsSoFar (bytes : List ℕ) (i : ℕ) (codes : List ℕ) (names : List (List ℕ)) (rest : List ℕ) : Type 0 where
   pub are_columns : AreColumns i (record { names = names; bytes = codes })
   pub begins : bytes ≡ columns_bytes codes names ++ rest

@@ -81,7 +81,7 @@ rows = rows_in version
 turned : {X : Type 0} (s q : List ℕ) (x y : X) → cond (bytes_eq s q) x y ≡ cond (bytes_eq q s) x y
 turned s q x y = ap (λ b. cond b x y) (nat_list_eq_equiv.symm s q)
 
--- the declarations that stand in the rows are those of the tables
+-- the declarations in the rows are those of the tables
 declarations_stored : (written : List ℕ) (b : ℕ) (name : List ℕ) → records_of (rows_in written) [] (b ∷ name) ≡ stored_under written state [] (b ∷ name)
 unfolding records_of spelling
 declarations_stored written b name =
@@ -217,17 +217,17 @@ other_version_is_damage valid = elim valid.is_version [
   | inr is ↦ absurd (omega (arith, ap (λ o. get_or (unwrap_or o []) 0 0) (valid.version_is ∙ ap Some is)))
 ]
 
--- the declaration of t has a byte more behind its columns
+-- the declaration of t has a byte more after its columns
 long_declaration_is_damage : ¬ (AreValid (records_of (rows_with version (0x02 ∷ 0x01 ∷ 0x01 ∷ 0x61 ∷ 0x00 ∷ 0x01 ∷ 0x62 ∷ 0x00 ∷ []) key value)))
 unfolding records_of reading
 long_declaration_is_damage = unread_declaration _ 0x74 [] (0x02 ∷ 0x01 ∷ 0x01 ∷ 0x61 ∷ 0x00 ∷ 0x01 ∷ 0x62 ∷ 0x00 ∷ []) refl refl
 
--- the row of t has a value for the first of two columns alone
+-- the row of t has a value for only the first of two columns
 short_row_is_damage : ¬ (AreValid (records_of (rows_with version declaration key key)))
 unfolding records_of reading
 short_row_is_damage = unread_row key key refl refl
 
--- the row (1, 'x') stands under the key of another
+-- the row (1, 'x') has the key of another
 other_key_is_damage : ¬ (AreValid (records_of (rows_with version declaration (0x01 ∷ 0 ∷ 0 ∷ 0 ∷ 0 ∷ 0 ∷ 0 ∷ 0 ∷ 2 ∷ []) value)))
 unfolding records_of reading spelling
 other_key_is_damage = misplaced_row (0x01 ∷ 0 ∷ 0 ∷ 0 ∷ 0 ∷ 0 ∷ 0 ∷ 0 ∷ 2 ∷ []) value row refl refl (λ fits. absurd (omega (arith, ap (λ (bytes : List ℕ). get_or bytes 8 0) fits.own)))
@@ -269,7 +269,7 @@ no_version_is_damage : ¬ (AreValid (records_of (declaration_row declaration ∷
 unfolding records_of
 no_version_is_damage valid = let e = valid.version_is in cc
 
--- a row stands under the name w, under which no table is declared
+-- a row is under the name w, which no table has
 no_table_is_damage : ¬ (AreValid (records_of (version_row version ∷ declaration_row declaration ∷ other_row ∷ keyed_row key value ∷ sql_row (pos 5) (codes "w") key value ∷ [])))
 unfolding records_of
 no_table_is_damage valid = let r = valid.rows (codes "w") key value (λ e. cc) refl in let e = r.declared in cc

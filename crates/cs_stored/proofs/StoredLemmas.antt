@@ -41,7 +41,7 @@ declarations_kept state name table rows q found = ap spelled (get_put state name
 no_empty_name : (state : State) (table : TableData) → IsState state → get state [] ≡ Some table → ⊥
 no_empty_name state table is found = let named = (is [] table found).named in omega (arith, named.some)
 
--- what stands under one key of the rows of a table changes
+-- one key of the rows of a table changes
 rows_change : (new records : Records) (state : State) (name key : List ℕ) (table : TableData) (rows : RowMap) (here : Option (List OwnedValue))
     → Stores records state → get state name ≡ Some table → IsTable (record table { rows = rows })
     → ((k : List ℕ) → get rows k ≡ cond (bytes_eq k key) here (get table.rows k))
@@ -80,7 +80,7 @@ stores_row new records state name key row is fits change =
     subst (λ (r : RowMap). Stores new (with_rows state name (insert r key row))) (sym rows)
     (rows_change new records state name key fits.table (insert fits.table.rows key row) (Some row) is fits.found fit (get_put fits.table.rows key row) change)
 
--- no record stands where no row does
+-- there is no record without a row
 pub stores_no_row : (new records : Records) (state : State) (name key : List ℕ) → Stores records state → IsDeclared state name
     → ((t k : List ℕ) → new t k ≡ changed records name key None t k) → Stores new (without_row state name key)
 stores_no_row new records state name key is declared change = at (get state name) refl declared
@@ -124,7 +124,7 @@ stores_table new records state (n ∷ name) schema is named fit absent change = 
         ∙ is.each (b ∷ q) k
         ∙ ap (λ (r : RowMap). option_map row_bytes (get r k)) (rows_read (b ∷ q) _ refl ∙ sym (rows_at_put state (n ∷ name) (record { schema = schema; rows = empty }) (b ∷ q)))
 
--- the version alone is stored of no tables
+-- only the version is stored of no tables
 pub stores_nothing : (new records : Records) → ((t k : List ℕ) → records t k ≡ None) → ((t k : List ℕ) → new t k ≡ changed records [] [] (Some version) t k) → Stores new empty
 stores_nothing new records nothing change = record { is_state = empty_state; each = at; former = λ old. absurd (not_former old) }
   where
@@ -141,12 +141,12 @@ stores_nothing new records nothing change = record { is_state = empty_state; eac
 
 -- ---- what is read
 
--- under the empty name stands the declaration of each table
+-- under the empty name is the declaration of each table
 pub declaration_stored : {written : List ℕ} (records : Records) (state : State) (name : List ℕ) → StoresIn written records state → name ≢ [] → records [] name ≡ option_map (λ t. declaration_bytes t.schema) (get state name)
 declaration_stored records state [] is some = absurd (some refl)
 declaration_stored records state (b ∷ name) is some = is.each [] (b ∷ name)
 
--- under the name of a table stands each of its rows
+-- under the name of a table is each of its rows
 pub row_stored : {written : List ℕ} (records : Records) (state : State) (name key : List ℕ) → StoresIn written records state → name ≢ [] → records name key ≡ option_map row_bytes (row_at state name key)
 row_stored records state [] key is some = absurd (some refl)
 row_stored records state (b ∷ name) key is some = is.each (b ∷ name) key

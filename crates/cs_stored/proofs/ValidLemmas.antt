@@ -19,7 +19,7 @@ use Rattle.cs_stored.proofs.StoredReading.{schema_again, one_schema}
 -- ---- of a state
 
 module _ {written : List ℕ} (records : Records) (state : State) (is : StoresIn written records state) where
-  -- under the empty name stand declarations, under names
+  -- under the empty name are declarations, under names
   table_valid : (name bytes : List ℕ) → name ≢ [] → records [] name ≡ Some bytes → IsName name × IsDeclarationIn written bytes
   table_valid name bytes some found = at (get state name) refl (sym (declaration_stored records state name is some) ∙ found)
     where
@@ -27,7 +27,7 @@ module _ {written : List ℕ} (records : Records) (state : State) (is : StoresIn
       at None none e = absurd cc
       at (Some table) there e = let t = is.is_state name table there in (t.named, (table.schema, t.is_table.schema, cc, λ old. is.former old name table there))
 
-  -- under another name stand rows of the table there
+  -- under another name are rows of its table
   row_valid : (name key value : List ℕ) → name ≢ [] → records name key ≡ Some value → IsStoredRow records name key value
   row_valid name key value some found = at (get state name) refl
     where
@@ -94,7 +94,7 @@ module _ (rows : List Row) (valid : AreValid (records_of rows)) where
     former : valid.written ≡ former_version → IsFormer table.schema
     each : (key : List ℕ) → records_of rows name key ≡ option_map row_bytes (get table.rows key)
 
-  -- under the name of a declared table stand rows of its schema
+  -- under the name of a declared table are rows of its schema
   row_of : (name key value : List ℕ) (schema : SchemaData) → name ≢ [] → IsSchema schema → records_of rows [] name ≡ Some (declaration_bytes schema) → records_of rows name key ≡ Some value
       → IsSpelled (IsRowAt schema key) row_bytes (λ bytes. values_at (length schema.columns) bytes) value
   row_of name key value schema some is declared found =
@@ -149,7 +149,7 @@ module _ (rows : List Row) (valid : AreValid (records_of rows)) where
   is_former old [] table found = absurd (let e = sym none_nameless ∙ found in cc)
   is_former old (b ∷ name) table found = (table_read b name table found).former old
 
-  -- no records stand under a name where no table is read
+  -- a name without a table has no records
   no_rows : (b : ℕ) (name key : List ℕ) → get (state_of rows) (b ∷ name) ≡ None → records_of rows (b ∷ name) key ≡ None
   no_rows b name key none = at (records_of rows (b ∷ name) key) refl
     where
@@ -158,7 +158,7 @@ module _ (rows : List Row) (valid : AreValid (records_of rows)) where
       at (Some value) e =
           absurd (let r = valid.rows (b ∷ name) key value (λ f. cc) e in let f = sym r.declared ∙ table_declared b name ∙ ap (option_map (λ t. declaration_bytes t.schema)) none in cc)
 
-  -- under each name stand the rows of the table that is read there
+  -- under each name are the rows of the table that is read there
   rows_stored : (b : ℕ) (name key : List ℕ) → records_of rows (b ∷ name) key ≡ option_map row_bytes (row_at (state_of rows) (b ∷ name) key)
   rows_stored b name key = at (get (state_of rows) (b ∷ name)) refl
     where

@@ -1,4 +1,4 @@
--- The bytes that stand for a schema: this project's own.
+-- The bytes of a schema: this project's own.
 use Rattle.std.specs.Prelude.{◌≡◌, ◌≤◌, ℕ, zero, suc, Bool, true, false, List, [], ◌∷◌, ◌++◌, length, map, IsUtf8}
 use Rattle.std.specs.List.{AllByRecursion}
 use Rattle.cs_value.specs.declared.TheConstants.{MAX_CONTENT_LEN}
@@ -17,7 +17,7 @@ column_codes (flag ∷ flags) (mark ∷ refuses) = column_code flag mark ∷ col
 column_codes [] refuses = []
 column_codes (flag ∷ flags) [] = []
 
--- for each column its byte, and its name behind the count of its bytes
+-- for each column its byte, the count of the bytes of its name, and its name
 abbrev pub columns_bytes : List ℕ → List (List ℕ) → List ℕ
 columns_bytes (code ∷ others) (name ∷ names) = code ∷ counted name ++ columns_bytes others names
 columns_bytes [] names = []
@@ -32,7 +32,7 @@ declaration_bytes schema =
 abbrev pub IsFormer : SchemaData → Type 0
 IsFormer schema = schema.refuses ≡ marks schema.flags
 
--- the bytes stand for a schema
+-- the bytes are those of a schema
 abbrev pub IsDeclaration : List ℕ → Type 0
 IsDeclaration bytes = (schema : SchemaData) × IsSchema schema × (bytes ≡ declaration_bytes schema)
 

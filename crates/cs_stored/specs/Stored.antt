@@ -54,13 +54,13 @@ StoresInSome records state = (written : List ℕ) × IsVersion written × Stores
 
 -- ---- what state is stored: read from the rows of the table of records, where these are those of a state
 
--- a value, and the others behind it
+-- a value, and the others after it
 abbrev pub value_before : Result (OwnedField × ℕ) FieldFault → (ℕ → Option (List OwnedValue)) → Option (List OwnedValue)
 value_before (Ok (Defined value, used)) others = option_map (λ values. value ∷ values) (others used)
 value_before (Ok (Undefined, used)) others = None
 value_before (Err e) others = None
 
--- a name behind the count of its bytes, and the other columns behind it
+-- a name after the count of its bytes, and the other columns after it
 abbrev pub name_before : ℕ → List ℕ → Result (ℕ × ℕ) FieldFault → (List ℕ → Option ColumnsData) → Option ColumnsData
 name_before code bytes (Ok (count, used)) others =
     option_map (λ (c : ColumnsData). let all : ColumnsData = record {
@@ -69,13 +69,13 @@ name_before code bytes (Ok (count, used)) others =
     } in all) (others (drop count (drop used bytes)))
 name_before code bytes (Err e) others = None
 
--- so many values, and nothing behind them
+-- so many values, and nothing after them
 unfoldable pub values_at : ℕ → List ℕ → Option (List OwnedValue)
 values_at zero [] = Some []
 values_at zero (b ∷ bytes) = None
 values_at (suc n) bytes = value_before (field_at bytes) (λ used. values_at n (drop used bytes))
 
--- so many columns, and nothing behind them: their bytes and names
+-- so many columns, and nothing after them: their bytes and names
 unfoldable pub columns_at : ℕ → List ℕ → Option ColumnsData
 columns_at zero [] = Some (record { names = []; bytes = [] })
 columns_at zero (b ∷ bytes) = None
@@ -107,6 +107,6 @@ table_in rows (b ∷ name) bytes =
     } in t)
     (schema_in bytes)
 
--- the tables whose declarations stand in the rows
+-- the tables whose declarations are in the rows
 unfoldable pub state_of : List Row → State
 state_of rows = entries_under (table_in rows) [] rows

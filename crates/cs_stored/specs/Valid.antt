@@ -11,7 +11,7 @@ use Rattle.cs_records.specs.Records.{Records, RecordData}
 use Rattle.cs_stored.specs.Declaration.{declaration_bytes, IsFormer}
 use Rattle.cs_stored.specs.Stored.{former_version, IsVersion}
 
--- the bytes stand for a schema, in this version
+-- the bytes are those of a schema, in this version
 abbrev pub IsDeclarationIn : List ℕ → List ℕ → Type 0
 IsDeclarationIn written bytes = (schema : SchemaData) × IsSchema schema × (bytes ≡ declaration_bytes schema)
     × (written ≡ former_version → IsFormer schema)

@@ -4,7 +4,7 @@ use Rattle.cs_stored.specs.declared.version.Version.{Version}
 use Rattle.cs_stored.specs.declared.version.Version.TheVariants.{Current, Former}
 use Rattle.cs_stored.specs.Stored.{version, former_version}
 
--- the bytes that stand for a version
+-- the bytes of a version
 abbrev pub bytes_of : Version → List ℕ
 bytes_of Current = version
 bytes_of Former = former_version

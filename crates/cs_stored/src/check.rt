@@ -71,11 +71,7 @@ impl Schemas {
 
 /// Checks that records are those of tables, in this version: a declaration under each name, and rows of
 /// declared tables. The version's own record is not looked at.
-pub fn check_records(
-    alloc: Global,
-    version: Version,
-    listed: &[Record],
-) -> Result<(), StoreError>
+pub fn check_records(alloc: Global, version: Version, listed: &[Record]) -> Result<(), StoreError>
     ensures valid { OnOk result ((records : Records) → ListsAll records listed.now
         → records [] [] ≡ Some (bytes_of version) → AreValid records) }
     ensures refused { IfErr result (λ e. ((e ≡ Damaged)

@@ -134,7 +134,7 @@ fn refuses_null(code: u8) -> bool
     code != 0
 }
 
-// So many columns, and no byte behind them.
+// Reads so many columns, and no byte after them.
 fn read_columns(
     alloc: Global,
     bytes: &[u8],
@@ -161,7 +161,7 @@ fn read_columns(
     Ok((columns, codes))
 }
 
-// The column at the front, and the bytes behind it.
+// Reads the column at the front. Returns the bytes after it too.
 fn read_column(alloc: Global, bytes: &[u8]) -> Result<(u8, String, &[u8]), StoreError>
     ensures found { IfOk result (λ r. (length (string_bytes r.1) ≤ MAX_CONTENT_LEN)
         × (bytes.now ≡ r.0 ∷ counted (string_bytes r.1) ++ r.2.now)) }
@@ -177,7 +177,7 @@ fn read_column(alloc: Global, bytes: &[u8]) -> Result<(u8, String, &[u8]), Store
     }
 }
 
-// The counted bytes at the front, and the bytes behind them.
+// Reads the counted bytes at the front. Returns the bytes after them too.
 #[tactic(auto, unfolding(cs_value::specs::Spelling::counted))]
 fn read_counted(bytes: &[u8]) -> Result<(&[u8], &[u8]), StoreError>
     ensures found { IfOk result (λ r. (length r.0.now ≤ MAX_CONTENT_LEN) × (bytes.now ≡ counted r.0.now ++ r.1.now)) }
@@ -191,7 +191,7 @@ fn read_counted(bytes: &[u8]) -> Result<(&[u8], &[u8]), StoreError>
     }
 }
 
-// The count at the front, and the bytes behind it.
+// Reads the count at the front. Returns the bytes after it too.
 fn read_count(bytes: &[u8]) -> Result<(usize, &[u8]), StoreError>
     ensures found { IfOk result (λ r. (r.0 ≤ MAX_CONTENT_LEN) × (bytes.now ≡ varint r.0 ++ r.1.now)) }
     ensures refused { IfErr result (λ e. (e ≡ Damaged)

@@ -5,8 +5,8 @@
 //! assert_eq!(rt; read_declaration(alloc, &bytes)?.columns().len(), schema.columns().len());
 //! ```
 //!
-//! `declaration` has the bytes of schemas and `stored_row` those of rows. `version` has the versions of the records that are
-//! read, and `check` decides whether listed records are those of tables.
+//! `declaration` has the bytes of schemas and `stored_row` those of rows. `version` has the versions of the records
+//! that are read, and `check` decides whether listed records are those of tables.
 #![tactic(auto)]
 
 mod check;

@@ -12,13 +12,13 @@ pub enum Version {
     Former,
 }
 
-/// The bytes that stand for the version that stores are written in.
+/// The bytes of the version that stores are written in.
 pub const VERSION: &[u8] = &[2];
 
-/// The bytes that stand for the one before.
+/// The bytes of the former version.
 const FORMER_VERSION: &[u8] = &[1];
 
-/// The version that bytes stand for, or None where it is not one that is read.
+/// Returns the version that the bytes are of, or None if it is not one that is read.
 pub fn version_of(bytes: &[u8]) -> Option<Version>
     ensures { MatchOption result (¬ IsVersion bytes.now) (λ v. bytes.now ≡ bytes_of v) }
 {
