@@ -1,6 +1,6 @@
 -- What a file begins with, one item after another.
 use Rattle.std.proofs.Common.{◌≡◌, ◌≢◌, ℕ, suc, ◌-◌, ◌<◌, ◌≤◌, set, Bool, true, false, List, [], ◌∷◌, ◌++◌, length, drop, get_or, refl, sym, ap, subst, ◌∙◌, append_assoc, arith, length-append, inl, inr}
-use Rattle.std.specs.Prelude.{All, slice_get, nat_eq, Option, Some, None, Result, Ok, Err, IfErr, OnOk}
+use Rattle.std.specs.Prelude.{All, slice_get, nat_eq, Option, Some, None, Result, Ok, Err, IfErr}
 use Rattle.cs_value.specs.Refusals.{Refuses}
 use Rattle.cs_value.specs.declared.refusal.OrNoMemory.{OrNoMemory}
 use Rattle.cs_value.specs.declared.refusal.OrNoMemory.TheVariants.{Fault, NoMemory}

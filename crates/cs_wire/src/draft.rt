@@ -31,11 +31,7 @@ impl Model for Draft {
 }
 
 /// Adds the next item.
-fn add_item(
-    alloc: Global,
-    drafts: &mut Vec<Draft>,
-    item: Item<'_>,
-) -> Result<(), NoMemory>
+fn add_item(alloc: Global, drafts: &mut Vec<Draft>, item: Item<'_>) -> Result<(), NoMemory>
     requires well_formed { IsItem item }
     requires next { IsNext drafts.old.items item }
     ensures { OnOk result (drafts.new.items ≡ with_item drafts.old.items item.entry) }

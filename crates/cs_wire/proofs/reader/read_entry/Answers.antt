@@ -1,5 +1,5 @@
 -- `reader::read_entry`: what it ensures.
-use Rattle.std.proofs.Common.{Bool, cond, ap, refl, sym, ◌∙◌}
+use Rattle.std.proofs.Common.{Bool, cond, ap, sym, ◌∙◌}
 use Rattle.std.proofs.lemmas.Result.{err_from_is_err_and}
 use Rattle.cs_wire.proofs.ReadingLemmas.{Stands-then, behind_byte}
 use Rattle.cs_wire.proofs.EntryLemmas.{entry_bytes-append, Stands-entry, same_entry}
