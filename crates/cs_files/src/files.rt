@@ -14,7 +14,7 @@ use crate::joining::join_tables;
 use crate::numbering::write_numbered;
 use crate::texts::{Form, write_tables};
 use crate::told::Told;
-use cs_tables::{NamedTables, Tables};
+use cs_tables::Tables;
 use cs_wire::ReadError;
 use std::alloc::Global;
 use std::io::Write;
@@ -38,22 +38,22 @@ pub fn invert_bytes(alloc: Global, file: &[u8]) -> Result<Vec<u8>, ReadError>
     Ok(out)
 }
 
-/// The file of the changeset with the flags of key columns numbered, as [`cs_group::number_keys`] does it. It says and does
-/// the same, and is as long. It takes as many bytes, beside these what reading takes, and the tables of the file by their names.
+/// Returns the file of the changeset with the flags of key columns numbered, as [`cs_group::number_keys`] numbers them. It
+/// says and does the same, and has the same length. It allocates that many bytes, what reading allocates, and the flags of
+/// one table at a time.
 ///
 /// # Errors
 ///
-/// `Fault` where the bytes are no changeset's file, with the fault's kind and place, and `NoMemory`
-/// where memory is refused.
+/// `Fault` if the bytes are not the file of a changeset, with the fault's kind and byte offset. `NoMemory` if memory runs
+/// out.
 pub fn number_keys_bytes(alloc: Global, file: &[u8]) -> Result<Vec<u8>, ReadError>
     ensures numbered { IfOk result (λ out. Numbers file.now out.items) }
     ensures length { IfOk result (λ out. length out.items ≡ length file.now) }
     ensures refused { IfErr result (Refuses (λ f. ReadFails file.now f.kind f.place)) }
 {
     let tables = Tables::read(alloc, file)?;
-    let named = NamedTables::list(alloc, tables)?;
     let mut out = Vec::with_capacity(alloc, file.len())?;
-    write_numbered(alloc, &mut out, &named)?;
+    write_numbered(alloc, &mut out, tables)?;
     Ok(out)
 }
 

@@ -1,49 +1,47 @@
-//! A file with the columns of keys numbered, written as the file is gone through.
-ghost use Rattle.std.specs.Prelude.{◌≡◌, ◌++◌, List, OnOk, map};
-ghost use Rattle.cs_wire.specs.declared.entry.Entry.{Entry as EntryData};
-ghost use Rattle.cs_wire.specs.Changeset.{GroupData, IsHeader, file_bytes, group_bytes};
+//! The file of a changeset with the columns of keys numbered.
+ghost use Rattle.std.specs.Prelude.{◌≡◌, ◌++◌, [], List, OnOk};
+ghost use Rattle.cs_wire.specs.Changeset.{GroupData, IsHeader, file_bytes, header_bytes};
 ghost use Rattle.cs_wire.specs.Items.{header_of};
-ghost use Rattle.cs_tables.specs.Named.{AreListed};
 ghost use Rattle.cs_tables.specs.Tables.{AreLeft};
-ghost use Rattle.cs_group.specs.Numbering.{numbered, numbered_group};
+ghost use Rattle.cs_group.specs.Numbering.{numbered, numbered_header};
 
-use crate::joining::tables::write_table;
+use crate::joining::tables::write_entries;
 use cs_group::number_flags;
-use cs_tables::{NamedTables, Tables};
+use cs_tables::Tables;
 use cs_value::NoMemory;
 use cs_wire::HeaderRef;
 use std::alloc::Global;
 
-/// Appends these tables, with the columns of their keys numbered.
-pub(crate) fn write_numbered<'a>(
+/// Appends the remaining tables, with the columns of their keys numbered.
+pub(crate) fn write_numbered(
     alloc: Global,
     out: &mut Vec<u8>,
-    named: &NamedTables<'a>,
+    tables: Tables<'_>,
 ) -> Result<(), NoMemory>
-    ensures { (groups : List GroupData) → AreListed named.now groups
+    ensures { (groups : List GroupData) → AreLeft tables.entry [] groups
         → OnOk result (out.new.items ≡ out.old.items ++ file_bytes (numbered groups)) }
 {
-    for place in 0..named.len() {
-        write_numbered_table(alloc, out, &named.header(place), named.open(place))?;
+    let mut left = tables;
+    'tables: while let Some(header) = left.next_table() {
+        write_numbered_header(alloc, out, header)?;
+        write_entries(out, &mut left)?;
     }
     Ok(())
 }
 
-/// Appends a table, with the columns of its key numbered.
-fn write_numbered_table<'a>(
+/// Appends the header of a table, with the columns of its key numbered.
+fn write_numbered_header(
     alloc: Global,
     out: &mut Vec<u8>,
-    header: &HeaderRef<'a>,
-    tables: Tables<'a>,
+    header: HeaderRef<'_>,
 ) -> Result<(), NoMemory>
-    requires { IsHeader (header_of header.now) }
-    ensures { (entries : List EntryData) (groups : List GroupData) → AreLeft tables.entry entries groups
-        → OnOk result (out.new.items ≡ out.old.items ++ group_bytes (numbered_group (record { header = header_of header.now; entries = entries }))) }
+    requires { IsHeader (header_of header) }
+    ensures { OnOk result (out.new.items ≡ out.old.items ++ header_bytes (numbered_header (header_of header.entry))) }
 {
     let flags = number_flags(alloc, header.flags)?;
     let numbered = HeaderRef {
         name: header.name,
         flags: &flags,
     };
-    write_table(out, &numbered, tables)
+    numbered.write_to(out)
 }

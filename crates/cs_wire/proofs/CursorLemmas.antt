@@ -1,6 +1,6 @@
 -- What a file begins with, one item after another.
 use Rattle.std.proofs.Common.{◌≡◌, ◌≢◌, ℕ, suc, ◌-◌, ◌<◌, ◌≤◌, set, Bool, true, false, List, [], ◌∷◌, ◌++◌, length, drop, get_or, refl, sym, ap, subst, ◌∙◌, append_assoc, arith, length-append, inl, inr}
-use Rattle.std.specs.Prelude.{All, slice_get, nat_eq, Option, Some, None, Result, Ok, Err, IfErr, OnOk}
+use Rattle.std.specs.Prelude.{All, slice_get, nat_eq, Option, Some, None, Result, Ok, Err, IfErr}
 use Rattle.cs_value.specs.Refusals.{Refuses}
 use Rattle.cs_value.specs.declared.refusal.OrNoMemory.{OrNoMemory}
 use Rattle.cs_value.specs.declared.refusal.OrNoMemory.TheVariants.{Fault, NoMemory}
@@ -519,8 +519,3 @@ set_last (group ∷ []) count last grown entry counted some is grown_is =
 set_last (group ∷ next ∷ groups) count last grown entry counted some is grown_is =
     let back : count - 1 ≡ suc ((count - 1) - 1) = omega (arith, counted) in
     rw back (ap (λ (gs : List GroupData). group ∷ gs) (set_last (next ∷ groups) (count - 1) last grown entry (omega (arith, counted)) (omega arith) (rw back at is) grown_is))
-
--- what an answer that is Ok says, and what follows from it
-pub on_ok : {X E : Type 0} (answer : Result X E) (A B : Type 0) → (A → B) → OnOk answer A → OnOk answer B
-on_ok (Ok x) A B f h = f h
-on_ok (Err e) A B f h = tt

@@ -69,8 +69,9 @@ pub fn read_entry<'a>(
     flags: &'a [u8],
 ) -> Result<(EntryRef<'a>, usize), ReadFault>
     requires { HasEntry file.now at }
-    ensures found { IfOk result (λ r. (r.0.flags ≡ flags.now) × IsEntry flags.now r.0.entry
-        × Stands file.now at (entry_bytes r.0.entry) r.1) }
+    ensures flags { IfOk result (λ r. r.0.flags ≡ flags.now) }
+    ensures well_formed { IfOk result (λ r. IsEntry flags.now r.0.entry) }
+    ensures found { IfOk result (λ r. Stands file.now at (entry_bytes r.0.entry) r.1) }
     ensures only { (entry : EntryData) (rest : List ℕ) → IsEntry flags.now entry
         → drop at file.now ≡ entry_bytes entry ++ rest → IsOkAnd result (λ r. r.0.entry ≡ entry) }
     ensures fault { (header : HeaderData) (entries : List EntryData) → flags.now ≡ header.flags

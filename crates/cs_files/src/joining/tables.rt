@@ -1,7 +1,7 @@
 //! The tables of a join.
-ghost use Rattle.std.specs.Prelude.{◌≡◌, ◌++◌, List, IfSome, OnOk, filter, filter_map};
+ghost use Rattle.std.specs.Prelude.{◌≡◌, ◌≤◌, ◌++◌, [], List, IfSome, OnOk, filter, filter_map};
 ghost use Rattle.cs_wire.specs.declared.entry.Entry.{Entry as EntryData};
-ghost use Rattle.cs_wire.specs.Changeset.{GroupData, IsChangeset, IsHeader, file_bytes, group_bytes};
+ghost use Rattle.cs_wire.specs.Changeset.{GroupData, IsChangeset, IsHeader, entries_bytes, file_bytes, group_bytes};
 ghost use Rattle.cs_wire.specs.Items.{header_of};
 ghost use Rattle.cs_tables.specs.Named.{AreListed};
 ghost use Rattle.cs_tables.specs.Tables.{AreLeft};
@@ -86,7 +86,7 @@ fn write_new_table<'a>(
 }
 
 /// Appends a table as it is, under this header.
-pub(crate) fn write_table<'a>(
+fn write_table<'a>(
     out: &mut Vec<u8>,
     header: &HeaderRef<'a>,
     tables: Tables<'a>,
@@ -97,7 +97,19 @@ pub(crate) fn write_table<'a>(
 {
     header.write_to(out)?;
     let mut left = tables;
-    'entries: while let Some(entry) = left.next_entry() {
+    write_entries(out, &mut left)
+}
+
+/// Appends the remaining entries of the open table.
+pub(crate) fn write_entries(out: &mut Vec<u8>, tables: &mut Tables<'_>) -> Result<(), NoMemory>
+    ensures written { (entries : List EntryData) (groups : List GroupData) → AreLeft tables.old entries groups
+        → OnOk result (out.new.items ≡ out.old.items ++ entries_bytes entries) }
+    ensures left { (entries : List EntryData) (groups : List GroupData) → AreLeft tables.old entries groups
+        → OnOk result (AreLeft tables.new [] groups) }
+    ensures ahead { tables.old.place ≤ tables.new.place }
+    ensures file { tables.new.file ≡ tables.old.file }
+{
+    'entries: while let Some(entry) = tables.next_entry() {
         entry.write_to(out)?;
     }
     Ok(())

@@ -24,7 +24,8 @@ use std::str;
 /// The fault of the file, if a table has to begin there.
 pub fn read_header(file: &[u8], at: usize) -> Result<(HeaderRef<'_>, usize), ReadFault>
     requires { at < length file.now }
-    ensures found { IfOk result (λ r. IsHeader (header_of r.0) × Stands file.now at (header_bytes (header_of r.0)) r.1) }
+    ensures well_formed { IfOk result (λ r. IsHeader (header_of r.0)) }
+    ensures found { IfOk result (λ r. Stands file.now at (header_bytes (header_of r.0)) r.1) }
     ensures only { (header : HeaderData) (rest : List ℕ) → IsHeader header
         → drop at file.now ≡ header_bytes header ++ rest → IsOkAnd result (λ r. header_of r.0 ≡ header) }
     ensures fault { (groups : List GroupData) → TableStart file.now at groups → (HasEntry file.now at → at ≡ 0)

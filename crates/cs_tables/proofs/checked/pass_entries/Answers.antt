@@ -8,10 +8,10 @@ use Rattle.cs_tables.proofs.checked.pass_entries.Goals as goal
 pub entries-smaller : goal.entries-smaller
 entries-smaller c =
     let here = c.has_entry.ensures.0 c.entries-test.true in
-    omega (arith, here.within, Stands-moves c.args.file.now c.entries.place c.in-Ok.end _ c.in-Ok.ensures.found.2 (entry_bytes_some c.in-Ok.seen.entry) here.within)
+    omega (arith, here.within, Stands-moves c.args.file.now c.entries.place c.in-Ok.end _ c.in-Ok.ensures.found (entry_bytes_some c.in-Ok.seen.entry) here.within)
 
 pub entries-preserved : goal.entries-preserved
 entries-preserved c =
-    let found = c.in-Ok.ensures.found in
+    let read = c.in-Ok.ensures in
     HasEntries-push c.args.file.now c.args.at c.args.flags.now c.entries.keys.items c.entries.place c.entries.invariant c.in-Ok.seen c.in-Ok.end c.in_ok-key_number.field-0 c.push.new.self.items
-    found.0 found.1 found.2 c.in_ok-key_number.ensures c.in_ok-push.ensures.items
+    read.flags read.well_formed read.found c.in_ok-key_number.ensures c.in_ok-push.ensures.items

@@ -6,13 +6,13 @@ use Rattle.cs_tables.proofs.checked.pass_table.Goals as goal
 
 pub returns-clause-table : goal.returns-clause-table
 returns-clause-table c =
-    let found = c.in-Ok.ensures.found in
+    let read = c.in-Ok.ensures in
     let some : 0 < length c.pass_entries.new.keys.items = grind (arith, c.is_empty.ensures, c.if-is_empty.false) in
     HasGroup-read c.args.file.now c.args.at c.in-Ok.start c.in-Some.end (header_of c.in-Ok.header) c.args.names.now.items c.push.new.self.items c.pass_entries.new.keys.items
-    found.0 found.1 (rw c.in-Some.is at c.in_ok-end.ensures) some (c.take_distinct.ensures.distinct c.if-not-take_distinct.false)
+    read.well_formed read.found (rw c.in-Some.is at c.in_ok-end.ensures) some (c.take_distinct.ensures.distinct c.if-not-take_distinct.false)
     c.as_bytes.result.now c.number_of.result c.as_bytes.ensures.value c.number_of.ensures c.in_ok-push.ensures.items
 
 pub returns-clause-forward : goal.returns-clause-forward
 returns-clause-forward c =
-    let found = c.in-Ok.ensures.found in
-    group_moves c.args.file.now c.args.at c.in-Ok.start c.in-Some.end (header_of c.in-Ok.header) _ found.1 (rw c.in-Some.is at c.in_ok-end.ensures) c.requires.within
+    let read = c.in-Ok.ensures in
+    group_moves c.args.file.now c.args.at c.in-Ok.start c.in-Some.end (header_of c.in-Ok.header) _ read.found (rw c.in-Some.is at c.in_ok-end.ensures) c.requires.within

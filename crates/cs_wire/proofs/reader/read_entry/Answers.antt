@@ -1,5 +1,5 @@
--- `reader::read_entry`: the clauses `fault` and `found`, what it ensures.
-use Rattle.std.proofs.Common.{Bool, cond, ap, refl, sym, ◌∙◌}
+-- `reader::read_entry`: what it ensures.
+use Rattle.std.proofs.Common.{Bool, cond, ap, sym, ◌∙◌}
 use Rattle.std.proofs.lemmas.Result.{err_from_is_err_and}
 use Rattle.cs_wire.proofs.ReadingLemmas.{Stands-then, behind_byte}
 use Rattle.cs_wire.proofs.EntryLemmas.{entry_bytes-append, Stands-entry, same_entry}
@@ -43,6 +43,9 @@ from_bytes-requires c =
     let found = c.in_ok-first.ensures.found in
     record { is_entry = found.0; spelled = found.1; has_first = found.3 }
 
+pub returns-clause-well_formed : goal.returns-clause-well_formed
+returns-clause-well_formed c = rw c.from_bytes.ensures c.in_ok-first.ensures.found.0
+
 pub returns-clause-found : goal.returns-clause-found
 returns-clause-found c =
     let file = c.args.file.now in
@@ -50,7 +53,7 @@ returns-clause-found c =
     let records = Stands-bytes file c.in_ok-indirect.start _ _ c.in_ok-first.end (sym found.1) found.2 in
     let parts = Stands-then file c.args.at c.in_ok-operation.start c.in_ok-first.end _ _ c.in_ok-operation.ensures.found
     (Stands-then file c.in_ok-operation.start c.in_ok-indirect.start c.in_ok-first.end _ _ c.in_ok-indirect.ensures.found records) in
-    rw c.from_bytes.ensures (refl, found.0, Stands-entry file c.args.at c.in_ok-first.end c.in_ok-indirect.indirect _ _ (operation_in _ c.in_ok-operation.operation _ _) parts)
+    rw c.from_bytes.ensures (Stands-entry file c.args.at c.in_ok-first.end c.in_ok-indirect.indirect _ _ (operation_in _ c.in_ok-operation.operation _ _) parts)
 
 pub returns-clause-only : goal.returns-clause-only
 returns-clause-only c = λ entry rest h e.

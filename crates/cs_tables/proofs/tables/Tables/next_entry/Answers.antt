@@ -23,17 +23,17 @@ pub returns-clause-next : goal.returns-clause-next
 returns-clause-next c = λ entries groups left.
     let v = c.self.view_is in
     let so = subst (λ (t : TablesData). AreLeft t entries groups) (sym v) left in
-    let found = c.in-Ok.ensures.found in
+    let read = c.in-Ok.ensures in
     let i = c.self.inside in
     let after : TablesData = record { file = i.file.now; place = c.in-Ok.end; flags = i.flags.now } in
     subst (λ (t : TablesData). IsNextEntry t.flags entries groups c.in-Ok.seen after) v
-    (entry_passed _ entries groups so (c.has_entry.ensures.0 c.if-not-has_entry.false) c.in-Ok.seen c.in-Ok.end found.0 found.2 c.in-Ok.ensures.only)
+    (entry_passed _ entries groups so (c.has_entry.ensures.0 c.if-not-has_entry.false) c.in-Ok.seen c.in-Ok.end read.flags read.found c.in-Ok.ensures.only)
 
 pub returns-clause-forward : goal.returns-clause-forward
 returns-clause-forward c =
     let i = c.self.inside in
     let here = c.has_entry.ensures.0 c.if-not-has_entry.false in
-    let stands = c.in-Ok.ensures.found.2 in (
+    let stands = c.in-Ok.ensures.found in (
       subst (λ (t : TablesData). t.place < c.in-Ok.end) c.self.view_is (Stands-moves i.file.now i.place c.in-Ok.end _ stands (entry_bytes_some c.in-Ok.seen.entry) here.within),
       stands.within,
     )
@@ -42,5 +42,5 @@ pub returns-clause-ahead : goal.returns-clause-ahead
 returns-clause-ahead c =
     let i = c.self.inside in
     let here = c.has_entry.ensures.0 c.if-not-has_entry.false in
-    let moved = Stands-moves i.file.now i.place c.in-Ok.end _ c.in-Ok.ensures.found.2 (entry_bytes_some c.in-Ok.seen.entry) here.within in
+    let moved = Stands-moves i.file.now i.place c.in-Ok.end _ c.in-Ok.ensures.found (entry_bytes_some c.in-Ok.seen.entry) here.within in
     subst (λ (t : TablesData). t.place ≤ c.in-Ok.end) c.self.view_is (omega arith)

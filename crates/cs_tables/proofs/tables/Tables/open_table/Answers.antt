@@ -21,14 +21,14 @@ returns-in_default-clause-next c = λ groups left.
 pub returns-clause-next : goal.returns-clause-next
 returns-clause-next c = λ groups left.
     let so = subst (λ (t : TablesData). AreLeft t [] groups) (sym c.self.view_is) left in
-    let found = c.in-Ok.ensures.found in
-    table_passed _ groups so c.if-self.false c.in-Ok.header c.in-Ok.end found.1 c.in-Ok.ensures.only
+    let read = c.in-Ok.ensures in
+    table_passed _ groups so c.if-self.false c.in-Ok.header c.in-Ok.end read.found c.in-Ok.ensures.only
 
 pub returns-clause-forward : goal.returns-clause-forward
 unfolding header_bytes
 returns-clause-forward c =
     let i = c.self.inside in
-    let stands = c.in-Ok.ensures.found.1 in (
+    let stands = c.in-Ok.ensures.found in (
       subst (λ (t : TablesData). t.place < c.in-Ok.end) c.self.view_is (Stands-moves i.file.now i.place c.in-Ok.end _ stands (omega arith) c.if-self.false),
       stands.within,
     )

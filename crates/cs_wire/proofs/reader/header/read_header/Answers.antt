@@ -1,4 +1,4 @@
--- `reader::header::read_header`: the clauses `found` and `fault`, what it ensures.
+-- `reader::header::read_header`: what it ensures.
 use Rattle.std.proofs.Common.{◌+◌, [], ◌∷◌, ◌∙◌, arith}
 use Rattle.std.proofs.lemmas.Result.{err_from_is_err_and}
 use Rattle.cs_wire.specs.Changeset.{flags_bytes}
@@ -31,13 +31,14 @@ returns-in_err-name-clause-only c =
     let name = rest_is c.args.file.now (c.args.at + 1) c.in_ok-flags.at (flags_bytes header.flags) _ (rw (← same) c.in_ok-flags.ensures.found.1) flags in
     absurd (c.in_err-name.ensures.only header.name rest h.name name)
 
+pub returns-clause-well_formed : goal.returns-clause-well_formed
+returns-clause-well_formed c = record { name = c.in_ok-name.ensures.found.0; flags = c.in_ok-flags.ensures.found.0 }
+
 pub returns-clause-found : goal.returns-clause-found
 returns-clause-found c =
     let file = c.args.file.now in
-    let first : Stands file c.args.at (0x54 ∷ []) (c.args.at + 1) = rw c.if-file-at-ne-TABLE.false at (Stands-byte file c.args.at c.requires) in (
-      record { name = c.in_ok-name.ensures.found.0; flags = c.in_ok-flags.ensures.found.0 },
-      Stands-header file c.args.at (c.args.at + 1) c.in_ok-flags.at c.in_ok-name.at _ first c.in_ok-flags.ensures.found.1 c.in_ok-name.ensures.found.1,
-    )
+    let first : Stands file c.args.at (0x54 ∷ []) (c.args.at + 1) = rw c.if-file-at-ne-TABLE.false at (Stands-byte file c.args.at c.requires) in
+    Stands-header file c.args.at (c.args.at + 1) c.in_ok-flags.at c.in_ok-name.at _ first c.in_ok-flags.ensures.found.1 c.in_ok-name.ensures.found.1
 
 pub returns-clause-only : goal.returns-clause-only
 returns-clause-only c = λ header rest h e.

@@ -34,17 +34,17 @@ returns-clause-well_formed c =
     let v = c.self.view_is in
     let i = c.self.inside in
     let t = in_table i.file.now i.place i.flags.now i.is_bare i.names i.keys c.self.invariant (subst (λ (w : WalkData). 0 < length w.flags) (sym v) c.requires.table) in
-    let found = c.in_ok-seen.ensures.found in
-    (rw (found.0, t.flags_are) t.start.is_header.flags, rw found.0 found.1)
+    let read = c.in_ok-seen.ensures in
+    (rw (read.flags, t.flags_are) t.start.is_header.flags, rw read.flags read.well_formed)
 
 pub returns-clause-forward : goal.returns-clause-forward
 returns-clause-forward c =
     let v = c.self.view_is in
     let i = c.self.inside in
     let here = subst (λ (w : WalkData). HasEntry w.file w.place) (sym v) c.requires.entry in
-    let found = c.in_ok-seen.ensures.found in (
-      subst (λ (w : WalkData). w.place < c.in_ok-seen.end) v (Stands-moves i.file.now i.place c.in_ok-seen.end _ found.2 (entry_bytes_some c.in_ok-seen.seen.entry) here.within),
-      found.2.within,
+    let read = c.in_ok-seen.ensures in (
+      subst (λ (w : WalkData). w.place < c.in_ok-seen.end) v (Stands-moves i.file.now i.place c.in_ok-seen.end _ read.found (entry_bytes_some c.in_ok-seen.seen.entry) here.within),
+      read.found.within,
     )
 
 pub invariant_of-self-then-not-branch : goal.invariant_of-self-then-not-branch
@@ -60,9 +60,9 @@ returns-then-not-branch-clause-fault c =
     let i = c.self.inside in
     let t = in_table i.file.now i.place i.flags.now i.is_bare i.names i.keys c.self.invariant (subst (λ (w : WalkData). 0 < length w.flags) (sym v) c.requires.table) in
     let here = subst (λ (w : WalkData). HasEntry w.file w.place) (sym v) c.requires.entry in
-    let found = c.in_ok-seen.ensures.found in
+    let read = c.in_ok-seen.ensures in
     let entry : Entry = c.in_ok-seen.seen.entry in
-    let key_is = c.in_ok-key_slice.ensures ∙ ap (λ (flags : List ℕ). key_of flags entry.change) (found.0 ∙ t.flags_are) in
+    let key_is = c.in_ok-key_slice.ensures ∙ ap (λ (flags : List ℕ). key_of flags entry.change) (read.flags ∙ t.flags_are) in
     let old = Knows-is (λ (e : Entry). key_of t.header.flags e.change) i.keys t.entries (key_of t.header.flags entry.change) t.knows_keys
     (λ new. iff_false c.in_ok-insert.ensures.is_new c.if-not-branch.true (subst (λ (k : List ℕ). All (λ t. t ≢ k) i.keys) (sym key_is) new)) in
     subst (λ (w : WalkData). IfErr c.refuse.result (Refuses (λ f. ReadFails w.file f.kind f.place))) v
@@ -74,8 +74,8 @@ returns-then-not-branch-clause-fault c =
         entry = entry;
         to = c.in_ok-seen.end;
         start = t.start;
-        is_entry = rw t.flags_are at found.1;
-        stands = found.2;
+        is_entry = rw t.flags_are at read.well_formed;
+        stands = read.found;
         not_new = old;
       };
     }))
@@ -86,21 +86,21 @@ invariant_of-self-2 c =
     let i = c.self.inside in
     let t = in_table i.file.now i.place i.flags.now i.is_bare i.names i.keys c.self.invariant (subst (λ (w : WalkData). 0 < length w.flags) (sym v) c.requires.table) in
     let here = subst (λ (w : WalkData). HasEntry w.file w.place) (sym v) c.requires.entry in
-    let found = c.in_ok-seen.ensures.found in
+    let read = c.in_ok-seen.ensures in
     let entry : Entry = c.in_ok-seen.seen.entry in
-    let same = c.in_ok-key_slice.ensures ∙ ap (λ (flags : List ℕ). key_of flags entry.change) found.0 in
+    let same = c.in_ok-key_slice.ensures ∙ ap (λ (flags : List ℕ). key_of flags entry.change) read.flags in
     let key_is = same ∙ ap (λ (flags : List ℕ). key_of flags entry.change) t.flags_are in
     let fresh = Knows-new (λ (e : Entry). key_of t.header.flags e.change) i.keys t.entries (key_of t.header.flags entry.change) t.knows_keys (rw key_is at c.in_ok-insert.ensures.is_new.0 c.if-not-branch.false) in
-    inr (pass_entry i.file.now i.place i.flags.now i.is_bare i.names i.keys t entry c.in_ok-seen.end c.insert.new.self here found.1 found.2 c.in_ok-seen.ensures.only fresh (rw same at c.in_ok-insert.ensures.added))
+    inr (pass_entry i.file.now i.place i.flags.now i.is_bare i.names i.keys t entry c.in_ok-seen.end c.insert.new.self here read.well_formed read.found c.in_ok-seen.ensures.only fresh (rw same at c.in_ok-insert.ensures.added))
 
 pub returns-clause-item : goal.returns-clause-item
 returns-clause-item c = λ groups begins.
     let v = c.self.view_is in
     let i = c.self.inside in
     let t = in_table i.file.now i.place i.flags.now i.is_bare i.names i.keys c.self.invariant (subst (λ (w : WalkData). 0 < length w.flags) (sym v) c.requires.table) in
-    let found = c.in_ok-seen.ensures.found in
+    let read = c.in_ok-seen.ensures in
     let entry : Entry = c.in_ok-seen.seen.entry in
-    let key_is = c.in_ok-key_slice.ensures ∙ ap (λ (flags : List ℕ). key_of flags entry.change) (found.0 ∙ t.flags_are) in
+    let key_is = c.in_ok-key_slice.ensures ∙ ap (λ (flags : List ℕ). key_of flags entry.change) (read.flags ∙ t.flags_are) in
     let fresh = Knows-new (λ (e : Entry). key_of t.header.flags e.change) i.keys t.entries (key_of t.header.flags entry.change) t.knows_keys (rw key_is at c.in_ok-insert.ensures.is_new.0 c.if-not-branch.false) in
-    let passed = passed_entry i.file.now i.place i.flags.now i.is_bare i.names i.keys t entry c.in_ok-seen.end found.1 found.2 fresh groups (subst (λ (w : WalkData). Begins w.file w.place groups) (sym v) begins) in
-    ((passed.0.0, found.0 ∙ passed.0.1), passed.1)
+    let passed = passed_entry i.file.now i.place i.flags.now i.is_bare i.names i.keys t entry c.in_ok-seen.end read.well_formed read.found fresh groups (subst (λ (w : WalkData). Begins w.file w.place groups) (sym v) begins) in
+    ((passed.0.0, read.flags ∙ passed.0.1), passed.1)

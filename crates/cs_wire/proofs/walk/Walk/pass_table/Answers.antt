@@ -33,9 +33,9 @@ returns-clause-forward c =
     let v = c.self.view_is in
     let i = c.self.inside in
     let within = subst (λ (w : WalkData). w.place < length w.file) (sym v) c.requires.within in
-    let found = c.in_ok-header.ensures.found in (
-      subst (λ (w : WalkData). w.place < c.in_ok-header.end) v (header_moves i.file.now i.place c.in_ok-header.end (header_of c.in_ok-header.header) found.1 within),
-      found.1.within,
+    let read = c.in_ok-header.ensures in (
+      subst (λ (w : WalkData). w.place < c.in_ok-header.end) v (header_moves i.file.now i.place c.in_ok-header.end (header_of c.in_ok-header.header) read.found within),
+      read.found.within,
     )
 
 pub invariant_of-self-then-not-branch : goal.invariant_of-self-then-not-branch
@@ -60,8 +60,8 @@ returns-then-not-branch-clause-fault c =
         header = header_of c.in_ok-header.header;
         to = c.in_ok-header.end;
         start = record { are = b.1.are; stand = b.1.stand };
-        is_header = c.in_ok-header.ensures.found.0;
-        stands = c.in_ok-header.ensures.found.1;
+        is_header = c.in_ok-header.ensures.well_formed;
+        stands = c.in_ok-header.ensures.found;
         not_new = old;
       };
     }))
@@ -76,9 +76,9 @@ invariant_of-self-2 c =
     let name_is = c.as_bytes.ensures.value in
     let fresh = Knows-new (λ (g : GroupData). g.header.name) i.names b.0 c.in_ok-header.header.name.now b.2 (rw name_is at c.in_ok-insert.ensures.is_new.0 c.if-not-branch.false) in
     let header = header_of c.in_ok-header.header in
-    let found = c.in_ok-header.ensures.found in
-    let moves = header_moves i.file.now i.place c.in_ok-header.end header found.1 within in
-    inr (pass_header i.file.now i.place i.names c.insert.new.self c.clear.new.self b.0 b.1 b.2 header c.in_ok-header.end found.0 found.1 moves c.in_ok-header.ensures.only fresh (rw name_is at c.in_ok-insert.ensures.added) c.clear.ensures)
+    let read = c.in_ok-header.ensures in
+    let moves = header_moves i.file.now i.place c.in_ok-header.end header read.found within in
+    inr (pass_header i.file.now i.place i.names c.insert.new.self c.clear.new.self b.0 b.1 b.2 header c.in_ok-header.end read.well_formed read.found moves c.in_ok-header.ensures.only fresh (rw name_is at c.in_ok-insert.ensures.added) c.clear.ensures)
 
 pub returns-clause-item : goal.returns-clause-item
 returns-clause-item c = λ groups begins.
@@ -88,9 +88,9 @@ returns-clause-item c = λ groups begins.
     (subst (λ (w : WalkData). 0 < length w.flags → HasEntry w.file w.place → ⊥) (sym v) c.requires.no_entry) in
     let fresh = Knows-new (λ (g : GroupData). g.header.name) i.names b.0 c.in_ok-header.header.name.now b.2 (rw c.as_bytes.ensures.value at c.in_ok-insert.ensures.is_new.0 c.if-not-branch.false) in
     let header = header_of c.in_ok-header.header in
-    let found = c.in_ok-header.ensures.found in
+    let read = c.in_ok-header.ensures in
     let same = same_between i.file.now i.place b.0 b.1 groups (subst (λ (w : WalkData). Begins w.file w.place groups) (sym v) begins) in
-    let start = EntryStart-none i.file.now i.place c.in_ok-header.end b.0 header (record { are = b.1.are; stand = b.1.stand }) found.0 fresh found.1 in (
+    let start = EntryStart-none i.file.now i.place c.in_ok-header.end b.0 header (record { are = b.1.are; stand = b.1.stand }) read.well_formed fresh read.found in (
       subst (λ (gs : List GroupData). IsNewName gs header.name) (sym same) fresh,
       subst (λ (gs : List GroupData). Begins i.file.now c.in_ok-header.end (gs ++ record { header = header; entries = [] } ∷ [])) (sym same) (Begins-open i.file.now c.in_ok-header.end header [] start),
     )
