@@ -2,7 +2,8 @@
 
 use crate::{DELETE, INSERT, UPDATE};
 use cs_group::{ConcatFault, concat, invert};
-use cs_wire::{Changeset, Entry, ReadError, read, write};
+use cs_value::{OwnedValue, Row};
+use cs_wire::{Change, Changeset, Entry, ReadError, read, write};
 use std::alloc::Global;
 use std::process::Abort;
 
@@ -27,25 +28,27 @@ fn add_to_each(alloc: Global, file: &[u8], entry: &Entry) -> Result<Vec<u8>, Rea
     Ok(write(alloc, &all)?)
 }
 
-/// The entry of a file that has one.
-fn only_entry(rt: &(impl Abort + AllocGlobal), file: &[u8]) -> Entry {
-    let changeset = read(rt.alloc(), file).expect(rt, "a changeset");
-    let group = changeset.groups().first().expect(rt, "a table");
-    let entry = group.entries().first().expect(rt, "an entry");
-    entry.copy(rt.alloc()).expect(rt, "memory")
+/// Returns the insertion of a row of one number.
+fn insertion(rt: &(impl Abort + AllocGlobal), number: i64) -> Entry {
+    let values = vec![in rt.alloc(); OwnedValue::Int(number)].expect(rt, "memory");
+    Entry {
+        indirect: false,
+        change: Change::Insert(Row::new(values)),
+    }
 }
+
+/// The INSERT of 'a' into a table u of one column, which is its key, and that with the INSERT of 2 after it.
+const ONE: &[u8] = b"T\x01\x01u\x00\x12\x00\x03\x01a";
+
+const BOTH: &[u8] = b"T\x01\x01u\x00\x12\x00\x03\x01a\x12\x00\x01\x00\x00\x00\x00\x00\x00\x00\x02";
 
 #[test]
 fn adds_an_entry(rt: HostRuntime) {
-    let entry = only_entry(&rt, b"\x54\x01\x01t\x00\x12\x00\x03\x01b");
-    let both = add_to_each(rt.alloc(), b"\x54\x01\x01u\x00\x12\x00\x03\x01a", &entry).expect(
-        &rt, "memory",
-    );
-    assert!(rt;
-        both.as_slice() == b"\x54\x01\x01u\x00\x12\x00\x03\x01a\x12\x00\x03\x01b".as_slice()
-    );
-    let same = add_to_each(rt.alloc(), &both, &entry).expect(&rt, "memory");
-    assert!(rt; same == both);
+    let entry = insertion(&rt, 2);
+    for file in [ONE, BOTH] {
+        let both = add_to_each(rt.alloc(), file, &entry).expect(&rt, "memory");
+        assert!(rt; both.as_slice() == BOTH);
+    }
 }
 
 /// The file that undoes two others, the one after the other, or None where a table of theirs

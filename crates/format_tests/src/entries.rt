@@ -48,11 +48,20 @@ fn entry_of<'a>(rt: &(impl Abort + AllocGlobal), file: &'a [u8]) -> EntryRef<'a>
 
 /// Asserts that an entry updates the row (1, old) to (1, new).
 fn expect_update(rt: &impl Abort, entry: &EntryRef<'_>, old: &str, new: &str) {
-    assert!(rt; entry.column_count() == 2 && entry.operation() == 0x17 && !entry.is_indirect());
-    assert!(rt; entry.old_field(0) == Some(Field::Defined(Value::Int(1))));
-    assert!(rt; entry.old_field(1) == Some(Field::Defined(Value::Text(old))));
-    assert!(rt; entry.new_field(0) == Some(Field::Undefined));
-    assert!(rt; entry.new_field(1) == Some(Field::Defined(Value::Text(new))));
+    assert!(rt; entry.operation() == 0x17 && !entry.is_indirect());
+    assert!(rt; entry.column_count() == 2);
+    for (column, before, after) in [
+        (0, Field::Defined(Value::Int(1)), Field::Undefined),
+        (
+            1,
+            Field::Defined(Value::Text(old)),
+            Field::Defined(Value::Text(new)),
+        ),
+    ] {
+        assert!(rt; column < entry.column_count());
+        assert!(rt; entry.old_field(column) == Some(before));
+        assert!(rt; entry.new_field(column) == Some(after));
+    }
 }
 
 #[test]

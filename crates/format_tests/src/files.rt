@@ -1,7 +1,7 @@
 //! Texts of files, printed into a vector.
 
 use crate::DELETE;
-use cs_files::{PrintFault, Told, dump_text, print_dump, print_sql, sql_text};
+use cs_files::{PrintFault, Told, dump_text, print_dump, sql_text};
 use cs_wire::read;
 
 /// What is printed of [`DELETE`]: its dump, and then its SQL.
@@ -13,14 +13,6 @@ fn prints_a_changeset(rt: HostRuntime) {
     let changeset = read(rt.alloc(), DELETE).expect(&rt, "a changeset");
     let mut out = Told::new(Vec::new(rt.alloc()));
     assert!(rt; dump_text(&changeset, &mut out).is_ok() && sql_text(&changeset, &mut out).is_ok());
-    assert!(rt; out.into_inner().as_slice() == PRINTED);
-}
-
-#[test]
-fn prints_a_file_as_its_changeset(rt: HostRuntime) {
-    let mut out = Told::new(Vec::new(rt.alloc()));
-    assert!(rt; print_dump(rt.alloc(), DELETE, &mut out).is_ok());
-    assert!(rt; print_sql(rt.alloc(), DELETE, &mut out).is_ok());
     assert!(rt; out.into_inner().as_slice() == PRINTED);
 }
 
