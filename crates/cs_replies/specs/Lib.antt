@@ -7,7 +7,6 @@ pub use Rattle.cs_wire.specs.Changeset
 pub use Rattle.cs_wire.specs.ReadFaults
 pub use Rattle.cs_group.specs.Applying
 pub use Rattle.cs_rows.specs.Faults
-pub use Rattle.cs_apply.specs.Report
 pub use Rattle.cs_lines.specs.Commands
 pub use Rattle.cs_files.specs.Calls
 pub use Rattle.cs_files.specs.Gathering
