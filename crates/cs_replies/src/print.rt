@@ -46,10 +46,7 @@ fn add_refusal<W: Write>(
 
 /// Writes the error line of a refusal. It takes no memory, and fails, with some front of the line
 /// written, where a write fails or takes no byte.
-pub fn write_refusal<W: Write>(
-    out: &mut Told<W>,
-    refusal: &Refusal,
-) -> Result<(), OutputFault>
+pub fn write_refusal<W: Write>(out: &mut Told<W>, refusal: &Refusal) -> Result<(), OutputFault>
     ensures { Writes W.contents result out.old out.new (refusal_text refusal.now) }
 {
     let mut gather = Gather::new();
