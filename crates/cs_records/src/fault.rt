@@ -13,6 +13,11 @@ pub enum RecordsError {
 }
 
 impl From<Error> for RecordsError {
+    ghost use Rattle.std.specs.Prelude.{◌≡◌};
+    ghost use Rattle.cs_records.specs.Faults.{refusal_of};
+
+    ghost from_gives = { λ error e. e ≡ refusal_of error };
+
     fn from(error: Error) -> RecordsError {
         match error {
             Error::SqliteFailure(ErrorCode::OutOfMemory) => RecordsError::NoMemory,
@@ -22,12 +27,22 @@ impl From<Error> for RecordsError {
 }
 
 impl From<AllocError> for RecordsError {
+    ghost use Rattle.std.specs.Prelude.{◌≡◌};
+    ghost use Rattle.cs_records.specs.declared.fault.RecordsError.TheVariants.{NoMemory as OutOfMemory};
+
+    ghost from_gives = { λ _ e. e ≡ OutOfMemory };
+
     fn from(_refusal: AllocError) -> RecordsError {
         RecordsError::NoMemory
     }
 }
 
 impl<T: Drop> From<AllocFailed<T>> for RecordsError {
+    ghost use Rattle.std.specs.Prelude.{◌≡◌};
+    ghost use Rattle.cs_records.specs.declared.fault.RecordsError.TheVariants.{NoMemory as OutOfMemory};
+
+    ghost from_gives = { λ _ e. e ≡ OutOfMemory };
+
     fn from(_refusal: AllocFailed<T>) -> RecordsError {
         RecordsError::NoMemory
     }

@@ -29,7 +29,7 @@ pub fn declares_records(schema: &DatabaseSchema) -> bool
     is_record_table(table) && is_record_index(index) && schema.views.is_empty()
 }
 
-/// Whether a table has the name of the table of records, and is declared otherwise.
+/// Returns true only if a table has the name of the table of records and is declared otherwise. False says nothing.
 pub fn misdeclares_records(schema: &DatabaseSchema) -> bool
     ensures { IsTrue result → ¬ All (λ table. same_name table.name record_table.name ≡ true
         → IsDeclaredAsRecords table) schema.now.tables }

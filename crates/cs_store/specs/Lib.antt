@@ -1,3 +1,4 @@
+pub mod Refusals
 pub mod Store
 pub mod Crash
 pub mod Laws

@@ -109,7 +109,8 @@ impl<S: Start> Store<FileStore<FileFrom<S>>> {
         }
     }
 
-    /// Closes the store, so that its tables are in the database file and no log is left.
+    /// Closes the store: rolls back a transaction that is open, and copies the log into the database file. An empty
+    /// log can be left.
     ///
     /// # Errors
     ///

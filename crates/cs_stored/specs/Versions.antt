@@ -1,4 +1,4 @@
--- The versions of records as their readers tell them apart. No public contract names this.
+-- The versions of records, as values of their own type.
 use Rattle.std.specs.Prelude.{ℕ, List}
 use Rattle.cs_stored.specs.declared.version.Version.{Version}
 use Rattle.cs_stored.specs.declared.version.Version.TheVariants.{Current, Former}

@@ -44,7 +44,7 @@ pub fn read(alloc: Global, file: &[u8]) -> Result<Changeset, ReadError>
     Ok(Changeset::from_groups(alloc, groups)?)
 }
 
-/// Returns whether there is a byte at an offset that begins no header, so that an entry has to be there.
+/// Returns whether there is a byte at an offset that begins no header. After a header an entry has to begin there.
 pub fn has_entry(file: &[u8], at: usize) -> bool
     ensures { IsTrue result ↔ HasEntry file.now at }
 {
