@@ -1,11 +1,2 @@
-pub mod WriteLemmas
-pub mod StepLemmas
-pub mod HeededLemmas
-pub mod RunLemmas
-pub mod EntryLemmas
-pub mod CarryLemmas
-pub mod BehindLemmas
-pub mod OutcomeLemmas
-pub mod DirectedLemmas
 pub mod RevertLemmas
 pub mod CrashLemmas

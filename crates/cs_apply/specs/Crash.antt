@@ -1,10 +1,10 @@
 -- What an apply commits.
 use Rattle.std.specs.Prelude.{ℕ, List}
 use Rattle.cs_value.specs.State.{State}
-use Rattle.cs_apply.specs.declared.report.Report.{Report}
-use Rattle.cs_apply.specs.declared.running.Direction.{Direction}
+use Rattle.cs_run.specs.declared.report.Report.{Report}
+use Rattle.cs_run.specs.declared.running.Direction.{Direction}
 use Rattle.cs_group.specs.declared.conflict.Noop.{Noop}
-use Rattle.cs_apply.specs.Running.{Handler, Applies}
+use Rattle.cs_run.specs.Running.{Handler, Applies}
 
 -- an apply of the file makes this state
 abbrev pub AppliesInto : Handler → Noop → List ℕ → Direction → State → State → Type 0

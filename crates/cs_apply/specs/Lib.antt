@@ -1,6 +1,5 @@
 pub mod Crash
-pub mod Faults
-pub mod Report
-pub mod Run
-pub mod Running
-pub mod Steps
+pub use Rattle.cs_run.specs.Faults
+pub use Rattle.cs_run.specs.Report
+pub use Rattle.cs_run.specs.Running
+pub use Rattle.cs_run.specs.Steps

@@ -9,15 +9,12 @@ ghost use Rattle.cs_store.specs.Records.{KeepsContent};
 ghost use Rattle.cs_store.specs.Store.{IsAtRest, RefusesShut, tables_in};
 ghost use Rattle.cs_group.specs.declared.conflict.Choice.TheVariants.{Abort as AbortChoice};
 ghost use Rattle.cs_group.specs.declared.conflict.Noop.TheVariants.{Report as Reported};
-ghost use Rattle.cs_apply.specs.declared.running.Direction.TheVariants.{Forward as ForwardRun, Inverse as InverseRun};
+ghost use Rattle.cs_run.specs.declared.running.Direction.TheVariants.{Forward as ForwardRun, Inverse as InverseRun};
 ghost use Rattle.cs_apply.specs.Crash.{AppliesInto};
-ghost use Rattle.cs_apply.specs.Running.{Applies, Refuses, AlwaysAborts, Leads, IsNamed, IsResource};
+ghost use Rattle.cs_run.specs.Running.{Applies, Refuses, AlwaysAborts, Leads, IsNamed, IsResource};
 
-use crate::conflict::Conflict;
-use crate::fault::ApplyFault;
-use crate::report::Report;
-use crate::running::{Direction, run_in};
 use cs_group::{Choice, Noop};
+use cs_run::{ApplyFault, Conflict, Direction, Report, run_in};
 use cs_store::Store;
 use cs_wire::changeset_files_law;
 use sqlite::Alter;

@@ -4,8 +4,8 @@ use Rattle.std.specs.List.{flat_map}
 use Rattle.cs_group.specs.declared.conflict.Kind.{Kind}
 use Rattle.cs_group.specs.declared.conflict.Kind.TheVariants as kind
 use Rattle.cs_group.specs.Applying.{MetData}
-use Rattle.cs_apply.specs.declared.report.Report.{Report}
-use Rattle.cs_apply.specs.Report.{met_of}
+use Rattle.cs_run.specs.declared.report.Report.{Report}
+use Rattle.cs_run.specs.Report.{met_of}
 use Rattle.cs_value.specs.Quoting.{quoted}
 use Rattle.cs_lines.specs.Commands.{kind_text, choice_text}
 

@@ -1,7 +1,7 @@
 //! The text of what an apply did.
 ghost use Rattle.std.specs.Prelude.{◌≡◌, length, string_bytes};
 ghost use Rattle.std.specs.List.{flat_map};
-ghost use Rattle.cs_apply.specs.Report.{met_of};
+ghost use Rattle.cs_run.specs.Report.{met_of};
 ghost use Rattle.cs_files.specs.Calls.{Writes};
 ghost use Rattle.cs_files.specs.Gathering.{Gathers};
 ghost use Rattle.cs_replies.specs.Report.{kind_number as number_of};

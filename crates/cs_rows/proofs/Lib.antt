@@ -7,3 +7,4 @@ pub mod MemoryLemmas
 pub mod MoveLemmas
 pub mod RuleLemmas
 pub mod SchemaLemmas
+pub mod WrittenRows

@@ -8,7 +8,7 @@ ghost use Rattle.cs_value.specs.State.{IsState};
 ghost use Rattle.cs_store.specs.Crash.{CanBegin, IsAtomic, LeavesOnly};
 ghost use Rattle.cs_store.specs.Records.{KeepsContent};
 ghost use Rattle.cs_store.specs.Store.{IsAtRest, RefusesShut, tables_in};
-ghost use Rattle.cs_apply.specs.declared.running.Direction.TheVariants.{Forward as ForwardRun};
+ghost use Rattle.cs_run.specs.declared.running.Direction.TheVariants.{Forward as ForwardRun};
 ghost use Rattle.cs_apply.specs.Crash.{AppliesInto};
 ghost use Rattle.cs_session.specs.Changes.{IsResource};
 ghost use Rattle.cs_session.specs.FirstImages.{IsNotes};

@@ -13,15 +13,15 @@ use Rattle.cs_store.specs.Store.{IsAtRest, tables_in}
 use Rattle.cs_group.specs.declared.conflict.Choice.{Choice}
 use Rattle.cs_group.specs.declared.conflict.Noop.{Noop}
 use Rattle.cs_group.specs.declared.conflict.Noop.TheVariants as noop
-use Rattle.cs_apply.specs.declared.conflict.Conflict.{Conflict}
-use Rattle.cs_apply.specs.declared.fault.ApplyFault.{ApplyFault}
-use Rattle.cs_apply.specs.declared.report.Report.{Report}
-use Rattle.cs_apply.specs.declared.running.Direction.{Direction}
-use Rattle.cs_apply.specs.declared.running.Direction.TheVariants.{Forward, Inverse}
+use Rattle.cs_run.specs.declared.conflict.Conflict.{Conflict}
+use Rattle.cs_run.specs.declared.fault.ApplyFault.{ApplyFault}
+use Rattle.cs_run.specs.declared.report.Report.{Report}
+use Rattle.cs_run.specs.declared.running.Direction.{Direction}
+use Rattle.cs_run.specs.declared.running.Direction.TheVariants.{Forward, Inverse}
 use Rattle.cs_store.specs.Crash.{MayLeave}
 use Rattle.cs_apply.specs.Crash.{AppliesInto}
-use Rattle.cs_apply.specs.Running as applies
-use Rattle.cs_apply.specs.Running.{Handler, AlwaysAborts, Applies, Refuses}
+use Rattle.cs_run.specs.Running as applies
+use Rattle.cs_run.specs.Running.{Handler, AlwaysAborts, Applies, Refuses}
 use Rattle.cs_apply.proofs.RevertLemmas.{applies_weaker, refuses_weaker}
 use Rattle.cs_files.specs.Files.{Inverts}
 use Rattle.cs_session.specs.declared.fault.SessionFault.{SessionFault}

@@ -9,7 +9,7 @@ use Rattle.cs_value.specs.declared.refusal.OrNoMemory.TheVariants as tool
 use Rattle.cs_store.specs.Editing.{inserted}
 use Rattle.cs_group.specs.declared.conflict.Choice.{Choice}
 use Rattle.cs_group.specs.declared.conflict.Noop.{Noop}
-use Rattle.cs_apply.specs.declared.running.Direction.TheVariants.{Forward}
+use Rattle.cs_run.specs.declared.running.Direction.TheVariants.{Forward}
 use Rattle.cs_session.specs.FirstImages.{Notes}
 use Rattle.cs_lines.specs.declared.fault.SyntaxFault.{SyntaxFault}
 use Rattle.cs_lines.specs.Commands.{CommandData, AssignmentData, Create, Insert, Update, Delete, Select, Apply, Revert, SessionOpen, SessionAttach, SessionChangeset, SessionIsEmpty, SessionUndo, SessionClose}

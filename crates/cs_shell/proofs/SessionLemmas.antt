@@ -19,11 +19,11 @@ use Rattle.cs_store.specs.Editing.{Edited, Declares, edited, written_of}
 use Rattle.cs_group.specs.declared.conflict.Noop.{Noop}
 use Rattle.cs_group.specs.declared.conflict.Noop.TheVariants as noop
 use Rattle.cs_group.specs.Applying.{met_under}
-use Rattle.cs_apply.specs.declared.report.Report.{Report}
-use Rattle.cs_apply.specs.declared.running.Direction.{Direction}
-use Rattle.cs_apply.specs.declared.running.Direction.TheVariants.{Forward}
-use Rattle.cs_apply.specs.Report.{met_of}
-use Rattle.cs_apply.specs.Running.{Handler, Applies}
+use Rattle.cs_run.specs.declared.report.Report.{Report}
+use Rattle.cs_run.specs.declared.running.Direction.{Direction}
+use Rattle.cs_run.specs.declared.running.Direction.TheVariants.{Forward}
+use Rattle.cs_run.specs.Report.{met_of}
+use Rattle.cs_run.specs.Running.{Handler, Applies}
 use Rattle.cs_session.specs.declared.fault.SessionFault.{SessionFault}
 use Rattle.cs_session.specs.declared.fault.SessionFault.TheVariants as session
 use Rattle.cs_session.specs.FirstImages.{AttachedTable, Notes, IsNotes, HasAttached, rewound, recorded, recorded_changes}

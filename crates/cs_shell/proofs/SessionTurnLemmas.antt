@@ -12,7 +12,7 @@ use Rattle.cs_wire.specs.Laws.{ChangesetFiles}
 use Rattle.cs_rows.specs.declared.fault.StoreError.TheVariants as store
 use Rattle.cs_store.specs.Records.{KeepsContent, KeepsCrash}
 use Rattle.cs_store.specs.Store.{IsAtRest, KeepsStore, tables_in}
-use Rattle.cs_apply.specs.declared.report.Report.{Report}
+use Rattle.cs_run.specs.declared.report.Report.{Report}
 use Rattle.cs_session.specs.declared.fault.SessionFault.{SessionFault}
 use Rattle.cs_session.specs.declared.fault.SessionFault.TheVariants as session
 use Rattle.cs_session.specs.FirstImages.{FirstImage, AttachedTable, Notes, IsNotes, recorded_changes}

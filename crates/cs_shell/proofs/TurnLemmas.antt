@@ -11,8 +11,8 @@ use Rattle.cs_store.specs.Faults as faults
 use Rattle.cs_store.specs.Laws.{was_clean}
 use Rattle.cs_store.specs.Records.{KeepsContent, KeepsCrash, IsUndone}
 use Rattle.cs_store.specs.Store.{Begins, IsAtRest, KeepsStore, tables_in}
-use Rattle.cs_apply.specs.declared.fault.ApplyFault.{ApplyFault}
-use Rattle.cs_apply.specs.Running as applies
+use Rattle.cs_run.specs.declared.fault.ApplyFault.{ApplyFault}
+use Rattle.cs_run.specs.Running as applies
 use Rattle.cs_session.specs.declared.fault.SessionFault.{SessionFault}
 use Rattle.cs_session.specs.Changes as sessions
 use Rattle.cs_session.specs.FirstImages.{Notes}

@@ -23,7 +23,7 @@ pub use Rattle.cs_group.specs.Inverse
 pub use Rattle.cs_group.specs.Net
 pub use Rattle.cs_group.specs.Joining
 pub use Rattle.cs_rows.specs.Editing
-pub use Rattle.cs_apply.specs.Running
+pub use Rattle.cs_run.specs.Running
 pub use Rattle.cs_statements.specs.Columns
 pub use Rattle.cs_statements.specs.Rows
 pub use Rattle.cs_lines.specs.Tokens

@@ -17,12 +17,12 @@ use Rattle.cs_group.specs.declared.conflict.Noop.TheVariants as noop
 use Rattle.cs_rows.specs.declared.fault.StoreError.{StoreError}
 use Rattle.cs_rows.specs.declared.fault.StoreError.TheVariants.{NoTable, NullInKey, NoRow, StoreFault}
 use Rattle.cs_store.specs.Editing.{either, Edited, Declares, inserted, updated, deleted, written_of}
-use Rattle.cs_apply.specs.declared.report.Report.{Report}
-use Rattle.cs_apply.specs.declared.running.Direction.{Direction}
-use Rattle.cs_apply.specs.declared.running.Direction.TheVariants.{Forward, Inverse}
-use Rattle.cs_apply.specs.declared.fault.ApplyFault.{ApplyFault}
-use Rattle.cs_apply.specs.Report.{chosen}
-use Rattle.cs_apply.specs.Running.{Handler, AlwaysAborts, Applies, Refuses}
+use Rattle.cs_run.specs.declared.report.Report.{Report}
+use Rattle.cs_run.specs.declared.running.Direction.{Direction}
+use Rattle.cs_run.specs.declared.running.Direction.TheVariants.{Forward, Inverse}
+use Rattle.cs_run.specs.declared.fault.ApplyFault.{ApplyFault}
+use Rattle.cs_run.specs.Report.{chosen}
+use Rattle.cs_run.specs.Running.{Handler, AlwaysAborts, Applies, Refuses}
 use Rattle.cs_session.specs.declared.fault.SessionFault.TheVariants.{AlreadyAttached}
 use Rattle.cs_files.specs.declared.fault.FileFault.{FileFault}
 use Rattle.cs_files.specs.Files.{Inverts, Joins, JoinFails}

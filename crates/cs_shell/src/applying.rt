@@ -1,7 +1,7 @@
 //! Files that are applied to the tables of a store, and reverted.
 ghost use Rattle.std.specs.Prelude.{None, Some};
 ghost use Rattle.sqlite.specs.Held.{state};
-ghost use Rattle.cs_apply.specs.declared.running.Direction.TheVariants.{Forward};
+ghost use Rattle.cs_run.specs.declared.running.Direction.TheVariants.{Forward};
 ghost use Rattle.cs_replies.specs.Replies.{answer_of};
 ghost use Rattle.cs_shell.specs.Script.{ApplyGives, ByKind, RevertGives};
 ghost use Rattle.cs_shell.specs.Turns.{Works};

@@ -6,7 +6,7 @@ use Rattle.clap.proofs.OnLiterals.{clap_on_literals}
 use Rattle.cs_group.specs.declared.conflict.Choice.{Choice}
 use Rattle.cs_group.specs.declared.conflict.Choice.TheVariants as choice
 use Rattle.cs_group.specs.declared.conflict.Noop.TheVariants.{Report, Ignore}
-use Rattle.cs_apply.specs.declared.policy.Policy.{Policy}
+use Rattle.cs_run.specs.declared.policy.Policy.{Policy}
 use Rattle.cs_words.specs.Words.{asked, command_app, Apply, Concat, Dump, Sql, Invert, Shell}
 
 abbrev policy : Choice → Choice → Choice → Choice → Policy

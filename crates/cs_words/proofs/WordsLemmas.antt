@@ -6,7 +6,7 @@ use Rattle.clap.specs.declared.error.kind.ErrorKind.{ErrorKind}
 use Rattle.clap.specs.declared.error.kind.ErrorKind.TheVariants as kind
 use Rattle.clap.proofs.OnLiterals.{clap_on_literals}
 use Rattle.cs_group.specs.declared.conflict.Noop.{Noop}
-use Rattle.cs_apply.specs.declared.policy.Policy.{Policy}
+use Rattle.cs_run.specs.declared.policy.Policy.{Policy}
 use Rattle.cs_words.specs.declared.fault.WordsFault.{WordsFault}
 use Rattle.cs_words.specs.declared.fault.WordsFault.TheVariants as fault
 use Rattle.cs_words.specs.Words.{Asked, AskNothing, Refuses, arguments_in, asked, asked_by, asked_where, command_app, command_in, fault_of_kind, noop_in, policy_in}

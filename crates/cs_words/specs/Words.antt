@@ -13,7 +13,7 @@ use Rattle.cs_group.specs.declared.conflict.Choice.{Choice}
 use Rattle.cs_group.specs.declared.conflict.Choice.TheVariants as choice
 use Rattle.cs_group.specs.declared.conflict.Noop.{Noop}
 use Rattle.cs_group.specs.declared.conflict.Noop.TheVariants.{Report, Ignore}
-use Rattle.cs_apply.specs.declared.policy.Policy.{Policy}
+use Rattle.cs_run.specs.declared.policy.Policy.{Policy}
 use Rattle.cs_lines.specs.Commands.{choice_text}
 use Rattle.cs_words.specs.declared.action.Action.{Action}
 use Rattle.cs_words.specs.declared.action.Action.TheVariants as action

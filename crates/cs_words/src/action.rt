@@ -1,7 +1,7 @@
 //! What words ask for.
 
-use cs_apply::Policy;
 use cs_group::Noop;
+use cs_run::Policy;
 
 /// The store that is in memory, where a store in a file is named.
 pub const IN_MEMORY: &str = ":memory:";

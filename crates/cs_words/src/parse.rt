@@ -8,9 +8,9 @@ use crate::action::{Action, IN_MEMORY};
 use crate::command_line::command_line;
 use crate::fault::WordsFault;
 use clap::ArgMatches;
-use cs_apply::{Choice, Policy};
 use cs_group::Noop;
 use cs_lines::choice_name;
+use cs_run::{Choice, Policy};
 use std::alloc::Global;
 
 /// What the words of a command line ask for, the program's name first. With no word behind the name that

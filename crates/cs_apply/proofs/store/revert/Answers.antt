@@ -2,8 +2,8 @@
 use Rattle.std.proofs.Common.{rules}
 use Rattle.std.proofs.lemmas.Result.{IfOk-weaker, IfErr-weaker, MatchResult-from_both}
 use Rattle.cs_group.specs.declared.conflict.Noop.TheVariants.{Report as Reported}
-use Rattle.cs_apply.specs.declared.running.Direction.TheVariants.{Inverse}
-use Rattle.cs_apply.specs.Running.{AlwaysAborts, IsResource}
+use Rattle.cs_run.specs.declared.running.Direction.TheVariants.{Inverse}
+use Rattle.cs_run.specs.Running.{AlwaysAborts, IsResource}
 use Rattle.cs_apply.proofs.RevertLemmas.{reverts_ok, reverts_err, refuses_weaker}
 use Rattle.cs_apply.proofs.CrashLemmas.{revert_atomic}
 use Rattle.cs_apply.proofs.store.revert.Goals as goal

@@ -68,3 +68,10 @@ pub returns-in_err-commit-clause-stands : goal.returns-in_err-commit-clause-stan
 returns-in_err-commit-clause-stands g c =
     let kept : HasCleanDisk (state g.S.Store c.store-2-1.given.0) → OnErr c.from_residual-in_err-commit.result (KeepsContent (state g.S.Store c.args.store.now) (state g.S.Store c.store-2-1.given.0)) = search rules in
     refused_stands g.S.Store g.met.S.Store.settled g.met.S.Store.stays c.args.store.now c.store-2-1.given.0 c.crash_law.ensures c.from_residual-in_err-commit.result _ _ (returns-in_err-commit-clause-atomic g c) kept
+
+pub returns-in_err-report-clause-refused : goal.returns-in_err-report-clause-refused
+returns-in_err-report-clause-refused g c clean =
+    let was : HasCleanDisk (state g.S.Store c.run_in.new.rows.store.now) = search rules in
+    let refused = c.in_err-report.ensures.refused was in
+    let began = c.in_ok-batch.ensures.begun (c.run_in.ensures.was_honest was) in
+    search rules

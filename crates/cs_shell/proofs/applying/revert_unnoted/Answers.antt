@@ -1,6 +1,6 @@
 -- `applying::revert_unnoted`: what it ensures.
 use Rattle.std.proofs.lemmas.Result.{err_from_is_err_and}
-use Rattle.cs_apply.specs.Running.{AlwaysAborts}
+use Rattle.cs_run.specs.Running.{AlwaysAborts}
 use Rattle.cs_shell.proofs.ApplyTurnLemmas.{works_applied, works_unapplied, works_reverted}
 use Rattle.cs_shell.proofs.applying.revert_unnoted.Goals as goal
 

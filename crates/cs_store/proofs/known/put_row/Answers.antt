@@ -8,7 +8,7 @@ use Rattle.cs_store.specs.Store.{tables_in}
 use Rattle.cs_store.specs.Laws.{was_clean}
 use Rattle.cs_records.proofs.ContentLemmas.{in_transaction}
 use Rattle.cs_store.proofs.WriteLemmas.{shows_state}
-use Rattle.cs_store.proofs.WrittenRows.{known_free, knows_written}
+use Rattle.cs_store.proofs.KnownLemmas.{known_free, knows_written}
 use Rattle.cs_store.proofs.known.put_row.Goals as goal
 
 pub returns-in-Ok-clause-knows : goal.returns-in-Ok-clause-knows

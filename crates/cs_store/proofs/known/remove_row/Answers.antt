@@ -5,7 +5,7 @@ use Rattle.cs_value.specs.State.{rows_at}
 use Rattle.cs_store.specs.Store.{tables_in}
 use Rattle.cs_store.specs.Laws.{was_clean}
 use Rattle.cs_records.proofs.ContentLemmas.{in_transaction}
-use Rattle.cs_store.proofs.WrittenRows.{knows_written}
+use Rattle.cs_store.proofs.KnownLemmas.{knows_written}
 use Rattle.cs_store.proofs.known.remove_row.Goals as goal
 
 pub returns-in-Ok-clause-knows : goal.returns-in-Ok-clause-knows

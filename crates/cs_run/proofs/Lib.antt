@@ -1,0 +1,9 @@
+pub mod WriteLemmas
+pub mod StepLemmas
+pub mod HeededLemmas
+pub mod RunLemmas
+pub mod EntryLemmas
+pub mod CarryLemmas
+pub mod BehindLemmas
+pub mod OutcomeLemmas
+pub mod DirectedLemmas

@@ -1,0 +1,20 @@
+-- `entry::write`: what `put` asks for.
+use Rattle.std.proofs.Common.{sym, ◌∙◌, rules}
+use Rattle.cs_value.specs.Value.{IsRow}
+use Rattle.cs_group.specs.Applying.{refuses_at}
+use Rattle.cs_run.specs.Steps.{header_in}
+use Rattle.cs_run.proofs.EntryLemmas.{keyed_here, kept_here, fits_here}
+use Rattle.cs_run.proofs.entry.write.Goals as goal
+
+pub put-requires : goal.put-requires
+put-requires g c = λ honest.
+    let state = g.B.Rows.state c.args.rows.now in
+    let header = header_in c.args.table.now c.args.entry.now in
+    let has = c.requires.table honest in
+    let values : IsRow c.in-Some.row = search rules in
+    let left = rw c.in-Some.is at c.in_ok-row.ensures.fits in
+    let stood = keyed_here state header c.args.key.now c.args.current has (c.requires.row honest) in
+    let fits = left stood c.requires.found in
+    let obeys = rw c.in-Some.is at c.in_ok-row.ensures.obeys in
+    let kept = obeys (refuses_at state c.args.table.now) (kept_here state header c.args.key.now c.args.current has (c.requires.row honest)) c.requires.found (c.requires.obeys honest) in
+    fits_here state header c.args.key.now c.in-Some.row has values fits.0 (c.requires.key ∙ sym fits.1) kept

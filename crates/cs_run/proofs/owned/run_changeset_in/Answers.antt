@@ -1,0 +1,63 @@
+-- `owned::run_changeset_in`: the invariant of the loop at `group`, the clauses `applied`, `refused`, `named` and `read`.
+use Rattle.std.proofs.Common.{◌≡◌, ◌<◌, ◌+◌, ℕ, List, length, get_or, refl, ap, ◌∙◌}
+use Rattle.std.specs.Fn.{FnReturnsAt}
+use Rattle.std.proofs.lemmas.List.{take_all}
+use Rattle.cs_wire.specs.Changeset.{GroupData, file_bytes}
+use Rattle.cs_run.specs.Run.{directed}
+use Rattle.cs_run.proofs.BehindLemmas.{behind_start}
+use Rattle.cs_run.proofs.DirectedLemmas.{directed_none, group_names, groups_more, outcome_named, outcome_read, read_as, run_outcome}
+use Rattle.cs_run.proofs.owned.run_changeset_in.Goals as goal
+
+pub loop-group-init : goal.loop-group-init
+loop-group-init g c = (
+  c.requires,
+  g.B.Rows.keeps_itself _,
+  c.in_ok-run.ensures.start.tables,
+  (c.in_ok-run.ensures.noop, c.in_ok-run.ensures.start.empty.ignored),
+  λ honest. (honest, rw (directed_none c.args.direction) (behind_start (FnReturnsAt g.H.Fn c.args.handler.now) (g.B.Rows.state c.args.rows.now) c.in_ok-run.run' c.in_ok-run.ensures.start)),
+)
+
+pub loop-group-preserved : goal.loop-group-preserved
+loop-group-preserved g c =
+    let so = c.loop-group.invariant in
+    let all = c.args.changeset.now in
+    let groups = c.groups-group-items.ensures in
+    let i = c.loop-group.group-index in
+    let group = c.group-item.result in
+    let within : i < length all = rw groups.same at c.loop-group-test.true in
+    let is : group ≡ get_or all i group = c.group-item.is ∙ ap (λ (l : List GroupData). get_or l i group) groups.same in (
+      so.0,
+      g.B.Rows.keeps_then _ _ _ so.1 c.take_group.ensures.kept,
+      c.in_ok-take_group.ensures.tables ∙ ap (λ (n : ℕ). n + 1) so.2,
+      c.in_ok-take_group.ensures.reported,
+      λ honest.
+          let was = so.4 (c.take_group.ensures.was_honest honest) in (
+            was.0,
+            rw (groups_more c.args.direction all i group within is)
+                (c.in_ok-take_group.ensures.behind honest (g.B.Rows.state c.args.rows.now) _ (group_names c.args.direction all i group groups.well_formed within is) was.1),
+          ),
+    )
+
+pub returns-clause-applied : goal.returns-clause-applied
+returns-clause-applied g c = λ honest.
+    let all = c.args.changeset.now in
+    let groups = c.groups-group-items.ensures in
+    let whole = take_all c.loop-group.group-index all (rw groups.same at c.loop-group-test.false) in
+    let behind = rw whole at (c.loop-group.invariant.4 honest).1 in
+    rw c.loop-group.invariant.3.0 at (run_outcome (FnReturnsAt g.H.Fn c.args.handler.now) c.args.direction (file_bytes all) (directed c.args.direction all) _ c.loop-group.run _ (read_as c.args.direction (file_bytes all) all (groups.well_formed, refl)) behind
+    c.finish.result c.finish.ensures).0
+
+pub returns-clause-refused : goal.returns-clause-refused
+returns-clause-refused g c = λ honest.
+    let all = c.args.changeset.now in
+    let groups = c.groups-group-items.ensures in
+    let whole = take_all c.loop-group.group-index all (rw groups.same at c.loop-group-test.false) in
+    let behind = rw whole at (c.loop-group.invariant.4 honest).1 in
+    rw c.loop-group.invariant.3.0 at (run_outcome (FnReturnsAt g.H.Fn c.args.handler.now) c.args.direction (file_bytes all) (directed c.args.direction all) _ c.loop-group.run _ (read_as c.args.direction (file_bytes all) all (groups.well_formed, refl)) behind
+    c.finish.result c.finish.ensures).1
+
+pub returns-clause-named : goal.returns-clause-named
+returns-clause-named g c = outcome_named c.loop-group.run c.finish.result c.finish.ensures
+
+pub returns-clause-read : goal.returns-clause-read
+returns-clause-read g c = outcome_read c.loop-group.run c.finish.result c.finish.ensures

@@ -1,0 +1,89 @@
+-- `owned::take_group`: the invariant of the loop at `entry`, what `take_entry` asks for, the clauses `behind` and `kept`.
+use Rattle.std.proofs.Common.{◌≡◌, ◌<◌, [], List, ℕ, length, take, get_or, refl, sym, ap, ap₂, ◌∙◌}
+use Rattle.std.specs.Fn.{FnReturnsAt}
+use Rattle.std.specs.Rc.{rc_str_bytes}
+use Rattle.std.proofs.lemmas.List.{take_all}
+use Rattle.cs_wire.specs.declared.entry.Entry.{Entry}
+use Rattle.cs_wire.specs.Changeset.{HeaderData}
+use Rattle.cs_wire.specs.Items.{FlaggedEntry, header_of}
+use Rattle.cs_group.specs.Applying.{refuses_at}
+use Rattle.cs_group.proofs.ApplyLemmas.{judged_same, refuses_same}
+use Rattle.cs_run.specs.Run.{directed_entry, group_of}
+use Rattle.cs_run.proofs.BehindLemmas.{behind_table, has_judged_table}
+use Rattle.cs_run.proofs.DirectedLemmas.{directed_entries, entries_more, entry_new, group_begun, group_whole}
+use Rattle.cs_run.proofs.owned.take_group.Goals as goal
+
+pub loop-entry-init : goal.loop-entry-init
+loop-entry-init g c =
+    let h = c.args.group.now.header in
+    let same : header_of (record { name = c.name.result; flags = c.flags.result }) ≡ h =
+    ap₂ (λ (name flags : List ℕ). record { name = name; flags = flags }) (c.name.ensures ∙ ap (λ (x : HeaderData). x.name) c.header.ensures.same) c.flags.ensures.same in (
+      c.requires.callable,
+      c.take_table.ensures.kept,
+      c.in_ok-take_table.ensures.tables,
+      (c.take_table.ensures.noop ∙ c.requires.reported.0, c.take_table.ensures.ignored ∙ c.requires.reported.1),
+      λ honest.
+          let takes = rw same at c.in_ok-take_table.ensures.takes honest in (
+            c.take_table.ensures.was_honest honest,
+            takes.table,
+            rw takes.same takes.judged,
+            rw takes.same takes.rules,
+            (λ before closed names is.
+                rw (group_begun c.args.direction closed c.args.group.now)
+                (behind_table before closed h (FnReturnsAt g.H.Fn c.args.handler.now) c.args.run.now c.take_table.new.self (g.B.Rows.state c.args.rows.now) (g.B.Rows.state c.take_table.new.rows) is takes)),
+          ),
+    )
+
+pub take_entry-requires-clause-table : goal.take_entry-requires-clause-table
+take_entry-requires-clause-table g c = λ honest compatible.
+    let so = c.loop-entry.invariant in
+    has_judged_table (g.B.Rows.state c.loop-entry.rows) c.loop-entry.run c.args.group.now.header c.directed.result (so.4 honest).1 (so.4 honest).2
+    (ap (λ (x : FlaggedEntry). x.flags) c.directed.ensures ∙ ap (λ (x : FlaggedEntry). x.flags) c.from_entry-entry.ensures ∙ c.flags.ensures.same) compatible
+
+pub take_entry-requires-clause-rules : goal.take_entry-requires-clause-rules
+take_entry-requires-clause-rules g c = λ honest.
+    let was = c.loop-entry.invariant.4 honest in
+    was.3 ∙ ap (refuses_at (g.B.Rows.state c.loop-entry.rows)) (sym was.1)
+
+pub returns-in_err-take_entry-clause-kept : goal.returns-in_err-take_entry-clause-kept
+returns-in_err-take_entry-clause-kept g c = g.B.Rows.keeps_then _ _ _ c.loop-entry.invariant.1 c.take_entry.ensures.kept
+
+pub loop-entry-preserved : goal.loop-entry-preserved
+loop-entry-preserved g c =
+    let so = c.loop-entry.invariant in
+    let group = c.args.group.now in
+    let h = group.header in
+    let entries = c.entries-entry-items.ensures in
+    let j = c.loop-entry.entry-index in
+    let e = c.entry-item.result in
+    let within : j < length group.entries = rw entries.same at c.loop-entry-test.true in
+    let is : e ≡ get_or group.entries j e = c.entry-item.is ∙ ap (λ (l : List Entry). get_or l j e) entries.same in
+    let flags_are = ap (λ (x : FlaggedEntry). x.flags) c.from_entry-entry.ensures ∙ c.flags.ensures.same in
+    let entry_is = ap (λ (x : FlaggedEntry). x.entry) c.from_entry-entry.ensures in
+    let shown_flags : c.directed.result.flags ≡ h.flags = ap (λ (x : FlaggedEntry). x.flags) c.directed.ensures ∙ flags_are in
+    let shown : c.directed.result.entry ≡ directed_entry c.args.direction h.flags e =
+    ap (λ (x : FlaggedEntry). x.entry) c.directed.ensures ∙ ap₂ (λ (flags : List ℕ) (x : Entry). directed_entry c.args.direction flags x) flags_are entry_is in (
+      so.0,
+      g.B.Rows.keeps_then _ _ _ so.1 c.take_entry.ensures.kept,
+      c.take_entry.ensures.tables ∙ so.2,
+      (c.take_entry.ensures.noop ∙ so.3.0, c.take_entry.ensures.reported so.3.0 ∙ so.3.1),
+      λ honest.
+          let was = so.4 (c.take_entry.ensures.was_honest honest) in (
+            was.0,
+            ap (λ t. rc_str_bytes t) c.take_entry.ensures.table.0 ∙ was.1,
+            c.take_entry.ensures.table.1 ∙ was.2 ∙ sym (judged_same (g.B.Rows.state c.loop-entry.rows) (g.B.Rows.state c.take_entry.new.rows) (c.in_ok-take_entry.ensures.schemas honest) (group_of h []) (group_of h []) refl),
+            ap (λ v. v.items) c.take_entry.ensures.table.2 ∙ was.3 ∙ sym (refuses_same (g.B.Rows.state c.loop-entry.rows) (g.B.Rows.state c.take_entry.new.rows) (c.in_ok-take_entry.ensures.schemas honest) h.name),
+            (λ before closed names start.
+                let new = entry_new c.args.direction closed group j e entries.well_formed within is names in
+                let next = c.in_ok-take_entry.ensures.behind honest before closed h (directed_entries c.args.direction h.flags (take j group.entries)) shown_flags (rw shown new) (was.4 before closed names start) in
+                rw (entries_more c.args.direction h.flags group.entries j e within is, ← shown) next),
+          ),
+    )
+
+pub returns-clause-behind : goal.returns-clause-behind
+returns-clause-behind g c = λ honest before closed names is.
+    let so = c.loop-entry.invariant in
+    let group = c.args.group.now in
+    let all = take_all c.loop-entry.entry-index group.entries (rw c.entries-entry-items.ensures.same at c.loop-entry-test.false) in
+    let whole = ap (λ (es : List Entry). group_of group.header (directed_entries c.args.direction group.header.flags es)) all ∙ group_whole c.args.direction group in
+    rw (← whole) ((so.4 honest).4 before closed names is)

@@ -1,0 +1,5 @@
+pub mod Faults
+pub mod Report
+pub mod Run
+pub mod Running
+pub mod Steps

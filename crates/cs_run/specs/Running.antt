@@ -1,0 +1,118 @@
+-- What a run over rows does with a file: the interface of SQLite's session extension, under "sqlite3changeset_apply". The
+-- order of refusals, and that a table may not be wider, are this project's own.
+use Rattle.std.specs.Prelude.{◌≡◌, ◌⊎◌, ◌∷◌, ◌++◌, ℕ, true, false, List, map, All, string_bytes}
+use Rattle.cs_value.specs.State.{State, IsState}
+use Rattle.cs_wire.specs.Changeset.{GroupData, IsChangeset, file_bytes}
+use Rattle.cs_wire.specs.ReadFaults.{ReadFails}
+use Rattle.cs_rows.specs.declared.fault.StoreError.TheVariants.{DamagedStore, StoreFault}
+use Rattle.cs_rows.specs.Editing.{written_of}
+use Rattle.cs_group.specs.declared.conflict.Choice.{Choice}
+use Rattle.cs_group.specs.declared.conflict.Choice.TheVariants as choice
+use Rattle.cs_group.specs.declared.conflict.Noop.{Noop}
+use Rattle.cs_group.specs.Inverse.{IsInverse}
+use Rattle.cs_group.specs.Conflicts.{ends}
+use Rattle.cs_group.specs.Applying.{MetData, Choices, FirstWider, NoneWider, IsClean, IsApplied}
+use Rattle.cs_group.specs.Applying.{IsAppliedUnder, met_under, skipped, written_under, ignored}
+use Rattle.cs_run.specs.declared.conflict.Conflict.{Conflict}
+use Rattle.cs_run.specs.declared.conflict.Met.{Met}
+use Rattle.cs_run.specs.declared.report.Report.{Report}
+use Rattle.cs_run.specs.declared.running.Direction.{Direction}
+use Rattle.cs_run.specs.declared.running.Direction.TheVariants.{Forward, Inverse}
+use Rattle.cs_run.specs.declared.fault.ApplyFault.{ApplyFault}
+use Rattle.cs_run.specs.declared.fault.ApplyFault.TheVariants.{Read, Wider, Abort, Misuse, Store, NoMemory}
+use Rattle.cs_run.specs.Report.{met_of}
+
+-- what a handler may choose for a conflict
+abbrev pub Handler : Type 1
+Handler = Conflict → Choice → Type 0
+
+-- the file is read as this changeset: as its own, or as the inverse of that
+abbrev pub IsReadAs : List ℕ → Direction → List GroupData → Type 0
+IsReadAs file Forward changeset = IsChangeset changeset × (file ≡ file_bytes changeset)
+IsReadAs file Inverse changeset = (read : List GroupData)
+    × IsChangeset read × (file ≡ file_bytes read) × IsInverse read changeset × IsChangeset changeset
+
+-- the handler chose so, and the run goes on
+pub record GoesOn (chooses : Handler) (m : Met) : Type 0 where
+  pub chosen : chooses m.conflict m.choice
+  pub goes_on : ends m.conflict.kind m.choice ≡ false
+
+-- a file is applied, with what the report tells
+pub record Applies (chooses : Handler) (noop : Noop) (file : List ℕ) (direction : Direction) (old : State)
+    (report : Report) (new : State) : Type 0 where
+  pub changeset : List GroupData
+  pub read : IsReadAs file direction changeset
+  pub none_wider : NoneWider old changeset
+  pub choose : Choices
+  pub applied : IsAppliedUnder noop old changeset choose new
+  pub conflicts : map met_of report.conflicts.items ≡ met_under noop old changeset choose
+  pub chosen : All (GoesOn chooses) report.conflicts.items
+  pub skipped : map string_bytes report.skipped.items ≡ skipped old changeset
+  pub written : map written_of report.written.items ≡ written_under noop old changeset choose
+  pub ignored : report.ignored ≡ ignored noop old changeset
+
+-- the conflict is one that a changeset meets under some choices, and this is the choice for it; for each conflict before it
+-- the handler chose what stands there, and the run went on
+pub record IsReached (chooses : Handler) (noop : Noop) (old : State) (changeset : List GroupData) (last : Met) : Type 0 where
+  pub choose : Choices
+  pub earlier : List Met
+  pub later : List MetData
+  pub chosen : All (GoesOn chooses) earlier
+  pub listed : met_under noop old changeset choose ≡ map met_of earlier ++ met_of last ∷ later
+
+-- the run ends at a conflict, by what the handler chose for it
+pub record EndsRun (chooses : Handler) (m : Met) : Type 0 where
+  pub chosen : chooses m.conflict m.choice
+  pub ends : ends m.conflict.kind m.choice ≡ true
+
+-- so it ends at a conflict of a file
+pub record EndsAt (chooses : Handler) (noop : Noop) (file : List ℕ) (direction : Direction) (old : State) (last : Met) : Type 0 where
+  pub changeset : List GroupData
+  pub read : IsReadAs file direction changeset
+  pub none_wider : NoneWider old changeset
+  pub reached : IsReached chooses noop old changeset last
+  pub ended : EndsRun chooses last
+
+pub record IsWider (file : List ℕ) (direction : Direction) (old : State) (place : ℕ) : Type 0 where
+  pub changeset : List GroupData
+  pub read : IsReadAs file direction changeset
+  pub first : FirstWider old changeset place
+
+-- why a file is not applied
+abbrev pub Refuses : Handler → Noop → List ℕ → Direction → State → ApplyFault → Type 0
+Refuses chooses noop file direction old (Read fault) = ReadFails file fault.kind fault.place
+Refuses chooses noop file direction old (Wider place) = IsWider file direction old place
+Refuses chooses noop file direction old (Abort conflict) =
+    EndsAt chooses noop file direction old (record { conflict = conflict; choice = choice.Abort })
+Refuses chooses noop file direction old (Misuse conflict) =
+    EndsAt chooses noop file direction old (record { conflict = conflict; choice = choice.Replace })
+Refuses chooses noop file direction old (Store error) = error ≡ StoreFault
+Refuses chooses noop file direction old NoMemory = Unit {0}
+
+-- memory was refused, or the database refused
+abbrev pub IsResource : ApplyFault → Type 0
+IsResource fault = (fault ≡ NoMemory) ⊎ (fault ≡ Store StoreFault)
+
+-- what a run may be refused with by the store, whatever the disk returns
+abbrev pub IsNamed : ApplyFault → Type 0
+IsNamed (Store error) = (error ≡ DamagedStore) ⊎ (error ≡ StoreFault)
+IsNamed fault = Unit {0}
+
+-- it is no fault of reading
+abbrev pub IsNoReadFault : ApplyFault → Type 0
+IsNoReadFault (Read fault) = ⊥
+IsNoReadFault fault = Unit {0}
+
+-- the handler that aborts at each conflict
+abbrev pub AlwaysAborts : Handler
+AlwaysAborts conflict chosen = chosen ≡ choice.Abort
+
+-- the changeset of a file leads from a state, whose tables are well formed, to another without a conflict
+pub record Leads (file : List ℕ) (before after : State) : Type 0 where
+  pub changeset : List GroupData
+  pub is_changeset : IsChangeset changeset
+  pub is_file : file ≡ file_bytes changeset
+  pub is_state : IsState before
+  pub clean : IsClean before changeset
+  pub choose : Choices
+  pub applied : IsApplied before changeset choose after

@@ -1,0 +1,248 @@
+//! One entry of a changeset, carried out.
+ghost use Rattle.std.specs.Prelude.{◌≡◌, ◌≢◌, ◌↔◌, ◌<◌, ◌≤◌, ◌+◌, [], ◌∷◌, ◌++◌, map, false, Some, IfOk, IfErr, IfSome, IsTrue, OnOk, option_map};
+ghost use Rattle.std.specs.Fn.{FnReturnsAt};
+ghost use Rattle.std.specs.Rc.{rc_str_bytes};
+ghost use Rattle.cs_wire.specs.Entry.{key_of, before_image};
+ghost use Rattle.cs_rows.specs.Editing.{written_of};
+ghost use Rattle.cs_rows.specs.Rows.{Fits};
+ghost use Rattle.cs_group.specs.declared.conflict.Kind.TheVariants.{NotFound as NotFoundKind};
+ghost use Rattle.cs_group.specs.declared.conflict.Noop.TheVariants.{Report as Reported};
+ghost use Rattle.cs_group.specs.Conflicts.{kind_between, is_refused as breaks_rule, row_after as row_of_change, ends};
+ghost use Rattle.cs_group.specs.Applying.{conflict_with, refuses_at};
+ghost use Rattle.cs_run.specs.declared.entry.Settled.TheVariants.{Carried as CarriedOut};
+ghost use Rattle.cs_run.specs.Running.{IsResource};
+ghost use Rattle.cs_run.specs.Steps.{HasTable, ComesTo, IsStoreRefusal, SettlesAs, AnswersAs, is_ignored, is_left_out, header_in, placed_in_table, settled_as, with_result};
+
+use crate::conflict::{Conflict, Met};
+use crate::ending::Ending;
+use crate::fault::ApplyFault;
+use crate::report::Report;
+use cs_group::{Choice, Kind, Noop, agrees, conflict_kind, is_refused, row_after};
+use cs_rows::{Rows, Written};
+use cs_value::{Key, NoMemory, Row};
+use cs_wire::EntryRef;
+use std::alloc::Global;
+use std::rc::RcStr;
+
+/// What is done about an entry.
+#[derive(Debug, Drop)]
+pub(crate) enum Settled {
+    /// It is carried out: it meets no conflict, or what stands in its way is to be replaced.
+    Carried,
+    /// It is passed over, as it is chosen.
+    Passed,
+    /// It is ignored, since it changes nothing.
+    Ignored,
+    /// The run ends at it.
+    Ended(Ending),
+}
+
+impl Settled {
+    /// Whether the entry is carried out.
+    fn is_carried(&self) -> bool
+        ensures { IsTrue result ↔ (self.now ≡ CarriedOut) }
+    {
+        matches!(self, Settled::Carried)
+    }
+}
+
+/// Carries out an entry of a table that is compatible, or does what the handler chooses where the entry
+/// meets a conflict, unless that is to be ignored. Answers how the run ends at it, if it does: the rows are as they
+/// were then.
+pub(crate) fn apply_entry<B: Rows, H: Fn(&Conflict) -> Choice>(
+    alloc: Global,
+    rows: &mut B,
+    table: &RcStr,
+    entry: &EntryRef<'_>,
+    refuses: &[bool],
+    noop: Noop,
+    handler: &H,
+    report: &mut Report,
+) -> Result<Option<Ending>, ApplyFault>
+    requires callable { H.IsAlwaysCallable handler.now }
+    requires count { report.old.ignored < usize.MAX }
+    requires table { B.is_honest rows.old
+        → HasTable (B.state rows.old) (header_in (rc_str_bytes table.now) entry.now) }
+    requires rules { B.is_honest rows.old → refuses.now ≡ refuses_at (B.state rows.old) (rc_str_bytes table.now) }
+    ensures comes_to { B.is_honest rows.new → IfOk result (ComesTo (FnReturnsAt H.Fn handler.now) noop
+        (placed_in_table (rc_str_bytes table.now) entry.now) (B.state rows.old) report.old (B.state rows.new) report.new) }
+    ensures skipped { report.new.skipped ≡ report.old.skipped }
+    ensures ignored { report.new.ignored ≤ report.old.ignored + 1 }
+    ensures reported { noop ≡ Reported → report.new.ignored ≡ report.old.ignored }
+    ensures refused { B.is_honest rows.new → IfErr result IsResource }
+    ensures named { IfErr result IsStoreRefusal }
+    ensures was_honest { B.is_honest rows.new → B.is_honest rows.old }
+    ensures kept { B.keeps rows.old rows.new }
+{
+    let name = table.as_str();
+    let key = entry.key(alloc)?;
+    let current = rows.get(alloc, name, &key)?;
+    let conflicts = &mut report.conflicts;
+    match settle(
+        alloc,
+        name,
+        entry,
+        current.as_ref(),
+        is_refused(entry, refuses),
+        noop,
+        handler,
+        conflicts,
+    )? {
+        Settled::Carried => {
+            let written = &mut report.written;
+            carry_out(alloc, rows, table, entry, key, current, written)?;
+            Ok(None)
+        }
+        Settled::Passed => Ok(None),
+        Settled::Ignored => {
+            report.ignored += 1;
+            Ok(None)
+        }
+        Settled::Ended(ending) => Ok(Some(ending)),
+    }
+}
+
+/// What is done about an entry, which is refused or not. A conflict is told with what was chosen for it, unless the run
+/// ends there, or the entry is ignored.
+fn settle<H: Fn(&Conflict) -> Choice>(
+    alloc: Global,
+    table: &str,
+    entry: &EntryRef<'_>,
+    current: Option<&Row>,
+    is_refused: bool,
+    noop: Noop,
+    handler: &H,
+    conflicts: &mut Vec<Met>,
+) -> Result<Settled, NoMemory>
+    requires callable { H.IsAlwaysCallable handler.now }
+    ensures ignored { IfOk result (λ settled. is_left_out settled
+        ≡ is_ignored noop is_refused entry.now.flags entry.now.entry.change (option_map (λ r. r.now) current.entry)) }
+    ensures settles { IfOk result (SettlesAs (FnReturnsAt H.Fn handler.now) is_refused
+        (placed_in_table table.now entry.now) (option_map (λ r. r.now) current.entry) conflicts.old.items
+        conflicts.new.items) }
+{
+    let kind = match conflict_kind(entry, current, is_refused) {
+        None => return Ok(Settled::Carried),
+        Some(kind) => kind,
+    };
+    if noop == Noop::Ignore && agrees(entry, current) {
+        return Ok(Settled::Ignored);
+    }
+    let settled = ask(alloc, kind, table, entry, current, handler, conflicts)?;
+    if is_refused && settled.is_carried() {
+        let kind = Kind::Constraint;
+        return ask(alloc, kind, table, entry, current, handler, conflicts);
+    }
+    Ok(settled)
+}
+
+/// What is done about an entry at a conflict of a kind. The conflict is told with what was chosen for it, unless the run
+/// ends there.
+fn ask<H: Fn(&Conflict) -> Choice>(
+    alloc: Global,
+    kind: Kind,
+    table: &str,
+    entry: &EntryRef<'_>,
+    current: Option<&Row>,
+    handler: &H,
+    conflicts: &mut Vec<Met>,
+) -> Result<Settled, NoMemory>
+    requires callable { H.IsAlwaysCallable handler.now }
+    ensures { IfOk result (AnswersAs (FnReturnsAt H.Fn handler.now)
+        (conflict_with (placed_in_table table.now entry.now) (option_map (λ r. r.now) current.entry) kind)
+        conflicts.old.items conflicts.new.items) }
+{
+    let conflict = Conflict::copy_of(alloc, kind, table, entry, current)?;
+    let choice = handler(&conflict);
+    if ends_run(kind, choice) {
+        return Ok(Settled::Ended(Ending::at(conflict, choice)));
+    }
+    conflicts.push(Met { conflict, choice })?;
+    Ok(settled_by(choice))
+}
+
+/// What is done about an entry at whose conflict the run goes on.
+fn settled_by(choice: Choice) -> Settled
+    ensures { result ≡ settled_as choice }
+{
+    match choice {
+        Choice::Replace => Settled::Carried,
+        _ => Settled::Passed,
+    }
+}
+
+/// Whether a run ends at a conflict of this kind, for which this was chosen.
+fn ends_run(kind: Kind, choice: Choice) -> bool
+    ensures { result ≡ ends kind choice }
+{
+    match choice {
+        Choice::Omit => false,
+        Choice::Replace => kind == Kind::NotFound || kind == Kind::Constraint,
+        Choice::Abort => true,
+    }
+}
+
+/// Writes what an entry leaves, and tells its key and the row that stood there.
+fn carry_out<B: Rows>(
+    alloc: Global,
+    rows: &mut B,
+    table: &RcStr,
+    entry: &EntryRef<'_>,
+    key: Key,
+    current: Option<Row>,
+    written: &mut Vec<Written>,
+) -> Result<(), ApplyFault>
+    requires key { key ≡ key_of entry.now.flags entry.now.entry.change }
+    requires found { kind_between (before_image entry.now.entry.change) current ≢ Some NotFoundKind }
+    requires obeys { B.is_honest rows.old → breaks_rule (refuses_at (B.state rows.old) (rc_str_bytes table.now))
+        entry.now.flags entry.now.entry.change ≡ false }
+    requires table { B.is_honest rows.old
+        → HasTable (B.state rows.old) (header_in (rc_str_bytes table.now) entry.now) }
+    requires row { B.is_honest rows.old → IfSome current (Fits (B.state rows.old) (rc_str_bytes table.now) key) }
+    ensures written { B.is_honest rows.new → OnOk result (B.state rows.new
+        ≡ with_result (B.state rows.old) (rc_str_bytes table.now) key
+        (row_of_change entry.now.flags entry.now.entry.change current)) }
+    ensures told { OnOk result (map written_of written.new.items ≡ map written_of written.old.items
+        ++ record { table = rc_str_bytes table.now; key = key; former = current } ∷ []) }
+    ensures refused { IfErr result IsResource }
+    ensures was_honest { B.is_honest rows.new → B.is_honest rows.old }
+    ensures kept { B.keeps rows.old rows.new }
+{
+    write(alloc, rows, table.as_str(), entry, &key, current.as_ref())?;
+    let table = table.clone()?;
+    written.push(Written {
+        table,
+        key,
+        former: current,
+    })?;
+    Ok(())
+}
+
+/// Writes what an entry that is carried out leaves of the row at its key.
+fn write<B: Rows>(
+    alloc: Global,
+    rows: &mut B,
+    table: &str,
+    entry: &EntryRef<'_>,
+    key: &Key,
+    current: Option<&Row>,
+) -> Result<(), ApplyFault>
+    requires key { key.now ≡ key_of entry.now.flags entry.now.entry.change }
+    requires found { kind_between (before_image entry.now.entry.change) (option_map (λ r. r.now) current) ≢ Some NotFoundKind }
+    requires obeys { B.is_honest rows.old → breaks_rule (refuses_at (B.state rows.old) table.now)
+        entry.now.flags entry.now.entry.change ≡ false }
+    requires table { B.is_honest rows.old → HasTable (B.state rows.old) (header_in table.now entry.now) }
+    requires row { B.is_honest rows.old → IfSome current (λ r. Fits (B.state rows.old) table.now key.now r.now) }
+    ensures written { B.is_honest rows.new → OnOk result (B.state rows.new
+        ≡ with_result (B.state rows.old) table.now key.now
+        (row_of_change entry.now.flags entry.now.entry.change (option_map (λ r. r.now) current.entry))) }
+    ensures refused { IfErr result IsResource }
+    ensures was_honest { B.is_honest rows.new → B.is_honest rows.old }
+    ensures kept { B.keeps rows.old rows.new }
+{
+    match row_after(alloc, entry, current)? {
+        Some(row) => rows.put(alloc, table, key, &row)?,
+        None => rows.remove(alloc, table, key)?,
+    }
+    Ok(())
+}

@@ -1,0 +1,86 @@
+//! A changeset that is owned, applied to rows.
+ghost use Rattle.std.specs.Prelude.{◌≡◌, ◌≢◌, ◌<◌, ◌+◌, [], ◌∷◌, ◌++◌, List, IfOk, IfErr, OnOk};
+ghost use Rattle.std.specs.List.{AllByRecursion};
+ghost use Rattle.std.specs.Fn.{FnReturnsAt};
+ghost use Rattle.cs_value.specs.State.{State};
+ghost use Rattle.cs_wire.specs.Changeset.{GroupData, file_bytes};
+ghost use Rattle.cs_group.specs.declared.conflict.Noop.TheVariants.{Report as Reported};
+ghost use Rattle.cs_run.specs.Running.{Applies, Refuses, IsNamed, IsNoReadFault, IsResource};
+ghost use Rattle.cs_run.specs.Steps.{IsStoreRefusal};
+ghost use Rattle.cs_run.specs.Run.{IsBehind, directed_group};
+
+use crate::conflict::Conflict;
+use crate::fault::ApplyFault;
+use crate::report::Report;
+use crate::run::Run;
+use crate::running::{Direction, directed};
+use cs_group::{Choice, Noop};
+use cs_rows::Rows;
+use cs_wire::{Changeset, EntryRef, Group, HeaderRef};
+use std::alloc::Global;
+
+/// Applies a changeset to rows, or its inverse, as [`run_in`](crate::run_in) does with its file; no file is
+/// written, and no entry is ignored.
+///
+/// # Errors
+///
+/// As [`run_in`](crate::run_in), but never [`Read`](ApplyFault::Read): what it takes is a changeset.
+pub fn run_changeset_in<B: Rows, H: Fn(&Conflict) -> Choice>(
+    alloc: Global,
+    rows: &mut B,
+    changeset: &Changeset,
+    direction: Direction,
+    handler: &H,
+) -> Result<Report, ApplyFault>
+    requires { H.IsAlwaysCallable handler.now }
+    ensures applied { B.is_honest rows.new → IfOk result (λ report.
+        Applies (FnReturnsAt H.Fn handler.now) Reported (file_bytes changeset.now) direction (B.state rows.old) report (B.state rows.new)) }
+    ensures refused { B.is_honest rows.new → IfErr result
+        (Refuses (FnReturnsAt H.Fn handler.now) Reported (file_bytes changeset.now) direction (B.state rows.old)) }
+    ensures named { IfErr result IsNamed }
+    ensures read { IfErr result IsNoReadFault }
+    ensures was_honest { B.is_honest rows.new → B.is_honest rows.old }
+    ensures kept { B.keeps rows.old rows.new }
+{
+    let mut run = Run::new(alloc, Noop::Report)?;
+    for group in changeset.groups() {
+        take_group(alloc, rows, group, direction, handler, &mut run)?;
+    }
+    run.finish()
+}
+
+/// Goes on with a group: its table, and its entries.
+fn take_group<B: Rows, H: Fn(&Conflict) -> Choice>(
+    alloc: Global,
+    rows: &mut B,
+    group: &Group,
+    direction: Direction,
+    handler: &H,
+    run: &mut Run,
+) -> Result<(), ApplyFault>
+    requires callable { H.IsAlwaysCallable handler.now }
+    requires count { run.old.tables < usize.MAX }
+    requires reported { (run.old.noop ≡ Reported) × (run.old.report.ignored ≡ 0) }
+    ensures behind { B.is_honest rows.new → OnOk result ((before : State) (closed : List GroupData)
+        → AllByRecursion (λ g. g.header.name ≢ group.now.header.name) closed
+        → IsBehind (FnReturnsAt H.Fn handler.now) before closed run.old (B.state rows.old)
+        → IsBehind (FnReturnsAt H.Fn handler.now) before
+        (closed ++ directed_group direction group.now ∷ []) run.new (B.state rows.new)) }
+    ensures tables { OnOk result (run.new.tables ≡ run.old.tables + 1) }
+    ensures reported { OnOk result ((run.new.noop ≡ Reported) × (run.new.report.ignored ≡ 0)) }
+    ensures refused { B.is_honest rows.new → IfErr result IsResource }
+    ensures named { IfErr result IsStoreRefusal }
+    ensures was_honest { B.is_honest rows.new → B.is_honest rows.old }
+    ensures kept { B.keeps rows.old rows.new }
+{
+    let header = HeaderRef {
+        name: group.header().name(),
+        flags: group.flags(),
+    };
+    run.take_table(alloc, rows, header)?;
+    for entry in group.entries() {
+        let entry = EntryRef::from_entry(header.flags, entry);
+        run.take_entry(alloc, rows, directed(entry, direction), handler)?;
+    }
+    Ok(())
+}

@@ -1,0 +1,168 @@
+//! A run through the items of a changeset, from one to the next.
+ghost use Rattle.std.specs.Prelude.{◌≡◌, ◌↔◌, ◌<◌, ◌≤◌, ◌+◌, ◌∷◌, ◌++◌, [], ℕ, List, IfOk, IfErr, IsTrue, OnOk};
+ghost use Rattle.std.specs.Fn.{FnReturnsAt};
+ghost use Rattle.std.specs.Rc.{rc_str_bytes};
+ghost use Rattle.cs_value.specs.State.{State, schema_at};
+ghost use Rattle.cs_wire.specs.declared.entry.Entry.{Entry as EntryData};
+ghost use Rattle.cs_wire.specs.Changeset.{GroupData, HeaderData};
+ghost use Rattle.cs_wire.specs.Items.{header_of};
+ghost use Rattle.cs_group.specs.Applying.{refuses_at};
+ghost use Rattle.cs_group.specs.declared.judging.Judgement.TheVariants.{Compatible as CompatibleTable};
+ghost use Rattle.cs_group.specs.declared.conflict.Noop.TheVariants.{Report as Reported};
+ghost use Rattle.cs_run.specs.Running.{IsResource};
+ghost use Rattle.cs_run.specs.Steps.{HasTable, IsStoreRefusal, header_in};
+ghost use Rattle.cs_run.specs.Run.{IsAtStart, IsBehind, IsNewEntry, TakesEntries, TakesTable, answer_of, group_of};
+
+use crate::conflict::Conflict;
+use crate::ending::Ending;
+use crate::entry::apply_entry;
+use crate::fault::ApplyFault;
+use crate::judging::judge_table;
+use crate::report::Report;
+use cs_group::{Choice, Judgement, Noop};
+use cs_rows::Rows;
+use cs_value::NoMemory;
+use cs_wire::{EntryRef, HeaderRef};
+use std::alloc::Global;
+use std::rc::RcStr;
+
+/// What is known behind the items so far.
+#[derive(Debug, Drop)]
+pub(crate) struct Run {
+    // The name of the table that is open, which the keys that are written share, and how the table was judged.
+    table: RcStr,
+    judgement: Judgement,
+    // Which of its columns refuse NULL.
+    refuses: Vec<bool>,
+    // How many tables there were.
+    tables: usize,
+    // The place of the first of them that is wider.
+    wider: Option<usize>,
+    // How the run ended at an entry.
+    ended: Option<Ending>,
+    // What is done about entries that change nothing.
+    noop: Noop,
+    report: Report,
+}
+
+impl Run {
+    /// A run before the first item.
+    pub(crate) fn new(alloc: Global, noop: Noop) -> Result<Run, NoMemory>
+        ensures start { IfOk result IsAtStart }
+        ensures noop { IfOk result (λ run. run.noop ≡ noop) }
+    {
+        Ok(Run {
+            table: RcStr::from_str(alloc, "")?,
+            judgement: Judgement::Skipped,
+            refuses: Vec::new(alloc),
+            tables: 0,
+            wider: None,
+            ended: None,
+            noop,
+            report: Report::new(alloc),
+        })
+    }
+
+    /// Goes on with a table: judges it, and tells it where it is passed over. The first that is wider is
+    /// remembered, also behind the end of the run.
+    pub(crate) fn take_table<B: Rows>(
+        &mut self,
+        alloc: Global,
+        rows: &mut B,
+        header: HeaderRef<'_>,
+    ) -> Result<(), ApplyFault>
+        requires { self.old.tables < usize.MAX }
+        ensures takes { B.is_honest rows.new → OnOk result
+            (TakesTable (B.state rows.old) self.old (header_of header.entry) self.new (B.state rows.new)) }
+        ensures tables { OnOk result (self.new.tables ≡ self.old.tables + 1) }
+        ensures ignored { self.new.report.ignored ≡ self.old.report.ignored }
+        ensures noop { self.new.noop ≡ self.old.noop }
+        ensures refused { B.is_honest rows.new → IfErr result IsResource }
+        ensures named { IfErr result IsStoreRefusal }
+        ensures was_honest { B.is_honest rows.new → B.is_honest rows.old }
+        ensures kept { B.keeps rows.old rows.new }
+    {
+        (self.judgement, self.refuses) = judge_table(alloc, rows, &header)?;
+        self.table = RcStr::from_str(alloc, header.name)?;
+        let place = self.tables;
+        self.tables = place + 1;
+        match self.judgement {
+            Judgement::Wider if self.wider.is_none() => self.wider = Some(place),
+            Judgement::Skipped => {
+                let table = String::from_str(alloc, header.name)?;
+                self.report.skipped.push(table)?;
+            }
+            _ => {}
+        }
+        Ok(())
+    }
+
+    /// Whether entries of the table that is open are carried out.
+    fn takes_entries(&self) -> bool
+        ensures { IsTrue result ↔ TakesEntries self.now }
+    {
+        self.judgement == Judgement::Compatible && self.wider.is_none() && self.ended.is_none()
+    }
+
+    /// Goes on with an entry of the table that is open: carries it out, or does what the handler chooses,
+    /// where the table is compatible and the run has not ended.
+    pub(crate) fn take_entry<B: Rows, H: Fn(&Conflict) -> Choice>(
+        &mut self,
+        alloc: Global,
+        rows: &mut B,
+        entry: EntryRef<'_>,
+        handler: &H,
+    ) -> Result<(), ApplyFault>
+        requires callable { H.IsAlwaysCallable handler.now }
+        requires count { self.old.report.ignored < usize.MAX }
+        requires table { B.is_honest rows.old → self.old.judgement ≡ CompatibleTable
+            → HasTable (B.state rows.old) (header_in (rc_str_bytes self.old.table) entry) }
+        requires rules { B.is_honest rows.old
+            → self.old.refuses.items ≡ refuses_at (B.state rows.old) (rc_str_bytes self.old.table) }
+        ensures behind { B.is_honest rows.new → OnOk result ((before : State) (closed : List GroupData)
+            (header : HeaderData) (entries : List EntryData) → entry.entry.flags ≡ header.flags
+            → IsNewEntry closed header entries entry.entry.entry
+            → IsBehind (FnReturnsAt H.Fn handler.now) before (closed ++ group_of header entries ∷ []) self.old (B.state rows.old)
+            → IsBehind (FnReturnsAt H.Fn handler.now) before
+            (closed ++ group_of header (entries ++ entry.entry.entry ∷ []) ∷ []) self.new (B.state rows.new)) }
+        ensures schemas { B.is_honest rows.new → OnOk result ((name : List ℕ)
+            → schema_at (B.state rows.new) name ≡ schema_at (B.state rows.old) name) }
+        ensures table { (self.new.table ≡ self.old.table) × (self.new.judgement ≡ self.old.judgement)
+            × (self.new.refuses ≡ self.old.refuses) }
+        ensures tables { self.new.tables ≡ self.old.tables }
+        ensures ignored { self.new.report.ignored ≤ self.old.report.ignored + 1 }
+        ensures reported { self.old.noop ≡ Reported → self.new.report.ignored ≡ self.old.report.ignored }
+        ensures noop { self.new.noop ≡ self.old.noop }
+        ensures refused { B.is_honest rows.new → IfErr result IsResource }
+        ensures named { IfErr result IsStoreRefusal }
+        ensures was_honest { B.is_honest rows.new → B.is_honest rows.old }
+        ensures kept { B.keeps rows.old rows.new }
+    {
+        if !self.takes_entries() {
+            return Ok(());
+        }
+        let report = &mut self.report;
+        let (table, refuses) = (&self.table, &self.refuses);
+        self.ended = apply_entry(
+            alloc, rows, table, &entry, refuses, self.noop, handler, report,
+        )?;
+        Ok(())
+    }
+
+    /// What the run comes to behind the last item.
+    pub(crate) fn finish(self) -> Result<Report, ApplyFault>
+        ensures { result ≡ answer_of self }
+    {
+        let Run {
+            wider,
+            ended,
+            report,
+            ..
+        } = self;
+        match (wider, ended) {
+            (Some(place), _) => Err(ApplyFault::Wider(place)),
+            (None, Some(ending)) => Err(ending.into_fault()),
+            (None, None) => Ok(report),
+        }
+    }
+}
