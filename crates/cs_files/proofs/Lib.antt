@@ -1,13 +1,6 @@
 pub mod Examples
-pub mod GatherLemmas
 pub mod InvertLemmas
 pub mod JoiningLemmas
 pub mod NumberLemmas
 pub mod PassLemmas
 pub mod PrintLemmas
-pub mod SeparatedLemmas
-pub mod TablesLemmas
-pub mod TermLemmas
-pub mod TextExamples
-pub mod TextLemmas
-pub mod WriteLemmas

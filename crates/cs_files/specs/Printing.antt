@@ -6,9 +6,9 @@ use Rattle.cs_wire.specs.declared.fault.ReadFault.{ReadFault}
 use Rattle.cs_wire.specs.Changeset.{GroupData}
 use Rattle.cs_files.specs.declared.fault.PrintFault.{PrintFault}
 use Rattle.cs_files.specs.declared.fault.PrintFault.TheVariants.{Read, Output}
-use Rattle.cs_files.specs.declared.told.Told.{Told}
-use Rattle.cs_files.specs.Told.{known}
-use Rattle.cs_files.specs.Calls.{AppendsFront}
+use Rattle.cs_texts.specs.declared.told.Told.{Told}
+use Rattle.cs_texts.specs.Told.{known}
+use Rattle.cs_texts.specs.Calls.{AppendsFront}
 use Rattle.cs_files.specs.Files.{Prints}
 
 -- this holds of why the file was not read, where it was not

@@ -1,38 +1,14 @@
 //! Why a call on files is refused.
-ghost use Rattle.std.specs.Prelude.{◌≡◌, codes};
+ghost use Rattle.std.specs.Prelude.{◌≡◌};
 ghost use Rattle.cs_files.specs.Faults.{code_of, class_of, name_of, of_first, of_second};
 ghost use Rattle.cs_files.specs.Faults.{print_code_of, print_class_of, print_name_of, of_print};
 ghost use Rattle.cs_files.specs.declared.fault.PrintFault.TheVariants as print;
 
 use cs_group::SchemaFault;
+use cs_texts::OutputFault;
 use cs_value::{Fault, OrNoMemory};
 use cs_wire::{ReadError, ReadFault};
 use thiserror::Error;
-
-/// A write failed, or took no byte of some. What was written before stays.
-#[derive(Clone, Copy, Debug, PartialEq, Eq, Drop, Error)]
-#[error("a write failed")]
-pub struct OutputFault;
-
-impl Fault for OutputFault {
-    ghost code_of = { λ _. 72 };
-
-    ghost class_of = { λ _. 10 };
-
-    ghost name_of = { λ _. codes "OutputFault" };
-
-    fn code(&self) -> u8 {
-        72
-    }
-
-    fn class(&self) -> u8 {
-        10
-    }
-
-    fn name(&self) -> &'static str {
-        "OutputFault"
-    }
-}
 
 /// Why a file is not printed.
 #[derive(Debug, PartialEq, Eq, Drop, Error)]

@@ -10,27 +10,22 @@
 //! ```
 //!
 //! `files` makes files and texts of files, `inverting` writes an inverse, `joining` a join, `numbering` a
-//! file whose key columns are numbered, and `fault` says why not. `texts` has the readable texts of
-//! changesets, owned or where they stand in a file, and `gather` what is gathered of them before it is
-//! written. `told` has the readers and writers that remember whether a call failed, and what writes all
-//! of some bytes to one.
+//! file whose key columns are numbered, and `fault` says why not.
 //!
-//! A crate above writes lines of its own by [`add_pieces`], and then [`Gather::flush`].
+//! The crate passes on the texts of changesets, the streams that they are written to, and the pieces of
+//! lines, which are those of `cs_texts`.
 #![tactic(auto)]
 
 mod fault;
 mod files;
-mod gather;
 mod inverting;
 mod joining;
 mod numbering;
-mod texts;
-mod told;
 
-pub use fault::{FileFault, OutputFault, PrintFault, ToolFault, first_fault};
+pub use cs_texts::{
+    Gather, OutputFault, Piece, Told, add_pieces, dump_text, sql_text, write_whole,
+};
+pub use fault::{FileFault, PrintFault, ToolFault, first_fault};
 pub use files::{
     concat_bytes, dump_file, invert_bytes, number_keys_bytes, print_dump, print_sql, sql_file,
 };
-pub use gather::Gather;
-pub use texts::{Piece, add_pieces, dump_text, sql_text};
-pub use told::{Told, write_whole};

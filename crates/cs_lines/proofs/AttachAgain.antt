@@ -2,13 +2,14 @@
 use Rattle.std.proofs.Common.{◌≡◌, ℕ, List, [], ◌∷◌, ◌++◌, Some, Bool, true, false, refl, sym, ap, ◌∙◌, append_assoc, inl, inr}
 use Rattle.std.specs.Prelude.{if◌then◌else◌, codes}
 use Rattle.std.proofs.lemmas.Bool.{cases_Bool}
-use Rattle.cs_lines.specs.Tokens.{Token, Name, AreTokens, AreBlanks, is_blank}
+use Rattle.cs_tokens.specs.Tokens.{Token, Name, AreTokens, AreBlanks, is_blank}
 use Rattle.cs_lines.specs.Commands.{CommandData, SessionAttach}
-use Rattle.cs_lines.specs.Lines.{words_of, ends_word, IsAttach}
-use Rattle.cs_lines.specs.Reading.{tokens_of}
-use Rattle.cs_lines.specs.DotReading.{dot_in, behind_word, attach_in}
-use Rattle.cs_lines.proofs.TokenLemmas.{tokens_again}
-use Rattle.cs_lines.proofs.WordLemmas.{words_of-nil, words_of-blank}
+use Rattle.cs_tokens.specs.Words.{words_of, ends_word, behind_word}
+use Rattle.cs_lines.specs.Lines.{IsAttach}
+use Rattle.cs_tokens.specs.Reading.{tokens_of}
+use Rattle.cs_lines.specs.DotReading.{dot_in, attach_in}
+use Rattle.cs_tokens.proofs.TokenLemmas.{tokens_again}
+use Rattle.cs_tokens.proofs.WordLemmas.{words_of-nil, words_of-blank}
 use Rattle.cs_lines.proofs.DotLemmas.{some_words, not_ended, ends_join, words_of-join, session_by, rest_of, rest_of_two, session_of-attach}
 
 behind_by : (p q r : Bool) (front rest behind all : List ℕ) → r ≡ q → (p ≡ true → all ≡ behind ++ rest) → (q ≡ false → all ≡ behind ++ rest)

@@ -2,11 +2,12 @@
 use Rattle.std.proofs.Common.{◌≡◌, ◌≢◌, ◌<◌, ◌≤◌, inl, inr, ℕ, zero, suc, List, [], ◌∷◌, ◌++◌, length, map, length-append, string_bytes, Option, Some, None, option_map, Bool, true, false, refl, sym, ap, ◌∙◌, arith}
 use Rattle.std.proofs.lemmas.List.{append-nil}
 use Rattle.cs_value.specs.declared.value.OwnedValue.TheVariants.{Int, Text, Blob, Null}
-use Rattle.cs_lines.specs.declared.symbol.Symbol.TheVariants as symbol
+use Rattle.cs_tokens.specs.declared.symbol.Symbol.TheVariants as symbol
 use Rattle.cs_lines.specs.declared.statement.NewColumn.{NewColumn}
-use Rattle.cs_lines.specs.Tokens.{Token, Fixed, Name, Value}
+use Rattle.cs_tokens.specs.Tokens.{Token, Fixed, Name, Value}
 use Rattle.cs_lines.specs.Commands.{rule_tokens, columns_tokens}
-use Rattle.cs_lines.specs.StatementReading.{Tokens, and_then, onto, name_of, name_in, fixed_in, is_fixed, is_null, null_in, rule_in}
+use Rattle.cs_lines.specs.StatementReading.{Tokens, onto, name_of, name_in, fixed_in, is_fixed, is_null, null_in, rule_in}
+use Rattle.cs_tokens.specs.Stops.{and_then}
 use Rattle.cs_lines.specs.StatementReading.{ColumnData, column_with, column_of, names_and_rules_of, column_in, columns_within, columns_behind, columns_in}
 use Rattle.cs_lines.proofs.StatementLaws.{some_of, some_pair, then_some, if_some, taken, fixed_taken, name_taken, is_fixed-is, name_is, map_some-append}
 use Rattle.cs_lines.proofs.StatementLemmas.{onto-nil, onto-onto}

@@ -1,44 +1,16 @@
 -- Lemmas on the words of dot lines.
-use Rattle.std.proofs.Common.{◌≡◌, ◌↔◌, ℕ, List, [], ◌∷◌, ◌++◌, Option, Some, None, option_map, Bool, true, false, refl, sym, ap, ◌∙◌, IsTrue}
+use Rattle.std.proofs.Common.{◌≡◌, ℕ, List, [], ◌∷◌, ◌++◌, Option, Some, None, option_map, Bool, true, false, refl, sym, ap, ◌∙◌}
 use Rattle.std.specs.Prelude.{if◌then◌else◌}
-use Rattle.std.specs.List.{AllByRecursion}
-use Rattle.std.proofs.lemmas.Bool.{false_from_ne_true}
-use Rattle.cs_lines.specs.Tokens.{is_blank, is_word_byte}
-use Rattle.cs_lines.specs.Commands.{IsSlot}
-use Rattle.cs_lines.specs.StatementReading.{and_then}
-use Rattle.cs_lines.specs.DotReading.{Words, are_word_bytes, is_slot}
+use Rattle.cs_tokens.specs.Tokens.{is_blank}
+use Rattle.cs_tokens.specs.Words.{Words, words_of, ends_word, onto_first, behind_word, one_slot_in, no_word_in}
+use Rattle.cs_tokens.specs.Stops.{and_then}
 use Rattle.cs_lines.specs.declared.dot.Settings.{Settings}
 use Rattle.std.specs.Prelude.{codes}
 use Rattle.std.specs.Str.{bytes_eq}
-use Rattle.cs_lines.specs.Lines.{words_of, ends_word, onto_first}
-use Rattle.cs_lines.specs.Reading.{tokens_of}
+use Rattle.cs_tokens.specs.Reading.{tokens_of}
 use Rattle.cs_lines.specs.Commands.{CommandData, SessionChangeset, SessionOpen, SessionIsEmpty, SessionUndo, SessionClose}
-use Rattle.cs_lines.specs.DotReading.{setting_in, settings_in, behind_word, dot_in, dot_of, session_in, session_of, one_slot_in, no_word_in}
+use Rattle.cs_lines.specs.DotReading.{setting_in, settings_in, dot_in, dot_of, session_in, session_of}
 use Rattle.cs_lines.specs.DotReading.{load_in, hex_in, dump_in, invert_in, concat_in, apply_in, revert_in, attach_in}
-
-if_both : (q r : Bool) → (if q then r else false) ≡ true → (q ≡ true) × (r ≡ true)
-if_both true r h = (refl, h)
-if_both false r h = absurd (cc)
-
-are_word_bytes-all : (bytes : List ℕ) → are_word_bytes bytes ≡ true → AllByRecursion (λ b. is_word_byte b ≡ true) bytes
-are_word_bytes-all [] h = tt
-are_word_bytes-all (b ∷ bytes) h = let k = if_both (is_word_byte b) (are_word_bytes bytes) h in (k.0, are_word_bytes-all bytes k.1)
-
-all-are_word_bytes : (bytes : List ℕ) → AllByRecursion (λ b. is_word_byte b ≡ true) bytes → are_word_bytes bytes ≡ true
-all-are_word_bytes [] h = refl
-all-are_word_bytes (b ∷ bytes) h = let k = h.0 in rw k (all-are_word_bytes bytes h.1)
-
-pub is_slot-says : (word : List ℕ) → is_slot word ≡ true → IsSlot word
-is_slot-says [] h = absurd (cc)
-is_slot-says (b ∷ bytes) h = (λ e. cc, are_word_bytes-all (b ∷ bytes) h)
-
-pub says-is_slot : (word : List ℕ) → IsSlot word → is_slot word ≡ true
-says-is_slot [] h = absurd (h.0 refl)
-says-is_slot (b ∷ bytes) h = all-are_word_bytes (b ∷ bytes) h.1
-
-pub slot_tested : (word : List ℕ) (test : Bool) → (IsTrue test ↔ IsSlot word) → is_slot word ≡ test
-slot_tested word true h = says-is_slot word (h.0 refl)
-slot_tested word false h = false_from_ne_true _ (λ t. let k : false ≡ true = h.1 (is_slot-says word t) in absurd (cc))
 
 -- the settings of the words that are left, one word on
 pub settings_go : (s t : Settings) (word : List ℕ) (words rest : Words) → words ≡ word ∷ rest → setting_in s word ≡ Some t → settings_in s words ≡ settings_in t rest

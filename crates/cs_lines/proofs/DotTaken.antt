@@ -8,18 +8,20 @@ use Rattle.cs_value.proofs.ListLemmas.{AllPairs-from_recursion}
 use Rattle.cs_group.specs.declared.conflict.Kind.TheVariants as kind
 use Rattle.cs_group.specs.declared.conflict.Choice.TheVariants as choice
 use Rattle.cs_group.specs.declared.conflict.Noop.TheVariants.{Report}
-use Rattle.cs_lines.specs.Tokens.{Token, Fixed, Name, Value, is_blank}
-use Rattle.cs_lines.specs.Commands.{CommandData, IsDotLine, IsSlot, ForKind, ForNoop, option_of, Load, Hex, Dump, Invert, Concat, Apply, Revert}
+use Rattle.cs_tokens.specs.Tokens.{Token, Fixed, Name, Value, is_blank}
+use Rattle.cs_lines.specs.Commands.{CommandData, IsDotLine, ForKind, ForNoop, option_of, Load, Hex, Dump, Invert, Concat, Apply, Revert}
+use Rattle.cs_tokens.specs.Words.{IsSlot, words_of, ends_word, onto_first, behind_word, is_slot, slot_in, text_in, one_slot_in, no_word_in}
 use Rattle.cs_lines.specs.Commands.{SessionOpen, SessionAttach, SessionChangeset, SessionIsEmpty, SessionUndo, SessionClose}
-use Rattle.cs_lines.specs.Lines.{words_of, ends_word, onto_first, IsAttach}
-use Rattle.cs_lines.specs.Reading.{tokens_of}
-use Rattle.cs_lines.specs.DotReading.{behind_word, is_slot, slot_in, text_in, one_slot_in, no_word_in, digits_in, load_in, hex_in, dump_in, revert_in, invert_in, concat_in, apply_in}
+use Rattle.cs_lines.specs.Lines.{IsAttach}
+use Rattle.cs_tokens.specs.Reading.{tokens_of}
+use Rattle.cs_lines.specs.DotReading.{digits_in, load_in, hex_in, dump_in, revert_in, invert_in, concat_in, apply_in}
 use Rattle.cs_lines.specs.DotReading.{settings_in, no_settings, attach_in, session_in, session_of, dot_of, dot_in}
-use Rattle.cs_lines.proofs.TokenLemmas.{tokens_taken}
+use Rattle.cs_tokens.proofs.TokenLemmas.{tokens_taken}
 use Rattle.cs_lines.proofs.StatementLaws.{then_some}
-use Rattle.cs_lines.proofs.WordLemmas.{words_of-nil, words_of-blank, behind_word-blank}
+use Rattle.cs_tokens.proofs.WordLemmas.{words_of-nil, words_of-blank, behind_word-blank}
 use Rattle.cs_lines.proofs.SettingLemmas.{at, settings_taken, chosen_of, none_some, some_same, same_bytes}
-use Rattle.cs_lines.proofs.DotLemmas.{is_slot-says, dot_is, dot_none, session_is, session_none, not_ended, words_of-join, tail, words_behind}
+use Rattle.cs_tokens.proofs.SlotLemmas.{is_slot-says}
+use Rattle.cs_lines.proofs.DotLemmas.{dot_is, dot_none, session_is, session_none, not_ended, words_of-join, tail, words_behind}
 use Rattle.cs_lines.proofs.DotLemmas.{dot_of-load, dot_of-hex, dot_of-dump, dot_of-invert, dot_of-concat, dot_of-apply, dot_of-revert, dot_of-session, dot_of-none}
 use Rattle.cs_lines.proofs.DotLemmas.{session_of-attach, session_of-changeset, session_of-open, session_of-isempty, session_of-undo, session_of-close, session_of-none}
 

@@ -1,11 +1,3 @@
-pub mod PartLemmas
-pub mod IntegerLemmas
-pub mod TokenTakes
-pub mod TokenSteps
-pub mod TokenAgain
-pub mod TokenLemmas
-pub mod TokenExamples
-pub mod WordLemmas
 pub mod DotLemmas
 pub mod StatementLemmas
 pub mod StatementLaws

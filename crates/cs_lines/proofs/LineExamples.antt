@@ -7,11 +7,12 @@ use Rattle.cs_group.specs.declared.conflict.Choice.TheVariants.{Omit, Replace, A
 use Rattle.cs_group.specs.declared.conflict.Noop.TheVariants.{Report, Ignore}
 use Rattle.cs_lines.specs.Commands.{CommandData, Create, Insert, Update, Delete, Select, Load, Hex, Dump, Invert, Concat, Apply, Revert}
 use Rattle.cs_lines.specs.Commands.{SessionOpen, SessionAttach, SessionChangeset, SessionIsEmpty, SessionUndo, SessionClose}
-use Rattle.cs_lines.specs.Lines.{words_of, IsNothing, Spelled}
+use Rattle.cs_tokens.specs.Words.{words_of, behind_word, text_in, slot_in, no_word_in, one_slot_in}
+use Rattle.cs_lines.specs.Lines.{IsNothing, Spelled}
 use Rattle.cs_lines.specs.StatementReading.{create_in, insert_in, update_in, delete_in, select_in, fixed_in, name_in, value_in, turn_in, end_in, list_in, assignment_in, assignments_in, rule_in, null_in, column_in, columns_within, columns_in, symbol_in, form_of, form_in, statement_in}
-use Rattle.cs_lines.specs.DotReading.{behind_word, text_in, slot_in, no_word_in, one_slot_in, digits_in, load_in, hex_in, dump_in, revert_in, invert_in, concat_in, setting_in, settings_in, apply_in, attach_in, session_of, session_in, dot_of, dot_in}
+use Rattle.cs_lines.specs.DotReading.{digits_in, load_in, hex_in, dump_in, revert_in, invert_in, concat_in, setting_in, settings_in, apply_in, attach_in, session_of, session_in, dot_of, dot_in}
 use Rattle.cs_lines.specs.LineReading.{line_in}
-use Rattle.cs_lines.proofs.TokenExamples.{on_literals}
+use Rattle.cs_tokens.proofs.TokenExamples.{on_literals}
 use Rattle.cs_lines.proofs.LineLaws.{line_taken, refused}
 
 -- what an answer unfolds to read a literal line

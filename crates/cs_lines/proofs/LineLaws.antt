@@ -2,19 +2,20 @@
 use Rattle.std.proofs.Common.{◌≡◌, ◌⊎◌, inl, inr, ℕ, ◌==◌, ◌++◌, List, [], ◌∷◌, map, Option, Some, None, option_map, Bool, true, false, refl, sym, ap, subst, ◌∙◌, IsTrue}
 use Rattle.std.specs.Prelude.{if◌then◌else◌, not, ◌&&◌, ◌||◌, codes, IsUtf8}
 use Rattle.std.proofs.lemmas.Bool.{eqb-true, false_from_ne_true}
-use Rattle.cs_lines.specs.declared.symbol.Symbol.{Symbol}
-use Rattle.cs_lines.specs.declared.symbol.Symbol.TheVariants as symbol
-use Rattle.cs_lines.specs.Tokens.{Token, Fixed, AreTokens, AreBlanks, is_blank, is_word_byte, is_digit, is_sign, begins}
+use Rattle.cs_tokens.specs.declared.symbol.Symbol.{Symbol}
+use Rattle.cs_tokens.specs.declared.symbol.Symbol.TheVariants as symbol
+use Rattle.cs_tokens.specs.Tokens.{Token, Fixed, AreTokens, AreBlanks, is_blank, is_word_byte, is_digit, is_sign, begins}
 use Rattle.cs_lines.specs.Commands.{CommandData, IsStatement, IsDotLine, Create, Insert, Update, Delete, Select, Load, Hex, Dump, Invert, Concat, Apply, Revert}
 use Rattle.cs_lines.specs.Commands.{SessionOpen, SessionAttach, SessionChangeset, SessionIsEmpty, SessionUndo, SessionClose}
-use Rattle.cs_lines.specs.Lines.{words_of, IsAttach, IsNothing, IsNoCommand, Spelled}
-use Rattle.cs_lines.specs.Reading.{tokens_of}
+use Rattle.cs_tokens.specs.Words.{words_of, IsSlot, slot_in, text_in, one_slot_in, no_word_in}
+use Rattle.cs_lines.specs.Lines.{IsAttach, IsNothing, IsNoCommand, Spelled}
+use Rattle.cs_tokens.specs.Reading.{tokens_of}
 use Rattle.cs_lines.specs.StatementReading.{statement_in}
 use Rattle.cs_lines.specs.DotReading.{dot_in}
 use Rattle.cs_lines.specs.LineReading.{begins_dot, line_in}
-use Rattle.cs_lines.proofs.TokenLemmas.{tokens_taken, tokens_again}
+use Rattle.cs_tokens.proofs.TokenLemmas.{tokens_taken, tokens_again}
 use Rattle.cs_lines.proofs.StatementForms.{statement_taken, statement_again}
-use Rattle.cs_lines.proofs.WordLemmas.{words_of-blank}
+use Rattle.cs_tokens.proofs.WordLemmas.{words_of-blank}
 use Rattle.std.proofs.Common.{◌<◌, zero, suc, get_or, lit<, arith}
 use Rattle.std.specs.List.{AllByRecursion}
 use Rattle.std.specs.Str.{is_utf8}
@@ -22,9 +23,9 @@ use Rattle.std.proofs.lemmas.Bool.Decides.{nat_tests}
 use Rattle.std.proofs.lemmas.Str.{is_utf8-from_IsUtf8, IsUtf8-from_ascii}
 use Rattle.cs_group.specs.declared.conflict.Choice.{Choice}
 use Rattle.cs_group.specs.declared.conflict.Noop.{Noop}
-use Rattle.cs_lines.specs.Commands.{IsSlot}
-use Rattle.cs_lines.specs.DotReading.{slot_in, text_in, one_slot_in, no_word_in, digits_in, load_in, hex_in, dump_in, revert_in, invert_in, concat_in, dot_of, session_of}
-use Rattle.cs_lines.proofs.DotLemmas.{says-is_slot, Leads, leads, words_of-join, dot_by, session_by, rest_of, rest_of_two}
+use Rattle.cs_lines.specs.DotReading.{digits_in, load_in, hex_in, dump_in, revert_in, invert_in, concat_in, dot_of, session_of}
+use Rattle.cs_tokens.proofs.SlotLemmas.{says-is_slot}
+use Rattle.cs_lines.proofs.DotLemmas.{Leads, leads, words_of-join, dot_by, session_by, rest_of, rest_of_two}
 use Rattle.cs_lines.proofs.SettingLemmas.{apply_read}
 use Rattle.cs_lines.proofs.AttachAgain.{attach_again}
 use Rattle.cs_lines.specs.Commands.{setting_text}

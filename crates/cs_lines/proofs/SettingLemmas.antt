@@ -13,8 +13,9 @@ use Rattle.cs_group.specs.declared.conflict.Noop.{Noop}
 use Rattle.cs_group.specs.declared.conflict.Noop.TheVariants.{Report, Ignore}
 use Rattle.cs_lines.specs.declared.dot.Settings.{Settings}
 use Rattle.cs_lines.specs.Commands.{Apply, Setting, ForKind, ForNoop, option_of, setting_text, IsChosen}
-use Rattle.cs_lines.specs.StatementReading.{and_then}
-use Rattle.cs_lines.specs.DotReading.{Words, chosen_in, noop_in, when_none, or_else, setting_in, settings_in, no_settings, slot_in, apply_in}
+use Rattle.cs_tokens.specs.Stops.{and_then}
+use Rattle.cs_tokens.specs.Words.{Words, slot_in}
+use Rattle.cs_lines.specs.DotReading.{chosen_in, noop_in, when_none, or_else, setting_in, settings_in, no_settings, apply_in}
 use Rattle.cs_lines.proofs.StatementLaws.{then_some}
 
 -- ---- one option

@@ -1,10 +1,11 @@
 -- The forms of statements: what is read as one is spelled as it, and what is spelled as one is read as it.
 use Rattle.std.proofs.Common.{inl, inr, ◌≡◌, ◌≢◌, ℕ, List, [], ◌∷◌, ◌++◌, length, suc, map, Some, None, true, refl, sym, ap, subst, ◌∙◌, append_assoc}
-use Rattle.cs_lines.specs.declared.symbol.Symbol.{Symbol}
-use Rattle.cs_lines.specs.declared.symbol.Symbol.TheVariants as symbol
-use Rattle.cs_lines.specs.Tokens.{Token, Fixed, Name, Value}
+use Rattle.cs_tokens.specs.declared.symbol.Symbol.{Symbol}
+use Rattle.cs_tokens.specs.declared.symbol.Symbol.TheVariants as symbol
+use Rattle.cs_tokens.specs.Tokens.{Token, Fixed, Name, Value}
 use Rattle.cs_lines.specs.Commands.{columns_tokens, CommandData, Create, Insert, Update, Delete, Select, IsStatement, joined, assignment, where_tokens}
-use Rattle.cs_lines.specs.StatementReading.{Tokens, ColumnData, name_of, name_in, value_of_token, fixed_in, same_symbol}
+use Rattle.cs_lines.specs.StatementReading.{Tokens, ColumnData, name_of, name_in, value_of_token, fixed_in}
+use Rattle.cs_tokens.specs.Reading.{same_symbol}
 use Rattle.cs_lines.specs.StatementReading.{names_in, values_in, assignments_in, columns_in, names_and_rules_of}
 use Rattle.cs_lines.specs.StatementReading.{symbol_in, form_of, form_in, create_in, insert_in, update_in, delete_in, select_in, end_in, statement_in}
 use Rattle.cs_lines.proofs.StatementLaws.{some_pair, then_some, if_some, fixed_taken, name_taken, same_is, name_is, value_is, value_again, name_again, map_some-append, list_taken, assignments_taken, list_again, assignments_again}

@@ -3,11 +3,13 @@ use Rattle.std.proofs.Common.{◌⊎◌, inl, inr, ◌≡◌, ◌≢◌, ℕ, Li
 use Rattle.std.specs.Prelude.{if◌then◌else◌}
 use Rattle.std.proofs.lemmas.Bool.{eqb-true}
 use Rattle.cs_value.specs.declared.value.OwnedValue.{OwnedValue}
-use Rattle.cs_lines.specs.declared.symbol.Symbol.{Symbol}
-use Rattle.cs_lines.specs.declared.symbol.Symbol.TheVariants as symbol
-use Rattle.cs_lines.specs.Tokens.{Token, Fixed, Name, Value}
+use Rattle.cs_tokens.specs.declared.symbol.Symbol.{Symbol}
+use Rattle.cs_tokens.specs.declared.symbol.Symbol.TheVariants as symbol
+use Rattle.cs_tokens.specs.Tokens.{Token, Fixed, Name, Value}
 use Rattle.cs_lines.specs.Commands.{AssignmentData, joined, assignment}
-use Rattle.cs_lines.specs.StatementReading.{Tokens, and_then, onto, going, turn_of, name_of, name_in, value_of_token, value_in, fixed_in, is_fixed, symbol_place, same_symbol}
+use Rattle.cs_lines.specs.StatementReading.{Tokens, onto, going, turn_of, name_of, name_in, value_of_token, value_in, fixed_in, is_fixed}
+use Rattle.cs_tokens.specs.Stops.{and_then}
+use Rattle.cs_tokens.specs.Reading.{symbol_place, same_symbol}
 use Rattle.cs_lines.specs.StatementReading.{list_in, assignment_of_tokens, assignments_in}
 
 -- ---- tokens that are read, and what they are

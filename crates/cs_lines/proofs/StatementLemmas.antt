@@ -2,13 +2,15 @@
 use Rattle.std.proofs.Common.{◌≡◌, ℕ, List, [], ◌∷◌, ◌++◌, Option, Some, None, option_map, Bool, true, false, refl, sym, ap, ◌∙◌, append_assoc}
 use Rattle.std.proofs.lemmas.List.{append-nil}
 use Rattle.std.specs.Prelude.{if◌then◌else◌}
-use Rattle.cs_lines.specs.declared.symbol.Symbol.{Symbol}
-use Rattle.cs_lines.specs.declared.symbol.Symbol.TheVariants as symbol
-use Rattle.cs_lines.specs.Tokens.{Token, Fixed, Name, Value}
+use Rattle.cs_tokens.specs.declared.symbol.Symbol.{Symbol}
+use Rattle.cs_tokens.specs.declared.symbol.Symbol.TheVariants as symbol
+use Rattle.cs_tokens.specs.Tokens.{Token, Fixed, Name, Value}
 use Rattle.cs_lines.specs.Commands.{AssignmentData}
-use Rattle.cs_lines.specs.StatementReading.{Tokens, and_then, onto, going, first_in, turn_of, turn_in, name_of, name_in, value_of_token, value_in, fixed_in, is_fixed}
+use Rattle.cs_lines.specs.StatementReading.{Tokens, onto, going, first_in, turn_of, turn_in, name_of, name_in, value_of_token, value_in, fixed_in, is_fixed}
+use Rattle.cs_tokens.specs.Stops.{and_then}
 use Rattle.cs_lines.specs.StatementReading.{list_in, assignment_of_tokens, assignment_in, assignments_in}
-use Rattle.cs_lines.specs.StatementReading.{same_symbol, symbol_in, form_of, form_in, create_in, insert_in, update_in, delete_in, select_in}
+use Rattle.cs_tokens.specs.Reading.{same_symbol}
+use Rattle.cs_lines.specs.StatementReading.{symbol_in, form_of, form_in, create_in, insert_in, update_in, delete_in, select_in}
 
 -- ---- loops over items
 

@@ -1,7 +1,6 @@
 -- The commands that lines ask for, and the tokens and words of each. The grammar is this project's own: of SQL and of the
 -- shell of SQLite it has the few forms that tables, rows and changesets need.
 use Rattle.std.specs.Prelude.{◌≡◌, ◌≢◌, ◌⊎◌, ℕ, Bool, List, [], ◌∷◌, ◌++◌, length, map, true, false, codes, AllPairs, Contains, IsUtf8, string_bytes}
-use Rattle.std.specs.List.{AllByRecursion}
 use Rattle.cs_value.specs.declared.value.OwnedValue.{OwnedValue}
 use Rattle.cs_value.specs.declared.value.OwnedValue.TheVariants.{Null}
 use Rattle.cs_group.specs.declared.conflict.Kind.{Kind}
@@ -13,12 +12,13 @@ use Rattle.cs_group.specs.declared.conflict.Noop.TheVariants.{Report, Ignore}
 use Rattle.cs_lines.specs.declared.command.Command.{Command}
 use Rattle.cs_lines.specs.declared.command.Command.TheVariants as command
 use Rattle.cs_lines.specs.declared.command.Assignment.{Assignment}
-use Rattle.cs_lines.specs.declared.symbol.Symbol.TheVariants.{Create as CREATE, Table as TABLE, Primary as PRIMARY}
-use Rattle.cs_lines.specs.declared.symbol.Symbol.TheVariants.{Key as KEY, Insert as INSERT, Into as INTO, Values as VALUES}
-use Rattle.cs_lines.specs.declared.symbol.Symbol.TheVariants.{Update as UPDATE, Set as SET, Where as WHERE, And as AND}
-use Rattle.cs_lines.specs.declared.symbol.Symbol.TheVariants.{Delete as DELETE, From as FROM, Select as SELECT, Not as NOT}
-use Rattle.cs_lines.specs.declared.symbol.Symbol.TheVariants.{Open, Close, Comma, Semicolon, Equals, Star}
-use Rattle.cs_lines.specs.Tokens.{Token, Fixed, Name, Value, is_word_byte}
+use Rattle.cs_tokens.specs.declared.symbol.Symbol.TheVariants.{Create as CREATE, Table as TABLE, Primary as PRIMARY}
+use Rattle.cs_tokens.specs.declared.symbol.Symbol.TheVariants.{Key as KEY, Insert as INSERT, Into as INTO, Values as VALUES}
+use Rattle.cs_tokens.specs.declared.symbol.Symbol.TheVariants.{Update as UPDATE, Set as SET, Where as WHERE, And as AND}
+use Rattle.cs_tokens.specs.declared.symbol.Symbol.TheVariants.{Delete as DELETE, From as FROM, Select as SELECT, Not as NOT}
+use Rattle.cs_tokens.specs.declared.symbol.Symbol.TheVariants.{Open, Close, Comma, Semicolon, Equals, Star}
+use Rattle.cs_tokens.specs.Tokens.{Token, Fixed, Name, Value}
+pub use Rattle.cs_tokens.specs.Words.{IsSlot}
 
 -- a column, and the value that it gets or has
 pub record AssignmentData : Type 0 where
@@ -92,10 +92,6 @@ IsStatement tokens (Select table) =
 IsStatement tokens _ = ⊥
 
 -- ---- dot lines
-
--- the name of a slot: one or more letters, digits and `_`
-abbrev pub IsSlot : List ℕ → Type 0
-IsSlot name = (name ≢ []) × AllByRecursion (λ b. is_word_byte b ≡ true) name
 
 abbrev pub kind_text : Kind → List ℕ
 kind_text kind.Data = codes "data"

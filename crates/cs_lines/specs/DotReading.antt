@@ -1,7 +1,7 @@
 -- The words of a dot line as functions, which the code computes: what contracts of this crate's own functions say.
-use Rattle.std.specs.Prelude.{◌≡◌, ℕ, ◌<◌, List, [], ◌∷◌, length, Option, None, Some, option_map, unwrap_or}
-use Rattle.std.specs.Prelude.{Bool, true, false, if◌then◌else◌, codes}
-use Rattle.std.specs.Str.{bytes_eq, is_utf8}
+use Rattle.std.specs.Prelude.{ℕ, List, [], ◌∷◌, Option, None, Some, option_map, unwrap_or}
+use Rattle.std.specs.Prelude.{if◌then◌else◌, codes}
+use Rattle.std.specs.Str.{bytes_eq}
 use Rattle.cs_group.specs.declared.conflict.Kind.{Kind}
 use Rattle.cs_group.specs.declared.conflict.Kind.TheVariants as kind
 use Rattle.cs_group.specs.declared.conflict.Choice.{Choice}
@@ -9,51 +9,14 @@ use Rattle.cs_group.specs.declared.conflict.Choice.TheVariants as choice
 use Rattle.cs_group.specs.declared.conflict.Noop.{Noop}
 use Rattle.cs_group.specs.declared.conflict.Noop.TheVariants.{Report, Ignore}
 use Rattle.cs_lines.specs.declared.dot.Settings.{Settings}
-use Rattle.cs_lines.specs.Tokens.{is_blank, is_word_byte, Token}
-use Rattle.cs_lines.specs.Lines.{words_of, ends_word}
+use Rattle.cs_tokens.specs.Tokens.{Token}
+use Rattle.cs_tokens.specs.Words.{words_of, Words, behind_word, text_in, slot_in, no_word_in, one_slot_in}
 use Rattle.cs_lines.specs.Commands.{CommandData, Load, Hex, Dump, Invert, Concat, Apply, Revert}
 use Rattle.cs_lines.specs.Commands.{SessionOpen, SessionAttach, SessionChangeset, SessionIsEmpty, SessionUndo, SessionClose}
 use Rattle.cs_lines.specs.Commands.{ForKind, ForNoop, setting_text}
-use Rattle.cs_lines.specs.Reading.{tokens_of}
-use Rattle.cs_lines.specs.StatementReading.{and_then, name_of}
-
-abbrev pub Words : Type 0
-Words = List (List ℕ)
-
--- what is behind the first word of a line
-unfoldable pub behind_word : List ℕ → List ℕ
-behind_word [] = []
-behind_word (b ∷ bytes) =
-    if is_blank b then behind_word bytes else if ends_word bytes then bytes else behind_word bytes
-
--- the first word, what is behind it
-pub record IsNextWord (line : List ℕ) (word rest : List ℕ) : Type 0 where
-  pub words : words_of line ≡ word ∷ words_of rest
-  pub behind : behind_word line ≡ rest
-  pub shorter : length rest < length line
-
-abbrev pub are_word_bytes : List ℕ → Bool
-are_word_bytes [] = true
-are_word_bytes (b ∷ bytes) = if is_word_byte b then are_word_bytes bytes else false
-
-abbrev pub is_slot : List ℕ → Bool
-is_slot [] = false
-is_slot (b ∷ bytes) = are_word_bytes (b ∷ bytes)
-
-unfoldable pub text_in : Words → Option (List ℕ × Words)
-text_in [] = None
-text_in (word ∷ words) = if is_utf8 word then Some (word, words) else None
-
-unfoldable pub slot_in : Words → Option (List ℕ × Words)
-slot_in words = and_then (text_in words) (λ t. if is_slot t.0 then Some t else None)
-
-unfoldable pub no_word_in : Words → Option (Unit {0})
-no_word_in [] = Some tt
-no_word_in (word ∷ words) = None
-
--- one slot, and no further word
-unfoldable pub one_slot_in : Words → Option (List ℕ)
-one_slot_in words = and_then (slot_in words) (λ s. and_then (no_word_in s.1) (λ _. Some s.0))
+use Rattle.cs_tokens.specs.Reading.{tokens_of}
+use Rattle.cs_tokens.specs.Stops.{and_then}
+use Rattle.cs_lines.specs.StatementReading.{name_of}
 
 unfoldable pub digits_in : Words → Option (List ℕ)
 digits_in [] = Some []

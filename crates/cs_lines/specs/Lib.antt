@@ -1,9 +1,11 @@
-pub mod Tokens
 pub mod Commands
 pub mod Lines
-pub mod Reading
 pub mod StatementReading
 pub mod DotReading
 pub mod LineReading
+pub use Rattle.cs_tokens.specs.Tokens
+pub use Rattle.cs_tokens.specs.Words
+pub use Rattle.cs_tokens.specs.Reading
+pub use Rattle.cs_tokens.specs.Stops
 pub use Rattle.cs_value.specs.Value
 pub use Rattle.cs_value.specs.Quoting

@@ -1,8 +1,8 @@
 -- A line as a function of its bytes, which the code computes: what contracts of this crate's own functions say.
 use Rattle.std.specs.Prelude.{ℕ, ◌==◌, List, [], ◌∷◌, Option, Bool, false, if◌then◌else◌}
-use Rattle.cs_lines.specs.Lines.{words_of}
+use Rattle.cs_tokens.specs.Words.{words_of}
 use Rattle.cs_lines.specs.Commands.{CommandData}
-use Rattle.cs_lines.specs.Reading.{tokens_of}
+use Rattle.cs_tokens.specs.Reading.{tokens_of}
 use Rattle.cs_lines.specs.StatementReading.{statement_in}
 use Rattle.cs_lines.specs.DotReading.{dot_in}
 

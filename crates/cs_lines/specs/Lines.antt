@@ -1,28 +1,12 @@
 -- What a line asks for. The grammar is this project's own.
-use Rattle.std.specs.Prelude.{◌≡◌, ◌≤◌, ◌⊎◌, ℕ, ◌+◌, List, [], ◌∷◌, ◌++◌, Bool, true, if◌then◌else◌, length, codes}
+use Rattle.std.specs.Prelude.{◌≡◌, ◌≤◌, ◌⊎◌, ℕ, ◌+◌, List, [], ◌∷◌, ◌++◌, true, length, codes}
 use Rattle.cs_value.specs.declared.refusal.OrNoMemory.{OrNoMemory}
 use Rattle.cs_value.specs.declared.refusal.OrNoMemory.TheVariants as refusal
 use Rattle.cs_lines.specs.declared.fault.SyntaxFault.{SyntaxFault}
-use Rattle.cs_lines.specs.Tokens.{Token, Name, is_blank, AreTokens}
+use Rattle.cs_tokens.specs.Tokens.{Token, Name, AreTokens}
 use Rattle.cs_lines.specs.Commands.{CommandData, SessionAttach, IsStatement, IsDotLine}
-
--- nothing follows a word, or a blank does
-abbrev pub ends_word : List ℕ → Bool
-ends_word [] = true
-ends_word (b ∷ bytes) = is_blank b
-
--- with one more byte at the front of the first word
-abbrev pub onto_first : ℕ → List (List ℕ) → List (List ℕ)
-onto_first b [] = (b ∷ []) ∷ []
-onto_first b (word ∷ words) = (b ∷ word) ∷ words
-
--- the words of a line: what stands between its blanks
-unfoldable pub words_of : List ℕ → List (List ℕ)
-words_of [] = []
-words_of (b ∷ bytes) =
-    if is_blank b then words_of bytes
-    else if ends_word bytes then (b ∷ []) ∷ words_of bytes
-    else onto_first b (words_of bytes)
+unfoldable pub use Rattle.cs_tokens.specs.Words.{words_of}
+pub use Rattle.cs_tokens.specs.Words.{ends_word, onto_first}
 
 -- the words `.session attach`, and a name by the rules of tokens
 abbrev pub IsAttach : List ℕ → CommandData → Type 0

@@ -1,62 +1,17 @@
 -- Statements as functions on lists of tokens, which the code computes: what contracts of this crate's own functions say.
-use Rattle.std.specs.Prelude.{◌≡◌, ℕ, zero, suc, ◌==◌, List, [], ◌∷◌, ◌++◌, length, map, Option, None, Some, option_map, string_bytes}
-use Rattle.std.specs.Prelude.{Bool, true, false, if◌then◌else◌, Result, Ok, Err}
+use Rattle.std.specs.Prelude.{ℕ, zero, suc, List, [], ◌∷◌, ◌++◌, length, map, Option, None, Some, option_map, string_bytes}
+use Rattle.std.specs.Prelude.{Bool, true, false, if◌then◌else◌}
 use Rattle.cs_value.specs.declared.value.OwnedValue.{OwnedValue}
 use Rattle.cs_value.specs.declared.value.OwnedValue.TheVariants.{Null}
-use Rattle.cs_value.specs.declared.refusal.OrNoMemory.{OrNoMemory}
-use Rattle.cs_value.specs.declared.refusal.OrNoMemory.TheVariants as refusal
-use Rattle.cs_lines.specs.declared.symbol.Symbol.{Symbol}
-use Rattle.cs_lines.specs.declared.symbol.Symbol.TheVariants as symbol
+use Rattle.cs_tokens.specs.declared.symbol.Symbol.{Symbol}
+use Rattle.cs_tokens.specs.declared.symbol.Symbol.TheVariants as symbol
 use Rattle.cs_lines.specs.declared.statement.NewColumn.{NewColumn}
-use Rattle.cs_lines.specs.declared.stop.Misfit.{Misfit}
-use Rattle.cs_lines.specs.Tokens.{Token, Fixed, Name, Value}
+use Rattle.cs_tokens.specs.Tokens.{Token, Fixed, Name, Value}
 use Rattle.cs_lines.specs.Commands.{CommandData, AssignmentData, Create, Insert, Update, Delete, Select}
-
--- ---- readers
-
--- why a reader stops: what it reads is not there, or memory was refused
-abbrev pub Misfits : {Y : Type 0} → Option Y → OrNoMemory Misfit → Type 0
-Misfits read (refusal.Fault f) = read ≡ None
-Misfits read refusal.NoMemory = Unit {0}
-
--- a reader's answer, against what there is to read
-abbrev pub Reads : {X Y : Type 0} → Result X (OrNoMemory Misfit) → (X → Y) → Option Y → Type 0
-Reads (Ok x) view read = read ≡ Some (view x)
-Reads (Err stop) view read = Misfits read stop
-
--- what is read behind what was read
-abbrev pub and_then : {X Y : Type 0} → Option X → (X → Option Y) → Option Y
-and_then None next = None
-and_then (Some x) next = next x
+use Rattle.cs_tokens.specs.Stops.{and_then}
+use Rattle.cs_tokens.specs.Reading.{same_symbol}
 
 -- ---- statements, read token by token
-
--- the place of a symbol among the symbols
-abbrev pub symbol_place : Symbol → ℕ
-symbol_place symbol.Create = 0
-symbol_place symbol.Table = 1
-symbol_place symbol.Primary = 2
-symbol_place symbol.Key = 3
-symbol_place symbol.Insert = 4
-symbol_place symbol.Into = 5
-symbol_place symbol.Values = 6
-symbol_place symbol.Update = 7
-symbol_place symbol.Set = 8
-symbol_place symbol.Where = 9
-symbol_place symbol.And = 10
-symbol_place symbol.Delete = 11
-symbol_place symbol.From = 12
-symbol_place symbol.Select = 13
-symbol_place symbol.Not = 14
-symbol_place symbol.Open = 15
-symbol_place symbol.Close = 16
-symbol_place symbol.Comma = 17
-symbol_place symbol.Semicolon = 18
-symbol_place symbol.Equals = 19
-symbol_place symbol.Star = 20
-
-abbrev pub same_symbol : Symbol → Symbol → Bool
-same_symbol a b = symbol_place a == symbol_place b
 
 abbrev pub is_fixed : Symbol → Option Token → Bool
 is_fixed symbol (Some (Fixed found)) = same_symbol found symbol

@@ -1,18 +1,18 @@
 //! Dot lines, read word by word.
 ghost use Rattle.std.specs.Prelude.{◌≡◌, string_bytes, option_map};
 ghost use Rattle.cs_lines.specs.Commands.{command_of, SessionChangeset};
-ghost use Rattle.cs_lines.specs.Lines.{words_of};
-ghost use Rattle.cs_lines.specs.Reading.{tokens_of};
-ghost use Rattle.cs_lines.specs.StatementReading.{Reads};
+ghost use Rattle.cs_tokens.specs.Words.{words_of, one_slot_in, no_word_in};
+ghost use Rattle.cs_tokens.specs.Reading.{tokens_of};
+ghost use Rattle.cs_tokens.specs.Stops.{Reads};
 ghost use Rattle.cs_lines.specs.DotReading.{load_in, digits_in, hex_in, dump_in, revert_in, invert_in, concat_in, apply_in};
-ghost use Rattle.cs_lines.specs.DotReading.{chosen_in, noop_in, setting_in, settings_in, no_settings, attach_in, one_slot_in, no_word_in};
+ghost use Rattle.cs_lines.specs.DotReading.{chosen_in, noop_in, setting_in, settings_in, no_settings, attach_in};
 ghost use Rattle.cs_lines.specs.DotReading.{session_in, dot_in};
 
 use crate::command::Command;
-use crate::stop::{Stop, misfit_at};
-use crate::token::{Found, Token, next_token};
-use crate::words::{is_word, next_word, no_word, one_slot, slot, text};
 use cs_group::{Choice, Kind, Noop};
+use cs_tokens::{
+    Found, Stop, Token, is_word, misfit_at, next_token, next_word, no_word, one_slot, slot, text,
+};
 use std::alloc::Global;
 
 /// What a line sets each option to, where it sets it.

@@ -6,26 +6,18 @@
 //! ```
 //!
 //! `line` says what a line asks for, a `command`, or why it asks for nothing: a `fault`. A line is a
-//! `statement`, made of `token`s: each `symbol`, words and integers (`piece`), `quoted` texts and `blob`s;
-//! or a `dot` line, made of `words`, of which `.apply` has options: a choice for each kind of conflict, and
-//! `noop=ignore` to pass over changes that leave nothing else than stands there. `byte` tells bytes apart.
-//! `choice` has the names of conflicts' kinds and of what is done about them.
+//! `statement`, made of tokens; or a `dot` line, made of words, of which `.apply` has options: a choice for
+//! each kind of conflict, and `noop=ignore` to pass over changes that leave nothing else than stands there.
+//! `cs_tokens` takes tokens and words from the front of a line. `choice` has the names of conflicts' kinds and
+//! of what is done about them.
 #![tactic(auto)]
 
-mod blob;
-mod byte;
 mod choice;
 mod command;
 mod dot;
 mod fault;
 mod line;
-mod piece;
-mod quoted;
 mod statement;
-mod stop;
-mod symbol;
-mod token;
-mod words;
 
 pub use choice::{choice_name, kind_name};
 pub use command::{Assignment, Command};

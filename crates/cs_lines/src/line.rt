@@ -1,16 +1,16 @@
 //! Lines.
 ghost use Rattle.std.specs.Prelude.{◌≡◌, ◌↔◌, ◌∷◌, [], Some, IfOk, IfErr, IsTrue, MatchOption, option_map};
 ghost use Rattle.cs_lines.specs.Commands.{CommandData, command_of};
-ghost use Rattle.cs_lines.specs.Lines.{IsNoCommand, IsNothing, RefusesLine, Spelled, words_of};
-ghost use Rattle.cs_lines.specs.StatementReading.{Reads};
+ghost use Rattle.cs_lines.specs.Lines.{IsNoCommand, IsNothing, RefusesLine, Spelled};
+ghost use Rattle.cs_tokens.specs.Words.{words_of};
+ghost use Rattle.cs_tokens.specs.Stops.{Reads};
 ghost use Rattle.cs_lines.specs.LineReading.{begins_dot, line_in};
 
 use crate::command::Command;
 use crate::dot::dot_line;
 use crate::fault::{LineFault, SyntaxFault};
 use crate::statement::statement;
-use crate::stop::{Stop, column};
-use crate::words::next_word;
+use cs_tokens::{Stop, column, next_word};
 use std::alloc::Global;
 
 /// What a line asks for, or None where it is blank or a comment. The line is without its line feed.

@@ -1,16 +1,15 @@
 //! Statements, read token by token.
 ghost use Rattle.std.specs.Prelude.{◌<◌, length, IfOk, string_bytes, map, option_map, Some};
 ghost use Rattle.cs_lines.specs.Commands.{assignment_of, command_of};
-ghost use Rattle.cs_lines.specs.Reading.{tokens_of};
-ghost use Rattle.cs_lines.specs.StatementReading.{Reads, fixed_in, name_in, value_in, turn_in, assignment_in, column_in};
+ghost use Rattle.cs_tokens.specs.Reading.{tokens_of};
+ghost use Rattle.cs_tokens.specs.Stops.{Reads};
+ghost use Rattle.cs_lines.specs.StatementReading.{fixed_in, name_in, value_in, turn_in, assignment_in, column_in};
 ghost use Rattle.cs_lines.specs.StatementReading.{names_in, values_in, assignments_in, columns_in, end_in, symbol_in};
 ghost use Rattle.cs_lines.specs.StatementReading.{column_of, names_and_rules_of, rule_in, null_in};
 ghost use Rattle.cs_lines.specs.StatementReading.{create_in, insert_in, update_in, delete_in, select_in, form_in, statement_in};
 
 use crate::command::{Assignment, Command};
-use crate::stop::{Stop, misfit_at};
-use crate::symbol::Symbol;
-use crate::token::{Found, Token, next_token};
+use cs_tokens::{Found, Stop, Symbol, Token, misfit_at, next_token};
 use cs_value::OwnedValue;
 use std::alloc::Global;
 

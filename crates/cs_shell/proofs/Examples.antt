@@ -30,7 +30,7 @@ use Rattle.cs_files.proofs.Examples.{insert_file_inverts, insert_file_joins_upda
 use Rattle.cs_value.specs.Quoting.{doubled}
 use Rattle.cs_files.specs.Texts.{literal, separated, field_text, header_text, entry_text, group_text}
 use Rattle.cs_shell.specs.declared.script.Status.TheVariants.{Done}
-use Rattle.cs_files.specs.declared.told.Told.{Told}
+use Rattle.cs_texts.specs.declared.told.Told.{Told}
 use Rattle.cs_replies.specs.declared.refusal.Refusal.TheVariants.{Read, Syntax, EmptySlot, BadHex, LineText}
 
 computing : Unit {0}

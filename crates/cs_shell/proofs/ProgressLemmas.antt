@@ -9,7 +9,7 @@ use Rattle.std.proofs.KnownBytes.{Appends-nil, Appends-trans}
 use Rattle.cs_value.proofs.ListLemmas.{AllByRecursion-push}
 use Rattle.cs_shell.specs.declared.reader.LineReader.{LineReader}
 use Rattle.cs_shell.specs.declared.script.Script.{Script}
-use Rattle.cs_files.specs.declared.told.Told.{Told}
+use Rattle.cs_texts.specs.declared.told.Told.{Told}
 use Rattle.cs_files.specs.Told.{known}
 use Rattle.cs_files.specs.Calls.{AppendsFront}
 use Rattle.cs_replies.specs.Replies.{Reply, reply_text, replies_text, is_refused}

@@ -8,7 +8,7 @@ use Rattle.cs_replies.specs.declared.refusal.Refusal.TheVariants.{ScriptTooLong}
 use Rattle.cs_shell.specs.declared.script.Script.{Script}
 use Rattle.cs_shell.specs.declared.script.Status.{Status}
 use Rattle.cs_shell.specs.declared.script.Status.TheVariants.{Done, LinesRefused, TooLong, InputFault, OutputFault}
-use Rattle.cs_files.specs.declared.told.Told.{Told}
+use Rattle.cs_texts.specs.declared.told.Told.{Told}
 use Rattle.cs_files.specs.Told.{has_failed, known}
 use Rattle.cs_files.specs.Calls.{AppendsFront}
 use Rattle.cs_replies.specs.ErrorLines.{refusal_text}

@@ -2,9 +2,9 @@
 use Rattle.std.specs.Prelude.{◌≡◌, ◌⊎◌, ℕ, false, List, Option, IsTrue}
 use Rattle.std.specs.FinMap as map
 use Rattle.std.specs.Io.KnownBytes.{Appends}
-use Rattle.cs_files.specs.declared.told.Told.{Told}
+use Rattle.cs_texts.specs.declared.told.Told.{Told}
 use Rattle.cs_files.specs.Told.{has_failed, known}
-use Rattle.cs_files.specs.declared.fault.OutputFault.{OutputFault as Fault}
+use Rattle.cs_texts.specs.declared.fault.OutputFault.{OutputFault as Fault}
 use Rattle.cs_files.specs.Calls.{AppendsFront}
 use Rattle.cs_words.specs.Words.{Asked, Shell, Refuses}
 use Rattle.cs_words.specs.declared.fault.WordsFault.TheVariants as fault

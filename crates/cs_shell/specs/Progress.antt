@@ -3,7 +3,7 @@ use Rattle.std.specs.Prelude.{◌≡◌, ◌≢◌, ◌⊎◌, ℕ, ◌≤◌, �
 use Rattle.std.specs.Prelude.{Option, Result}
 use Rattle.std.specs.List.{list_any}
 use Rattle.std.specs.Io.KnownBytes.{Appends, Consumes, IsAtEnd}
-use Rattle.cs_files.specs.declared.told.Told.{Told}
+use Rattle.cs_texts.specs.declared.told.Told.{Told}
 use Rattle.cs_files.specs.Told.{known}
 use Rattle.cs_files.specs.Calls.{AppendsFront, Writes}
 use Rattle.cs_shell.specs.declared.reader.LineReader.{LineReader}

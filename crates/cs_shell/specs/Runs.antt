@@ -3,7 +3,7 @@
 use Rattle.std.specs.Prelude.{◌≡◌, ◌≢◌, ℕ, ◌+◌, ◌≤◌, Bool, true, false, IsTrue, List, [], ◌∷◌, ◌++◌, length, Option}
 use Rattle.std.specs.List.{flat_map, list_any, AllByRecursion}
 use Rattle.std.specs.Io.KnownBytes.{Appends, Consumes, IsAtEnd}
-use Rattle.cs_files.specs.declared.told.Told.{Told}
+use Rattle.cs_texts.specs.declared.told.Told.{Told}
 use Rattle.cs_files.specs.Told.{has_failed, known}
 use Rattle.cs_files.specs.Calls.{AppendsFront}
 use Rattle.cs_replies.specs.declared.refusal.Refusal.TheVariants.{ScriptTooLong}

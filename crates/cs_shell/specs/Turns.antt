@@ -16,7 +16,7 @@ use Rattle.cs_shell.specs.ShellState.{SlotMap, SessionTable, SessionTables, Shel
 use Rattle.cs_shell.specs.Runs.{Runs}
 use Rattle.cs_shell.specs.Stores.{Shows, TellsFailures}
 use Rattle.cs_shell.specs.declared.script.Status.{Status}
-use Rattle.cs_files.specs.declared.told.Told.{Told}
+use Rattle.cs_texts.specs.declared.told.Told.{Told}
 
 -- ---- what a script sees
 

@@ -1,5 +1,5 @@
 use Rattle.std.proofs.Common.{◌≡◌, length}
-use Rattle.cs_lines.specs.Lines.{words_of}
+use Rattle.cs_tokens.specs.Words.{words_of}
 use Rattle.cs_lines.specs.DotReading.{settings_in, no_settings}
 use Rattle.cs_lines.proofs.dot.read_settings.Given as goal
 

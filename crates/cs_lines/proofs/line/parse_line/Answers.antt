@@ -3,7 +3,7 @@ use Rattle.std.proofs.Common.{sym, ap, subst, ◌∙◌, ◌≤◌, ◌+◌, len
 use Rattle.cs_lines.specs.Commands.{command_of}
 use Rattle.cs_lines.specs.Lines.{IsNothing}
 use Rattle.cs_lines.specs.LineReading.{line_in}
-use Rattle.cs_lines.specs.StatementReading.{Misfits}
+use Rattle.cs_tokens.specs.Stops.{Misfits}
 use Rattle.cs_value.specs.declared.refusal.OrNoMemory.TheVariants as refusal
 use Rattle.cs_lines.proofs.LineLaws.{line_taken, line_again, spelled_is_some, refused}
 use Rattle.cs_lines.proofs.line.parse_line.Goals as goal

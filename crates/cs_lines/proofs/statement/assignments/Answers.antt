@@ -3,7 +3,7 @@ use Rattle.std.proofs.Common.{◌≡◌, None, map, ap, sym, ◌∙◌, arith}
 use Rattle.std.proofs.lemmas.Grind.{common_steps}
 use Rattle.std.proofs.lemmas.List.{map_push}
 use Rattle.cs_lines.specs.Commands.{assignment_of}
-use Rattle.cs_lines.specs.Reading.{tokens_of}
+use Rattle.cs_tokens.specs.Reading.{tokens_of}
 use Rattle.cs_lines.specs.StatementReading.{onto, going, assignment_in, assignments_in, turn_in}
 use Rattle.cs_lines.proofs.StatementLemmas.{assignments_unfold, loop_goes, no_item, no_turn}
 use Rattle.cs_lines.proofs.statement.assignments.Goals as goal

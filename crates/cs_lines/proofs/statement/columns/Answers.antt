@@ -2,7 +2,7 @@
 use Rattle.std.proofs.Common.{◌≡◌, None, Some, map, option_map, string_bytes, ap, sym, ◌∙◌, arith}
 use Rattle.std.proofs.lemmas.Grind.{common_steps}
 use Rattle.std.proofs.lemmas.List.{map_push}
-use Rattle.cs_lines.specs.Reading.{tokens_of}
+use Rattle.cs_tokens.specs.Reading.{tokens_of}
 use Rattle.cs_lines.specs.StatementReading.{onto, column_of, column_with, column_in, columns_in, columns_behind}
 use Rattle.cs_lines.proofs.ColumnLemmas.{columns_start, columns_go, columns_end, no_column}
 use Rattle.cs_lines.proofs.statement.columns.Goals as goal

@@ -2,9 +2,9 @@
 use Rattle.std.proofs.Common.{◌≡◌, None, map, string_bytes, ap, sym, ◌∙◌, arith}
 use Rattle.std.proofs.lemmas.Grind.{common_steps}
 use Rattle.std.proofs.lemmas.List.{map_push}
-use Rattle.cs_lines.specs.Reading.{tokens_of}
+use Rattle.cs_tokens.specs.Reading.{tokens_of}
 use Rattle.cs_lines.specs.StatementReading.{onto, going, name_in, names_in, turn_in}
-use Rattle.cs_lines.specs.declared.symbol.Symbol.TheVariants as symbol
+use Rattle.cs_tokens.specs.declared.symbol.Symbol.TheVariants as symbol
 use Rattle.cs_lines.proofs.StatementLemmas.{names_unfold, loop_goes, no_item, no_turn}
 use Rattle.cs_lines.proofs.statement.names.Goals as goal
 

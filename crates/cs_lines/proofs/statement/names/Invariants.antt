@@ -1,5 +1,5 @@
 use Rattle.std.proofs.Common.{◌≡◌, length, map, string_bytes}
-use Rattle.cs_lines.specs.Reading.{tokens_of}
+use Rattle.cs_tokens.specs.Reading.{tokens_of}
 use Rattle.cs_lines.specs.StatementReading.{onto, going, names_in}
 use Rattle.cs_lines.proofs.statement.names.Given as goal
 

@@ -1,9 +1,9 @@
 -- `statement::values`: what was read so far is in front of what the rest reads.
 use Rattle.std.proofs.Common.{◌≡◌, None, ap, sym, ◌∙◌, arith}
 use Rattle.std.proofs.lemmas.Grind.{common_steps}
-use Rattle.cs_lines.specs.Reading.{tokens_of}
+use Rattle.cs_tokens.specs.Reading.{tokens_of}
 use Rattle.cs_lines.specs.StatementReading.{onto, going, value_in, values_in, turn_in}
-use Rattle.cs_lines.specs.declared.symbol.Symbol.TheVariants as symbol
+use Rattle.cs_tokens.specs.declared.symbol.Symbol.TheVariants as symbol
 use Rattle.cs_lines.proofs.StatementLemmas.{values_unfold, loop_goes, no_item, no_turn}
 use Rattle.cs_lines.proofs.statement.values.Goals as goal
 

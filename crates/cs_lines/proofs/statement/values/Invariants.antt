@@ -1,5 +1,5 @@
 use Rattle.std.proofs.Common.{◌≡◌, length}
-use Rattle.cs_lines.specs.Reading.{tokens_of}
+use Rattle.cs_tokens.specs.Reading.{tokens_of}
 use Rattle.cs_lines.specs.StatementReading.{onto, going, values_in}
 use Rattle.cs_lines.proofs.statement.values.Given as goal
 

@@ -1,6 +1,6 @@
 -- `print::write_line`: what it ensures.
 use Rattle.std.proofs.Common.{ap, sym, ◌++◌, codes}
-use Rattle.cs_files.proofs.GatherLemmas.{Writes-flushed}
+use Rattle.cs_texts.proofs.GatherLemmas.{Writes-flushed}
 use Rattle.cs_replies.proofs.print.write_line.Goals as goal
 
 pub returns : goal.returns

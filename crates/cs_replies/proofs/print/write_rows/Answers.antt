@@ -1,6 +1,6 @@
 -- `print::write_rows`: what it ensures.
 use Rattle.std.proofs.Common.{refl}
-use Rattle.cs_files.proofs.GatherLemmas.{Writes-flushed}
+use Rattle.cs_texts.proofs.GatherLemmas.{Writes-flushed}
 use Rattle.cs_replies.proofs.print.write_rows.Goals as goal
 
 pub returns : goal.returns

@@ -2,7 +2,7 @@
 use Rattle.std.proofs.Common.{arith}
 use Rattle.cs_value.proofs.ListLemmas.{flat_map_take_more_at, flat_map_split_at}
 use Rattle.cs_run.specs.Report.{met_of}
-use Rattle.cs_files.proofs.GatherLemmas.{Gathered-more, Gathers-stopped}
+use Rattle.cs_texts.proofs.GatherLemmas.{Gathered-more, Gathers-stopped}
 use Rattle.cs_replies.specs.Report.{met_text}
 use Rattle.cs_replies.proofs.report.add_conflicts.Goals as goal
 

@@ -5,7 +5,7 @@ use Rattle.std.specs.List.{flat_map}
 use Rattle.std.proofs.lemmas.List.Folds.{flat_map-map}
 use Rattle.cs_run.specs.declared.report.Report.{Report}
 use Rattle.cs_run.specs.Report.{met_of}
-use Rattle.cs_files.proofs.GatherLemmas.{Gathered-nil, Gathers-is, Gathers-stopped, Gathers-then}
+use Rattle.cs_texts.proofs.GatherLemmas.{Gathered-nil, Gathers-is, Gathers-stopped, Gathers-then}
 use Rattle.cs_replies.specs.Report.{skip_text, met_text, ignored_text, count_text, report_of}
 use Rattle.cs_replies.proofs.report.add_report.Goals as goal
 

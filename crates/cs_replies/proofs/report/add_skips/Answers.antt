@@ -4,7 +4,7 @@ use Rattle.std.specs.Prelude.{string_bytes}
 use Rattle.std.specs.List.{flat_map}
 use Rattle.cs_value.proofs.ListLemmas.{flat_map_take_more_at, flat_map_split_at}
 use Rattle.cs_replies.specs.Report.{skip_text}
-use Rattle.cs_files.proofs.GatherLemmas.{Gathered-more, Gathers-stopped}
+use Rattle.cs_texts.proofs.GatherLemmas.{Gathered-more, Gathers-stopped}
 use Rattle.cs_replies.proofs.report.add_skips.Goals as goal
 
 pub loop-table-preserved : goal.loop-table-preserved

@@ -1,6 +1,6 @@
 -- `report::report_text`: what it ensures.
 use Rattle.std.proofs.Common.{refl}
-use Rattle.cs_files.proofs.GatherLemmas.{Writes-flushed}
+use Rattle.cs_texts.proofs.GatherLemmas.{Writes-flushed}
 use Rattle.cs_replies.proofs.report.report_text.Goals as goal
 
 pub returns : goal.returns

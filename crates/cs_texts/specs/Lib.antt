@@ -1,0 +1,11 @@
+pub mod Calls
+pub mod Told
+pub mod Gathering
+pub mod Texts
+pub mod Pieces
+pub mod Forms
+pub use Rattle.cs_value.specs.Value
+pub use Rattle.cs_value.specs.Quoting
+pub use Rattle.cs_value.specs.Refusals
+pub use Rattle.cs_wire.specs.Entry
+pub use Rattle.cs_wire.specs.Changeset

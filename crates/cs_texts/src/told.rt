@@ -1,0 +1,108 @@
+//! Readers and writers that tell afterwards whether a call of them failed, and writing to one.
+ghost use Rattle.std.specs.Prelude.{◌≡◌, ◌||◌, is_err, false};
+ghost use Rattle.std.specs.Io.{ReadsAtMost, WritesAtMost};
+ghost use Rattle.std.specs.Io.KnownBytes.{Keeps, ReadConsumes, WriteAppends};
+ghost use Rattle.cs_texts.specs.Calls.{Writes, is_failed_write};
+ghost use Rattle.cs_texts.specs.Told.{inner_of, has_failed, known};
+
+use crate::fault::OutputFault;
+use std::io;
+use std::io::{Read, Write};
+
+/// A reader or a writer with a flag, unset at first, that is set where a call of `read` or `write`
+/// fails, or a `write` of some bytes takes none.
+#[derive(Debug, Drop)]
+pub struct Told<T> {
+    inner: T,
+    failed: bool,
+}
+
+impl<T> Told<T> {
+    /// Puts the flag, unset, beside a reader or a writer.
+    pub fn new(inner: T) -> Told<T>
+        ensures inner { inner_of result ≡ inner }
+        ensures unset { has_failed result ≡ false }
+    {
+        Told {
+            inner,
+            failed: false,
+        }
+    }
+
+    /// The reader or the writer, without the flag.
+    pub fn into_inner(self) -> T
+        ensures { result ≡ inner_of self }
+    {
+        self.inner
+    }
+
+    /// Whether a call failed.
+    pub fn failed(&self) -> bool
+        ensures { result ≡ has_failed self.now }
+    {
+        self.failed
+    }
+}
+
+impl<R: Read> Read for Told<R> {
+    ghost remaining = { λ told. known R.remaining told };
+
+    fn read(&mut self, buf: &mut [u8]) -> io::Result<usize>
+        ensures bound { ReadsAtMost result buf.new }
+        ensures bytes { ReadConsumes
+            (known R.remaining self.old) (known R.remaining self.new) result buf.new }
+        ensures flag { has_failed self.new ≡ (has_failed self.old || is_err result) }
+    {
+        let result = self.inner.read(buf);
+        if result.is_err() {
+            self.failed = true;
+        }
+        result
+    }
+}
+
+impl<W: Write> Write for Told<W> {
+    ghost contents = { λ told. known W.contents told };
+
+    fn write(&mut self, buf: &[u8]) -> io::Result<usize>
+        ensures bound { WritesAtMost result buf.now }
+        ensures bytes { WriteAppends
+            (known W.contents self.old) (known W.contents self.new) result buf.now }
+        ensures flag { has_failed self.new
+            ≡ (has_failed self.old || is_failed_write result buf.now) }
+    {
+        let result = self.inner.write(buf);
+        match &result {
+            Ok(0) if !buf.is_empty() => self.failed = true,
+            Ok(_) => {}
+            Err(_) => self.failed = true,
+        }
+        result
+    }
+
+    fn flush(&mut self) -> io::Result<()>
+        ensures bytes { Keeps (known W.contents self.old) (known W.contents self.new) }
+        ensures flag { has_failed self.new ≡ has_failed self.old }
+    {
+        self.inner.flush()
+    }
+}
+
+/// Writes all of the bytes.
+///
+/// # Errors
+///
+/// [`OutputFault`] where a write fails, or takes no byte. Some front of the bytes is written then, and
+/// the flag of `out` is set.
+pub fn write_whole<W: Write>(out: &mut Told<W>, bytes: &[u8]) -> Result<(), OutputFault>
+    ensures { Writes W.contents result out.old out.new bytes.now }
+{
+    let mut rest = bytes;
+    while !rest.is_empty() {
+        match out.write(rest) {
+            Ok(count) if count > 0 => rest = &rest[count..],
+            _ => return Err(OutputFault),
+        }
+    }
+    Ok(())
+}

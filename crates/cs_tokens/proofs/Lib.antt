@@ -1,0 +1,9 @@
+pub mod PartLemmas
+pub mod IntegerLemmas
+pub mod TokenTakes
+pub mod TokenSteps
+pub mod TokenAgain
+pub mod TokenLemmas
+pub mod TokenExamples
+pub mod WordLemmas
+pub mod SlotLemmas

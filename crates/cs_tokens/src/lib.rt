@@ -1,0 +1,27 @@
+//! The tokens and the words of the lines of scripts.
+//!
+//! ```rust
+//! let Some((word, rest)) = next_word(b".hex a") else { .. };
+//! assert_eq!(rt; word, b".hex");
+//! assert_eq!(rt; rest, b" a");
+//! ```
+//!
+//! A line is read from its front. `token` takes the first token of it: a `symbol`, which is a keyword or a
+//! sign, a word or an integer (`piece`), a `quoted` text or name, or a `blob`. `words` takes the first word,
+//! which blanks end. `byte` tells bytes apart, and `stop` says where a line does not fit, and that memory is
+//! refused.
+#![tactic(auto)]
+
+mod blob;
+mod byte;
+mod piece;
+mod quoted;
+mod stop;
+mod symbol;
+mod token;
+mod words;
+
+pub use stop::{Misfit, Stop, column, misfit_at};
+pub use symbol::Symbol;
+pub use token::{Found, Token, next_token};
+pub use words::{is_word, next_word, no_word, one_slot, slot, text};
