@@ -1,12 +1,4 @@
-pub mod ApplyTurnLemmas
-pub mod CommandLemmas
 pub mod Examples
 pub mod LineLemmas
 pub mod ProgressLemmas
-pub mod ReplyLemmas
 pub mod RunLemmas
-pub mod SeenLemmas
-pub mod SessionLemmas
-pub mod SessionTurnLemmas
-pub mod StatementLemmas
-pub mod TurnLemmas

@@ -1,5 +1,5 @@
 -- Lines that are answered over a store, as a script sees them.
-use Rattle.std.proofs.Common.{◌≡◌, inl, inr, ℕ, Bool, List, [], ◌∷◌, Option, None, refl, sym, subst, ◌∙◌}
+use Rattle.std.proofs.Common.{◌≡◌, inl, inr, ℕ, ◌||◌, Bool, true, List, [], ◌∷◌, Option, None, refl, sym, subst, ◌∙◌}
 use Rattle.std.specs.FinMap.{empty}
 use Rattle.sqlite.specs.State as sqlite
 use Rattle.sqlite.specs.State.{HasCleanDisk}
@@ -7,15 +7,35 @@ use Rattle.cs_value.specs.State.{State}
 use Rattle.cs_store.specs.Store.{tables_in}
 use Rattle.cs_texts.specs.declared.told.Told.{Told}
 use Rattle.cs_shell.specs.declared.script.Status.{Status}
-use Rattle.cs_shell.specs.declared.workspace.Workspace.{Workspace}
-use Rattle.cs_replies.specs.Replies.{Reply}
+use Rattle.cs_machine.specs.declared.workspace.Workspace.{Workspace}
+use Rattle.cs_replies.specs.declared.refusal.Refusal.{Refusal}
+use Rattle.cs_replies.specs.Replies.{Reply, Refused}
 use Rattle.cs_shell.specs.Runs.{LinesGive, Runs}
-use Rattle.cs_shell.specs.Script.{LineGives, unanswered}
-use Rattle.cs_shell.specs.ShellState.{ShellState}
+use Rattle.cs_machine.specs.Script.{IsResource, LineGives, unanswered}
+use Rattle.cs_machine.specs.ShellState.{ShellState}
 use Rattle.cs_shell.specs.Stores.{HasReply, IsSettled, RunsScript, Shows, beginning}
-use Rattle.cs_shell.specs.Turns.{Known, Stands, TurnsBetween, GaveOn, OrUnable, IsHere, RunsShell, seen, seen_session}
+use Rattle.cs_machine.specs.Turns.{AreSame, Known, Stands, TurnsBetween, GaveOn, OrUnable, WorksOn, IsHere, seen, seen_session}
+use Rattle.cs_shell.specs.Shells.{Answers, RunsShell}
 use Rattle.cs_shell.proofs.RunLemmas.{Runs-answered}
-use Rattle.cs_shell.proofs.TurnLemmas.{between_still, between_then, between_weaker, known_shows}
+use Rattle.cs_machine.proofs.TurnLemmas.{between_settled, between_still, between_then, between_weaker, known_shows, unable_as}
+
+-- a line before which the store refused to be settled
+pub line_unsettled : (old new : sqlite.State) (was is : Bool) (work : Workspace) (line : List ℕ) (why : Refusal) → IsResource why
+    → ((rests : Bool) → TurnsBetween old new (Known (rests || was) old) (Known (rests || is) new) AreSame) → Answers old new was is work work line (Refused why)
+line_unsettled old new was is work line why resource turns = λ rests.
+    between_weaker (Known (rests || was) old) (Known (rests || is) new) AreSame (GaveOn work.slots work.slots work.session work.session (λ state. LineGives state line) (Refused why)) old new
+    (λ t u same. subst (λ (s : State). GaveOn work.slots work.slots work.session work.session (λ state. LineGives state line) (Refused why) t s) (sym same)
+    (λ here. (here, unable_as (λ state. LineGives state line) (seen t work.slots work.session) why resource))) (turns rests)
+
+-- a line over a store that is settled
+pub line_settled : (old mid new : sqlite.State) (was is : Bool) (before after : Workspace) (line : List ℕ) (reply : Reply) → is ≡ true
+    → ((rests : Bool) → TurnsBetween old mid (Known (rests || was) old) (Known (rests || is) mid) AreSame)
+    → WorksOn mid new before.slots after.slots before.session after.session (λ state. LineGives state line) reply → Answers old new was is before after line reply
+line_settled old mid new was is before after line reply settled turns works = λ rests.
+    between_then (Known (rests || was) old) (Known (rests || is) mid) (Known (rests || is) new) AreSame
+    (GaveOn before.slots after.slots before.session after.session (λ state. LineGives state line) reply) (GaveOn before.slots after.slots before.session after.session (λ state. LineGives state line) reply) old mid new (turns rests)
+    (between_settled rests is (GaveOn before.slots after.slots before.session after.session (λ state. LineGives state line) reply) mid new settled works)
+    (λ t u v same work. subst (λ (s : State). GaveOn before.slots after.slots before.session after.session (λ state. LineGives state line) reply s v) same work)
 
 -- any line may be refused for memory or by the database
 pub line_gives : (line : List ℕ) (old : ShellState) (reply : Reply) (new : ShellState) → OrUnable (λ state. LineGives state line) old reply new → LineGives old line reply new

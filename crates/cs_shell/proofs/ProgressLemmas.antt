@@ -37,11 +37,6 @@ Splits-feed text lines last s = record {
   no_feed_last = tt;
 }
 
--- what holds in any case holds at Err
-pub on_err : {X E : Type 0} {P : Type 0} (result : Result X E) → P → OnErr result P
-on_err (Ok x) h = tt
-on_err (Err e) h = h
-
 -- a line more is answered
 pub LinesGive-push : {M : Type 0} (gives : M → List ℕ → Reply → M → Type 0) (old mid new : M) (lines : List (List ℕ)) (replies : List Reply) (line : List ℕ) (reply : Reply) → LinesGive gives old lines replies mid
     → gives mid line reply new → LinesGive gives old (lines ++ line ∷ []) (replies ++ reply ∷ []) new

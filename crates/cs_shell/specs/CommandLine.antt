@@ -14,7 +14,7 @@ use Rattle.cs_shell.specs.declared.script.Status.{Status}
 use Rattle.cs_shell.specs.declared.script.Status.TheVariants.{Done, LinesRefused, TooLong, InputFault, OutputFault}
 use Rattle.cs_replies.specs.ErrorLines.{refusal_text}
 use Rattle.cs_shell.specs.Runs.{RunsInput}
-use Rattle.cs_shell.specs.Script.{LineGives, IsResource}
+use Rattle.cs_machine.specs.Script.{LineGives, IsResource}
 use Rattle.cs_shell.specs.Stores.{beginning}
 
 -- the error line of a refusal is written, unless a write fails

@@ -1,11 +1,11 @@
 -- What holds of any machine that answers lines over a store.
 use Rattle.std.proofs.Common.{ℕ, Bool, List, inl, refl, arith}
 use Rattle.sqlite.specs.State.{State}
-use Rattle.cs_shell.specs.declared.workspace.Workspace.{Workspace}
+use Rattle.cs_machine.specs.declared.workspace.Workspace.{Workspace}
 use Rattle.cs_replies.specs.declared.refusal.Refusal.TheVariants.{NoMemory}
 use Rattle.cs_replies.specs.Replies.{Refused}
-use Rattle.cs_shell.specs.Script.{unanswered}
-use Rattle.cs_shell.specs.Turns.{Answers}
+use Rattle.cs_machine.specs.Script.{unanswered}
+use Rattle.cs_shell.specs.Shells.{Answers}
 
 -- memory may be refused for any line, and then nothing changes
 pub loses_line : (store : State) (is_settled : Bool) (work : Workspace) (line : List ℕ)

@@ -1,6 +1,4 @@
-pub mod ShellState
-pub mod Script
-pub mod Turns
+pub mod Shells
 pub mod Laws
 pub mod Stores
 pub mod CommandLine
@@ -35,6 +33,9 @@ pub use Rattle.cs_files.specs.Calls
 pub use Rattle.cs_files.specs.Told
 pub use Rattle.cs_files.specs.Texts
 pub use Rattle.cs_words.specs.Words
+pub use Rattle.cs_machine.specs.ShellState
+pub use Rattle.cs_machine.specs.Script
+pub use Rattle.cs_machine.specs.Turns
 pub use Rattle.cs_replies.specs.ErrorLines
 pub use Rattle.cs_replies.specs.Replies
 pub use Rattle.cs_replies.specs.Report

@@ -1,10 +1,10 @@
 //! What the commands of a command line do with files and stores.
 ghost use Rattle.std.specs.Prelude.{◌≤◌, length, IfOk};
 
-use crate::applying::apply_unnoted;
 use crate::output::write_file;
 use cs_apply::{Noop, Policy};
 use cs_files::{OutputFault, Told, concat_bytes, invert_bytes, print_dump, print_sql};
+use cs_machine::apply_unnoted;
 use cs_replies::{Refusal, Reply, write_reply};
 use cs_store::{Store, StoreError};
 use cs_words::IN_MEMORY;

@@ -13,24 +13,17 @@
 //! ```
 //!
 //! `script` reads lines by a `reader`, has them answered by a machine, and prints the answers. `shell` is that
-//! machine over a store; its `workspace` has its `slots` and its session. `statements` has what lines do with tables,
-//! `changesets` what they do with slots, `applying` the applies and `sessions` the lines of a session. `words` has
-//! the command line, whose words [`cs_words`] reads, `command` what it does with files and stores, and `output` how
-//! it writes a file. [`cs_replies`] has the answers and how they are printed.
+//! machine over a store: [`cs_machine`] says what it answers. `words` has the command line, whose words [`cs_words`]
+//! reads, `command` what it does with files and stores, and `output` how it writes a file. [`cs_replies`] has the
+//! answers and how they are printed.
 #![tactic(auto)]
 
-mod applying;
-mod changesets;
 mod command;
 mod output;
 mod reader;
 mod script;
-mod sessions;
 mod shell;
-mod slots;
-mod statements;
 mod words;
-mod workspace;
 
 pub use cs_files::{
     FileFault, OutputFault, PrintFault, Told, ToolFault, concat_bytes, dump_file, dump_text,

@@ -1,21 +1,17 @@
 //! Scripts over a store: what answers their lines is the store, slots and a session.
-ghost use Rattle.std.specs.Prelude.{◌≡◌, ◌||◌, Bool, true, IfErr, OnOk, OnErr};
+ghost use Rattle.std.specs.Prelude.{◌≡◌, ◌||◌, Bool};
 ghost use Rattle.sqlite.specs.Held.{state};
 ghost use Rattle.sqlite.specs.State.{HasCleanDisk};
 ghost use Rattle.cs_value.specs.State.{State};
-ghost use Rattle.cs_lines.specs.Commands.{command_of};
-ghost use Rattle.cs_replies.specs.Replies.{answer_of};
-ghost use Rattle.cs_shell.specs.Script.{CommandGives, LineGives, IsResource};
+ghost use Rattle.cs_machine.specs.Stores.{IsSettled, Shows, TellsFailures};
+ghost use Rattle.cs_machine.specs.Turns.{Known, TurnsBetween};
 ghost use Rattle.cs_shell.specs.Runs.{Runs};
-ghost use Rattle.cs_shell.specs.Stores.{HasReply, IsSettled, RunsScript, Shows, TellsFailures};
-ghost use Rattle.cs_shell.specs.Turns.{AreSame, Known, RunsShell, Stands, TurnsBetween, WorksOn};
+ghost use Rattle.cs_shell.specs.Shells.{RunsShell};
+ghost use Rattle.cs_shell.specs.Stores.{HasReply, RunsScript};
 
 use crate::script::{Machine, Status, run_machine};
-use crate::workspace::Workspace;
-use crate::{applying, changesets, sessions, statements};
-use cs_apply::Policy;
 use cs_files::Told;
-use cs_lines::{Command, parse_line};
+use cs_machine::{Workspace, answer_line, settle_once};
 use cs_replies::{Refusal, Reply};
 use cs_store::Store;
 use sqlite::Alter;
@@ -31,143 +27,10 @@ pub(crate) struct Shell<'a, S: Alter> {
     pub(crate) is_settled: bool,
 }
 
-/// Begins an empty batch and takes it back, which is refused where a batch is open.
-fn settle<S: Alter>(store: &mut Store<S>) -> Result<(), Refusal>
-    ensures settled { OnOk result (TurnsBetween (state S.Store store.old) (state S.Store store.new)
-        (Shows (state S.Store store.old)) (Stands (state S.Store store.new)) AreSame) }
-    ensures kept { OnErr result ((was : Bool) → TurnsBetween (state S.Store store.old) (state S.Store store.new)
-        (Known was (state S.Store store.old)) (Known was (state S.Store store.new)) AreSame) }
-    ensures named { IfErr result IsResource }
-{
-    let _batch = store.begin()?;
-    Ok(())
-}
-
-/// Settles a store that is not settled.
-fn settle_once<S: Alter>(store: &mut Store<S>, is_settled: &mut bool) -> Result<(), Refusal>
-    ensures settled { OnOk result (is_settled.new ≡ true) }
-    ensures turns { (rests : Bool) → TurnsBetween (state S.Store store.old) (state S.Store store.new)
-        (Known (rests || is_settled.old) (state S.Store store.old))
-        (Known (rests || is_settled.new) (state S.Store store.new)) AreSame }
-    ensures named { IfErr result IsResource }
-{
-    if *is_settled {
-        return Ok(());
-    }
-    settle(store)?;
-    *is_settled = true;
-    Ok(())
-}
-
-/// Does what a command asks for.
-fn run_command<S: Alter>(
-    alloc: Global,
-    store: &mut Store<S>,
-    work: &mut Workspace,
-    command: Command,
-) -> Result<Reply, Refusal>
-    ensures { WorksOn (state S.Store store.old) (state S.Store store.new) work.old.slots work.new.slots
-        work.old.session work.new.session (λ old. CommandGives old (command_of command)) (answer_of result) }
-{
-    let Workspace { slots, session } = work;
-    match command {
-        Command::Create {
-            name,
-            columns,
-            refuses,
-            keys,
-        } => { statements::create(alloc, store, name.as_str(), &columns, &refuses, &keys) }
-        Command::Insert { table, values } => statements::insert(
-            alloc, store, session, table, values,
-        ),
-        Command::Update {
-            table,
-            sets,
-            conditions,
-        } => { statements::update(alloc, store, session, table, &sets, &conditions) }
-        Command::Delete { table, conditions } => {
-            statements::delete(alloc, store, session, table, &conditions)
-        }
-        Command::Select { table } => statements::select(alloc, store, table.as_str()),
-        Command::Load { slot, digits } => {
-            changesets::load(alloc, slots, slot.as_bytes(), digits.as_bytes())
-        }
-        Command::Hex { slot } => changesets::show(alloc, slots, slot.as_bytes()),
-        Command::Dump { slot } => changesets::dump(alloc, slots, slot.as_bytes()),
-        Command::Invert { from, into } => {
-            changesets::invert(alloc, slots, from.as_bytes(), into.as_bytes())
-        }
-        Command::Concat {
-            first,
-            second,
-            into,
-        } => changesets::join(
-            alloc,
-            slots,
-            first.as_bytes(),
-            second.as_bytes(),
-            into.as_bytes(),
-        ),
-        Command::Apply {
-            slot,
-            on_data,
-            on_notfound,
-            on_conflict,
-            on_constraint,
-            noop,
-        } => {
-            let policy = Policy {
-                on_data,
-                on_notfound,
-                on_conflict,
-                on_constraint,
-            };
-            applying::apply_file(
-                alloc,
-                store,
-                session,
-                slots.get(slot.as_bytes())?,
-                &policy,
-                noop,
-            )
-        }
-        Command::Revert { slot } => {
-            applying::revert_file(alloc, store, session, slots.get(slot.as_bytes())?)
-        }
-        Command::SessionOpen => sessions::open(alloc, session),
-        Command::SessionAttach { table } => sessions::attach(alloc, store, session, table.as_str()),
-        Command::SessionChangeset { slot } => {
-            sessions::changeset(alloc, store, slots, session, slot.as_bytes())
-        }
-        Command::SessionIsEmpty => sessions::is_empty(alloc, session),
-        Command::SessionUndo => sessions::undo(alloc, store, session),
-        Command::SessionClose => sessions::close(session),
-    }
-}
-
-/// Answers a line, with what it asks for done.
-fn answer_line<S: Alter>(
-    alloc: Global,
-    store: &mut Store<S>,
-    work: &mut Workspace,
-    line: &[u8],
-) -> Result<Reply, Refusal>
-    ensures { WorksOn (state S.Store store.old) (state S.Store store.new) work.old.slots work.new.slots
-        work.old.session work.new.session (λ old. LineGives old line.now) (answer_of result) }
-{
-    let Ok(line) = std::str::from_utf8(line) else {
-        return Err(Refusal::LineText);
-    };
-    match parse_line(alloc, line)? {
-        Some(command) => run_command(alloc, store, work, command),
-        None => Ok(Reply::Silent),
-    }
-}
-
 impl<S: Alter> Machine for Shell<'_, S> {
     ghost use Rattle.std.proofs.Common.{refl};
     ghost use Rattle.cs_shell.specs.Laws.{loses_line};
-    ghost use Rattle.cs_shell.specs.Turns.{Answers};
+    ghost use Rattle.cs_shell.specs.Shells.{Answers};
 
     ghost gives = { λ a line reply b. (b.store.ghost_name ≡ a.store.ghost_name)
         × Answers (state S.Store a.store.now) (state S.Store b.store.now) a.is_settled b.is_settled

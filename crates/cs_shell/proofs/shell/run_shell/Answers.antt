@@ -2,7 +2,7 @@
 use Rattle.std.proofs.Common.{◌||◌}
 use Rattle.sqlite.specs.Held.{state}
 use Rattle.cs_shell.specs.Stores.{HasReply}
-use Rattle.cs_shell.specs.Turns.{Known}
+use Rattle.cs_machine.specs.Turns.{Known}
 use Rattle.cs_shell.proofs.LineLemmas.{lines_keep, any_replies, shell_runs}
 use Rattle.cs_shell.proofs.RunLemmas.{Runs-answered}
 use Rattle.cs_shell.proofs.shell.run_shell.Goals as goal

@@ -5,7 +5,7 @@ use Rattle.sqlite.specs.Steps.{over_memory}
 use Rattle.cs_value.specs.State.{State}
 use Rattle.cs_store.specs.Store.{tables_in}
 use Rattle.cs_shell.specs.Runs.{Runs}
-use Rattle.cs_shell.specs.Script.{LineGives}
+use Rattle.cs_machine.specs.Script.{LineGives}
 use Rattle.cs_shell.specs.Stores.{RunsScript, beginning}
 use Rattle.cs_shell.proofs.words.run_input.Goals as goal
 

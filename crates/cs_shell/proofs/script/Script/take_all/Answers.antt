@@ -1,7 +1,8 @@
 -- `script::Script::take_all`: the clause `broken`.
 use Rattle.std.proofs.Common.{arith}
 use Rattle.cs_shell.specs.Progress.{running}
-use Rattle.cs_shell.proofs.ProgressLemmas.{Breaks-more, on_err}
+use Rattle.cs_machine.proofs.TurnLemmas.{on_err}
+use Rattle.cs_shell.proofs.ProgressLemmas.{Breaks-more}
 use Rattle.cs_shell.proofs.script.Script.take_all.Goals as goal
 
 pub returns-in_err-take-clause-broken : goal.returns-in_err-take-clause-broken

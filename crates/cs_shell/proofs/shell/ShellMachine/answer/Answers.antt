@@ -2,7 +2,7 @@
 use Rattle.std.proofs.lemmas.Result.{err_from_is_err_and}
 use Rattle.std.proofs.Common.{refl}
 use Rattle.sqlite.specs.Held.{state}
-use Rattle.cs_shell.proofs.CommandLemmas.{line_settled, line_unsettled}
+use Rattle.cs_shell.proofs.LineLemmas.{line_settled, line_unsettled}
 use Rattle.cs_shell.proofs.shell.ShellMachine.answer.Goals as goal
 
 pub returns-in_err-settle_once : goal.returns-in_err-settle_once

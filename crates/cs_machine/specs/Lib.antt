@@ -1,0 +1,4 @@
+pub mod ShellState
+pub mod Script
+pub mod Stores
+pub mod Turns

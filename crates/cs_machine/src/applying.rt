@@ -1,0 +1,112 @@
+//! Files that are applied to the tables of a store, and reverted.
+ghost use Rattle.std.specs.Prelude.{None, Some};
+ghost use Rattle.sqlite.specs.Held.{state};
+ghost use Rattle.cs_run.specs.declared.running.Direction.TheVariants.{Forward};
+ghost use Rattle.cs_replies.specs.Replies.{answer_of};
+ghost use Rattle.cs_machine.specs.Script.{ApplyGives, ByKind, RevertGives};
+ghost use Rattle.cs_machine.specs.Turns.{Works};
+
+use cs_apply::{Choice, Conflict, Noop, Policy, apply, revert};
+use cs_files::invert_bytes;
+use cs_replies::{Refusal, Reply};
+use cs_session::Session;
+use cs_store::Store;
+use sqlite::Alter;
+use std::alloc::Global;
+
+/// Applies a file, and notes what is written.
+fn apply_noted<S: Alter>(
+    alloc: Global,
+    store: &mut Store<S>,
+    session: &mut Session,
+    file: &[u8],
+    policy: &Policy,
+    noop: Noop,
+) -> Result<Reply, Refusal>
+    ensures { Works (state S.Store store.old) (state S.Store store.new) (Some session.old) (Some session.new)
+        (λ old. ApplyGives old (ByKind policy.now.on_data policy.now.on_notfound policy.now.on_conflict
+        policy.now.on_constraint) noop file.now Forward) (answer_of result) }
+{
+    let handler = |conflict: &Conflict| policy.choose(conflict);
+    let report = session.apply_recorded(alloc, store, file, noop, &handler)?;
+    Ok(Reply::Report(report))
+}
+
+/// Applies a file, where no session is open.
+pub fn apply_unnoted<S: Alter>(
+    alloc: Global,
+    store: &mut Store<S>,
+    file: &[u8],
+    policy: &Policy,
+    noop: Noop,
+) -> Result<Reply, Refusal>
+    ensures { Works (state S.Store store.old) (state S.Store store.new) None None
+        (λ old. ApplyGives old (ByKind policy.now.on_data policy.now.on_notfound policy.now.on_conflict
+        policy.now.on_constraint) noop file.now Forward) (answer_of result) }
+{
+    let handler = |conflict: &Conflict| policy.choose(conflict);
+    let report = apply(alloc, store, file, noop, &handler)?;
+    Ok(Reply::Report(report))
+}
+
+/// Applies a file, which is noted where a session is open.
+pub(crate) fn apply_file<S: Alter>(
+    alloc: Global,
+    store: &mut Store<S>,
+    session: &mut Option<Session>,
+    file: &[u8],
+    policy: &Policy,
+    noop: Noop,
+) -> Result<Reply, Refusal>
+    ensures { Works (state S.Store store.old) (state S.Store store.new) session.old session.new
+        (λ old. ApplyGives old (ByKind policy.now.on_data policy.now.on_notfound policy.now.on_conflict
+        policy.now.on_constraint) noop file.now Forward) (answer_of result) }
+{
+    match session {
+        Some(session) => apply_noted(alloc, store, session, file, policy, noop),
+        None => apply_unnoted(alloc, store, file, policy, noop),
+    }
+}
+
+/// Applies the inverse of a file, and notes what is written. Each conflict ends it.
+fn revert_noted<S: Alter>(
+    alloc: Global,
+    store: &mut Store<S>,
+    session: &mut Session,
+    file: &[u8],
+) -> Result<Reply, Refusal>
+    ensures { Works (state S.Store store.old) (state S.Store store.new) (Some session.old) (Some session.new)
+        (λ old. RevertGives old file.now old.session) (answer_of result) }
+{
+    let inverse = invert_bytes(alloc, file)?;
+    let report = session.apply_recorded(alloc, store, &inverse, Noop::Report, &|_| Choice::Abort)?;
+    Ok(Reply::Report(report))
+}
+
+/// Reverts a file, where no session is open. Each conflict ends it.
+fn revert_unnoted<S: Alter>(
+    alloc: Global,
+    store: &mut Store<S>,
+    file: &[u8],
+) -> Result<Reply, Refusal>
+    ensures { Works (state S.Store store.old) (state S.Store store.new) None None
+        (λ old. RevertGives old file.now old.session) (answer_of result) }
+{
+    Ok(Reply::Report(revert(alloc, store, file)?))
+}
+
+/// Reverts a file. Where a session is open, its inverse is applied, and noted.
+pub(crate) fn revert_file<S: Alter>(
+    alloc: Global,
+    store: &mut Store<S>,
+    session: &mut Option<Session>,
+    file: &[u8],
+) -> Result<Reply, Refusal>
+    ensures { Works (state S.Store store.old) (state S.Store store.new) session.old session.new
+        (λ old. RevertGives old file.now old.session) (answer_of result) }
+{
+    match session {
+        Some(session) => revert_noted(alloc, store, session, file),
+        None => revert_unnoted(alloc, store, file),
+    }
+}
