@@ -4,12 +4,12 @@
 //! // Each conflict ends the call, and nothing is changed.
 //! let report = apply(alloc, &mut store, file, Noop::Report, &|_| Choice::Abort)?;
 //! assert!(rt; report.is_clean());
-//! // The same file gives the rows back.
+//! // The same file restores the rows.
 //! revert(alloc, &mut store, file)?;
 //! ```
 //!
-//! `store` takes a file through the rows of a batch, by `cs_run`, and commits the batch or drops it. The names of
-//! `cs_run` are passed on. `CALLING.md`, beside this folder, shows a caller.
+//! `store` applies a file to the rows of a batch, by `cs_run`, and commits the batch or drops it. The names of `cs_run`
+//! are passed on. `CALLING.md`, next to this folder, shows a caller.
 #![tactic(auto)]
 
 mod store;

@@ -20,11 +20,15 @@ use cs_wire::changeset_files_law;
 use sqlite::Alter;
 use std::alloc::Global;
 
-/// Applies the changeset of a file to a store in one transaction, as [`run_in`] does. A refusal changes
-/// nothing. A crash leaves the tables as before, or as applied; once this is done, these alone, and once
-/// it is refused and the store is open still, those alone.
+/// Applies the changeset of a file to a store in one transaction, as [`run_in`] does.
 ///
-/// Where the report is clean ([`Report::is_clean`]), [`revert`] gives the tables back.
+/// If the report is clean ([`Report::is_clean`]), [`revert`] restores the tables. A crash leaves the previous tables or
+/// those of the apply: only the latter once the call has returned Ok, and only the former if it has failed and the
+/// store is still open.
+///
+/// # Errors
+///
+/// Those of [`run_in`]. An error changes nothing.
 pub fn apply<S: Alter, H: Fn(&Conflict) -> Choice>(
     alloc: Global,
     store: &mut Store<S>,
@@ -56,12 +60,14 @@ pub fn apply<S: Alter, H: Fn(&Conflict) -> Choice>(
     run(alloc, store, file, Direction::Forward, noop, handler)
 }
 
-/// Applies the inverse of the changeset of a file to a store in one transaction. Each conflict ends the
-/// call. A refusal changes nothing. A crash leaves the tables as before, or as applied; once this is done,
-/// these alone, and once it is refused and the store is open still, those alone.
+/// Applies the inverse of the changeset of a file to a store in one transaction, and aborts at the first conflict.
 ///
-/// On the tables that an apply of the file left without a conflict it meets none, and gives the tables
-/// back that were there before, unless memory is refused, or the database refuses.
+/// After a clean apply of the file it has no conflict and restores the previous tables. It then fails only if memory or
+/// the database refuses. A crash leaves what a crash in [`apply`] leaves.
+///
+/// # Errors
+///
+/// Those of [`run_in`]. An error changes nothing.
 pub fn revert<S: Alter>(
     alloc: Global,
     store: &mut Store<S>,
@@ -99,7 +105,7 @@ fn abort(_conflict: &Conflict) -> Choice
     Choice::Abort
 }
 
-/// Runs a file in a batch of a store.
+/// Applies a file, or its inverse, in a batch of a store.
 fn run<S: Alter, H: Fn(&Conflict) -> Choice>(
     alloc: Global,
     store: &mut Store<S>,

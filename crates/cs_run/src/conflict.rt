@@ -1,4 +1,4 @@
-//! Conflicts, and what was chosen for them.
+//! Conflicts, and what the handler chose for them.
 ghost use Rattle.std.specs.Prelude.{◌≡◌, IfOk, option_map};
 ghost use Rattle.cs_run.specs.Report.{conflict_of};
 
@@ -8,18 +8,18 @@ use cs_wire::{Entry, EntryRef};
 use std::alloc::Global;
 use std::fmt;
 
-/// A conflict: an entry that does not find what it says, or leaves what its table refuses.
+/// A conflict: the current row is not the one that the entry expects, or the table refuses the new row.
 #[derive(Debug, Drop)]
 pub struct Conflict {
     pub kind: Kind,
     /// The name of the table.
     pub table: String,
     pub entry: Entry,
-    /// The row that stands at the key of the entry, if there is one.
+    /// The current row with the key of the entry, if there is one.
     pub current: Option<Row>,
 }
 
-/// A conflict that was met, and what was chosen for it.
+/// A conflict, and what the handler chose for it.
 #[derive(Debug, Drop)]
 pub struct Met {
     pub conflict: Conflict,
@@ -27,7 +27,7 @@ pub struct Met {
 }
 
 impl Conflict {
-    /// A conflict of its own of what it is told of.
+    /// Returns a conflict with copies of the entry and the row.
     pub(crate) fn copy_of(
         alloc: Global,
         kind: Kind,

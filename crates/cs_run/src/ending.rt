@@ -16,7 +16,7 @@ pub(crate) enum Ending {
 }
 
 impl Ending {
-    /// How a run ends at a conflict for which this was chosen.
+    /// Returns how a run ends at a conflict, by what the handler chose.
     pub(crate) fn at(conflict: Conflict, choice: Choice) -> Ending
         ensures { result ≡ ending_by conflict choice }
     {
@@ -27,7 +27,7 @@ impl Ending {
         }
     }
 
-    /// What a run that ended so is refused with.
+    /// Returns the fault of a run that ended so.
     pub(crate) fn into_fault(self) -> ApplyFault
         ensures { result ≡ refusal_of self }
     {

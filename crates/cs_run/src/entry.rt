@@ -27,9 +27,9 @@ use std::rc::RcStr;
 /// What is done about an entry.
 #[derive(Debug, Drop)]
 pub(crate) enum Settled {
-    /// It is carried out: it meets no conflict, or what stands in its way is to be replaced.
+    /// It is carried out: it has no conflict, or the handler chose to replace the row.
     Carried,
-    /// It is passed over, as it is chosen.
+    /// It is skipped, as the handler chose.
     Passed,
     /// It is ignored, since it changes nothing.
     Ignored,
@@ -46,9 +46,8 @@ impl Settled {
     }
 }
 
-/// Carries out an entry of a table that is compatible, or does what the handler chooses where the entry
-/// meets a conflict, unless that is to be ignored. Answers how the run ends at it, if it does: the rows are as they
-/// were then.
+/// Carries out an entry of a compatible table. If the entry has a conflict that is not to be ignored, the handler
+/// decides. Returns how the run ends at this entry, if it does: then the rows are unchanged.
 pub(crate) fn apply_entry<B: Rows, H: Fn(&Conflict) -> Choice>(
     alloc: Global,
     rows: &mut B,
@@ -102,8 +101,8 @@ pub(crate) fn apply_entry<B: Rows, H: Fn(&Conflict) -> Choice>(
     }
 }
 
-/// What is done about an entry, which is refused or not. A conflict is told with what was chosen for it, unless the run
-/// ends there, or the entry is ignored.
+/// Decides about an entry, which its table refuses or accepts. Reports a conflict and the choice, unless the run ends
+/// there or the entry is ignored.
 fn settle<H: Fn(&Conflict) -> Choice>(
     alloc: Global,
     table: &str,
@@ -136,7 +135,7 @@ fn settle<H: Fn(&Conflict) -> Choice>(
     Ok(settled)
 }
 
-/// What is done about an entry at a conflict of a kind. The conflict is told with what was chosen for it, unless the run
+/// Asks the handler about an entry with a conflict of this kind. Reports the conflict and the choice, unless the run
 /// ends there.
 fn ask<H: Fn(&Conflict) -> Choice>(
     alloc: Global,
@@ -161,7 +160,7 @@ fn ask<H: Fn(&Conflict) -> Choice>(
     Ok(settled_by(choice))
 }
 
-/// What is done about an entry at whose conflict the run goes on.
+/// Returns what is done about an entry if the run goes on after its conflict.
 fn settled_by(choice: Choice) -> Settled
     ensures { result ≡ settled_as choice }
 {
@@ -171,7 +170,7 @@ fn settled_by(choice: Choice) -> Settled
     }
 }
 
-/// Whether a run ends at a conflict of this kind, for which this was chosen.
+/// Returns whether a run ends at a conflict of this kind with this choice.
 fn ends_run(kind: Kind, choice: Choice) -> bool
     ensures { result ≡ ends kind choice }
 {
@@ -182,7 +181,7 @@ fn ends_run(kind: Kind, choice: Choice) -> bool
     }
 }
 
-/// Writes what an entry leaves, and tells its key and the row that stood there.
+/// Writes the new row of an entry, and reports its key and the previous row.
 fn carry_out<B: Rows>(
     alloc: Global,
     rows: &mut B,
@@ -218,7 +217,7 @@ fn carry_out<B: Rows>(
     Ok(())
 }
 
-/// Writes what an entry that is carried out leaves of the row at its key.
+/// Writes the row that an entry leaves at its key, or removes the row.
 fn write<B: Rows>(
     alloc: Global,
     rows: &mut B,

@@ -14,13 +14,13 @@ pub enum ApplyFault {
     /// The file is no changeset's.
     #[error("{0}")]
     Read(ReadFault),
-    /// The table of the group at this place, from 0, has more columns than the group says.
+    /// The table of the group at this zero-based index has more columns than the group.
     #[error("a table has more columns than group {0} says")]
     Wider(usize),
     /// The handler chose to abort at this conflict.
     #[error("aborted at {0}")]
     Abort(Conflict),
-    /// The handler chose to replace a row that is not there, or to carry out an entry that its table refuses.
+    /// The handler chose to replace a row that does not exist, or to carry out an entry that its table refuses.
     #[error("replace is not possible at {0}")]
     Misuse(Conflict),
     /// The store refused, for another cause than memory.

@@ -1,4 +1,4 @@
-//! How the tables of a changeset stand to those that are there.
+//! Whether the tables of a changeset fit the tables of the rows.
 ghost use Rattle.std.specs.Prelude.{◌≡◌, IfOk, IfErr, OnOk, option_map};
 ghost use Rattle.cs_value.specs.State.{schema_at};
 ghost use Rattle.cs_group.specs.Judging.{judgement};
@@ -12,8 +12,8 @@ use cs_rows::Rows;
 use cs_wire::HeaderRef;
 use std::alloc::Global;
 
-/// Judges the changes of a table by the table of its name, and answers which of its columns refuse NULL, too: none where there
-/// is no table.
+/// Compares the header of a group with the table of its name. Also returns which columns of the table refuse NULL: an
+/// empty list if there is no table.
 pub(crate) fn judge_table<B: Rows>(
     alloc: Global,
     rows: &mut B,

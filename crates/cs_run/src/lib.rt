@@ -1,15 +1,15 @@
 //! Changesets carried out on rows, item by item.
 //!
 //! ```rust
-//! // What meets a conflict is passed over.
+//! // Entries with a conflict are skipped.
 //! let report = run_in(alloc, &mut rows, file, Direction::Forward, Noop::Report, &|_| Choice::Omit)?;
 //! assert!(rt; report.is_clean());
 //! ```
 //!
-//! `running` takes a file through any rows, `owned` a changeset. `run` is what they know behind the items so far:
-//! `judging` says how a group stands to its table, `entry` carries out an entry, and `ending` says how an entry ends a
-//! run. `conflict` is what a handler is asked and what it chose, `policy` a handler that goes by the kind, `report`
-//! what a run tells, and `fault` why it is refused. `cs_apply` does this in a batch of a store.
+//! `running` applies a file to any rows, and `owned` an owned changeset. `run` is their state between two items.
+//! `judging` decides whether a group fits its table, `entry` carries out an entry, and `ending` says how an entry ends
+//! a run. `conflict` has what a handler is asked and what it chose, `policy` a handler that goes by the kind of the
+//! conflict, `report` what a run reports, and `fault` why it fails. `cs_apply` does this in a batch of a store.
 #![tactic(auto)]
 
 mod conflict;

@@ -1,4 +1,4 @@
-//! A changeset that is owned, applied to rows.
+//! An owned changeset, applied to rows.
 ghost use Rattle.std.specs.Prelude.{◌≡◌, ◌≢◌, ◌<◌, ◌+◌, [], ◌∷◌, ◌++◌, List, IfOk, IfErr, OnOk};
 ghost use Rattle.std.specs.List.{AllByRecursion};
 ghost use Rattle.std.specs.Fn.{FnReturnsAt};
@@ -19,12 +19,12 @@ use cs_rows::Rows;
 use cs_wire::{Changeset, EntryRef, Group, HeaderRef};
 use std::alloc::Global;
 
-/// Applies a changeset to rows, or its inverse, as [`run_in`](crate::run_in) does with its file; no file is
+/// Applies an owned changeset to rows, or its inverse, as [`run_in`](crate::run_in) applies its file. No file is
 /// written, and no entry is ignored.
 ///
 /// # Errors
 ///
-/// As [`run_in`](crate::run_in), but never [`Read`](ApplyFault::Read): what it takes is a changeset.
+/// Those of [`run_in`](crate::run_in), but never [`Read`](ApplyFault::Read).
 pub fn run_changeset_in<B: Rows, H: Fn(&Conflict) -> Choice>(
     alloc: Global,
     rows: &mut B,
@@ -49,7 +49,7 @@ pub fn run_changeset_in<B: Rows, H: Fn(&Conflict) -> Choice>(
     run.finish()
 }
 
-/// Goes on with a group: its table, and its entries.
+/// Applies a group: its header, and then its entries.
 fn take_group<B: Rows, H: Fn(&Conflict) -> Choice>(
     alloc: Global,
     rows: &mut B,

@@ -15,7 +15,7 @@ pub struct Policy {
 }
 
 impl Policy {
-    /// The choice for the kind of a conflict. It takes no memory.
+    /// Returns the choice for the kind of a conflict. It takes no memory.
     pub fn choose(&self, conflict: &Conflict) -> Choice
         ensures { result ≡ chosen self.now conflict.now.kind }
     {

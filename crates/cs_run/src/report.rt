@@ -1,4 +1,4 @@
-//! What a run tells.
+//! What a run reports.
 ghost use Rattle.std.specs.Prelude.{◌≡◌, ◌↔◌, [], IsTrue};
 
 use crate::conflict::Met;
@@ -8,18 +8,18 @@ use std::alloc::Global;
 /// What a run did, in the order of the file.
 #[derive(Debug, Drop)]
 pub struct Report {
-    /// The conflicts, with what was chosen for them.
+    /// The conflicts, with the choices for them.
     pub conflicts: Vec<Met>,
-    /// The tables whose changes were passed over.
+    /// The tables whose changes were skipped.
     pub skipped: Vec<String>,
-    /// The keys of the entries that were carried out, with the rows that stood there before.
+    /// The keys of the entries that were carried out, with the previous rows.
     pub written: Vec<Written>,
-    /// How many entries were ignored, of those that change nothing.
+    /// The number of no-op entries that were ignored.
     pub ignored: usize,
 }
 
 impl Report {
-    /// The report of a run that did nothing.
+    /// Returns the report of a run that did nothing.
     pub(crate) fn new(alloc: Global) -> Report
         ensures conflicts { result.conflicts.items ≡ [] }
         ensures skipped { result.skipped.items ≡ [] }
@@ -34,7 +34,7 @@ impl Report {
         }
     }
 
-    /// Whether no conflict was met, and no entry was ignored: then reverting gives the rows back. It takes no memory.
+    /// Returns whether there was no conflict and no ignored entry. Then a revert restores the rows. It takes no memory.
     pub fn is_clean(&self) -> bool
         ensures { IsTrue result ↔ ((self.now.conflicts.items ≡ []) × (self.now.ignored ≡ 0)) }
     {

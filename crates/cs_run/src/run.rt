@@ -1,4 +1,4 @@
-//! A run through the items of a changeset, from one to the next.
+//! The state of a run between two items of a changeset.
 ghost use Rattle.std.specs.Prelude.{◌≡◌, ◌↔◌, ◌<◌, ◌≤◌, ◌+◌, ◌∷◌, ◌++◌, [], ℕ, List, IfOk, IfErr, IsTrue, OnOk};
 ghost use Rattle.std.specs.Fn.{FnReturnsAt};
 ghost use Rattle.std.specs.Rc.{rc_str_bytes};
@@ -26,27 +26,27 @@ use cs_wire::{EntryRef, HeaderRef};
 use std::alloc::Global;
 use std::rc::RcStr;
 
-/// What is known behind the items so far.
+/// What is known after the items so far.
 #[derive(Debug, Drop)]
 pub(crate) struct Run {
-    // The name of the table that is open, which the keys that are written share, and how the table was judged.
+    // The name of the open table, which all written keys share, and whether the table fits.
     table: RcStr,
     judgement: Judgement,
     // Which of its columns refuse NULL.
     refuses: Vec<bool>,
-    // How many tables there were.
+    // The number of tables so far.
     tables: usize,
-    // The place of the first of them that is wider.
+    // The index of the first table with more columns than its group.
     wider: Option<usize>,
-    // How the run ended at an entry.
+    // How the run ended, if it ended at an entry.
     ended: Option<Ending>,
-    // What is done about entries that change nothing.
+    // What is done about no-op entries.
     noop: Noop,
     report: Report,
 }
 
 impl Run {
-    /// A run before the first item.
+    /// Returns a run before its first item.
     pub(crate) fn new(alloc: Global, noop: Noop) -> Result<Run, NoMemory>
         ensures start { IfOk result IsAtStart }
         ensures noop { IfOk result (λ run. run.noop ≡ noop) }
@@ -63,8 +63,8 @@ impl Run {
         })
     }
 
-    /// Goes on with a table: judges it, and tells it where it is passed over. The first that is wider is
-    /// remembered, also behind the end of the run.
+    /// Opens a table: decides whether it fits, and reports it if it is skipped. Remembers the first table with more
+    /// columns than its group, also after the end of the run.
     pub(crate) fn take_table<B: Rows>(
         &mut self,
         alloc: Global,
@@ -97,15 +97,15 @@ impl Run {
         Ok(())
     }
 
-    /// Whether entries of the table that is open are carried out.
+    /// Returns whether entries of the open table are carried out.
     fn takes_entries(&self) -> bool
         ensures { IsTrue result ↔ TakesEntries self.now }
     {
         self.judgement == Judgement::Compatible && self.wider.is_none() && self.ended.is_none()
     }
 
-    /// Goes on with an entry of the table that is open: carries it out, or does what the handler chooses,
-    /// where the table is compatible and the run has not ended.
+    /// Takes an entry of the open table. If the table fits and the run has not ended, the entry is carried out, or the
+    /// handler decides.
     pub(crate) fn take_entry<B: Rows, H: Fn(&Conflict) -> Choice>(
         &mut self,
         alloc: Global,
@@ -149,7 +149,7 @@ impl Run {
         Ok(())
     }
 
-    /// What the run comes to behind the last item.
+    /// Returns the result of the run after the last item.
     pub(crate) fn finish(self) -> Result<Report, ApplyFault>
         ensures { result ≡ answer_of self }
     {

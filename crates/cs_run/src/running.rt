@@ -15,7 +15,7 @@ use cs_rows::Rows;
 use cs_wire::{Cursor, EntryRef, Item};
 use std::alloc::Global;
 
-/// Whether a file is applied as it is, or as its inverse.
+/// Whether a file is applied as it is, or inverted.
 #[derive(Clone, Copy, Debug, PartialEq, Eq)]
 pub enum Direction {
     Forward,
@@ -24,23 +24,27 @@ pub enum Direction {
 
 /// Applies the changeset of a file to rows, or its inverse, as SQLite's `sqlite3changeset_apply` has it.
 ///
-/// A group whose table is not there, has fewer columns or another key is passed over. For each conflict
-/// the handler is asked, but not for an entry that would change nothing where these are to be ignored
-/// ([`Noop::Ignore`]): a delete that finds no row, an insert that finds its row, and an update that finds its new
-/// values. An entry that would leave NULL in a column that refuses it meets a conflict too: alone, or as its second
-/// one where the handler chose to replace the row in its way. The report tells the conflicts, the tables that were passed over, and the keys
-/// that were written, in the order of the file, and how many entries were ignored.
+/// A group is skipped if its table does not exist, has fewer columns or has another key. The handler is
+/// asked about each conflict. With [`Noop::Ignore`] it is not asked about a no-op: a delete whose row does not exist, an
+/// insert whose row exists in all columns, and an update whose row has the new values. An entry that would leave NULL
+/// in a column that refuses it has a conflict. If the handler chose to replace a row, that is a second conflict of the
+/// entry. The report has the conflicts, the skipped tables and the written keys in the order of the file, and the
+/// number of ignored entries.
 ///
 /// # Errors
 ///
-/// In this order: [`Read`](ApplyFault::Read) for a file that is no changeset's;
-/// [`Wider`](ApplyFault::Wider) for the first group whose table has more columns; and at the first
-/// conflict where the handler says so [`Abort`](ApplyFault::Abort), or
-/// [`Misuse`](ApplyFault::Misuse) where it would replace a row that is not there, or carry out an entry
-/// that its table refuses. The rows may refuse at any point with [`Store`](ApplyFault::Store), and memory with [`NoMemory`](ApplyFault::NoMemory).
+/// In this order:
 ///
-/// The file is read once, and its entries are carried out as they are met: behind a refusal rows may have
-/// been written, and are to be dropped, and the handler may have been asked before a fault was found.
+/// - [`Read`](ApplyFault::Read) if the file is not a changeset.
+/// - [`Wider`](ApplyFault::Wider) for the first group whose table has more columns.
+/// - [`Abort`](ApplyFault::Abort) for the first conflict at which the handler aborts, or
+///   [`Misuse`](ApplyFault::Misuse) for the first at which it replaces a row that does not exist, or carries out an
+///   entry that the table refuses.
+///
+/// At any point [`Store`](ApplyFault::Store) if the rows refuse, and [`NoMemory`](ApplyFault::NoMemory).
+///
+/// The file is read once, and each entry is carried out as it is read. So after an error some rows may have been
+/// written: drop them. The handler may have been asked before the error was found.
 pub fn run_in<B: Rows, H: Fn(&Conflict) -> Choice>(
     alloc: Global,
     rows: &mut B,
@@ -72,7 +76,7 @@ pub fn run_in<B: Rows, H: Fn(&Conflict) -> Choice>(
     run.finish()
 }
 
-/// The entry that is carried out: this one, or the one that undoes it.
+/// Returns the entry to be carried out: this one, or its inverse.
 pub(crate) fn directed(entry: EntryRef<'_>, direction: Direction) -> EntryRef<'_>
     requires { IsEntry entry.flags entry.entry }
     ensures { result ≡ record { flags = entry.entry.flags; entry = directed_entry direction entry.entry.flags entry.entry.entry } }
