@@ -1,4 +1,4 @@
-//! Why a call on files is refused.
+//! Faults of calls on files.
 ghost use Rattle.std.specs.Prelude.{◌≡◌};
 ghost use Rattle.cs_files.specs.Faults.{code_of, class_of, name_of, of_first, of_second};
 ghost use Rattle.cs_files.specs.Faults.{print_code_of, print_class_of, print_name_of, of_print};
@@ -13,10 +13,10 @@ use thiserror::Error;
 /// Why a file is not printed.
 #[derive(Debug, PartialEq, Eq, Drop, Error)]
 pub enum PrintFault {
-    /// The file is not read: it is no changeset's, or memory was refused. Nothing of its text is written.
+    /// The file is not a changeset, or memory ran out. Nothing is written.
     #[error("{0}")]
     Read(ReadError),
-    /// A write failed, or took no byte. Some front of the text is written.
+    /// A write failed or accepted no byte. A prefix of the text is written.
     #[error("{0}")]
     Output(OutputFault),
 }
@@ -69,13 +69,13 @@ impl From<OutputFault> for PrintFault {
 /// What is wrong with the first file, with the second, or with both together.
 #[derive(Clone, Copy, Debug, PartialEq, Eq, Drop, Error)]
 pub enum FileFault {
-    /// The first file, or the only one, is no changeset's.
+    /// The first file, or the only one, is not a changeset.
     #[error("{0}")]
     First(ReadFault),
-    /// The first file is a changeset's, and the second is not.
+    /// The first file is a changeset, and the second is not.
     #[error("{0}")]
     Second(ReadFault),
-    /// Two files are not joined, since a table differs.
+    /// The files cannot be concatenated: a table differs.
     #[error("{0}")]
     Schema(SchemaFault),
 }
@@ -109,10 +109,10 @@ impl Fault for FileFault {
     }
 }
 
-/// Why a call on files is refused: a fault of theirs, or memory was refused.
+/// Why a call on files fails: a fault of the files, or out of memory.
 pub type ToolFault = OrNoMemory<FileFault>;
 
-/// Why the first file, or the only one, is not read.
+/// Returns the error of a first or only file that cannot be read.
 pub fn first_fault(error: ReadError) -> ToolFault
     ensures { result ≡ of_first error }
 {
@@ -122,7 +122,7 @@ pub fn first_fault(error: ReadError) -> ToolFault
     }
 }
 
-/// Why the text of the only file is not made in memory, where a write takes all bytes unless memory is refused.
+/// Returns the error of a text that cannot be made in memory. A write fails there only if memory runs out.
 pub(crate) fn text_fault(fault: PrintFault) -> ToolFault
     ensures { result ≡ of_print fault }
 {
@@ -132,7 +132,7 @@ pub(crate) fn text_fault(fault: PrintFault) -> ToolFault
     }
 }
 
-/// Why the second file is not read.
+/// Returns the error of a second file that cannot be read.
 pub(crate) fn second_fault(error: ReadError) -> ToolFault
     ensures { result ≡ of_second error }
 {

@@ -1,4 +1,4 @@
-//! From files to files, inverting one and joining two; and from a file to its readable texts.
+//! Files of inverses and of concatenations, and the readable texts of a file.
 ghost use Rattle.std.specs.Prelude.{◌≡◌, ◌+◌, ◌≤◌, length, IfOk, IfErr, IsTrue, OnOk};
 ghost use Rattle.cs_value.specs.Refusals.{Refuses};
 ghost use Rattle.cs_wire.specs.ReadFaults.{ReadFails};
@@ -18,14 +18,13 @@ use cs_wire::ReadError;
 use std::alloc::Global;
 use std::io::Write;
 
-/// The file of the changeset that undoes the one whose file this is. It has the same tables and
-/// entries in the same order, with inserts and deletes exchanged, and in updates the two values of
-/// each modified column, and is as long.
+/// Returns the file of the inverse changeset. It has the same tables and entries in the same order, and the same length.
+/// Inserts and deletes are exchanged, and so are the two values of each modified column of an update.
 ///
 /// # Errors
 ///
-/// `Fault` where the bytes are no changeset's file, with the fault's kind and place, and `NoMemory`
-/// where memory is refused.
+/// `Fault` if the bytes are not the file of a changeset, with the fault's kind and byte offset. `NoMemory` if memory runs
+/// out.
 pub fn invert_bytes(alloc: Global, file: &[u8]) -> Result<Vec<u8>, ReadError>
     ensures inverted { IfOk result (λ out. Inverts file.now out.items) }
     ensures length { IfOk result (λ out. length out.items ≡ length file.now) }
@@ -56,16 +55,16 @@ pub fn number_keys_bytes(alloc: Global, file: &[u8]) -> Result<Vec<u8>, ReadErro
     Ok(out)
 }
 
-/// The file of the changeset that does what the one of the first file does and then what that of
-/// the second does, as [`cs_group::concat`] makes it. It is at most as long as both. It takes as many bytes as both
-/// files have, whatever comes out; beside these what reading them takes, the tables of both by their names, and of one
-/// table of the second at a time its entries by their keys.
+/// Returns the file of the concatenation: it does what the first file does, and then what the second does, as
+/// [`cs_group::concat`]. It is at most as long as both together. The call allocates as many bytes as both files have, what
+/// reading allocates, the names of all tables, and the keys of one table of the second file at a time.
 ///
 /// # Errors
 ///
-/// `First` where the first file is no changeset's, and else `Second` where the second is none, with
-/// the fault's kind and place; `Schema` where a table has other columns or another key in the second
-/// file, with the place of its group there; and `NoMemory` where memory is refused.
+/// - `First` if the first file is not the file of a changeset, with the fault's kind and byte offset.
+/// - `Second` if only the second file is not.
+/// - `Schema` if a table has other columns or another key in the second file, with the zero-based index of its group there.
+/// - `NoMemory` if memory runs out.
 pub fn concat_bytes(alloc: Global, first: &[u8], second: &[u8]) -> Result<Vec<u8>, ToolFault>
     ensures joined { IfOk result (λ out. Joins first.now second.now out.items) }
     ensures length { IfOk result (λ out. length out.items ≤ length first.now + length second.now) }
@@ -76,14 +75,13 @@ pub fn concat_bytes(alloc: Global, first: &[u8], second: &[u8]) -> Result<Vec<u8
     Ok(join_tables(alloc, firsts, seconds, first.len() + second.len())?)
 }
 
-/// Reads a file to its end, and then writes what it holds, as [`dump_text`](crate::dump_text) does. Only the
-/// reading takes memory.
+/// Reads a file to its end, and then writes it as text, as [`dump_text`](crate::dump_text) does. Only reading allocates.
 ///
 /// # Errors
 ///
-/// `Read` where the bytes are no changeset's file, with the fault's kind and place, or memory is refused:
-/// nothing is written then. `Output` where a write fails, or takes no byte: some front of the text is
-/// written then, and the flag of `out` is set.
+/// - `Read` if the bytes are not the file of a changeset, with the fault's kind and byte offset, or if memory runs out.
+///   Then nothing is written.
+/// - `Output` if a write fails or accepts no byte. Then a prefix of the text is written, and the flag of `out` is set.
 pub fn print_dump<W: Write>(alloc: Global, file: &[u8], out: &mut Told<W>) -> Result<(), PrintFault>
     ensures printed { OnOk result (PrintsTo W.contents dump_of file.now out.old out.new) }
     ensures refused { IfErr result (IfUnread (Refuses (λ f. ReadFails file.now f.kind f.place))) }
@@ -94,14 +92,13 @@ pub fn print_dump<W: Write>(alloc: Global, file: &[u8], out: &mut Told<W>) -> Re
     print_file(alloc, file, Form::Dump, out)
 }
 
-/// Reads a file to its end, and then writes what it does, as [`sql_text`](crate::sql_text) does. Only the
-/// reading takes memory.
+/// Reads a file to its end, and then writes it as SQL, as [`sql_text`](crate::sql_text) does. Only reading allocates.
 ///
 /// # Errors
 ///
-/// `Read` where the bytes are no changeset's file, with the fault's kind and place, or memory is refused:
-/// nothing is written then. `Output` where a write fails, or takes no byte: some front of the text is
-/// written then, and the flag of `out` is set.
+/// - `Read` if the bytes are not the file of a changeset, with the fault's kind and byte offset, or if memory runs out.
+///   Then nothing is written.
+/// - `Output` if a write fails or accepts no byte. Then a prefix of the text is written, and the flag of `out` is set.
 pub fn print_sql<W: Write>(alloc: Global, file: &[u8], out: &mut Told<W>) -> Result<(), PrintFault>
     ensures printed { OnOk result (PrintsTo W.contents sql_of file.now out.old out.new) }
     ensures refused { IfErr result (IfUnread (Refuses (λ f. ReadFails file.now f.kind f.place))) }
@@ -112,7 +109,7 @@ pub fn print_sql<W: Write>(alloc: Global, file: &[u8], out: &mut Told<W>) -> Res
     print_file(alloc, file, Form::Sql, out)
 }
 
-/// Writes a file in a form.
+/// Writes a file in this form.
 fn print_file<W: Write>(
     alloc: Global,
     file: &[u8],
@@ -129,12 +126,12 @@ fn print_file<W: Write>(
     Ok(write_tables(form, tables, out)?)
 }
 
-/// What a file holds, as [`dump_text`](crate::dump_text) writes it.
+/// Returns the text of a file that [`dump_text`](crate::dump_text) writes.
 ///
 /// # Errors
 ///
-/// `First` where the bytes are no changeset's file, with the fault's kind and place, and `NoMemory` where
-/// memory is refused.
+/// `First` if the bytes are not the file of a changeset, with the fault's kind and byte offset. `NoMemory` if memory runs
+/// out.
 pub fn dump_file(alloc: Global, file: &[u8]) -> Result<Vec<u8>, ToolFault>
     ensures printed { IfOk result (λ text. Prints dump_of file.now text.items) }
     ensures refused { IfErr result (Refuses (FirstFails file.now)) }
@@ -146,12 +143,12 @@ pub fn dump_file(alloc: Global, file: &[u8]) -> Result<Vec<u8>, ToolFault>
     }
 }
 
-/// What a file does, as [`sql_text`](crate::sql_text) writes it.
+/// Returns the SQL of a file that [`sql_text`](crate::sql_text) writes.
 ///
 /// # Errors
 ///
-/// `First` where the bytes are no changeset's file, with the fault's kind and place, and `NoMemory` where
-/// memory is refused.
+/// `First` if the bytes are not the file of a changeset, with the fault's kind and byte offset. `NoMemory` if memory runs
+/// out.
 pub fn sql_file(alloc: Global, file: &[u8]) -> Result<Vec<u8>, ToolFault>
     ensures printed { IfOk result (λ text. Prints sql_of file.now text.items) }
     ensures refused { IfErr result (Refuses (FirstFails file.now)) }

@@ -1,4 +1,4 @@
-//! What undoes a file, written as the file is gone through.
+//! The inverse of a file, written as the file is read.
 ghost use Rattle.std.specs.Prelude.{◌≡◌, ◌≤◌, ◌++◌, [], List, OnOk, map};
 ghost use Rattle.cs_wire.specs.declared.entry.Entry.{Entry as EntryData};
 ghost use Rattle.cs_wire.specs.Changeset.{GroupData, entries_bytes, file_bytes};
@@ -9,7 +9,7 @@ ghost use Rattle.cs_group.specs.Inverse.{inverse_group};
 use cs_tables::Tables;
 use cs_value::NoMemory;
 
-/// Appends what undoes the tables that are left.
+/// Appends the inverses of the remaining tables.
 pub(crate) fn write_inverse(out: &mut Vec<u8>, tables: Tables<'_>) -> Result<(), NoMemory>
     ensures { (groups : List GroupData) → AreLeft tables.entry [] groups
         → OnOk result (out.new.items ≡ out.old.items ++ file_bytes (map inverse_group groups)) }
@@ -22,7 +22,7 @@ pub(crate) fn write_inverse(out: &mut Vec<u8>, tables: Tables<'_>) -> Result<(),
     Ok(())
 }
 
-/// Appends what undoes the entries that are left of the table that is open.
+/// Appends the inverses of the remaining entries of the open table.
 fn write_entries(out: &mut Vec<u8>, tables: &mut Tables<'_>) -> Result<(), NoMemory>
     ensures written { (entries : List EntryData) (groups : List GroupData) → AreLeft tables.old entries groups
         → OnOk result (out.new.items ≡ out.old.items ++ entries_bytes (map (inverse_entry tables.old.flags) entries)) }

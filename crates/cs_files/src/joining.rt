@@ -1,4 +1,4 @@
-//! The join of two files, written as they are gone through.
+//! The concatenation of two files, written as they are read.
 ghost use Rattle.std.specs.Prelude.{◌≡◌, [], List, IfErr, IfOk};
 ghost use Rattle.cs_value.specs.Refusals.{Refuses};
 ghost use Rattle.cs_wire.specs.Changeset.{GroupData, IsChangeset, file_bytes};
@@ -17,10 +17,10 @@ use cs_group::SchemaFault;
 use cs_tables::{NamedTables, Tables};
 use std::alloc::Global;
 
-/// The join of two files that were read, in memory that is taken once.
+/// Returns the concatenation of two files that were read. Its bytes are allocated once.
 ///
-/// Refuses where a table has other columns or another key in the second file, with the place of the first such table
-/// there, before the memory for the join is taken; and where memory is refused.
+/// Fails if a table has other columns or another key in the second file, with the index of the first such table there,
+/// before it allocates those bytes; and if memory runs out.
 pub(crate) fn join_tables<'a>(
     alloc: Global,
     firsts: Tables<'a>,

@@ -1,5 +1,4 @@
-//! What is made of the files of SQLite changesets: the file of an inverse, that of a join, and readable
-//! texts.
+//! Inverses, concatenations and readable texts of SQLite changeset files.
 //!
 //! ```rust
 //! // An INSERT of ('x') into the table t of one column, and the DELETE of that row.
@@ -9,11 +8,11 @@
 //! assert_eq!(rt; text, b"DELETE FROM \"t\" WHERE c1='x';\n");
 //! ```
 //!
-//! `files` makes files and texts of files, `inverting` writes an inverse, `joining` a join, `numbering` a
-//! file whose key columns are numbered, and `fault` says why not.
+//! `files` has the calls on files. `inverting` writes an inverse, `joining` a concatenation, and `numbering` a file whose
+//! key columns are numbered. `fault` has the faults.
 //!
-//! The crate passes on the texts of changesets, the streams that they are written to, and the pieces of
-//! lines, which are those of `cs_texts`.
+//! The names of `cs_texts` are passed on: the texts of changesets, the streams that they are written to, and the pieces
+//! of lines.
 #![tactic(auto)]
 
 mod fault;

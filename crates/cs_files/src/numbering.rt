@@ -1,4 +1,4 @@
-//! The file of a changeset with the columns of keys numbered.
+//! The file of a changeset with numbered key columns.
 ghost use Rattle.std.specs.Prelude.{◌≡◌, ◌++◌, [], List, OnOk};
 ghost use Rattle.cs_wire.specs.Changeset.{GroupData, IsHeader, file_bytes, header_bytes};
 ghost use Rattle.cs_wire.specs.Items.{header_of};
@@ -12,7 +12,7 @@ use cs_value::NoMemory;
 use cs_wire::HeaderRef;
 use std::alloc::Global;
 
-/// Appends the remaining tables, with the columns of their keys numbered.
+/// Appends the remaining tables with numbered key columns.
 pub(crate) fn write_numbered(
     alloc: Global,
     out: &mut Vec<u8>,
@@ -29,7 +29,7 @@ pub(crate) fn write_numbered(
     Ok(())
 }
 
-/// Appends the header of a table, with the columns of its key numbered.
+/// Appends the header of a table with numbered key columns.
 fn write_numbered_header(
     alloc: Global,
     out: &mut Vec<u8>,

@@ -1,10 +1,10 @@
-//! Why a text is not written.
+//! The fault of a failed write.
 ghost use Rattle.std.specs.Prelude.{codes};
 
 use cs_value::Fault;
 use thiserror::Error;
 
-/// A write failed, or took no byte of some. What was written before stays.
+/// A write failed, or accepted no byte. The bytes written so far remain.
 #[derive(Clone, Copy, Debug, PartialEq, Eq, Drop, Error)]
 #[error("a write failed")]
 pub struct OutputFault;

@@ -1,4 +1,4 @@
-//! Text that is gathered before it is written.
+//! A buffer for text that is to be written.
 ghost use Rattle.std.specs.Prelude.{◌≡◌, ◌+◌, ◌<◌, ◌≤◌, ◌++◌, [], length, OnOk};
 ghost use Rattle.std.specs.List.{flat_map};
 ghost use Rattle.cs_texts.specs.Calls.{Writes};
@@ -9,11 +9,10 @@ use crate::told::{Told, write_whole};
 use std::io::Write;
 use std::marker::Model;
 
-/// How many bytes are gathered for a write.
+/// The size of the buffer in bytes.
 const ROOM_LEN: usize = 4096;
 
-/// Bytes that are still to be written, which contracts see as their list. It has room for some thousands
-/// of them, and takes no memory.
+/// A buffer of some thousands of bytes that are still to be written. Contracts see it as a list. It allocates nothing.
 #[derive(Drop)]
 pub struct Gather {
     bytes: [u8; ROOM_LEN],
@@ -31,7 +30,7 @@ impl Model for Gather {
 }
 
 impl Gather {
-    /// Nothing is gathered.
+    /// Returns an empty buffer.
     pub fn new() -> Gather
         ensures { result ≡ [] }
     {
@@ -41,12 +40,12 @@ impl Gather {
         }
     }
 
-    /// Writes what is gathered, and then nothing is.
+    /// Writes the buffered bytes, and empties the buffer.
     ///
     /// # Errors
     ///
-    /// [`OutputFault`] where a write fails, or takes no byte. Some front of what was gathered is written
-    /// then, and the flag of `out` is set.
+    /// [`OutputFault`] if a write fails or accepts no byte. Then a prefix of the buffered bytes is written, and the flag
+    /// of `out` is set.
     pub fn flush<W: Write>(&mut self, out: &mut Told<W>) -> Result<(), OutputFault>
         ensures written { Writes W.contents result out.old out.new self.old }
         ensures emptied { self.new ≡ [] }
@@ -56,7 +55,7 @@ impl Gather {
         written
     }
 
-    /// Makes room for this many bytes: writes what is gathered unless they fit behind it.
+    /// Makes room for this many bytes: writes the buffered bytes, unless there is room.
     fn make_room<W: Write>(&mut self, out: &mut Told<W>, len: usize) -> Result<(), OutputFault>
         ensures gathered { Gathers W.contents result self.old self.new out.old out.new [] }
         ensures room { OnOk result (len ≤ ROOM_LEN → length self.new + len ≤ ROOM_LEN) }
@@ -68,7 +67,7 @@ impl Gather {
         self.flush(out)
     }
 
-    /// Adds a piece for which there is room.
+    /// Appends a piece that fits into the buffer.
     fn push(&mut self, piece: &[u8])
         requires { length self.old + length piece.now ≤ ROOM_LEN }
         ensures { self.new ≡ self.old ++ piece.now }
@@ -78,7 +77,7 @@ impl Gather {
         self.count = end;
     }
 
-    /// Adds a piece, and writes what is gathered where there is no room for it.
+    /// Appends a piece. Writes the buffered bytes first if it does not fit.
     pub(crate) fn add<W: Write>(
         &mut self,
         out: &mut Told<W>,
@@ -94,7 +93,7 @@ impl Gather {
         Ok(())
     }
 
-    /// Adds pieces in turn.
+    /// Appends pieces in their order.
     pub(crate) fn add_all<W: Write>(
         &mut self,
         out: &mut Told<W>,

@@ -8,12 +8,11 @@
 //! assert_eq!(rt; text.into_inner(), b"INSERT INTO \"t\" VALUES('x');\n");
 //! ```
 //!
-//! `texts` has the readable texts of changesets, owned or where they stand in a file, and `gather` what is
-//! gathered of them before it is written. `told` has the readers and writers that remember whether a call
-//! failed, and what writes all of some bytes to one. `fault` says that a write failed.
+//! `texts` prints changesets, owned ones and those in a file. `gather` buffers what is printed. `told` wraps a reader or
+//! a writer and remembers whether a call failed. `fault` is a failed write.
 //!
-//! A crate above writes lines of its own by [`add_pieces`], and then [`Gather::flush`]. `Form` and
-//! `write_tables` are for `cs_files`, which prints files.
+//! A crate above writes lines of its own by [`add_pieces`], and then [`Gather::flush`]. `Form` and `write_tables` are
+//! for `cs_files`, which prints files.
 #![tactic(auto)]
 
 mod fault;

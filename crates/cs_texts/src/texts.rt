@@ -26,36 +26,34 @@ pub use piece::{Piece, add_pieces};
 use std::io::Write;
 use tables::add_tables;
 
-/// Writes what the changeset holds, for a reader: for each table a line with its name, its count of
-/// columns and their flags, and behind it for each of its entries a line with the change, the
-/// indirect flag, and the fields of its records. A line feed in a text or a name stands as it is. It
-/// takes no memory, and a write for some thousands of bytes.
+/// Writes the changeset as readable text. Each table has a line with its name, the number of its columns and their flags.
+/// After it each entry has a line with the change, the indirect flag and the fields of its records. A line feed in a text
+/// or a name is printed as it is. The call allocates nothing, and writes some thousands of bytes at a time.
 ///
 /// # Errors
 ///
-/// [`OutputFault`] where a write fails, or takes no byte. Some front of the text is written then, and
-/// the flag of `out` is set.
+/// [`OutputFault`] if a write fails or accepts no byte. Then a prefix of the text is written, and the flag of `out` is
+/// set.
 pub fn dump_text<W: Write>(changeset: &Changeset, out: &mut Told<W>) -> Result<(), OutputFault>
     ensures { Writes W.contents result out.old out.new (dump_of changeset.now) }
 {
     write_groups(Form::Dump, changeset.groups(), out)
 }
 
-/// Writes what the entries of the changeset do as SQL, for a reader: a statement for each entry. The
-/// format names no columns, so they are c1, c2 and so on. It takes no memory, and a write for some
-/// thousands of bytes.
+/// Writes the changeset as readable SQL, a statement for each entry. The format has no names of columns, so they are c1,
+/// c2 and so on. The call allocates nothing, and writes some thousands of bytes at a time.
 ///
 /// # Errors
 ///
-/// [`OutputFault`] where a write fails, or takes no byte. Some front of the text is written then, and
-/// the flag of `out` is set.
+/// [`OutputFault`] if a write fails or accepts no byte. Then a prefix of the text is written, and the flag of `out` is
+/// set.
 pub fn sql_text<W: Write>(changeset: &Changeset, out: &mut Told<W>) -> Result<(), OutputFault>
     ensures { Writes W.contents result out.old out.new (sql_of changeset.now) }
 {
     write_groups(Form::Sql, changeset.groups(), out)
 }
 
-/// Writes groups in a form.
+/// Writes groups in this form.
 fn write_groups<W: Write>(
     form: Form,
     groups: &[Group],
@@ -68,7 +66,7 @@ fn write_groups<W: Write>(
     gather.flush(out)
 }
 
-/// Writes the tables of a file in a form.
+/// Writes the tables of a file in this form.
 pub fn write_tables<W: Write>(
     form: Form,
     tables: Tables<'_>,

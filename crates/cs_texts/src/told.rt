@@ -1,4 +1,4 @@
-//! Readers and writers that tell afterwards whether a call of them failed, and writing to one.
+//! Readers and writers that remember whether a call failed.
 ghost use Rattle.std.specs.Prelude.{◌≡◌, ◌||◌, is_err, false};
 ghost use Rattle.std.specs.Io.{ReadsAtMost, WritesAtMost};
 ghost use Rattle.std.specs.Io.KnownBytes.{Keeps, ReadConsumes, WriteAppends};
@@ -9,8 +9,8 @@ use crate::fault::OutputFault;
 use std::io;
 use std::io::{Read, Write};
 
-/// A reader or a writer with a flag, unset at first, that is set where a call of `read` or `write`
-/// fails, or a `write` of some bytes takes none.
+/// A reader or a writer with a flag. The flag is set once a `read` or a `write` fails, or a `write` of some bytes accepts
+/// none.
 #[derive(Debug, Drop)]
 pub struct Told<T> {
     inner: T,
@@ -18,7 +18,7 @@ pub struct Told<T> {
 }
 
 impl<T> Told<T> {
-    /// Puts the flag, unset, beside a reader or a writer.
+    /// Wraps a reader or a writer. The flag is not set.
     pub fn new(inner: T) -> Told<T>
         ensures inner { inner_of result ≡ inner }
         ensures unset { has_failed result ≡ false }
@@ -29,14 +29,14 @@ impl<T> Told<T> {
         }
     }
 
-    /// The reader or the writer, without the flag.
+    /// Returns the reader or the writer.
     pub fn into_inner(self) -> T
         ensures { result ≡ inner_of self }
     {
         self.inner
     }
 
-    /// Whether a call failed.
+    /// Returns whether a call has failed.
     pub fn failed(&self) -> bool
         ensures { result ≡ has_failed self.now }
     {
@@ -88,12 +88,12 @@ impl<W: Write> Write for Told<W> {
     }
 }
 
-/// Writes all of the bytes.
+/// Writes all bytes.
 ///
 /// # Errors
 ///
-/// [`OutputFault`] where a write fails, or takes no byte. Some front of the bytes is written then, and
-/// the flag of `out` is set.
+/// [`OutputFault`] if a write fails or accepts no byte. Then a prefix of the bytes is written, and the flag of `out` is
+/// set.
 pub fn write_whole<W: Write>(out: &mut Told<W>, bytes: &[u8]) -> Result<(), OutputFault>
     ensures { Writes W.contents result out.old out.new bytes.now }
 {

@@ -1,4 +1,4 @@
-//! Tables that two files have, and whether they have the same columns in both.
+//! Whether the tables of two files have the same columns.
 ghost use Rattle.std.specs.Prelude.{◌≡◌, ◌↔◌, List, IfNone, IfSome, IsTrue};
 ghost use Rattle.cs_wire.specs.Changeset.{GroupData, IsChangeset};
 ghost use Rattle.cs_wire.specs.Items.{header_of};
@@ -10,7 +10,7 @@ use cs_group::have_same_columns;
 use cs_tables::{NamedTables, Tables};
 use cs_wire::HeaderRef;
 
-/// The place, among the tables of the second file, of the first one that has other columns or another key in the first.
+/// Returns the index of the first table of the second file that has other columns or another key in the first.
 pub(crate) fn first_clash<'a>(known: &NamedTables<'a>, added: &NamedTables<'a>) -> Option<usize>
     ensures clash { (groups others : List GroupData) → AreListed known.now groups → IsChangeset groups → AreListed added.now others
         → IfSome result (FirstClash groups others) }
@@ -25,7 +25,7 @@ pub(crate) fn first_clash<'a>(known: &NamedTables<'a>, added: &NamedTables<'a>) 
     None
 }
 
-/// Whether a table has the columns that the file knows of it.
+/// Returns whether a table has the same columns as the table of its name in a file, if there is one.
 fn agrees<'a>(known: &NamedTables<'a>, header: &HeaderRef<'a>) -> bool
     ensures { (groups : List GroupData) (group : GroupData) → AreListed known.now groups → IsChangeset groups → header_of header.now ≡ group.header
         → IsTrue result ↔ AgreesWith groups group }
@@ -36,7 +36,7 @@ fn agrees<'a>(known: &NamedTables<'a>, header: &HeaderRef<'a>) -> bool
     }
 }
 
-/// The entries of the table of a name, if it has the same columns.
+/// Returns the entries of the table with a name, if it has the same columns.
 pub(crate) fn partner_of<'a>(named: &NamedTables<'a>, header: &HeaderRef<'a>) -> Option<Tables<'a>>
     ensures agree { IfSome result (λ tables. key_places tables.flags ≡ key_places header.now.flags.now) }
     ensures found { (groups : List GroupData) → AreListed named.now groups → IsChangeset groups

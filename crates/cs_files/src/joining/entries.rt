@@ -1,4 +1,4 @@
-//! The entries of a table of a join.
+//! The entries of a table of a concatenation.
 ghost use Rattle.std.specs.Prelude.{◌≡◌, ◌≢◌, ◌<◌, ◌++◌, [], ℕ, All, IfOk, IfSome, IsTrue, List, OnOk, false, filter, filter_map, if◌then◌else◌, is_none, length, replicate};
 ghost use Rattle.cs_wire.specs.declared.entry.Entry.{Entry as EntryData};
 ghost use Rattle.cs_wire.specs.Entry.{entry_bytes, key_of};
@@ -15,7 +15,7 @@ use cs_value::NoMemory;
 use cs_wire::EntryRef;
 use std::alloc::Global;
 
-/// Appends what the entries that are left of two tables make together.
+/// Appends the concatenation of the remaining entries of two tables.
 pub(crate) fn write_joined<'a>(
     alloc: Global,
     out: &mut Vec<u8>,
@@ -33,7 +33,7 @@ pub(crate) fn write_joined<'a>(
     Ok(())
 }
 
-/// Appends what becomes of the entries that are left of the first table, and answers which of the second have the key of one.
+/// Appends the merged remaining entries of the first table. Returns which entries of the second have the key of one.
 fn write_kept<'a>(
     alloc: Global,
     out: &mut Vec<u8>,
@@ -74,7 +74,7 @@ fn write_new<'a>(
     Ok(())
 }
 
-/// Appends an entry, if it is not marked.
+/// Appends an entry if it is not marked.
 fn write_unmet<'a>(out: &mut Vec<u8>, entry: &EntryRef<'a>, met: bool) -> Result<(), NoMemory>
     ensures { OnOk result (out.new.items ≡ out.old.items ++ (if met then [] else entry_bytes entry.now.entry)) }
 {
@@ -84,15 +84,14 @@ fn write_unmet<'a>(out: &mut Vec<u8>, entry: &EntryRef<'a>, met: bool) -> Result
     entry.write_to(out)
 }
 
-/// So many marks, of which none is set.
+/// Returns this many marks, none of them set.
 fn unmarked(alloc: Global, count: usize) -> Result<Vec<bool>, NoMemory>
     ensures { IfOk result (λ met. met.items ≡ replicate count false) }
 {
     Ok(Vec::from_elem(alloc, false, count)?)
 }
 
-/// Appends what becomes of an entry with the one of its key among those of the second table, and answers the place of that
-/// one, if there is one.
+/// Appends an entry, merged with the one of its key in the second table. Returns the index of that one, if there is one.
 fn write_outcome<'a>(
     alloc: Global,
     out: &mut Vec<u8>,
@@ -120,7 +119,7 @@ fn write_outcome<'a>(
     }
 }
 
-/// Appends what becomes of an entry when a second one of its key comes after it.
+/// Appends the merge of an entry and a later one with the same key.
 fn write_merged<'a>(
     alloc: Global,
     out: &mut Vec<u8>,

@@ -1,4 +1,4 @@
-//! The tables of a join.
+//! The tables of a concatenation.
 ghost use Rattle.std.specs.Prelude.{◌≡◌, ◌≤◌, ◌++◌, [], List, IfSome, OnOk, filter, filter_map};
 ghost use Rattle.cs_wire.specs.declared.entry.Entry.{Entry as EntryData};
 ghost use Rattle.cs_wire.specs.Changeset.{GroupData, IsChangeset, IsHeader, entries_bytes, file_bytes, group_bytes};
@@ -16,7 +16,7 @@ use cs_value::NoMemory;
 use cs_wire::HeaderRef;
 use std::alloc::Global;
 
-/// Appends what becomes of the tables of the first file.
+/// Appends the merged tables of the first file.
 pub(crate) fn write_kept_tables<'a>(
     alloc: Global,
     out: &mut Vec<u8>,
@@ -32,7 +32,7 @@ pub(crate) fn write_kept_tables<'a>(
     Ok(())
 }
 
-/// Appends the tables of the second file that the first has not.
+/// Appends the tables that only the second file has.
 pub(crate) fn write_new_tables<'a>(
     out: &mut Vec<u8>,
     known: &NamedTables<'a>,
@@ -47,7 +47,7 @@ pub(crate) fn write_new_tables<'a>(
     Ok(())
 }
 
-/// Appends what becomes of a table of the first file, with the one of its name in the second.
+/// Appends a table of the first file, merged with the one of its name in the second.
 fn write_kept_table<'a>(
     alloc: Global,
     out: &mut Vec<u8>,
@@ -68,7 +68,7 @@ fn write_kept_table<'a>(
     }
 }
 
-/// Appends a table of the second file, if the first has none of its name.
+/// Appends a table of the second file if the first has none of its name.
 fn write_new_table<'a>(
     out: &mut Vec<u8>,
     known: &NamedTables<'a>,
@@ -85,7 +85,7 @@ fn write_new_table<'a>(
     }
 }
 
-/// Appends a table as it is, under this header.
+/// Appends a table unchanged, with this header.
 fn write_table<'a>(
     out: &mut Vec<u8>,
     header: &HeaderRef<'a>,
@@ -115,7 +115,7 @@ pub(crate) fn write_entries(out: &mut Vec<u8>, tables: &mut Tables<'_>) -> Resul
     Ok(())
 }
 
-/// Appends what two tables of one name make together, if an entry of it is left.
+/// Appends the concatenation of two tables of one name, if it has an entry.
 fn write_both<'a>(
     alloc: Global,
     out: &mut Vec<u8>,

@@ -1,4 +1,4 @@
-//! The lines of a text that has one for each table and for each entry.
+//! The text with a line for each table and each entry.
 ghost use Rattle.std.specs.Prelude.{◌≡◌};
 ghost use Rattle.cs_wire.specs.Items.{header_of};
 ghost use Rattle.cs_texts.specs.Gathering.{Gathers};
@@ -13,7 +13,7 @@ use crate::told::Told;
 use cs_wire::{EntryRef, Fields, HeaderRef};
 use std::io::Write;
 
-/// Adds the line of a table.
+/// Appends the line of a table.
 #[tactic(auto, unfolding(crate::specs::Texts::header_text))]
 pub(super) fn add_header<W: Write>(
     gather: &mut Gather,
@@ -37,7 +37,7 @@ pub(super) fn add_header<W: Write>(
     )
 }
 
-/// The word for what an entry does.
+/// Returns the word for the operation of an entry.
 fn change_bytes(entry: &EntryRef<'_>) -> &'static [u8]
     ensures { result.now ≡ change_text entry.now.entry.change }
 {
@@ -48,14 +48,14 @@ fn change_bytes(entry: &EntryRef<'_>) -> &'static [u8]
     }
 }
 
-/// What stands for the indirect flag.
+/// Returns the text of the indirect flag.
 fn flag_bytes(indirect: bool) -> &'static [u8]
     ensures { result.now ≡ flag_text indirect }
 {
     if indirect { b"1" } else { b"0" }
 }
 
-/// Adds the fields of a record behind its name, if there is one.
+/// Appends the name and the fields of a record, if there is one.
 fn add_record<W: Write>(
     gather: &mut Gather,
     out: &mut Told<W>,
@@ -71,7 +71,7 @@ fn add_record<W: Write>(
     add_fields(gather, out, b",", fields)
 }
 
-/// Adds the line of an entry.
+/// Appends the line of an entry.
 pub(super) fn add_entry<W: Write>(
     gather: &mut Gather,
     out: &mut Told<W>,

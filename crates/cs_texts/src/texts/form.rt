@@ -10,7 +10,7 @@ use crate::told::Told;
 use cs_wire::{EntryRef, HeaderRef};
 use std::io::Write;
 
-/// How a changeset is printed.
+/// The form in which a changeset is printed.
 #[derive(Clone, Copy, Debug)]
 pub enum Form {
     /// A line for each table and each entry.
@@ -19,7 +19,7 @@ pub enum Form {
     Sql,
 }
 
-/// Adds what stands before the entries of a table.
+/// Appends the line of a table, if the form has one.
 pub(super) fn add_header<W: Write>(
     gather: &mut Gather,
     out: &mut Told<W>,
@@ -34,7 +34,7 @@ pub(super) fn add_header<W: Write>(
     }
 }
 
-/// Adds an entry of the table of this name.
+/// Appends an entry of the table with this name.
 pub(super) fn add_entry<W: Write>(
     gather: &mut Gather,
     out: &mut Told<W>,

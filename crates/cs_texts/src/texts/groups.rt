@@ -1,4 +1,4 @@
-//! Changesets that are owned, printed.
+//! Owned changesets, printed.
 ghost use Rattle.std.specs.Prelude.{All};
 ghost use Rattle.std.specs.List.{flat_map};
 ghost use Rattle.cs_wire.specs.Entry.{IsEntry};
@@ -12,7 +12,7 @@ use crate::told::Told;
 use cs_wire::{Entry, EntryRef, Group, HeaderRef};
 use std::io::Write;
 
-/// Adds the entries of the table of this name, which fit its flags.
+/// Appends the entries of the table with this name. They fit its flags.
 fn add_entries<W: Write>(
     gather: &mut Gather,
     out: &mut Told<W>,
@@ -31,7 +31,7 @@ fn add_entries<W: Write>(
     Ok(())
 }
 
-/// Adds a group.
+/// Appends a group.
 fn add_group<W: Write>(
     gather: &mut Gather,
     out: &mut Told<W>,
@@ -48,7 +48,7 @@ fn add_group<W: Write>(
     add_entries(gather, out, form, header, group.entries())
 }
 
-/// Adds groups in turn.
+/// Appends groups in their order.
 pub(super) fn add_groups<W: Write>(
     gather: &mut Gather,
     out: &mut Told<W>,

@@ -1,4 +1,4 @@
-//! Lists of what is printed.
+//! Lists of items that are printed.
 ghost use Rattle.std.specs.Prelude.{List, ℕ, ◌++◌, map, decimal};
 ghost use Rattle.std.specs.List.{flat_map};
 ghost use Rattle.cs_value.specs.Value.{field_of};
@@ -13,11 +13,11 @@ use cs_value::{Field, OwnedValue};
 use cs_wire::Fields;
 use std::io::Write;
 
-/// What has a text.
+/// An item with a text.
 pub(super) trait Print {
     ghost text: { Self → List ℕ };
 
-    /// Adds the text.
+    /// Appends the text.
     fn print<W: Write>(&self, gather: &mut Gather, out: &mut Told<W>) -> Result<(), OutputFault>
         ensures { Gathers W.contents result gather.old gather.new out.old out.new (text self.now) };
 }
@@ -50,7 +50,7 @@ impl Print for Field<'_> {
     }
 }
 
-/// Adds the texts of items in turn.
+/// Appends the texts of items in their order.
 pub(super) fn add_each<W: Write, T: Print>(
     gather: &mut Gather,
     out: &mut Told<W>,
@@ -64,7 +64,7 @@ pub(super) fn add_each<W: Write, T: Print>(
     Ok(())
 }
 
-/// Adds the text of an item behind a lead.
+/// Appends a lead and the text of an item.
 fn add_behind<W: Write, T: Print>(
     gather: &mut Gather,
     out: &mut Told<W>,
@@ -77,7 +77,7 @@ fn add_behind<W: Write, T: Print>(
     item.print(gather, out)
 }
 
-/// Adds the texts of items with something between each two.
+/// Appends the texts of items, with a separator between each two.
 pub(super) fn add_separated<W: Write, T: Print>(
     gather: &mut Gather,
     out: &mut Told<W>,
@@ -95,7 +95,7 @@ pub(super) fn add_separated<W: Write, T: Print>(
     Ok(())
 }
 
-/// Adds the texts of fields with something between each two.
+/// Appends the texts of fields, with a separator between each two.
 pub(super) fn add_fields<W: Write>(
     gather: &mut Gather,
     out: &mut Told<W>,

@@ -14,10 +14,10 @@ use cs_value::Value;
 use itoa::Buffer;
 use std::io::Write;
 
-/// How many bytes of a blob are turned into digits at once.
+/// The number of bytes of a blob that are turned into digits at once.
 const CHUNK_LEN: usize = 64;
 
-/// Adds the digits of a number.
+/// Appends the digits of a number.
 pub(super) fn add_number<W: Write>(
     gather: &mut Gather,
     out: &mut Told<W>,
@@ -29,7 +29,7 @@ pub(super) fn add_number<W: Write>(
     gather.add(out, buffer.format(number).as_bytes())
 }
 
-/// Adds a byte of a text, twice where it is the quote.
+/// Appends a byte of a text, twice if it is the quote.
 #[tactic(auto, unfolding(cs_value::specs::Quoting::doubled))]
 fn add_quotable<W: Write>(
     gather: &mut Gather,
@@ -46,7 +46,7 @@ fn add_quotable<W: Write>(
     }
 }
 
-/// Adds a text with each quote in it twice.
+/// Appends a text with each quote doubled.
 fn add_doubled<W: Write>(
     gather: &mut Gather,
     out: &mut Told<W>,
@@ -61,7 +61,7 @@ fn add_doubled<W: Write>(
     Ok(())
 }
 
-/// Adds a text between quotes.
+/// Appends a text in quotes.
 pub(super) fn add_quoted<W: Write>(
     gather: &mut Gather,
     out: &mut Told<W>,
@@ -75,7 +75,7 @@ pub(super) fn add_quoted<W: Write>(
     gather.add(out, &[quote])
 }
 
-/// Adds the hexadecimal digits of a few bytes.
+/// Appends the hexadecimal digits of a few bytes.
 fn add_chunk<W: Write>(
     gather: &mut Gather,
     out: &mut Told<W>,
@@ -90,7 +90,7 @@ fn add_chunk<W: Write>(
     gather.add(out, &digits[..end])
 }
 
-/// Adds the hexadecimal digits of bytes.
+/// Appends the hexadecimal digits of bytes.
 fn add_digits<W: Write>(
     gather: &mut Gather,
     out: &mut Told<W>,
@@ -107,7 +107,7 @@ fn add_digits<W: Write>(
     Ok(())
 }
 
-/// Adds the literal of a blob.
+/// Appends the literal of a blob.
 fn add_blob<W: Write>(
     gather: &mut Gather,
     out: &mut Told<W>,
@@ -120,7 +120,7 @@ fn add_blob<W: Write>(
     gather.add(out, b"'")
 }
 
-/// Adds the literal of a value.
+/// Appends the literal of a value.
 #[tactic(auto, unfolding(crate::specs::Texts::literal))]
 pub(super) fn add_literal<W: Write>(
     gather: &mut Gather,

@@ -18,11 +18,11 @@ pub enum Piece<'a> {
     Bytes(&'a [u8]),
     /// The digits of a number.
     Number(usize),
-    /// A text between quotes.
+    /// A text in quotes.
     Quoted(&'a str),
     /// The flags of columns.
     Flags(&'a [u8]),
-    /// The values of a row, as a list of rows has them.
+    /// The values of a row, as in a list of rows.
     Listed(&'a Row),
 }
 
@@ -40,12 +40,12 @@ impl Print for Piece<'_> {
     }
 }
 
-/// Adds pieces in turn behind what is gathered, and writes that where there is no room for them.
+/// Appends pieces to the buffer in their order, and writes the buffer when it is full.
 ///
 /// # Errors
 ///
-/// [`OutputFault`] where a write fails, or takes no byte. Of what was gathered and of the pieces some front
-/// is written then, the rest is lost, and the flag of `out` is set.
+/// [`OutputFault`] if a write fails or accepts no byte. Then a prefix of the buffer and the pieces is written, the rest is
+/// lost, and the flag of `out` is set.
 pub fn add_pieces<W: Write>(
     gather: &mut Gather,
     out: &mut Told<W>,

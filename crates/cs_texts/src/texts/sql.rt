@@ -1,4 +1,4 @@
-//! The statements of a text as SQL.
+//! The text as SQL statements.
 ghost use Rattle.std.specs.Prelude.{◌≡◌, ◌<◌, ◌++◌, IfOk, length};
 ghost use Rattle.std.specs.List.{list_any};
 ghost use Rattle.cs_value.specs.Quoting.{quoted};
@@ -20,17 +20,17 @@ use cs_wire::{EntryRef, Fields};
 use itoa::Buffer;
 use std::io::Write;
 
-/// What is said of columns and their values.
+/// What a statement says of columns and their values.
 #[derive(Clone, Copy, Debug)]
 enum Terms {
-    /// That they become so.
+    /// An assignment, in SET.
     Assignments,
-    /// That they are so.
+    /// An equation, in WHERE.
     Conditions,
 }
 
 impl Terms {
-    /// What stands between each two.
+    /// Returns the separator between two of them.
     fn between(self) -> &'static [u8]
         ensures { result.now ≡ between_of self }
     {
@@ -41,7 +41,7 @@ impl Terms {
     }
 }
 
-/// Adds the name of the column at a place, and what follows it.
+/// Appends the name of the column at an index, and what follows it.
 fn add_column<W: Write>(
     gather: &mut Gather,
     out: &mut Told<W>,
@@ -56,7 +56,7 @@ fn add_column<W: Write>(
     gather.add_all(out, &[b"c", number.as_bytes(), rest])
 }
 
-/// Adds that the column at a place becomes a value.
+/// Appends the assignment of a value to the column at an index.
 fn add_assignment<W: Write>(
     gather: &mut Gather,
     out: &mut Told<W>,
@@ -70,7 +70,7 @@ fn add_assignment<W: Write>(
     add_literal(gather, out, value)
 }
 
-/// Adds that the column at a place is a value.
+/// Appends the equation of the column at an index and a value.
 #[tactic(auto, unfolding(crate::specs::Texts::condition))]
 fn add_condition<W: Write>(
     gather: &mut Gather,
@@ -87,7 +87,7 @@ fn add_condition<W: Write>(
     }
 }
 
-/// Adds behind a lead what is said of the column at a place.
+/// Appends a lead, and what is said of the column at an index.
 fn add_term<W: Write>(
     gather: &mut Gather,
     out: &mut Told<W>,
@@ -107,7 +107,7 @@ fn add_term<W: Write>(
     }
 }
 
-/// The value of the next field, if that is defined.
+/// Returns the value of the next field, if it is defined.
 fn next_value<'a>(fields: &mut Fields<'a>) -> Option<Value<'a>>
     requires { 0 < length fields.old }
     ensures { TakesValue fields.old result fields.new }
@@ -118,7 +118,7 @@ fn next_value<'a>(fields: &mut Fields<'a>) -> Option<Value<'a>>
     }
 }
 
-/// Adds what is said of the columns that have a value, and answers whether there is one.
+/// Appends what is said of the columns that have a value. Returns whether there is one.
 fn add_terms<W: Write>(
     gather: &mut Gather,
     out: &mut Told<W>,
@@ -144,7 +144,7 @@ fn add_terms<W: Write>(
     Ok(some)
 }
 
-/// Adds what the columns become, which is what they were where none is modified.
+/// Appends the assignments of an update. If no column is modified, each is assigned its old value.
 fn add_assignments<W: Write>(
     gather: &mut Gather,
     out: &mut Told<W>,
@@ -164,7 +164,7 @@ fn add_assignments<W: Write>(
     Ok(())
 }
 
-/// Adds words, and the name of a table behind them.
+/// Appends words and the name of a table.
 fn add_with_name<W: Write>(
     gather: &mut Gather,
     out: &mut Told<W>,
@@ -177,7 +177,7 @@ fn add_with_name<W: Write>(
     add_quoted(gather, out, b'"', name.as_bytes())
 }
 
-/// Adds that a row is inserted into a table.
+/// Appends the INSERT of a row into a table.
 fn add_insert<W: Write>(
     gather: &mut Gather,
     out: &mut Told<W>,
@@ -193,7 +193,7 @@ fn add_insert<W: Write>(
     gather.add(out, b")")
 }
 
-/// Adds what the columns of a table become.
+/// Appends the UPDATE of a table and its assignments.
 fn add_update<W: Write>(
     gather: &mut Gather,
     out: &mut Told<W>,
@@ -212,7 +212,7 @@ fn add_update<W: Write>(
     add_assignments(gather, out, columns, old, new)
 }
 
-/// Adds what an entry does to its table.
+/// Appends the operation of an entry on its table.
 fn add_action<W: Write>(
     gather: &mut Gather,
     out: &mut Told<W>,
@@ -223,7 +223,7 @@ fn add_action<W: Write>(
         (action_text name.now (before_image entry.now.entry.change) (new_record entry.now.entry.change)) }
 {
     match (entry.old_fields(), entry.new_fields()) {
-        // No entry is without a record.
+        // Each entry has a record.
         (None, None) => Ok(()),
         (None, Some(new)) => add_insert(gather, out, name, new),
         (Some(_), None) => add_with_name(gather, out, b"DELETE FROM ", name),
@@ -231,7 +231,7 @@ fn add_action<W: Write>(
     }
 }
 
-/// Adds which row it is that an entry changes, where there is one before.
+/// Appends the WHERE of an entry that changes an existing row.
 fn add_where<W: Write>(
     gather: &mut Gather,
     out: &mut Told<W>,
@@ -248,7 +248,7 @@ fn add_where<W: Write>(
     Ok(())
 }
 
-/// Adds the statement that makes the change of an entry to its table.
+/// Appends the statement of an entry.
 pub(super) fn add_statement<W: Write>(
     gather: &mut Gather,
     out: &mut Told<W>,

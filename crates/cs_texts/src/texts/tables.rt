@@ -1,4 +1,4 @@
-//! Changesets that stand in a file, printed as it is gone through.
+//! Changesets in a file, printed as the file is read.
 ghost use Rattle.std.specs.Prelude.{◌≡◌, ◌≤◌, ◌++◌, [], List, OnOk};
 ghost use Rattle.std.specs.List.{flat_map};
 ghost use Rattle.cs_wire.specs.declared.entry.Entry.{Entry as EntryData};
@@ -16,7 +16,7 @@ use cs_tables::Tables;
 use cs_wire::HeaderRef;
 use std::io::Write;
 
-/// Adds the entries that are left of the table that is open, which has this name.
+/// Appends the remaining entries of the open table, which has this name.
 fn add_entries<W: Write>(
     gather: &mut Gather,
     out: &mut Told<W>,
@@ -37,7 +37,7 @@ fn add_entries<W: Write>(
     Ok(())
 }
 
-/// Adds the table that is open, which has this header.
+/// Appends the open table, which has this header.
 fn add_table<W: Write>(
     gather: &mut Gather,
     out: &mut Told<W>,
@@ -57,7 +57,7 @@ fn add_table<W: Write>(
     add_entries(gather, out, form, header.name, tables)
 }
 
-/// Adds the tables of a file.
+/// Appends the tables of a file.
 pub(super) fn add_tables<W: Write>(
     gather: &mut Gather,
     out: &mut Told<W>,
