@@ -1,10 +1,10 @@
-//! The names of conflicts' kinds, and of what is done about them.
+//! The names of the kinds of conflicts and of the choices.
 ghost use Rattle.std.specs.Prelude.{◌≡◌};
 ghost use Rattle.cs_lines.specs.Commands.{kind_text, choice_text};
 
 use cs_group::{Choice, Kind};
 
-/// The name of a kind of conflict.
+/// Returns the name of a kind of conflict.
 pub fn kind_name(kind: Kind) -> &'static str
     ensures { result.now ≡ kind_text kind }
 {
@@ -16,7 +16,7 @@ pub fn kind_name(kind: Kind) -> &'static str
     }
 }
 
-/// The name of a choice.
+/// Returns the name of a choice.
 pub fn choice_name(choice: Choice) -> &'static str
     ensures { result.now ≡ choice_text choice }
 {

@@ -2,7 +2,7 @@
 use cs_group::{Choice, Noop};
 use cs_value::OwnedValue;
 
-/// A column, and the value that it gets or has.
+/// A column and a value: an assignment or a condition.
 #[derive(Debug, Drop)]
 pub struct Assignment {
     pub column: String,
@@ -12,7 +12,7 @@ pub struct Assignment {
 /// What a line asks for.
 #[derive(Debug, Drop)]
 pub enum Command {
-    /// `CREATE TABLE name(columns, PRIMARY KEY(keys));`, with `NOT NULL` behind each column of `refuses`.
+    /// `CREATE TABLE name(columns, PRIMARY KEY(keys));`, with `NOT NULL` after each column of `refuses`.
     Create {
         name: String,
         columns: Vec<String>,
@@ -39,33 +39,33 @@ pub enum Command {
     Select {
         table: String,
     },
-    /// `.load slot digits`: the slot gets the bytes of the digits, which may be none.
+    /// `.load slot digits`: puts the bytes of the digits into the slot. There may be no digits.
     Load {
         slot: String,
         digits: String,
     },
-    /// `.hex slot`: the slot's bytes are printed as digits.
+    /// `.hex slot`: prints the bytes of the slot as digits.
     Hex {
         slot: String,
     },
-    /// `.dump slot`: the slot's changeset is printed.
+    /// `.dump slot`: prints the changeset of the slot.
     Dump {
         slot: String,
     },
-    /// `.invert from into`: a slot gets the inverse of another's changeset.
+    /// `.invert from into`: puts the inverse of a slot's changeset into a slot.
     Invert {
         from: String,
         into: String,
     },
-    /// `.concat first second into`: a slot gets the join of two others' changesets.
+    /// `.concat first second into`: puts the concatenation of two slots' changesets into a slot.
     Concat {
         first: String,
         second: String,
         into: String,
     },
-    /// `.apply slot data=choice notfound=choice conflict=choice constraint=choice noop=noop`: the slot's
-    /// changeset is applied. The options stand in any order, each once or not at all: a choice that is not
-    /// given is to abort, and a noop that is not given is to report.
+    /// `.apply slot data=choice notfound=choice conflict=choice constraint=choice noop=noop`: applies the changeset of
+    /// the slot. The options are in any order, each at most once. The default choice is `abort`, the default noop
+    /// `report`.
     Apply {
         slot: String,
         on_data: Choice,
@@ -74,7 +74,7 @@ pub enum Command {
         on_constraint: Choice,
         noop: Noop,
     },
-    /// `.revert slot`: the slot's changeset is reverted.
+    /// `.revert slot`: reverts the changeset of the slot.
     Revert {
         slot: String,
     },
@@ -84,7 +84,7 @@ pub enum Command {
     SessionAttach {
         table: String,
     },
-    /// `.session changeset slot`: the slot gets the session's changeset.
+    /// `.session changeset slot`: puts the changeset of the session into the slot.
     SessionChangeset {
         slot: String,
     },

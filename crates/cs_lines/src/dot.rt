@@ -15,7 +15,7 @@ use cs_tokens::{
 };
 use std::alloc::Global;
 
-/// What a line sets each option to, where it sets it.
+/// The options that a line sets.
 #[derive(Clone, Copy, Debug)]
 struct Settings {
     on_data: Option<Choice>,
@@ -25,7 +25,7 @@ struct Settings {
     noop: Option<Noop>,
 }
 
-/// The command that a dot line asks for.
+/// Returns the command of a dot line.
 #[tactic(auto, unfolding(crate::specs::DotReading::dot_in))]
 pub(crate) fn dot_line(alloc: Global, line: &[u8]) -> Result<Command, Stop>
     ensures { Reads result command_of (dot_in line.now) }
@@ -64,7 +64,7 @@ fn load(alloc: Global, line: &[u8]) -> Result<Command, Stop>
     Ok(Command::Load { slot, digits })
 }
 
-/// One word, or none.
+/// Returns the last word, or an empty text if there is no word.
 #[tactic(auto, unfolding(crate::specs::DotReading::digits_in))]
 fn digits(alloc: Global, line: &[u8]) -> Result<String, Stop>
     ensures { Reads result string_bytes (digits_in (words_of line.now)) }
@@ -146,7 +146,7 @@ fn apply(alloc: Global, line: &[u8]) -> Result<Command, Stop>
     })
 }
 
-/// What the words of a line set, each another option.
+/// Returns the options that the words of a line set, each at most once.
 #[tactic(auto, using(crate::proofs::DotLemmas::settings_go, crate::proofs::DotLemmas::no_setting, crate::proofs::DotLemmas::settings_end))]
 fn read_settings(line: &[u8]) -> Result<Settings, Stop>
     ensures { Reads result (λ s. s) (settings_in no_settings (words_of line.now)) }
@@ -169,7 +169,7 @@ fn read_settings(line: &[u8]) -> Result<Settings, Stop>
     Ok(settings)
 }
 
-/// What is set with one more word, or None where it sets no option, or one that is set.
+/// Returns the options with one more word, or None if that word sets no option, or one that is set already.
 #[tactic(auto, unfolding(crate::specs::DotReading::setting_in))]
 fn with_setting(settings: Settings, word: &[u8]) -> Option<Settings>
     ensures { result ≡ setting_in settings word.now }
@@ -205,7 +205,7 @@ fn with_setting(settings: Settings, word: &[u8]) -> Option<Settings>
     })
 }
 
-/// What a word chooses for a kind.
+/// Returns the choice of a word for a kind of conflict.
 fn chosen(word: &[u8], kind: Kind) -> Option<Choice>
     ensures { result ≡ chosen_in kind word.now }
 {
@@ -230,7 +230,7 @@ fn chosen(word: &[u8], kind: Kind) -> Option<Choice>
     }
 }
 
-/// What a word sets the option `noop` to.
+/// Returns what a word sets the option `noop` to.
 fn chosen_noop(word: &[u8]) -> Option<Noop>
     ensures { result ≡ noop_in word.now }
 {
@@ -276,7 +276,7 @@ fn changeset(alloc: Global, line: &[u8]) -> Result<Command, Stop>
     Ok(Command::SessionChangeset { slot })
 }
 
-/// A command that nothing follows.
+/// Returns a command, if nothing follows.
 fn bare(command: Command, line: &[u8]) -> Result<Command, Stop>
     ensures { Reads result command_of (option_map (λ _. command_of command) (no_word_in (words_of line.now))) }
 {

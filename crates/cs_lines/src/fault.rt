@@ -1,15 +1,15 @@
-//! Why a line is refused.
+//! Faults of lines.
 ghost use Rattle.std.specs.Prelude.{codes};
 
 use cs_value::{Fault, OrNoMemory};
 use thiserror::Error;
 
-/// A line asks for nothing that there is.
+/// A line is not a command.
 #[derive(Clone, Copy, Debug, PartialEq, Eq, Drop, Error)]
 #[error("the line does not fit at column {column}")]
 pub struct SyntaxFault {
-    /// The place of the first byte, from 1, of the first token or word that is malformed or does not fit;
-    /// the line's length and 1 where it ends too early.
+    /// The one-based column of the first token or word that is malformed or does not fit. If the line ends too early,
+    /// its length plus 1.
     pub column: usize,
 }
 
@@ -33,5 +33,5 @@ impl Fault for SyntaxFault {
     }
 }
 
-/// Why a line is not read: it asks for nothing that there is, or memory was refused.
+/// Why a line is not read: it is not a command, or memory ran out.
 pub type LineFault = OrNoMemory<SyntaxFault>;

@@ -13,12 +13,12 @@ use crate::statement::statement;
 use cs_tokens::{Stop, column, next_word};
 use std::alloc::Global;
 
-/// What a line asks for, or None where it is blank or a comment. The line is without its line feed.
+/// Returns the command of a line, or None if the line is blank or a comment. The line has no line feed.
 ///
 /// # Errors
 ///
-/// [`SyntaxFault`](crate::SyntaxFault) where the line asks for nothing that there is, with the column of
-/// the first token or word that is malformed or does not fit; `NoMemory` where memory is refused.
+/// [`SyntaxFault`](crate::SyntaxFault) if the line is not a command, with the column of the first token or word that is
+/// malformed or does not fit. `NoMemory` if memory runs out.
 pub fn parse_line(alloc: Global, line: &str) -> Result<Option<Command>, LineFault>
     ensures asked { IfOk result (λ asked.
         MatchOption asked (IsNothing line.now) (λ command. Spelled line.now (command_of command))) }
@@ -39,7 +39,7 @@ pub fn parse_line(alloc: Global, line: &str) -> Result<Option<Command>, LineFaul
     }
 }
 
-/// Whether a line is blank or a comment.
+/// Returns whether a line is blank or a comment.
 fn is_nothing(line: &[u8]) -> bool
     ensures { IsTrue result ↔ IsNothing line.now }
 {
@@ -49,14 +49,14 @@ fn is_nothing(line: &[u8]) -> bool
     }
 }
 
-/// Whether a word begins a comment.
+/// Returns whether a word begins a comment.
 fn begins_comment(word: &[u8]) -> bool
     ensures { IsTrue result ↔ IsNoCommand (word.now ∷ []) }
 {
     word.starts_with(b"--")
 }
 
-/// Whether the first word of a line begins with a dot.
+/// Returns whether the first word of a line begins with a dot.
 fn is_dot_line(line: &[u8]) -> bool
     ensures { result ≡ begins_dot (words_of line.now) }
 {
@@ -66,7 +66,7 @@ fn is_dot_line(line: &[u8]) -> bool
     }
 }
 
-/// Whether a word begins with a dot.
+/// Returns whether a word begins with a dot.
 fn has_dot(word: &[u8]) -> bool
     ensures { result ≡ begins_dot (word.now ∷ []) }
 {
@@ -76,7 +76,7 @@ fn has_dot(word: &[u8]) -> bool
     }
 }
 
-/// The command that a line asks for, which is neither blank nor a comment.
+/// Returns the command of a line that is neither blank nor a comment.
 #[tactic(auto, unfolding(crate::specs::LineReading::line_in))]
 fn read_line(alloc: Global, line: &[u8]) -> Result<Command, Stop>
     ensures { Reads result command_of (line_in line.now) }

@@ -20,7 +20,7 @@ struct NewColumn {
     refuses: bool,
 }
 
-/// The statement that a line is.
+/// Returns the statement of a line.
 #[tactic(auto, unfolding(crate::specs::StatementReading::statement_in))]
 pub(crate) fn statement(alloc: Global, line: &[u8]) -> Result<Command, Stop>
     ensures { Reads result command_of (statement_in (tokens_of line.now)) }
@@ -30,7 +30,7 @@ pub(crate) fn statement(alloc: Global, line: &[u8]) -> Result<Command, Stop>
     Ok(command)
 }
 
-/// The statement that a line begins with, by its first token.
+/// Returns the statement of a line with this first token.
 #[tactic(auto, unfolding(crate::specs::StatementReading::form_in))]
 fn form(alloc: Global, line: &[u8]) -> Result<(Command, &[u8]), Stop>
     ensures { Reads result (λ r. (command_of r.0, tokens_of r.1.now)) (form_in (tokens_of line.now)) }
@@ -134,7 +134,7 @@ fn select(alloc: Global, line: &[u8]) -> Result<(Command, &[u8]), Stop>
     Ok((Command::Select { table }, line))
 }
 
-/// Nothing: only blanks are left of the line.
+/// Checks that only blanks are left of the line.
 #[tactic(auto, unfolding(crate::specs::StatementReading::end_in))]
 fn end(alloc: Global, line: &[u8]) -> Result<(), Stop>
     ensures { Reads result (λ _. tt) (end_in (tokens_of line.now)) }
@@ -145,7 +145,7 @@ fn end(alloc: Global, line: &[u8]) -> Result<(), Stop>
     }
 }
 
-/// A keyword or a sign.
+/// Returns the next token, if it is a keyword or a sign.
 #[tactic(auto, unfolding(crate::specs::StatementReading::symbol_in))]
 fn symbol(alloc: Global, line: &[u8]) -> Result<(Symbol, &[u8]), Stop>
     ensures { Reads result (λ r. (r.0, tokens_of r.1.now)) (symbol_in (tokens_of line.now)) }
@@ -156,7 +156,7 @@ fn symbol(alloc: Global, line: &[u8]) -> Result<(Symbol, &[u8]), Stop>
     }
 }
 
-/// This keyword or sign.
+/// Checks that the next token is this keyword or sign.
 #[tactic(auto, unfolding(crate::specs::StatementReading::fixed_in))]
 fn fixed(alloc: Global, line: &[u8], symbol: Symbol) -> Result<&[u8], Stop>
     ensures read { Reads result (λ rest. tokens_of rest.now) (fixed_in symbol (tokens_of line.now)) }
@@ -168,7 +168,7 @@ fn fixed(alloc: Global, line: &[u8], symbol: Symbol) -> Result<&[u8], Stop>
     }
 }
 
-/// A name.
+/// Returns the next token, if it is a name.
 #[tactic(auto, unfolding(crate::specs::StatementReading::name_in))]
 fn name(alloc: Global, line: &[u8]) -> Result<(String, &[u8]), Stop>
     ensures read { Reads result (λ r. (string_bytes r.0, tokens_of r.1.now)) (name_in (tokens_of line.now)) }
@@ -183,7 +183,7 @@ fn name(alloc: Global, line: &[u8]) -> Result<(String, &[u8]), Stop>
     }
 }
 
-/// A value.
+/// Returns the next token, if it is a value.
 #[tactic(auto, unfolding(crate::specs::StatementReading::value_in))]
 fn value(alloc: Global, line: &[u8]) -> Result<(OwnedValue, &[u8]), Stop>
     ensures read { Reads result (λ r. (r.0, tokens_of r.1.now)) (value_in (tokens_of line.now)) }
@@ -198,7 +198,7 @@ fn value(alloc: Global, line: &[u8]) -> Result<(OwnedValue, &[u8]), Stop>
     }
 }
 
-/// A column, an equals sign and a value.
+/// Returns a column and a value, with an equals sign between them.
 #[tactic(auto, unfolding(crate::specs::StatementReading::assignment_in))]
 fn assignment(alloc: Global, line: &[u8]) -> Result<(Assignment, &[u8]), Stop>
     ensures read { Reads result (λ r. (assignment_of r.0, tokens_of r.1.now)) (assignment_in (tokens_of line.now)) }
@@ -210,7 +210,7 @@ fn assignment(alloc: Global, line: &[u8]) -> Result<(Assignment, &[u8]), Stop>
     Ok((Assignment { column, value }, line))
 }
 
-/// What stands between two items, or what ends them: whether another follows.
+/// Reads the separator of two items or the end of the list. Returns whether another item follows.
 #[tactic(auto, unfolding(crate::specs::StatementReading::turn_in))]
 fn turn(alloc: Global, line: &[u8], between: Symbol, last: Symbol) -> Result<(bool, &[u8]), Stop>
     ensures read { Reads result (λ r. (r.0, tokens_of r.1.now)) (turn_in between last (tokens_of line.now)) }
@@ -223,7 +223,7 @@ fn turn(alloc: Global, line: &[u8], between: Symbol, last: Symbol) -> Result<(bo
     }
 }
 
-/// What stands behind the name of a column: a comma, or NOT NULL and a comma. Whether the column refuses NULL.
+/// Reads what follows the name of a column: a comma, or NOT NULL and a comma. Returns whether the column refuses NULL.
 #[tactic(auto, unfolding(crate::specs::StatementReading::rule_in))]
 fn rule(alloc: Global, line: &[u8]) -> Result<(bool, &[u8]), Stop>
     ensures read { Reads result (λ r. (r.0, tokens_of r.1.now)) (rule_in (tokens_of line.now)) }
@@ -251,7 +251,7 @@ fn null(alloc: Global, line: &[u8]) -> Result<&[u8], Stop>
     }
 }
 
-/// A column of a table and what is behind it; or PRIMARY, and no column.
+/// Returns a column of a table with what follows it; or None at PRIMARY.
 #[tactic(auto, unfolding(crate::specs::StatementReading::column_in))]
 fn column(alloc: Global, line: &[u8]) -> Result<(Option<NewColumn>, &[u8]), Stop>
     ensures read { Reads result (λ r. (option_map column_of r.0, tokens_of r.1.now)) (column_in (tokens_of line.now)) }
@@ -270,7 +270,7 @@ fn column(alloc: Global, line: &[u8]) -> Result<(Option<NewColumn>, &[u8]), Stop
     }
 }
 
-/// The columns of a table, each with a comma behind it, and PRIMARY.
+/// Returns the columns of a table, each with a comma after it, up to PRIMARY.
 fn columns(alloc: Global, line: &[u8]) -> Result<(Vec<NewColumn>, &[u8]), Stop>
     ensures { Reads result (λ r. (map column_of r.0.items, tokens_of r.1.now)) (columns_in (tokens_of line.now)) }
 {
@@ -285,7 +285,7 @@ fn columns(alloc: Global, line: &[u8]) -> Result<(Vec<NewColumn>, &[u8]), Stop>
     Ok((columns, rest))
 }
 
-/// The names of columns, and whether each refuses NULL.
+/// Returns the names of columns, and whether each refuses NULL.
 fn names_and_rules(alloc: Global, columns: Vec<NewColumn>) -> Result<(Vec<String>, Vec<bool>), Stop>
     ensures { Reads result (λ r. (map string_bytes r.0.items, r.1.items)) (Some (names_and_rules_of (map column_of columns.items))) }
 {
@@ -298,7 +298,7 @@ fn names_and_rules(alloc: Global, columns: Vec<NewColumn>) -> Result<(Vec<String
     Ok((names, refuses))
 }
 
-/// Names with commas between them, and a closing bracket.
+/// Returns names with commas between them, up to a closing bracket.
 fn names(alloc: Global, line: &[u8]) -> Result<(Vec<String>, &[u8]), Stop>
     ensures { Reads result (λ r. (map string_bytes r.0.items, tokens_of r.1.now)) (names_in (tokens_of line.now)) }
 {
@@ -313,7 +313,7 @@ fn names(alloc: Global, line: &[u8]) -> Result<(Vec<String>, &[u8]), Stop>
     Ok((names, rest))
 }
 
-/// Values with commas between them, and a closing bracket.
+/// Returns values with commas between them, up to a closing bracket.
 fn values(alloc: Global, line: &[u8]) -> Result<(Vec<OwnedValue>, &[u8]), Stop>
     ensures { Reads result (λ r. (r.0.items, tokens_of r.1.now)) (values_in (tokens_of line.now)) }
 {
@@ -328,7 +328,7 @@ fn values(alloc: Global, line: &[u8]) -> Result<(Vec<OwnedValue>, &[u8]), Stop>
     Ok((values, rest))
 }
 
-/// Assignments with a symbol between them, and the one that ends them.
+/// Returns assignments with a symbol between them, up to the symbol that ends them.
 fn assignments(
     alloc: Global,
     line: &[u8],

@@ -16,7 +16,7 @@ use cs_store::Store;
 use sqlite::Alter;
 use std::alloc::Global;
 
-/// Begins an empty batch and takes it back, which is refused where a batch is open.
+/// Begins an empty batch and drops it. That fails while a batch is open.
 fn settle<S: Alter>(store: &mut Store<S>) -> Result<(), Refusal>
     ensures settled { OnOk result (TurnsBetween (state S.Store store.old) (state S.Store store.new)
         (Shows (state S.Store store.old)) (Stands (state S.Store store.new)) AreSame) }
@@ -28,8 +28,7 @@ fn settle<S: Alter>(store: &mut Store<S>) -> Result<(), Refusal>
     Ok(())
 }
 
-/// Settles a store that is not settled: begins an empty batch and takes it back, which is refused where a batch is
-/// open. The flag says whether it is settled.
+/// Makes sure once that no batch is open in a store. The flag says whether that is known.
 pub fn settle_once<S: Alter>(store: &mut Store<S>, is_settled: &mut bool) -> Result<(), Refusal>
     ensures settled { OnOk result (is_settled.new ≡ true) }
     ensures turns { (rests : Bool) → TurnsBetween (state S.Store store.old) (state S.Store store.new)
@@ -45,7 +44,7 @@ pub fn settle_once<S: Alter>(store: &mut Store<S>, is_settled: &mut bool) -> Res
     Ok(())
 }
 
-/// Does what a command asks for.
+/// Carries out a command.
 fn run_command<S: Alter>(
     alloc: Global,
     store: &mut Store<S>,
@@ -131,8 +130,8 @@ fn run_command<S: Alter>(
     }
 }
 
-/// Answers a line, with what it asks for done, over a store in which no batch is open: [`settle_once`] sees to
-/// that. A line that is refused changes nothing.
+/// Carries out a line, and returns its reply. No batch is open in the store: see [`settle_once`]. A refused line changes
+/// nothing.
 pub fn answer_line<S: Alter>(
     alloc: Global,
     store: &mut Store<S>,

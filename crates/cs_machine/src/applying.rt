@@ -1,4 +1,4 @@
-//! Files that are applied to the tables of a store, and reverted.
+//! Applies and reverts of files.
 ghost use Rattle.std.specs.Prelude.{None, Some};
 ghost use Rattle.sqlite.specs.Held.{state};
 ghost use Rattle.cs_run.specs.declared.running.Direction.TheVariants.{Forward};
@@ -14,7 +14,7 @@ use cs_store::Store;
 use sqlite::Alter;
 use std::alloc::Global;
 
-/// Applies a file, and notes what is written.
+/// Applies a file, and notes what it writes.
 fn apply_noted<S: Alter>(
     alloc: Global,
     store: &mut Store<S>,
@@ -32,7 +32,7 @@ fn apply_noted<S: Alter>(
     Ok(Reply::Report(report))
 }
 
-/// Applies a file, where no session is open.
+/// Applies a file while no session is open.
 pub fn apply_unnoted<S: Alter>(
     alloc: Global,
     store: &mut Store<S>,
@@ -49,7 +49,7 @@ pub fn apply_unnoted<S: Alter>(
     Ok(Reply::Report(report))
 }
 
-/// Applies a file, which is noted where a session is open.
+/// Applies a file. An open session notes it.
 pub(crate) fn apply_file<S: Alter>(
     alloc: Global,
     store: &mut Store<S>,
@@ -68,7 +68,7 @@ pub(crate) fn apply_file<S: Alter>(
     }
 }
 
-/// Applies the inverse of a file, and notes what is written. Each conflict ends it.
+/// Applies the inverse of a file, and notes what it writes. It ends at the first conflict.
 fn revert_noted<S: Alter>(
     alloc: Global,
     store: &mut Store<S>,
@@ -83,7 +83,7 @@ fn revert_noted<S: Alter>(
     Ok(Reply::Report(report))
 }
 
-/// Reverts a file, where no session is open. Each conflict ends it.
+/// Reverts a file while no session is open. It ends at the first conflict.
 fn revert_unnoted<S: Alter>(
     alloc: Global,
     store: &mut Store<S>,
@@ -95,7 +95,7 @@ fn revert_unnoted<S: Alter>(
     Ok(Reply::Report(revert(alloc, store, file)?))
 }
 
-/// Reverts a file. Where a session is open, its inverse is applied, and noted.
+/// Reverts a file. An open session notes it, as an apply of the inverse.
 pub(crate) fn revert_file<S: Alter>(
     alloc: Global,
     store: &mut Store<S>,

@@ -23,7 +23,7 @@ pub(crate) fn load(
     Ok(Reply::Silent)
 }
 
-/// The digits of a slot's bytes.
+/// Returns the digits of a slot's bytes.
 pub(crate) fn show(alloc: Global, slots: &Slots, slot: &[u8]) -> Result<Reply, Refusal>
     ensures { SlotsGive slots.now (lines.Hex slot.now) (answer_of result) slots.now }
 {
@@ -45,7 +45,7 @@ pub(crate) fn invert(
     Ok(Reply::Silent)
 }
 
-/// Puts the join of two slots' changesets into a third.
+/// Puts the concatenation of two slots' changesets into a third.
 pub(crate) fn join(
     alloc: Global,
     slots: &mut Slots,
@@ -63,7 +63,7 @@ pub(crate) fn join(
     Ok(Reply::Silent)
 }
 
-/// The changeset of a slot's bytes.
+/// Returns the changeset of a slot's bytes.
 pub(crate) fn dump(alloc: Global, slots: &Slots, slot: &[u8]) -> Result<Reply, Refusal>
     ensures { SlotsGive slots.now (lines.Dump slot.now) (answer_of result) slots.now }
 {

@@ -1,5 +1,4 @@
-//! The machine that answers a line of a script, over a store: what lines do with tables, with slots and with the
-//! session.
+//! The machine that answers a line of a script: what lines do to the tables of a store, to slots and to the session.
 //!
 //! ```rust
 //! let mut store = Store::new_memory(alloc)?;
@@ -10,10 +9,10 @@
 //! assert!(matches!(reply, Err(Refusal::EmptySlot)));
 //! ```
 //!
-//! `answering` reads a line as a command and has that done; before the first line it makes sure that no batch is
-//! open in the store. `workspace` has what lines have beside the store: its `slots`, which are bytes under names, and
-//! the session, if one is open. `statements` has what lines do with tables, `changesets` what they do with slots,
-//! `applying` the applies and `sessions` the lines of a session. [`cs_replies`] has the answers.
+//! `answering` reads a line as a command and carries it out. Before the first line it makes sure that no batch is open in
+//! the store. `workspace` has the `slots`, which are bytes with names, and the session, if one is open. `statements` has
+//! the lines on tables, `changesets` those on slots, `applying` the applies and `sessions` the lines of a session.
+//! [`cs_replies`] has the replies.
 #![tactic(auto)]
 
 mod answering;

@@ -67,7 +67,7 @@ pub(crate) fn changeset<S: Alter>(
     Ok(Reply::Silent)
 }
 
-/// Whether no key was written, as `1` or `0`.
+/// Returns `1` if no key was written, and else `0`.
 pub(crate) fn is_empty(alloc: Global, session: &Option<Session>) -> Result<Reply, Refusal>
     ensures { (tables : State) (slots : SlotMap) → OrUnable (λ old. WithSession old (IsEmptyGives old))
         (seen tables slots session.now) (answer_of result) (seen tables slots session.now) }
@@ -79,7 +79,7 @@ pub(crate) fn is_empty(alloc: Global, session: &Option<Session>) -> Result<Reply
     Ok(Reply::Text(String::from_str(alloc, text)?))
 }
 
-/// Gives the tables that are attached the rows back that they had.
+/// Restores the rows of the attached tables.
 pub(crate) fn undo<S: Alter>(
     alloc: Global,
     store: &mut Store<S>,

@@ -1,4 +1,4 @@
-//! The slots of a script: bytes under names.
+//! The slots of a script: bytes with names.
 ghost use Rattle.std.specs.Prelude.{◌≡◌, OnOk, OnErr, None, Some, MatchResult};
 ghost use Rattle.std.specs.FinMap as map;
 ghost use Rattle.cs_replies.specs.declared.refusal.Refusal.TheVariants.{EmptySlot};
@@ -9,7 +9,7 @@ use std::alloc::Global;
 use std::collections::BTreeMap;
 use std::marker::Model;
 
-/// Bytes under names, which contracts see as the map from the bytes of each name.
+/// Bytes with names. Contracts see a map from the bytes of each name.
 #[derive(Drop)]
 pub struct Slots {
     slots: BTreeMap<Vec<u8>, Vec<u8>>,
@@ -30,7 +30,7 @@ impl Model for Slots {
 }
 
 impl Slots {
-    /// No slot is filled.
+    /// Returns slots, none of them filled.
     pub(crate) fn new(alloc: Global) -> Slots
         ensures { result ≡ map.empty }
     {
@@ -39,7 +39,7 @@ impl Slots {
         }
     }
 
-    /// The bytes under a name. It refuses a name under which none were put.
+    /// Returns the bytes of a slot. Fails if the slot is not filled.
     pub(crate) fn get(&self, name: &[u8]) -> Result<&[u8], Refusal>
         ensures { MatchResult result (λ bytes. map.get self.now name.now ≡ Some bytes.now)
             (λ refusal. (refusal ≡ EmptySlot) × (map.get self.now name.now ≡ None)) }
@@ -50,7 +50,7 @@ impl Slots {
         }
     }
 
-    /// Puts bytes under a name, in place of those that it had. A refusal changes nothing.
+    /// Fills a slot, and replaces its bytes. An error changes nothing.
     pub(crate) fn insert(
         &mut self,
         alloc: Global,

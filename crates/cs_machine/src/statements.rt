@@ -56,7 +56,7 @@ fn edit_noted<S: Alter>(
     Ok(Reply::Silent)
 }
 
-/// Carries out an edit of rows, where no session is open.
+/// Carries out an edit of rows while no session is open.
 fn edit_unnoted<S: Alter>(
     alloc: Global,
     store: &mut Store<S>,
@@ -69,7 +69,7 @@ fn edit_unnoted<S: Alter>(
     Ok(Reply::Silent)
 }
 
-/// Carries out an edit of rows, which is noted where a session is open.
+/// Carries out an edit of rows. An open session notes it.
 fn edit_row<S: Alter>(
     alloc: Global,
     store: &mut Store<S>,
@@ -100,8 +100,8 @@ pub(crate) fn insert<S: Alter>(
     edit_row(alloc, store, session, &Edit::Insert { table, row })
 }
 
-/// The row that conditions name, in which these columns are to be set. It tells that there is no table, and
-/// then that a column is none, and then that a value of the key is NULL.
+/// Returns the row that conditions name, in which these columns are to be set. Fails in this order: the table does not
+/// exist; a column does not exist; a value of the key is NULL.
 fn find_row<S: Alter>(
     alloc: Global,
     store: &mut Store<S>,
@@ -159,7 +159,7 @@ pub(crate) fn delete<S: Alter>(
     edit_row(alloc, store, session, &Edit::Delete { table, key })
 }
 
-/// The rows of a table, by the bytes of their keys.
+/// Returns the rows of a table, by the bytes of their keys.
 pub(crate) fn select<S: Alter>(
     alloc: Global,
     store: &mut Store<S>,

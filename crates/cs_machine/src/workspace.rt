@@ -1,4 +1,4 @@
-//! What a script has beside its store.
+//! What a script has alongside its store.
 ghost use Rattle.std.specs.Prelude.{◌≡◌, None};
 ghost use Rattle.std.specs.FinMap as map;
 
@@ -14,7 +14,7 @@ pub struct Workspace {
 }
 
 impl Workspace {
-    /// No slot is filled, and no session is open.
+    /// Returns a workspace with no filled slot and no session.
     pub fn new(alloc: Global) -> Workspace
         ensures slots { result.slots ≡ map.empty }
         ensures session { result.session ≡ None }

@@ -13,10 +13,10 @@ use std::fs;
 use std::io::{ErrorKind, Read, Write};
 use std::rt::HostRuntime;
 
-/// The most bytes that a changeset's file has.
+/// The largest size of a changeset file in bytes.
 const FILE_LIMIT: usize = 1_073_741_824;
 
-/// The bytes of a file.
+/// Returns the bytes of a file.
 fn read_file(rt: &HostRuntime, path: &str) -> Result<Vec<u8>, Refusal>
     ensures { IfOk result (λ bytes. length bytes.items ≤ FILE_LIMIT) }
 {
@@ -38,13 +38,13 @@ fn write_out(rt: &HostRuntime, out: &str, bytes: &[u8]) -> Result<(), Refusal> {
     }
 }
 
-/// Writes the inverse of one file into another, which is opened once the inverse is there.
+/// Writes the inverse of a file into another, which is opened once the inverse is made.
 pub(crate) fn invert_file(rt: &HostRuntime, file: &str, out: &str) -> Result<(), Refusal> {
     let inverse = invert_bytes(rt.alloc(), &read_file(rt, file)?)?;
     write_out(rt, out, &inverse)
 }
 
-/// Writes the join of two files into another, which is opened once the join is there.
+/// Writes the concatenation of two files into another, which is opened once the concatenation is made.
 pub(crate) fn join_files(
     rt: &HostRuntime,
     first: &str,
@@ -57,7 +57,7 @@ pub(crate) fn join_files(
     write_out(rt, out, &joined)
 }
 
-/// Prints what a file holds.
+/// Prints a file as text.
 pub(crate) fn dump_file<W: Write>(
     rt: &HostRuntime,
     file: &str,
@@ -75,7 +75,7 @@ pub(crate) fn sql_file<W: Write>(
     Ok(print_sql(rt.alloc(), &read_file(rt, file)?, out)?)
 }
 
-/// Applies a file to a store, and prints what that did once the store is closed.
+/// Applies a file to a store, and prints the report once the store is closed.
 pub(crate) fn apply_file<W: Write>(
     rt: &HostRuntime,
     file: &str,
@@ -99,7 +99,7 @@ pub(crate) fn apply_file<W: Write>(
     Ok(write_reply(out, &reply)?)
 }
 
-/// Opens the store in a file, which is made where it is missing.
+/// Opens the store in a file. Creates the file if it does not exist.
 pub(crate) fn open_store(
     rt: &HostRuntime,
     path: &str,
@@ -107,7 +107,7 @@ pub(crate) fn open_store(
     Ok(Store::open_from(rt, path, false, Unknown)?)
 }
 
-/// Closes the store in a file, so that the one file stands.
+/// Closes the store in a file, so that only the one file remains.
 pub(crate) fn close_store(store: Store<FileStore<FileFrom<Unknown>>>) -> Result<(), Refusal> {
     Ok(store.close()?)
 }

@@ -1,6 +1,5 @@
-//! The `changeset` tool as a library: tables, changesets and a session, by the lines of a script and by the
-//! words of a command line. The calls on files are those of [`cs_files`], and the grammar of lines is that of
-//! [`cs_lines`]; both are passed on.
+//! The `changeset` tool as a library: scripts, and the command line. The names of [`cs_files`] and [`cs_lines`] are passed
+//! on.
 //!
 //! ```rust
 //! // An INSERT of ('x') into the table t of one column, and the DELETE of that row.
@@ -12,10 +11,9 @@
 //! assert_eq!(rt; output, b"'x'\n");
 //! ```
 //!
-//! `script` reads lines by a `reader`, has them answered by a machine, and prints the answers. `shell` is that
-//! machine over a store: [`cs_machine`] says what it answers. `words` has the command line, whose words [`cs_words`]
-//! reads, `command` what it does with files and stores, and `output` how it writes a file. [`cs_replies`] has the
-//! answers and how they are printed.
+//! `script` reads lines by a `reader`, passes each to a machine, and prints the replies. `shell` is the machine over a
+//! store, by [`cs_machine`]. `words` has the command line, whose words [`cs_words`] reads. `command` has the commands on
+//! files and stores, and `output` writes a file. [`cs_replies`] has the replies and how they are printed.
 #![tactic(auto)]
 
 mod command;

@@ -1,4 +1,4 @@
-//! Files that a command writes: each is replaced as a whole, or stays as it was.
+//! Output files: each is replaced as a whole, or remains unchanged.
 
 use std::alloc::Global;
 use std::fs::{File, OpenOptions, Permissions};
@@ -7,21 +7,21 @@ use std::path::{Path, PathBuf};
 use std::rt::HostRuntime;
 use std::{fs, io};
 
-/// How many names are tried for a new file.
+/// The number of names that are tried for a new file.
 const NAME_COUNT: u32 = 1000;
 
-/// Whether a path names a standard stream, or what a process has open, whatever that leads to.
+/// Returns whether a path names a standard stream or an open file of a process.
 fn is_open_stream(path: &str) -> bool {
     path.starts_with("/dev/std") || path.starts_with("/dev/fd/") || path.starts_with("/proc/")
 }
 
-/// Writes bytes behind those that are there: into a pipe, a device or a standard stream.
+/// Appends bytes to a pipe, a device or a standard stream.
 fn append(rt: &HostRuntime, path: &str, bytes: &[u8]) -> io::Result<()> {
     let mut file = OpenOptions::new().append(true).open(rt, path)?;
     file.write_all(bytes)
 }
 
-/// The path of a new file beside another.
+/// Returns the path of a new file in the folder of another.
 fn path_beside(alloc: Global, path: &str, number: u32) -> io::Result<PathBuf> {
     let folder = Path::new(path).parent().unwrap_or(Path::new(""));
     let mut name = String::new(alloc);
@@ -29,7 +29,7 @@ fn path_beside(alloc: Global, path: &str, number: u32) -> io::Result<PathBuf> {
     Ok(folder.join(alloc, name.as_str())?)
 }
 
-/// Makes a new file beside another. A name that is taken is passed over.
+/// Creates a new file in the folder of another. Names that are taken are skipped.
 fn create_beside(rt: &HostRuntime, path: &str) -> io::Result<(File, PathBuf)> {
     for number in 0..NAME_COUNT {
         let beside = path_beside(rt.alloc(), path, number)?;
@@ -42,7 +42,7 @@ fn create_beside(rt: &HostRuntime, path: &str) -> io::Result<(File, PathBuf)> {
     Err(Error::from(ErrorKind::AlreadyExists))
 }
 
-/// Writes bytes into a new file, and sees that they are on the disk.
+/// Writes bytes into a new file and syncs it.
 fn fill(mut file: File, bytes: &[u8], permissions: Option<Permissions>) -> io::Result<()> {
     if let Some(permissions) = permissions {
         file.set_permissions(permissions)?;
@@ -51,7 +51,7 @@ fn fill(mut file: File, bytes: &[u8], permissions: Option<Permissions>) -> io::R
     file.sync_all()
 }
 
-/// Puts a new file of these bytes in the place of what is at a path, or where nothing is. The path is no link.
+/// Replaces the file at a path by a new one with these bytes, or creates it. The path is not a link.
 fn replace(
     rt: &HostRuntime,
     path: &str,
@@ -70,14 +70,14 @@ fn replace(
     replaced
 }
 
-/// Writes bytes into a file that is there.
+/// Writes bytes into an existing file.
 fn write_present(
     rt: &HostRuntime,
     path: &str,
     bytes: &[u8],
     permissions: Permissions,
 ) -> io::Result<()> {
-    // A file that may not be written is not replaced either.
+    // A file without permission to write is not replaced.
     OpenOptions::new().write(true).open(rt, path)?;
     if fs::symlink_metadata(rt, path)?.is_symlink() {
         let found = fs::canonicalize(rt, path)?;
@@ -86,8 +86,8 @@ fn write_present(
     replace(rt, path, bytes, Some(permissions))
 }
 
-/// Writes bytes into a file that is not there, and which a link leads to. An empty one is made first, since
-/// nothing else tells where that is.
+/// Writes bytes into a file that does not exist and that a link leads to. An empty file is created first, to find its
+/// path.
 fn write_linked(rt: &HostRuntime, path: &str, bytes: &[u8]) -> io::Result<()> {
     File::create(rt, path)?;
     let found = fs::canonicalize(rt, path)?;
@@ -98,7 +98,7 @@ fn write_linked(rt: &HostRuntime, path: &str, bytes: &[u8]) -> io::Result<()> {
     replaced
 }
 
-/// Writes bytes into a file that is not there.
+/// Writes bytes into a file that does not exist.
 fn write_missing(rt: &HostRuntime, path: &str, bytes: &[u8]) -> io::Result<()> {
     match fs::symlink_metadata(rt, path) {
         Ok(_) => write_linked(rt, path, bytes),
@@ -106,11 +106,10 @@ fn write_missing(rt: &HostRuntime, path: &str, bytes: &[u8]) -> io::Result<()> {
     }
 }
 
-/// Writes bytes into the file at a path, which is made where it is missing. It holds what it held or these
-/// bytes, also where this fails or the machine stops: they are written into a new file beside it, which then
-/// takes its place. Links are followed, and permissions are kept; of a link to a file that is missing an empty one
-/// may stay where the machine stops. What is no plain file, and a standard stream, has the bytes written behind
-/// what it has.
+/// Writes bytes into the file at a path, and creates it if it does not exist. If this fails or the machine stops, the file
+/// has its previous content or these bytes: they are written into a new file in the same folder, which is then renamed.
+/// Links are followed, and permissions are kept. If a link leads to a missing file and the machine stops, an empty file may
+/// remain. To a standard stream, and to anything that is not a plain file, the bytes are appended.
 pub(crate) fn write_file(rt: &HostRuntime, path: &str, bytes: &[u8]) -> io::Result<()> {
     if is_open_stream(path) {
         return append(rt, path, bytes);

@@ -4,8 +4,7 @@ ghost use Rattle.cs_shell.specs.Progress.{Adds, HasBegun, Holds, IsAtStart};
 
 use std::alloc::Global;
 
-/// The bytes of a line so far, unless memory was refused for one: then the line is lost, and its bytes
-/// are passed over.
+/// The bytes of a line so far. If memory runs out, the line is lost, and its other bytes are skipped.
 #[derive(Drop)]
 pub(crate) struct LineReader {
     bytes: Vec<u8>,
@@ -13,7 +12,7 @@ pub(crate) struct LineReader {
 }
 
 impl LineReader {
-    /// A line of which nothing is read.
+    /// Returns a line of which nothing is read.
     pub(crate) fn new(alloc: Global) -> LineReader
         ensures { IsAtStart result }
     {
@@ -23,7 +22,7 @@ impl LineReader {
         }
     }
 
-    /// Adds a byte to the line, which is lost where memory is refused.
+    /// Appends a byte to the line. The line is lost if memory runs out.
     pub(crate) fn add(&mut self, alloc: Global, byte: u8)
         ensures { Adds self.old self.new byte }
     {
@@ -33,14 +32,14 @@ impl LineReader {
         }
     }
 
-    /// Whether the line has a byte, also where it is lost.
+    /// Returns whether the line has a byte, even if it is lost.
     pub(crate) fn has_begun(&self) -> bool
         ensures { IsTrue result ↔ HasBegun self.now }
     {
         self.is_lost || !self.bytes.is_empty()
     }
 
-    /// The bytes of the line, unless it is lost.
+    /// Returns the bytes of the line, unless it is lost.
     pub(crate) fn bytes(&self) -> Option<&[u8]>
         ensures { (line : List ℕ) → Holds self.now line → IfSome result (λ bytes. bytes.now ≡ line) }
     {
@@ -50,7 +49,7 @@ impl LineReader {
         Some(&self.bytes)
     }
 
-    /// Begins the next line, of which nothing is read.
+    /// Begins the next line.
     pub(crate) fn restart(&mut self)
         ensures { IsAtStart self.new }
     {

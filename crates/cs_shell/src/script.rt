@@ -1,4 +1,4 @@
-//! Scripts: lines that are read, answered and printed in turn.
+//! Scripts: lines are read and answered, and the replies are printed.
 ghost use Rattle.std.specs.Prelude.{◌≡◌, ◌<◌, ◌≤◌, ◌∷◌, [], ℕ, List, if◌then◌else◌, length, IsTrue};
 ghost use Rattle.std.specs.Prelude.{IfOk, IfErr, OnOk, OnErr};
 ghost use Rattle.std.specs.Io.KnownBytes.{Consumes, IsAtEnd, Keeps};
@@ -22,10 +22,10 @@ pub(crate) trait Machine {
     // What a line is answered, and what it makes of the machine.
     ghost gives: { Self → List ℕ → ReplyData → Self → Type 0 };
 
-    // Any line may be refused for memory, and then the machine is as it was.
+    // Any line may be refused because memory runs out. Then the machine is unchanged.
     ghost loses: { (machine : Self) (line : List ℕ) → gives machine line (Refused refusal.NoMemory) machine };
 
-    /// The answer to a line, with what the line asks for done.
+    /// Carries out a line, and returns the reply.
     fn answer(&mut self, alloc: Global, line: &[u8]) -> Result<Reply, Refusal>
         ensures { gives self.old line.now (answer_of result) self.new };
 }
@@ -64,13 +64,13 @@ impl From<OutputFault> for Stop {
     }
 }
 
-/// The most bytes that a script has.
+/// The largest size of a script in bytes.
 const SCRIPT_LIMIT: usize = 16_777_216;
 
-/// How many bytes are read at once.
+/// The number of bytes that are read at once.
 const CHUNK_LEN: usize = 4096;
 
-/// Reads the next bytes, at most so many, into a chunk: none only at the end.
+/// Reads the next bytes into a chunk, up to a number. There are none only at the end.
 fn next_piece<'a, R: Read>(
     input: &mut Told<R>,
     chunk: &'a mut [u8],
@@ -92,16 +92,16 @@ fn next_piece<'a, R: Read>(
     }
 }
 
-/// A script that is being run: the line that is read, and what is known of those before it.
+/// A running script: the line that is being read, and what is known of the lines before.
 #[derive(Drop)]
 struct Script {
     line: LineReader,
-    /// Whether some line was refused.
+    /// Whether a line was refused.
     has_refused: bool,
 }
 
 impl Script {
-    /// A script of which nothing is read.
+    /// Returns a script of which nothing is read.
     fn new(alloc: Global) -> Script
         ensures { IsFresh result }
     {
@@ -111,7 +111,7 @@ impl Script {
         }
     }
 
-    /// The machine's answer to the line.
+    /// Returns the machine's reply to the line.
     fn answer_line<M: Machine>(&self, alloc: Global, machine: &mut M) -> Result<Reply, Refusal>
         ensures { (line : List ℕ) → Holds self.now.line line →
             M.gives machine.old line (answer_of result) machine.new }
@@ -122,7 +122,7 @@ impl Script {
         }
     }
 
-    /// Has the machine answer the line, prints the answer and begins the next line.
+    /// Has the machine answer the line, prints the reply and begins the next line.
     fn end_line<M: Machine, W: Write>(
         &mut self,
         alloc: Global,
@@ -138,7 +138,7 @@ impl Script {
         write_answer(out, &answer)
     }
 
-    /// Takes a byte of the script, and runs the line that it ends.
+    /// Takes a byte of the script. Runs the line if the byte ends it.
     fn take<M: Machine, W: Write>(
         &mut self,
         alloc: Global,
@@ -159,7 +159,7 @@ impl Script {
         Ok(())
     }
 
-    /// Takes bytes of the script, and runs each line that one of them ends.
+    /// Takes bytes of the script, and runs each line that ends in them.
     fn take_all<M: Machine, W: Write>(
         &mut self,
         alloc: Global,
@@ -179,7 +179,7 @@ impl Script {
         Ok(())
     }
 
-    /// Runs a last line that no line feed ends, if it has a byte.
+    /// Runs the last line, if it has a byte and no line feed.
     fn finish<M: Machine, W: Write>(
         &mut self,
         alloc: Global,
@@ -198,8 +198,8 @@ impl Script {
         Ok(())
     }
 
-    /// Takes what the input has, and runs each line that a line feed ends. It stops at a byte too
-    /// many, and where a read or a write fails.
+    /// Reads the input, and runs each line that ends with a line feed. Stops if the script is too long, or a read or a
+    /// write fails.
     fn take_input<M: Machine, R: Read, W: Write>(
         &mut self,
         alloc: Global,
@@ -253,10 +253,10 @@ impl Script {
     }
 }
 
-/// Runs a script by a machine that answers its lines: reads the lines, has those answered that it has before
-/// it reads on, and prints the replies. A line that memory is refused for is refused. It reads at most
-/// 16777217 bytes: at a byte after 16777216 it stops, once the whole lines of those are run and an error line
-/// is printed. It stops, too, where a read or a write fails; lines that were run stand.
+/// Runs a script by a machine: reads its lines, answers them, and prints the replies. The lines that were read are
+/// answered before more is read. A line is refused if memory runs out for it. After 16777216 bytes one byte more ends the
+/// script: the lines that end before it are run, and an error line is printed. The script also ends if a read or a write
+/// fails. What its lines did remains.
 pub(crate) fn run_machine<M: Machine, R: Read, W: Write>(
     alloc: Global,
     machine: &mut M,

@@ -1,4 +1,4 @@
-//! Scripts over a store: what answers their lines is the store, slots and a session.
+//! Scripts over a store.
 ghost use Rattle.std.specs.Prelude.{◌≡◌, ◌||◌, Bool};
 ghost use Rattle.sqlite.specs.Held.{state};
 ghost use Rattle.sqlite.specs.State.{HasCleanDisk};
@@ -18,7 +18,7 @@ use sqlite::Alter;
 use std::alloc::Global;
 use std::io::{Read, Write};
 
-/// A store, and what a script has beside it.
+/// A store and the workspace of a script.
 #[derive(Drop)]
 pub(crate) struct Shell<'a, S: Alter> {
     pub(crate) store: &'a mut Store<S>,
@@ -48,7 +48,7 @@ impl<S: Alter> Machine for Shell<'_, S> {
     ) };
 }
 
-/// Runs a script by a store and what is beside it.
+/// Runs a script over a store and a workspace.
 fn run_shell<S: Alter, R: Read, W: Write>(
     alloc: Global,
     shell: &mut Shell<'_, S>,
@@ -66,14 +66,16 @@ fn run_shell<S: Alter, R: Read, W: Write>(
     run_machine(alloc, shell, input, out)
 }
 
-/// Runs a script on a store: reads its lines, answers those that it has before it reads on, and prints the
-/// replies. A line that memory or the database refuses changes nothing; where a failure of the disk has shut the
-/// store, each line behind it that asks for a table is refused. Before a line is answered the script begins an
-/// empty batch, once, and takes it back: where that is refused, as while a batch was left open in the store, so
-/// is the line, and the next one tries again. It reads at most 16777217
-/// bytes: at a byte after 16777216 it stops, once the whole lines of those are run and an error line is
-/// printed. It stops, too, where a read or a write fails; lines that were run stand, and the store has what
-/// they left. The slots and the session, if one is open, end with the script.
+/// Runs a script on a store: reads its lines, answers them, and prints the replies. The lines that were read are answered
+/// before more is read.
+///
+/// A line changes nothing if memory or the database refuses it. Once a failure of the disk has shut the store, each line
+/// that asks for a table is refused. Before the first line an empty batch is begun and dropped. If that fails, because a
+/// batch was left open in the store, the line is refused, and the next line tries again.
+///
+/// After 16777216 bytes one byte more ends the script: the lines that end before it are run, and an error line is printed.
+/// The script also ends if a read or a write fails. The store keeps what the lines did. The slots and the session end with
+/// the script.
 pub fn run_script<S: Alter, R: Read, W: Write>(
     alloc: Global,
     store: &mut Store<S>,

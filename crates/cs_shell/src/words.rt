@@ -1,4 +1,4 @@
-//! Command lines: what their words are answered.
+//! Command lines.
 ghost use Rattle.std.specs.Prelude.{◌≡◌, ◌≤◌, None, Some, false, map, string_bytes};
 ghost use Rattle.std.specs.Io.KnownBytes.{Appends};
 ghost use Rattle.cs_files.specs.Told.{has_failed, known};
@@ -21,7 +21,7 @@ use std::alloc::Global;
 use std::io::{Read, Write};
 use std::rt::HostRuntime;
 
-/// What words that fit no command are answered.
+/// The answer to words that fit no command.
 const USAGE: &str = "\
 Usage: changeset [--data C] [--notfound C] [--conflict C] [--constraint C] [--ignore-noop] FILE COMMAND ...
 COMMANDs:
@@ -34,15 +34,14 @@ COMMANDs:
 C is omit, replace or abort (the default).
 ";
 
-/// Writes the error line of a refusal. Where that fails there is nowhere left to say so.
+/// Writes the error line of a refusal. A failure to write it is not reported.
 fn report<E: Write>(err: &mut Told<E>, refusal: &Refusal)
     ensures { Reports E.contents refusal.now err.old err.new }
 {
     let _ = write_refusal(err, refusal);
 }
 
-/// The exit status of a script, whose own errors are already written. A stream that failed is
-/// reported.
+/// Returns the exit status of a script, and reports a stream that failed. The script has written its other errors.
 fn end_script<E: Write>(err: &mut Told<E>, status: Status) -> u8
     ensures exit { result ≡ exit_of status }
     ensures told { ReportsStatus E.contents status err.old err.new }
@@ -56,8 +55,8 @@ fn end_script<E: Write>(err: &mut Told<E>, status: Status) -> u8
     1
 }
 
-/// Runs the input as a script on a store in memory, and answers the exit status. Where there is no memory
-/// for the store that is reported, and nothing is read.
+/// Runs the input as a script on a store in memory, and returns the exit status. If there is no memory for the store, that
+/// is reported, and nothing is read.
 fn run_input<R: Read, W: Write, E: Write>(
     alloc: Global,
     input: &mut Told<R>,
@@ -78,8 +77,8 @@ fn run_input<R: Read, W: Write, E: Write>(
     }
 }
 
-/// Writes the usage text, and answers the exit status of words that fit no command. It writes some
-/// front of the text where a write fails or takes no byte, and then the flag of the stream is set.
+/// Writes the usage text, and returns the exit status of words that fit no command. If a write fails or accepts no byte, a
+/// prefix of the text is written, and the flag of the stream is set.
 pub fn print_usage<E: Write>(err: &mut Told<E>) -> u8
     ensures status { result ≡ 2 }
     ensures front { AppendsFront (known E.contents err.old) (known E.contents err.new) USAGE.now }
@@ -90,7 +89,7 @@ pub fn print_usage<E: Write>(err: &mut Told<E>) -> u8
     2
 }
 
-/// Writes the usage text for a command line that asks for it, and answers the exit status.
+/// Writes the usage text for a command line that asks for it, and returns the exit status.
 fn print_help<W: Write, E: Write>(out: &mut Told<W>, err: &mut Told<E>) -> u8
     ensures { Helps W.contents USAGE.now result out.old out.new }
 {
@@ -103,7 +102,7 @@ fn print_help<W: Write, E: Write>(out: &mut Told<W>, err: &mut Told<E>) -> u8
     }
 }
 
-/// Runs the input as a script on the store in a file, and answers the exit status.
+/// Runs the input as a script on the store in a file, and returns the exit status.
 fn run_on_file<R: Read, W: Write, E: Write>(
     rt: &HostRuntime,
     path: &str,
@@ -123,7 +122,7 @@ fn run_on_file<R: Read, W: Write, E: Write>(
     }
 }
 
-/// The exit status of a command. Where it is refused the error line is written.
+/// Returns the exit status of a command. If it failed, writes the error line.
 fn end_command<E: Write>(err: &mut Told<E>, done: Result<(), Refusal>) -> u8
     ensures { EndsCommand E.contents result err.old err.new }
 {
@@ -136,7 +135,7 @@ fn end_command<E: Write>(err: &mut Told<E>, done: Result<(), Refusal>) -> u8
     }
 }
 
-/// Does what words ask for, and answers the exit status: 0 where that is done, and 1 where it is refused.
+/// Carries out an action, and returns the exit status: 0 if it is done, and 1 if it failed.
 fn run_action<R: Read, W: Write, E: Write>(
     rt: &HostRuntime,
     action: Action<'_>,
@@ -168,22 +167,24 @@ fn run_action<R: Read, W: Write, E: Write>(
     end_command(err, done)
 }
 
-/// Does what the words of a command line ask for, the program's name first, and answers the exit
-/// status: 0 where that is done, 1 where it is refused and 2 where the words fit no command.
+/// Carries out the words of a command line, the program's name first. Returns the exit status: 0 if the command is done, 1
+/// if it failed, and 2 if the words fit no command.
 ///
-/// With no word behind the name, and with `:memory: shell`, the input is run as a script on a store in
-/// memory, as [`run_script`] does, unless there is no memory for the store; with `FILE shell`
-/// on the store in FILE, which is made where it is missing. `FILE apply STORE`
-/// applies FILE to the store in the file STORE, and prints the report, as `report_text` does: `--data C`,
-/// `--notfound C`, `--conflict C` and `--constraint C` say what is done about conflicts of each kind, where C is
-/// `omit`, `replace` or `abort`, which is the default; with `--ignore-noop` an entry that would change nothing is
-/// ignored. `FILE invert OUT` writes the inverse of FILE into OUT, `FILE concat FILE2 OUT` the join of FILE and
-/// FILE2, and `FILE dump` and `FILE sql` print FILE. A file may have 1073741824 bytes; OUT is replaced once all of
-/// its bytes are there, and may be one of the others. With `--help` the usage text is printed.
+/// - No word after the name, and `:memory: shell`: runs the input as a script on a store in memory, as [`run_script`].
+/// - `FILE shell`: runs it on the store in FILE. Creates the file if it does not exist.
+/// - `FILE apply STORE`: applies FILE to the store in the file STORE, and prints the report, as `report_text`.
+///   `--data C`, `--notfound C`, `--conflict C` and `--constraint C` set the choice for each kind of conflict: `omit`,
+///   `replace` or `abort` (default). With `--ignore-noop` an entry that would change nothing is ignored.
+/// - `FILE invert OUT`: writes the inverse of FILE into OUT.
+/// - `FILE concat FILE2 OUT`: writes the concatenation of FILE and FILE2 into OUT.
+/// - `FILE dump` and `FILE sql`: print FILE.
+/// - `--help`: prints the usage text.
 ///
-/// A refusal of a command, or the usage text for words that fit no command, stands on `err`, and then OUT, where
-/// it is a plain file or none, is as it was. Lines of a script that are refused stand on `out`. A
-/// report that is not written is refused, too, and then FILE is applied.
+/// A file has at most 1073741824 bytes. OUT is replaced once all of its bytes are made, so it can be one of the inputs.
+///
+/// Errors of a command, and the usage text for words that fit no command, are written to `err`. Then OUT is unchanged if
+/// it is a plain file or does not exist. Errors of the lines of a script are written to `out`. If the report of an apply
+/// cannot be written, the command fails, but FILE is applied.
 pub fn run_words<R: Read, W: Write, E: Write>(
     rt: &HostRuntime,
     words: &[String],

@@ -8,7 +8,7 @@ use cs_value::{Bytes, NoMemory, OwnedValue};
 use hex::FromHexError;
 use std::alloc::Global;
 
-/// The blob whose X stands in front of the line, which begins with a quote.
+/// Returns the blob of a line that begins with the quote after the X.
 #[tactic(auto, unfolding(crate::specs::Reading::blob_at))]
 pub(crate) fn read_blob(alloc: Global, line: &[u8]) -> Result<Found<'_>, NoMemory>
     ensures { IfOk result (Gives (blob_at line.now)) }
@@ -20,7 +20,7 @@ pub(crate) fn read_blob(alloc: Global, line: &[u8]) -> Result<Found<'_>, NoMemor
     decode_blob(alloc, digits, rest)
 }
 
-/// Splits a line in front of its first quote.
+/// Splits a line before its first quote.
 fn split_at_quote(line: &[u8]) -> (&[u8], &[u8])
     ensures joined { line.now ≡ result.0.now ++ result.1.now }
     ensures digits { All (λ b. not (b == 39) ≡ true) result.0.now }
@@ -33,7 +33,7 @@ fn split_at_quote(line: &[u8]) -> (&[u8], &[u8])
     line.split_at(end)
 }
 
-/// The blob of these digits, where the rest begins with the quote that ends them.
+/// Returns the blob of these digits, if the rest begins with the quote that ends them.
 #[tactic(auto, unfolding(crate::specs::Reading::blob_of, crate::specs::Reading::blob_from))]
 fn decode_blob<'a>(alloc: Global, digits: &[u8], rest: &'a [u8]) -> Result<Found<'a>, NoMemory>
     ensures { IfOk result (Gives (blob_of digits.now rest.now)) }

@@ -4,28 +4,28 @@ ghost use Rattle.cs_tokens.specs.Tokens.{is_blank as blank, is_digit as digit, i
 ghost use Rattle.cs_tokens.specs.Words.{words_of, behind_word};
 ghost use Rattle.cs_tokens.specs.Reading.{behind, starts_word};
 
-/// Whether a byte stands between tokens and words: a space, a tab or a carriage return.
+/// Returns whether a byte is a blank: a space, a tab or a carriage return.
 pub(crate) fn is_blank(byte: u8) -> bool
     ensures { result ≡ blank byte }
 {
     byte == b' ' || byte == b'\t' || byte == b'\r'
 }
 
-/// Whether a byte is a decimal digit.
+/// Returns whether a byte is a decimal digit.
 pub(crate) fn is_digit(byte: u8) -> bool
     ensures { result ≡ digit byte }
 {
     matches!(byte, b'0'..=b'9')
 }
 
-/// Whether a byte may stand in a word of a statement and in a slot's name: an ASCII letter, a digit or `_`.
+/// Returns whether a byte is an ASCII letter, a digit or `_`, as in words of statements and names of slots.
 pub(crate) fn is_word_byte(byte: u8) -> bool
     ensures { result ≡ word_byte byte }
 {
     matches!(byte, b'a'..=b'z' | b'A'..=b'Z' | b'0'..=b'9' | b'_')
 }
 
-/// The line from its first byte that is no blank.
+/// Returns the line from its first byte that is not a blank.
 pub(crate) fn skip_blanks(line: &[u8]) -> &[u8]
     ensures after { result.now ≡ behind blank line.now }
     ensures words { words_of result.now ≡ words_of line.now }

@@ -6,10 +6,9 @@
 //! assert_eq!(rt; rest, b" a");
 //! ```
 //!
-//! A line is read from its front. `token` takes the first token of it: a `symbol`, which is a keyword or a
-//! sign, a word or an integer (`piece`), a `quoted` text or name, or a `blob`. `words` takes the first word,
-//! which blanks end. `byte` tells bytes apart, and `stop` says where a line does not fit, and that memory is
-//! refused.
+//! A line is read from its front. `token` takes the first token: a `symbol`, which is a keyword or a sign, a word or an
+//! integer (`piece`), a `quoted` text or name, or a `blob`. `words` takes the first word, which ends at a blank. `byte` has
+//! the classes of bytes. `stop` says where a line does not fit, or that memory ran out.
 #![tactic(auto)]
 
 mod blob;

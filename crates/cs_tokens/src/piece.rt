@@ -11,7 +11,7 @@ use cs_value::{NoMemory, OwnedValue};
 use std::alloc::Global;
 use std::str;
 
-/// The word or the integer at the front of a line.
+/// Returns the word or the integer at the front of a line.
 #[tactic(auto, unfolding(crate::specs::Reading::piece_at, crate::specs::Reading::token_of_piece))]
 pub(crate) fn read_piece(alloc: Global, line: &[u8]) -> Result<Found<'_>, NoMemory>
     ensures { IfOk result (Gives (piece_at line.now)) }
@@ -29,7 +29,7 @@ pub(crate) fn read_piece(alloc: Global, line: &[u8]) -> Result<Found<'_>, NoMemo
     }
 }
 
-/// Splits a line behind its first byte and the letters, digits and `_` that follow it.
+/// Splits a line after its first byte and the letters, digits and `_` that follow.
 fn split_piece(line: &[u8]) -> (&[u8], &[u8])
     ensures front { result.0.now ≡ piece_of line.now }
     ensures back { result.1.now ≡ behind_piece line.now }
@@ -43,7 +43,7 @@ fn split_piece(line: &[u8]) -> (&[u8], &[u8])
     }
 }
 
-/// Splits a line in front of its first byte that is no letter, digit or `_`.
+/// Splits a line before its first byte that is not a letter, a digit or `_`.
 fn split_word(line: &[u8]) -> (&[u8], &[u8])
     ensures joined { line.now ≡ result.0.now ++ result.1.now }
     ensures word { All (λ b. word_byte b ≡ true) result.0.now }
@@ -56,7 +56,7 @@ fn split_word(line: &[u8]) -> (&[u8], &[u8])
     line.split_at(end)
 }
 
-/// Whether a piece begins with a digit or a minus.
+/// Returns whether a piece begins with a digit or a minus.
 fn begins_number(piece: &[u8]) -> bool
     ensures { result ≡ begins (λ b. digit b || (b == 45)) piece.now }
 {
@@ -66,7 +66,7 @@ fn begins_number(piece: &[u8]) -> bool
     }
 }
 
-/// An integer of 64 bits, a minus or none and digits.
+/// Returns an integer of 64 bits: an optional minus and digits.
 #[tactic(auto, unfolding(crate::specs::Reading::integer_of))]
 fn read_integer(text: &str) -> Option<Token>
     ensures { option_map token_of result ≡ integer_of text.now }
@@ -77,7 +77,7 @@ fn read_integer(text: &str) -> Option<Token>
     }
 }
 
-/// A word: a keyword, NULL or a name.
+/// Returns the token of a word: a keyword, NULL or a name.
 #[tactic(auto, unfolding(crate::specs::Reading::word_of))]
 fn read_word(alloc: Global, word: &str) -> Result<Token, NoMemory>
     ensures { IfOk result (λ token. token_of token ≡ word_of word.now) }
@@ -91,7 +91,7 @@ fn read_word(alloc: Global, word: &str) -> Result<Token, NoMemory>
     Ok(Token::Name(String::from_str(alloc, word)?))
 }
 
-/// The keyword that a word is, in any case.
+/// Returns the keyword that a word is, in upper or lower case.
 #[tactic(auto, unfolding(crate::specs::Reading::keyword_of))]
 fn find_keyword(word: &str) -> Option<Symbol>
     ensures { result ≡ keyword_of word.now }

@@ -1,12 +1,12 @@
-//! Texts between quotes.
+//! Texts in quotes.
 ghost use Rattle.std.specs.Prelude.{◌≡◌, false, IfOk};
 ghost use Rattle.cs_tokens.specs.Reading.{unquoted, unquoted_of};
 
 use cs_value::NoMemory;
 use std::alloc::Global;
 
-/// A text whose first quote stands in front of the line, with each doubled quote in it once, and what
-/// stands behind the quote that ends it. None where no quote ends it.
+/// Returns the text of a line that begins after the first quote, with each doubled quote in it once, and the line after
+/// the closing quote. Returns None if there is no closing quote.
 pub(crate) fn read_quoted(
     alloc: Global,
     quote: u8,

@@ -1,27 +1,27 @@
-//! Where the reading of a line stops.
+//! Where reading a line stops.
 ghost use Rattle.std.specs.Prelude.{◌≤◌, ◌+◌, length};
 
 use crate::byte::skip_blanks;
 use cs_value::OrNoMemory;
 
-/// A line does not fit from here on.
+/// The place from which a line does not fit.
 #[derive(Clone, Copy, Debug, Drop)]
 pub struct Misfit {
-    /// How many bytes are left of the line from the first that does not fit.
+    /// The number of bytes of the line from the first one that does not fit.
     left: usize,
 }
 
-/// Why the reading of a line stops: it does not fit, or memory was refused.
+/// Why reading a line stops: it does not fit, or memory ran out.
 pub type Stop = OrNoMemory<Misfit>;
 
-/// The line does not fit at what follows the blanks of this rest of it.
+/// Returns that the line does not fit after the blanks of this rest of it.
 pub fn misfit_at(rest: &[u8]) -> Misfit {
     Misfit {
         left: skip_blanks(rest).len(),
     }
 }
 
-/// The column, from 1, where a line does not fit.
+/// Returns the one-based column from which a line does not fit.
 pub fn column(line: &[u8], misfit: Misfit) -> usize
     ensures low { 1 ≤ result }
     ensures high { result ≤ length line.now + 1 }

@@ -3,7 +3,7 @@ ghost use Rattle.std.specs.Prelude.{◌≡◌};
 ghost use Rattle.cs_tokens.specs.Tokens.{symbol_text};
 ghost use Rattle.cs_tokens.specs.Reading.{same_symbol};
 
-/// A token that has one meaning: a keyword, in any case, or a sign.
+/// A token with one meaning: a keyword, in upper or lower case, or a sign.
 #[derive(Clone, Copy, Debug, PartialEq, Eq)]
 pub enum Symbol {
     Create,
@@ -49,7 +49,7 @@ pub(crate) const KEYWORDS: [Symbol; 15] = [
 ];
 
 impl Symbol {
-    /// How a sign is spelled, and a keyword in upper case.
+    /// Returns the spelling of a sign, or of a keyword in upper case.
     pub fn text(self) -> &'static str
         ensures { result.now ≡ symbol_text self }
     {
@@ -78,7 +78,7 @@ impl Symbol {
         }
     }
 
-    /// Whether this is that symbol.
+    /// Returns whether this is that symbol.
     pub fn is(self, other: Symbol) -> bool
         ensures { result ≡ same_symbol self other }
     {

@@ -11,36 +11,36 @@ use crate::symbol::Symbol;
 use cs_value::{NoMemory, OwnedValue, Text};
 use std::alloc::Global;
 
-/// A token of a statement, with what it holds in memory of its own.
+/// A token of a statement. It owns its text.
 #[derive(Debug, Drop)]
 pub enum Token {
     /// A keyword or a sign.
     Fixed(Symbol),
-    /// An identifier: a word that is no keyword, or what stood between double quotes.
+    /// An identifier: a word that is not a keyword, or a name in double quotes.
     Name(String),
     /// A literal: an integer, a text, a blob or NULL.
     Value(OwnedValue),
 }
 
-/// What a line begins with, behind its blanks.
+/// What a line begins with after its blanks.
 #[derive(Debug, Drop)]
 pub enum Found<'a> {
-    /// A token, and the line behind it.
+    /// A token, and the line after it.
     Token(Token, &'a [u8]),
-    /// Nothing: the line has blanks alone.
+    /// Nothing: the line has only blanks.
     End,
     /// No token.
     Malformed,
 }
 
-/// The first token of a line. It refuses only for memory.
+/// Returns the first token of a line. It fails only if memory runs out.
 pub fn next_token(alloc: Global, line: &[u8]) -> Result<Found<'_>, NoMemory>
     ensures found { IfOk result (Finds line.now) }
 {
     find_token(alloc, line)
 }
 
-/// The token behind the blanks of a line, if one stands there.
+/// Returns the token after the blanks of a line, if there is one.
 #[tactic(auto, unfolding(crate::specs::Reading::next_at))]
 fn find_token(alloc: Global, line: &[u8]) -> Result<Found<'_>, NoMemory>
     ensures { IfOk result (Gives (next_at line.now)) }
@@ -48,7 +48,7 @@ fn find_token(alloc: Global, line: &[u8]) -> Result<Found<'_>, NoMemory>
     read_token(alloc, skip_blanks(line))
 }
 
-/// The token at the front of a line that begins with no blank.
+/// Returns the token at the front of a line that does not begin with a blank.
 #[tactic(auto, unfolding(crate::specs::Reading::token_at))]
 fn read_token(alloc: Global, line: &[u8]) -> Result<Found<'_>, NoMemory>
     ensures { IfOk result (Gives (token_at line.now)) }
@@ -65,14 +65,14 @@ fn read_token(alloc: Global, line: &[u8]) -> Result<Found<'_>, NoMemory>
     }
 }
 
-/// Whether the line begins with the quote of a text.
+/// Returns whether the line begins with the quote of a text.
 fn begins_quote(line: &[u8]) -> bool
     ensures { result ≡ begins (λ b. b == 39) line.now }
 {
     matches!(line, [b'\'', ..])
 }
 
-/// The sign that a byte is, if it is one.
+/// Returns the sign that a byte is, if it is one.
 #[tactic(auto, unfolding(crate::specs::Reading::sign_at))]
 fn read_sign(byte: u8, rest: &[u8]) -> Found<'_>
     ensures { Gives (sign_at byte rest.now) result }
@@ -89,7 +89,7 @@ fn read_sign(byte: u8, rest: &[u8]) -> Found<'_>
     Found::Token(Token::Fixed(sign), rest)
 }
 
-/// The name whose first quote stands in front of the line.
+/// Returns the name of a line that begins after the first double quote.
 #[tactic(auto, unfolding(crate::specs::Reading::name_from))]
 fn read_name(alloc: Global, line: &[u8]) -> Result<Found<'_>, NoMemory>
     ensures { IfOk result (Gives (name_from (unquoted 34 false line.now))) }
@@ -103,7 +103,7 @@ fn read_name(alloc: Global, line: &[u8]) -> Result<Found<'_>, NoMemory>
     }
 }
 
-/// The text whose first quote stands in front of the line.
+/// Returns the text of a line that begins after the first quote.
 #[tactic(auto, unfolding(crate::specs::Reading::text_from))]
 fn read_text(alloc: Global, line: &[u8]) -> Result<Found<'_>, NoMemory>
     ensures { IfOk result (Gives (text_from (unquoted 39 false line.now))) }

@@ -10,7 +10,7 @@ use crate::stop::{Stop, misfit_at};
 use std::alloc::Global;
 use std::str;
 
-/// Splits a line in front of its first blank.
+/// Splits a line before its first blank.
 fn split_word(line: &[u8]) -> (&[u8], &[u8])
     ensures joined { line.now ≡ result.0.now ++ result.1.now }
     ensures word { All (λ b. blank b ≡ false) result.0.now }
@@ -23,7 +23,7 @@ fn split_word(line: &[u8]) -> (&[u8], &[u8])
     line.split_at(end)
 }
 
-/// The first word of a line and what is behind it, or None where the line has blanks alone.
+/// Returns the first word of a line and the line after it, or None if the line has only blanks.
 pub fn next_word(line: &[u8]) -> Option<(&[u8], &[u8])>
     ensures { MatchOption result (words_of line.now ≡ []) (λ r. IsNextWord line.now r.0.now r.1.now) }
 {
@@ -34,21 +34,21 @@ pub fn next_word(line: &[u8]) -> Option<(&[u8], &[u8])>
     Some(split_word(rest))
 }
 
-/// Whether a word is this one.
+/// Returns whether two words are equal.
 pub fn is_word(word: &[u8], text: &[u8]) -> bool
     ensures { result ≡ bytes_eq word.now text.now }
 {
     word == text
 }
 
-/// Whether a word may name a slot.
+/// Returns whether a word can be the name of a slot.
 fn is_slot(word: &[u8]) -> bool
     ensures { IsTrue result ↔ IsSlot word.now }
 {
     !word.is_empty() && word.iter().all(|byte| is_word_byte(*byte))
 }
 
-/// A word of UTF-8.
+/// Returns the next word, if it is UTF-8.
 #[tactic(auto, unfolding(crate::specs::Words::text_in))]
 pub fn text(alloc: Global, line: &[u8]) -> Result<(String, &[u8]), Stop>
     ensures { Reads result (λ r. (string_bytes r.0, words_of r.1.now)) (text_in (words_of line.now)) }
@@ -62,7 +62,7 @@ pub fn text(alloc: Global, line: &[u8]) -> Result<(String, &[u8]), Stop>
     }
 }
 
-/// The name of a slot.
+/// Returns the name of a slot, which is the next word.
 #[tactic(auto, unfolding(crate::specs::Words::slot_in))]
 pub fn slot(alloc: Global, line: &[u8]) -> Result<(String, &[u8]), Stop>
     ensures { Reads result (λ r. (string_bytes r.0, words_of r.1.now)) (slot_in (words_of line.now)) }
@@ -75,7 +75,7 @@ pub fn slot(alloc: Global, line: &[u8]) -> Result<(String, &[u8]), Stop>
     }
 }
 
-/// The name of a slot, and nothing behind it.
+/// Returns the name of a slot, which is the last word.
 #[tactic(auto, unfolding(crate::specs::Words::one_slot_in))]
 pub fn one_slot(alloc: Global, line: &[u8]) -> Result<String, Stop>
     ensures { Reads result string_bytes (one_slot_in (words_of line.now)) }
@@ -85,7 +85,7 @@ pub fn one_slot(alloc: Global, line: &[u8]) -> Result<String, Stop>
     Ok(name)
 }
 
-/// Nothing: only blanks are left of the line.
+/// Checks that only blanks are left of the line.
 #[tactic(auto, unfolding(crate::specs::Words::no_word_in))]
 pub fn no_word(line: &[u8]) -> Result<(), Stop>
     ensures { Reads result (λ _. tt) (no_word_in (words_of line.now)) }
