@@ -1,7 +1,7 @@
 -- What is written of a file to undo it, table by table.
 use Rattle.std.proofs.Common.{◌≡◌, ℕ, List, [], ◌++◌, length, map, sym, ap, ◌∙◌, append_assoc}
 use Rattle.std.proofs.lemmas.List.Elements.{recursion_from_All}
-use Rattle.cs_wire.specs.declared.entry.Entry.{Entry}
+use Rattle.cs_entries.specs.declared.entry.Entry.{Entry}
 use Rattle.cs_wire.specs.Entry.{IsEntry, entry_bytes}
 use Rattle.cs_wire.specs.Changeset.{HeaderData, GroupData, IsFileOf, IsGroup, header_bytes, entries_bytes, group_bytes, file_bytes}
 use Rattle.cs_wire.specs.Inverse.{IsInverseEntry}
@@ -9,7 +9,7 @@ use Rattle.cs_wire.specs.Items.{FlaggedEntry}
 use Rattle.cs_tables.specs.Tables.{TablesData, AreLeft, IsNextEntry, IsNextTable}
 use Rattle.cs_wire.specs.Views.{inverse_entry}
 use Rattle.cs_wire.specs.declared.header.HeaderRef.{HeaderRef}
-use Rattle.cs_wire.specs.Items.{header_of}
+use Rattle.cs_wire.specs.Headers.{header_of}
 use Rattle.cs_group.specs.Inverse.{inverse_group}
 use Rattle.cs_group.proofs.InverseGroups.{groups_inverse, inverse_is, IsChangeset-inverse}
 use Rattle.cs_group.proofs.InverseLengths.{inverse_length}

@@ -5,13 +5,13 @@ use Rattle.std.specs.List.{flat_map, cons_option}
 use Rattle.std.proofs.lemmas.Grind.{flat_map-append}
 use Rattle.std.proofs.Math.Seq.{take-append_seam}
 use Rattle.std.proofs.lemmas.List.{get_or_default}
-use Rattle.cs_wire.specs.declared.entry.Entry.{Entry}
+use Rattle.cs_entries.specs.declared.entry.Entry.{Entry}
 use Rattle.cs_wire.specs.Entry.{entry_bytes, key_of}
 use Rattle.cs_wire.specs.Changeset.{HeaderData, GroupData, IsChangeset, IsFileOf, IsGroup, entries_bytes, file_bytes, group_bytes, header_bytes}
 use Rattle.cs_tables.specs.Named.{NamedData, IsTableOf, AreListed, header_at, tables_at, no_table}
 use Rattle.cs_tables.specs.Tables.{TablesData, AreLeft}
 use Rattle.cs_wire.specs.Views.{IsPlaceOf}
-use Rattle.cs_wire.proofs.EntryLemmas.{entry_bytes_some}
+use Rattle.cs_entries.proofs.EntryLemmas.{entry_bytes_some}
 use Rattle.cs_tables.proofs.NamedLemmas.{table_at, tables_length, no_group_named, group_named}
 use Rattle.cs_group.specs.Joining.{AgreesWith, AreJoinable, IsJoined, is_new, if_new, joined, joined_group, key_places, some_group, table_name, with_text}
 use Rattle.cs_group.proofs.JoinLemmas.{agree_found, agrees_found, found_agrees, joined_is_changeset}

@@ -2,7 +2,7 @@
 use Rattle.std.specs.Prelude.{ℕ, List, Option}
 use Rattle.std.specs.Io.KnownBytes.{Appends}
 use Rattle.cs_value.specs.declared.refusal.OrNoMemory.{OrNoMemory}
-use Rattle.cs_wire.specs.declared.fault.ReadFault.{ReadFault}
+use Rattle.cs_entries.specs.declared.fault.ReadFault.{ReadFault}
 use Rattle.cs_wire.specs.Changeset.{GroupData}
 use Rattle.cs_files.specs.declared.fault.PrintFault.{PrintFault}
 use Rattle.cs_files.specs.declared.fault.PrintFault.TheVariants.{Read, Output}

@@ -1,6 +1,6 @@
 //! The inverse of a file, written as the file is read.
 ghost use Rattle.std.specs.Prelude.{◌≡◌, ◌≤◌, ◌++◌, [], List, OnOk, map};
-ghost use Rattle.cs_wire.specs.declared.entry.Entry.{Entry as EntryData};
+ghost use Rattle.cs_entries.specs.declared.entry.Entry.{Entry as EntryData};
 ghost use Rattle.cs_wire.specs.Changeset.{GroupData, entries_bytes, file_bytes};
 ghost use Rattle.cs_tables.specs.Tables.{AreLeft};
 ghost use Rattle.cs_wire.specs.Views.{inverse_entry};

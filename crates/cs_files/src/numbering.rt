@@ -1,7 +1,7 @@
 //! The file of a changeset with numbered key columns.
 ghost use Rattle.std.specs.Prelude.{◌≡◌, ◌++◌, [], List, OnOk};
 ghost use Rattle.cs_wire.specs.Changeset.{GroupData, IsHeader, file_bytes, header_bytes};
-ghost use Rattle.cs_wire.specs.Items.{header_of};
+ghost use Rattle.cs_wire.specs.Headers.{header_of};
 ghost use Rattle.cs_tables.specs.Tables.{AreLeft};
 ghost use Rattle.cs_group.specs.Numbering.{numbered, numbered_header};
 

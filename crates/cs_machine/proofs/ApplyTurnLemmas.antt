@@ -6,7 +6,7 @@ use Rattle.cs_value.specs.State.{State}
 use Rattle.cs_value.specs.declared.refusal.OrNoMemory.{OrNoMemory}
 use Rattle.cs_value.specs.declared.refusal.OrNoMemory.TheVariants as tool
 use Rattle.cs_value.specs.Refusals.{Refuses as RefusesTool}
-use Rattle.cs_wire.specs.declared.fault.ReadFault.{ReadFault}
+use Rattle.cs_entries.specs.declared.fault.ReadFault.{ReadFault}
 use Rattle.cs_wire.specs.ReadFaults.{ReadFails}
 use Rattle.cs_store.specs.Records.{KeepsContent}
 use Rattle.cs_store.specs.Store.{IsAtRest, tables_in}

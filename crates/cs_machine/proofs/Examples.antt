@@ -10,8 +10,8 @@ use Rattle.std.proofs.lemmas.Bool.{cond-true, cond-false}
 use Rattle.std.proofs.lemmas.Str.{IsUtf8-from_is_utf8, is_utf8-from_IsUtf8}
 use Rattle.hex.specs.Hex.{decode_pairs, encode_lower}
 use Rattle.hex.specs.declared.error.FromHexError.TheVariants.{OddLength}
-use Rattle.cs_wire.specs.declared.entry.Change.TheVariants.{Insert}
-use Rattle.cs_wire.specs.declared.fault.ReadFaultKind.TheVariants.{NotTable}
+use Rattle.cs_entries.specs.declared.entry.Change.TheVariants.{Insert}
+use Rattle.cs_entries.specs.declared.fault.ReadFaultKind.TheVariants.{NotTable}
 use Rattle.cs_wire.proofs.Examples.{one_change, row, insert_file, delete_file, update_file, insert_is_spelled}
 use Rattle.cs_wire.proofs.Examples.{insert_is_changeset, letter_is_refused}
 use Rattle.cs_lines.specs.Commands.{Load, Hex, Invert, Concat, Dump, IsSlot}

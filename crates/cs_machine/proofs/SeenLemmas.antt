@@ -9,7 +9,7 @@ use Rattle.std.proofs.lemmas.List.Elements.{recursion_from_All}
 use Rattle.cs_value.specs.declared.value.OwnedValue.{OwnedValue}
 use Rattle.cs_value.specs.State.{State, WrittenData, schema_at, rows_at, row_at, with_rows}
 use Rattle.cs_value.proofs.ListLemmas.{PairsByRecursion, recursion_from_AllPairs}
-use Rattle.cs_wire.specs.declared.entry.Entry.{Entry}
+use Rattle.cs_entries.specs.declared.entry.Entry.{Entry}
 use Rattle.cs_wire.specs.Changeset.{HeaderData, GroupData}
 use Rattle.cs_wire.specs.Inverse.{IsInverseGroup, IsInverseEntry}
 use Rattle.cs_group.specs.declared.conflict.Kind.{Kind}

@@ -8,7 +8,7 @@ use Rattle.hex.specs.Hex.{encode_lower, decode_of}
 use Rattle.hex.specs.declared.error.FromHexError.{FromHexError}
 use Rattle.cs_value.specs.declared.value.OwnedValue.{OwnedValue}
 use Rattle.cs_value.specs.State.{SchemaData, State, schema_at, rows_at, row_at}
-use Rattle.cs_wire.specs.declared.fault.ReadFault.{ReadFault}
+use Rattle.cs_entries.specs.declared.fault.ReadFault.{ReadFault}
 use Rattle.cs_wire.specs.Changeset.{GroupData, IsChangeset, file_bytes}
 use Rattle.cs_wire.specs.ReadFaults.{ReadFails}
 use Rattle.cs_group.specs.declared.conflict.Choice.{Choice}

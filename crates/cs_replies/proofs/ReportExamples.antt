@@ -1,7 +1,7 @@
 -- The text of what an apply did, on a table `t` of two columns, with the first as its key.
 use Rattle.std.proofs.Common.{◌≡◌, false, Some, [], codes, refl}
 use Rattle.std.specs.Fmt.{digits}
-use Rattle.cs_wire.specs.declared.entry.Change.TheVariants.{Insert}
+use Rattle.cs_entries.specs.declared.entry.Change.TheVariants.{Insert}
 use Rattle.cs_wire.proofs.Examples.{row}
 use Rattle.cs_group.specs.declared.conflict.Kind.TheVariants.{Conflict}
 use Rattle.cs_group.specs.declared.conflict.Choice.TheVariants.{Replace}

@@ -8,7 +8,7 @@ use Rattle.std.proofs.lemmas.List.Elements.{All-nil, All-cons}
 use Rattle.std.proofs.lemmas.Option.{none-some}
 use Rattle.cs_value.specs.State.{SchemaData, State, schema_at}
 use Rattle.cs_value.proofs.ListLemmas.{AllByRecursion-append, AllByRecursion-weaker}
-use Rattle.cs_wire.specs.declared.entry.Entry.{Entry}
+use Rattle.cs_entries.specs.declared.entry.Entry.{Entry}
 use Rattle.cs_wire.specs.Entry.{key_of}
 use Rattle.cs_wire.specs.Changeset.{HeaderData, GroupData}
 use Rattle.cs_wire.specs.Items.{FlaggedEntry}

@@ -8,16 +8,17 @@ use Rattle.std.proofs.lemmas.List.Elements.{recursion_from_All}
 use Rattle.std.proofs.Math.Seq.{get_or-append_seam, take-append_seam}
 use Rattle.cs_value.specs.State.{State}
 use Rattle.cs_value.proofs.ListLemmas.{AllByRecursion-append_left, AllByRecursion-at, AllByRecursion-append_right, AllByRecursion-map, AllPairs-before, map_more_at, take_more_at}
-use Rattle.cs_wire.specs.declared.entry.Entry.{Entry}
+use Rattle.cs_entries.specs.declared.entry.Entry.{Entry}
 use Rattle.cs_wire.specs.declared.header.HeaderRef.{HeaderRef}
 use Rattle.cs_wire.specs.declared.item.Item.TheVariants as item
 use Rattle.cs_wire.specs.Entry.{IsEntry, key_of}
 use Rattle.cs_wire.specs.Changeset.{HeaderData, GroupData, IsChangeset, IsFileOf, IsGroup}
 use Rattle.cs_wire.specs.Cursor.{Begins, IsBegun, IsNext, IsOpen, last_flags, with_entry, with_item}
-use Rattle.cs_wire.specs.Items.{FlaggedEntry, header_of}
+use Rattle.cs_wire.specs.Headers.{header_of}
+use Rattle.cs_wire.specs.Items.{FlaggedEntry}
 use Rattle.cs_wire.specs.Views.{inverse_entry}
 use Rattle.cs_wire.proofs.CursorLemmas.{last_flags-last, with_entry-last}
-use Rattle.cs_wire.proofs.InverseLemmas.{key_of-inverse}
+use Rattle.cs_entries.proofs.InverseLemmas.{key_of-inverse}
 use Rattle.cs_group.specs.Applying.{refuses_at}
 use Rattle.cs_group.specs.declared.judging.Judgement.TheVariants.{Compatible}
 use Rattle.cs_group.specs.Inverse.{inverse_group}

@@ -9,7 +9,7 @@ use Rattle.cs_value.specs.Value.{IsRow}
 use Rattle.cs_value.specs.Table.{IsKeyedRow}
 use Rattle.cs_value.specs.Key.{row_key}
 use Rattle.cs_value.specs.State.{SchemaData, TableData, State, Obeys}
-use Rattle.cs_wire.specs.declared.entry.Change.TheVariants.{Insert}
+use Rattle.cs_entries.specs.declared.entry.Change.TheVariants.{Insert}
 use Rattle.cs_wire.specs.Entry.{before_image}
 use Rattle.cs_wire.specs.Changeset.{HeaderData}
 use Rattle.cs_rows.specs.Rows.{Fits}

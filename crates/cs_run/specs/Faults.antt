@@ -1,7 +1,7 @@
 -- What a run is refused with: this project's own numbers and names, and the result codes of SQLite.
 use Rattle.std.specs.Prelude.{ℕ, List, codes}
 use Rattle.cs_value.specs.declared.refusal.OrNoMemory.TheVariants as read_error
-use Rattle.cs_wire.specs.declared.fault.ReadFault.{ReadFault}
+use Rattle.cs_entries.specs.declared.fault.ReadFault.{ReadFault}
 use Rattle.cs_value.specs.declared.refusal.OrNoMemory.{OrNoMemory}
 use Rattle.cs_wire.specs.ReadFaults as reading
 use Rattle.cs_rows.specs.declared.fault.StoreError.{StoreError}

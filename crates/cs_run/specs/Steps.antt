@@ -3,7 +3,7 @@ use Rattle.std.specs.Prelude.{◌≡◌, ◌⊎◌, ℕ, ◌+◌, length, Bool, 
 use Rattle.std.specs.List.{flat_map}
 use Rattle.cs_value.specs.declared.value.OwnedValue.{OwnedValue}
 use Rattle.cs_value.specs.State.{State, SchemaData, schema_at, with_row, without_row}
-use Rattle.cs_wire.specs.declared.entry.Change.{Change}
+use Rattle.cs_entries.specs.declared.entry.Change.{Change}
 use Rattle.cs_wire.specs.Changeset.{HeaderData}
 use Rattle.cs_wire.specs.Items.{FlaggedEntry}
 use Rattle.cs_rows.specs.declared.fault.StoreError.TheVariants.{DamagedStore}

@@ -3,9 +3,9 @@ ghost use Rattle.std.specs.Prelude.{◌≡◌, ◌↔◌, ◌<◌, ◌≤◌, �
 ghost use Rattle.std.specs.Fn.{FnReturnsAt};
 ghost use Rattle.std.specs.Rc.{rc_str_bytes};
 ghost use Rattle.cs_value.specs.State.{State, schema_at};
-ghost use Rattle.cs_wire.specs.declared.entry.Entry.{Entry as EntryData};
+ghost use Rattle.cs_entries.specs.declared.entry.Entry.{Entry as EntryData};
 ghost use Rattle.cs_wire.specs.Changeset.{GroupData, HeaderData};
-ghost use Rattle.cs_wire.specs.Items.{header_of};
+ghost use Rattle.cs_wire.specs.Headers.{header_of};
 ghost use Rattle.cs_group.specs.Applying.{refuses_at};
 ghost use Rattle.cs_group.specs.declared.judging.Judgement.TheVariants.{Compatible as CompatibleTable};
 ghost use Rattle.cs_group.specs.declared.conflict.Noop.TheVariants.{Report as Reported};

@@ -10,8 +10,8 @@ use Rattle.std.specs.Fmt.{digits}
 use Rattle.std.proofs.KnownBytes.{Appends-nil}
 use Rattle.std.proofs.lemmas.Str.{IsUtf8-from_is_utf8}
 use Rattle.hex.specs.Hex.{encode_with, encode_lower}
-use Rattle.cs_wire.specs.declared.entry.Change.TheVariants.{Insert}
-use Rattle.cs_wire.specs.declared.fault.ReadFaultKind.TheVariants.{EmptyGroup}
+use Rattle.cs_entries.specs.declared.entry.Change.TheVariants.{Insert}
+use Rattle.cs_entries.specs.declared.fault.ReadFaultKind.TheVariants.{EmptyGroup}
 use Rattle.cs_wire.proofs.Examples.{one_change, row, delete_file}
 use Rattle.cs_lines.specs.Commands.{Hex}
 use Rattle.cs_replies.specs.ErrorLines.{refusal_text}

@@ -3,7 +3,7 @@ use Rattle.std.proofs.Common.{◌≡◌, ◌≢◌, ℕ, ◌<◌, ◌≤◌, Lis
 use Rattle.std.proofs.lemmas.List.{append-nil, drop_all, length-map, map-append}
 use Rattle.std.proofs.lemmas.List.Concat.{flat_map-append}
 use Rattle.std.proofs.lemmas.List.Elements.{All-nil, All-push}
-use Rattle.cs_wire.specs.declared.entry.Entry.{Entry}
+use Rattle.cs_entries.specs.declared.entry.Entry.{Entry}
 use Rattle.cs_wire.specs.Entry.{IsEntry, entry_bytes, key_of}
 use Rattle.cs_wire.specs.Changeset.{HeaderData, GroupData, IsAccepted, IsGroup, IsHeader, header_bytes, entries_bytes, group_bytes, file_bytes}
 use Rattle.cs_tables.specs.Checked.{HasEntries, HasGroup, HasGroups}
@@ -12,7 +12,7 @@ use Rattle.cs_wire.specs.Items.{FlaggedEntry}
 use Rattle.cs_wire.specs.ReadFaults.{Stands}
 use Rattle.cs_tables.proofs.DistinctLemmas.{texts_differ}
 use Rattle.cs_wire.proofs.GroupsLemmas.{Stands-group, group_bytes_some}
-use Rattle.cs_wire.proofs.ReadingLemmas.{Stands-moves, Stands-then}
+use Rattle.cs_entries.proofs.ReadingLemmas.{Stands-moves, Stands-then}
 
 -- no entry was passed
 pub HasEntries-none : (file : List ℕ) (at : ℕ) (flags : List ℕ) → at ≤ length file → HasEntries file at flags [] at

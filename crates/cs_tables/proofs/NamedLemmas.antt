@@ -1,9 +1,9 @@
 -- Tables of a file that are listed.
 use Rattle.std.proofs.Common.{◌≡◌, ◌≢◌, ℕ, zero, suc, ◌<◌, List, [], ◌∷◌, ◌++◌, length, drop, get_or, All, refl, sym, ap, subst, ◌∙◌, append_assoc, arith}
-use Rattle.cs_wire.specs.declared.entry.Entry.{Entry}
+use Rattle.cs_entries.specs.declared.entry.Entry.{Entry}
 use Rattle.cs_wire.specs.declared.header.HeaderRef.{HeaderRef}
 use Rattle.cs_wire.specs.Changeset.{HeaderData, GroupData}
-use Rattle.cs_wire.specs.Items.{header_of}
+use Rattle.cs_wire.specs.Headers.{header_of}
 use Rattle.cs_tables.specs.Named.{NamedTable, NamedData, IsTableOf, AreTablesOf, AreListed, tables_from, no_table}
 use Rattle.cs_tables.specs.Tables.{TablesData, AreLeft, IsNextTable}
 use Rattle.cs_wire.specs.Views.{IsPlaceOf}

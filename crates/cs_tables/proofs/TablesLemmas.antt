@@ -4,16 +4,17 @@ use Rattle.std.specs.Prelude.{Option, Some, None, is_some}
 use Rattle.std.specs.List.{AllByRecursion}
 use Rattle.std.proofs.lemmas.List.{drop_all, length-drop}
 use Rattle.std.proofs.lemmas.List.Elements.{recursion_from_All}
-use Rattle.cs_wire.specs.declared.entry.Entry.{Entry}
+use Rattle.cs_entries.specs.declared.entry.Entry.{Entry}
 use Rattle.cs_wire.specs.declared.header.HeaderRef.{HeaderRef}
 use Rattle.cs_wire.specs.Entry.{IsEntry, entry_bytes}
 use Rattle.cs_wire.specs.Changeset.{HeaderData, GroupData, IsFileOf, IsGroup, IsHeader, entries_bytes, group_bytes, file_bytes, header_bytes}
-use Rattle.cs_wire.specs.Items.{FlaggedEntry, header_of}
+use Rattle.cs_wire.specs.Headers.{header_of}
+use Rattle.cs_wire.specs.Items.{FlaggedEntry}
 use Rattle.cs_wire.specs.ReadFaults.{Stands, HasEntry}
 use Rattle.cs_tables.specs.Tables.{TablesData, AreLeft, IsNextEntry, IsNextTable, NextEntry}
 use Rattle.cs_wire.proofs.EntriesLemmas.{HasEntry-entry, not_ended}
 use Rattle.cs_wire.proofs.GroupsLemmas.{ends_group, group_bytes-append, group_bytes_some}
-use Rattle.cs_wire.proofs.ReadingLemmas.{rest_is}
+use Rattle.cs_entries.proofs.ReadingLemmas.{rest_is}
 
 abbrev at_place : List ℕ → ℕ → List ℕ → TablesData
 at_place file place flags = record { file = file; place = place; flags = flags }

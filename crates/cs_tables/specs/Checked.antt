@@ -1,6 +1,6 @@
 -- What a quick pass through a file has found so far. No public contract names this.
 use Rattle.std.specs.Prelude.{◌≡◌, ℕ, List, [], ◌∷◌, ◌++◌, map, All}
-use Rattle.cs_wire.specs.declared.entry.Entry.{Entry}
+use Rattle.cs_entries.specs.declared.entry.Entry.{Entry}
 use Rattle.cs_wire.specs.Entry.{IsEntry, key_of}
 use Rattle.cs_wire.specs.Changeset.{GroupData, IsGroup, entries_bytes, group_bytes, file_bytes}
 use Rattle.cs_tables.specs.Distinct.{number_of}

@@ -8,5 +8,6 @@ pub use Rattle.cs_wire.specs.Entry
 pub use Rattle.cs_wire.specs.Changeset
 pub use Rattle.cs_wire.specs.ReadFaults
 pub use Rattle.cs_wire.specs.Items
+pub use Rattle.cs_wire.specs.Headers
 pub use Rattle.cs_wire.specs.Views
 pub use Rattle.cs_wire.specs.Keyed

@@ -1,11 +1,12 @@
 -- What is left of a changeset's file that is gone through table by table; this project's own.
 use Rattle.std.specs.Prelude.{◌≡◌, ℕ, ◌≤◌, List, [], ◌∷◌, ◌++◌, length, drop, Option, Some, None}
 use Rattle.std.specs.List.{AllByRecursion}
-use Rattle.cs_wire.specs.declared.entry.Entry.{Entry}
+use Rattle.cs_entries.specs.declared.entry.Entry.{Entry}
 use Rattle.cs_wire.specs.declared.header.HeaderRef.{HeaderRef}
 use Rattle.cs_wire.specs.Entry.{IsEntry}
 use Rattle.cs_wire.specs.Changeset.{GroupData, IsGroup, entries_bytes, file_bytes}
-use Rattle.cs_wire.specs.Items.{FlaggedEntry, header_of}
+use Rattle.cs_wire.specs.Headers.{header_of}
+use Rattle.cs_wire.specs.Items.{FlaggedEntry}
 
 -- what contracts see: the file, the place in it, and the flags of the table that is open, none before the first
 pub record TablesData : Type 0 where

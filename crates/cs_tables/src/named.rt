@@ -1,8 +1,8 @@
 //! The tables of a changeset's file by their names.
 ghost use Rattle.std.specs.Prelude.{◌≡◌, ◌≢◌, ◌<◌, ◌↔◌, All, IfOk, IfSome, IsTrue, List, is_none, length};
-ghost use Rattle.cs_wire.specs.declared.entry.Entry.{Entry as EntryData};
+ghost use Rattle.cs_entries.specs.declared.entry.Entry.{Entry as EntryData};
 ghost use Rattle.cs_wire.specs.Changeset.{GroupData, IsHeader};
-ghost use Rattle.cs_wire.specs.Items.{header_of};
+ghost use Rattle.cs_wire.specs.Headers.{header_of};
 ghost use Rattle.cs_tables.specs.Named.{AreListed, header_at, tables_at};
 ghost use Rattle.cs_tables.specs.Tables.{AreLeft};
 ghost use Rattle.cs_wire.specs.Views.{IsPlaceOf};
@@ -36,7 +36,7 @@ impl<'a> Model for NamedTables<'a> {
     ghost use Rattle.std.specs.Prelude.{map};
     ghost use Rattle.std.specs.List.{AllByRecursion};
     ghost use Rattle.cs_wire.specs.Changeset.{IsHeader};
-    ghost use Rattle.cs_wire.specs.Items.{header_of};
+    ghost use Rattle.cs_wire.specs.Headers.{header_of};
     ghost use Rattle.cs_tables.specs.Named.{NamedData, table_of};
     ghost use Rattle.cs_wire.specs.Views.{IsIndex};
 

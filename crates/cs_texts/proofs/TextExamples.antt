@@ -4,7 +4,7 @@ use Rattle.std.specs.Fmt.{digits}
 use Rattle.hex.specs.Hex.{encode_with}
 use Rattle.cs_value.specs.declared.value.OwnedValue.{OwnedValue}
 use Rattle.cs_value.specs.declared.value.OwnedValue.TheVariants.{Int, Text, Blob, Null}
-use Rattle.cs_wire.specs.declared.entry.Change.TheVariants.{Insert, Delete}
+use Rattle.cs_entries.specs.declared.entry.Change.TheVariants.{Insert, Delete}
 use Rattle.cs_wire.proofs.Examples.{one_change, x, y, row, update, idle_update}
 use Rattle.cs_value.specs.Quoting.{doubled}
 use Rattle.cs_texts.specs.Texts.{literal, separated, field_text, header_text, entry_text, group_text, dump_of}

@@ -6,8 +6,8 @@ use Rattle.cs_value.specs.declared.value.OwnedValue.{OwnedValue}
 use Rattle.cs_value.specs.declared.value.OwnedField.{OwnedField}
 use Rattle.cs_value.specs.declared.value.OwnedField.TheVariants.{Defined}
 use Rattle.cs_value.specs.Quoting.{doubled, quoted}
-use Rattle.cs_wire.specs.declared.entry.Change.{Change}
-use Rattle.cs_wire.specs.declared.entry.Change.TheVariants.{Insert, Delete, Update}
+use Rattle.cs_entries.specs.declared.entry.Change.{Change}
+use Rattle.cs_entries.specs.declared.entry.Change.TheVariants.{Insert, Delete, Update}
 use Rattle.cs_wire.specs.Entry.{before_image}
 use Rattle.cs_wire.specs.Items.{new_record}
 use Rattle.cs_texts.specs.Texts.{literal, separated, field_text, flag_text, entry_text, statement, assignment, assignments, by_place, conditions}

@@ -1,7 +1,7 @@
 -- The forms in which changesets are printed: what each makes of the parts of one. No public contract names this.
 use Rattle.std.specs.Prelude.{ℕ, List, [], ◌++◌}
 use Rattle.std.specs.List.{flat_map}
-use Rattle.cs_wire.specs.declared.entry.Entry.{Entry}
+use Rattle.cs_entries.specs.declared.entry.Entry.{Entry}
 use Rattle.cs_wire.specs.Changeset.{HeaderData, GroupData}
 use Rattle.cs_texts.specs.declared.texts.form.Form.{Form}
 use Rattle.cs_texts.specs.declared.texts.form.Form.TheVariants.{Dump, Sql}

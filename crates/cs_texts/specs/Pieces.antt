@@ -5,8 +5,8 @@ use Rattle.cs_value.specs.Value.{value_of}
 use Rattle.cs_value.specs.declared.value.OwnedValue.{OwnedValue}
 use Rattle.cs_value.specs.declared.value.OwnedField.{OwnedField}
 use Rattle.cs_value.specs.declared.value.OwnedField.TheVariants.{Undefined, Defined}
-use Rattle.cs_wire.specs.declared.entry.Change.{Change}
-use Rattle.cs_wire.specs.declared.entry.Change.TheVariants.{Insert, Delete, Update}
+use Rattle.cs_entries.specs.declared.entry.Change.{Change}
+use Rattle.cs_entries.specs.declared.entry.Change.TheVariants.{Insert, Delete, Update}
 use Rattle.cs_texts.specs.declared.texts.piece.Piece.{Piece}
 use Rattle.cs_texts.specs.declared.texts.piece.Piece.TheVariants as line
 use Rattle.cs_texts.specs.declared.texts.sql.Terms.{Terms}

@@ -2,8 +2,8 @@
 ghost use Rattle.std.specs.Prelude.{◌≡◌};
 ghost use Rattle.cs_wire.specs.Cursor.{answer_of, ending_of as ending_of_answer};
 
-use crate::fault::{ReadError, ReadFault};
 use crate::item::Item;
+use cs_entries::{ReadError, ReadFault};
 
 /// How a cursor came to its end.
 #[derive(Clone, Copy, Debug)]

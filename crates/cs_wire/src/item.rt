@@ -1,7 +1,7 @@
 //! What a cursor hands out.
 
-use crate::entry_ref::EntryRef;
 use crate::header::HeaderRef;
+use cs_entries::EntryRef;
 
 /// A part of a changeset, where it stands in the file.
 #[derive(Debug, Drop)]

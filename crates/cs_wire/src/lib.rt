@@ -22,13 +22,11 @@
 //! }
 //! ```
 //!
-//! `header`, `entry`, `group` and `changeset` are what a file holds. `reader` and `writer` go from
-//! bytes to that and back, `fault` says why a file is refused, and `format` names the bytes of the
-//! format. A `cursor` goes through a file by a `walk`, until its `ending`, and returns each `item`
-//! borrowed from the file; a name or a key that it has `seen` before is a fault. `draft` collects the
-//! tables that `reader` reads. An `entry_ref` has `fields`, of a `record_ref`, which is `spelled` in a
-//! file or owned. `places` indexes owned entries and groups, `inverse` inverts entries, and `laws` has
-//! what holds of all changesets. `CALLING.md`, next to this folder, shows a caller.
+//! `header`, `group` and `changeset` are what a file holds besides its entries, which `cs_entries` has. `reader` and
+//! `writer` go from bytes to that and back. A `cursor` goes through a file by a `walk`, until its `ending`, and returns
+//! each `item` borrowed from the file; a name or a key that it has `seen` before is a fault. `draft` collects the tables
+//! that `reader` reads. `places` indexes entries and groups, and `laws` has what holds of all changesets. The names of
+//! `cs_entries` are passed on. `CALLING.md`, next to this folder, shows a caller.
 //!
 //! `read_header`, `has_entry`, `read_entry` and `word_of` are for the crate above, `cs_tables`.
 #![tactic(auto)]
@@ -37,35 +35,26 @@ mod changeset;
 mod cursor;
 mod draft;
 mod ending;
-mod entry;
-mod entry_ref;
-mod fault;
-mod fields;
-mod format;
 mod group;
 mod header;
-mod inverse;
 mod item;
 mod laws;
 mod places;
 mod reader;
-mod record_ref;
 mod seen;
-mod spelled;
 mod walk;
 mod writer;
 
 pub use changeset::Changeset;
+pub use cs_entries::{
+    Change, Entry, EntryRef, Fields, ReadError, ReadFault, ReadFaultKind, has_entry, read_entry,
+};
 pub use cursor::Cursor;
-pub use entry::{Change, Entry};
-pub use entry_ref::EntryRef;
-pub use fault::{ReadError, ReadFault, ReadFaultKind};
-pub use fields::Fields;
 pub use group::Group;
 pub use header::{Header, HeaderRef};
 pub use item::Item;
 pub use laws::{changeset_files_law, entry_inverses_law, row_keys_law};
 pub use reader::header::read_header;
-pub use reader::{has_entry, read, read_entry};
+pub use reader::read;
 pub use seen::word_of;
 pub use writer::write;

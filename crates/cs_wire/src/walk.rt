@@ -1,18 +1,17 @@
 //! Walking through a file, from one item to the next.
 ghost use Rattle.std.specs.Prelude.{◌≡◌, ◌↔◌, ◌<◌, ◌≤◌, ◌++◌, ◌∷◌, [], false, length, IfErr, IfOk, IfSome, IsTrue, List, Ok, None};
 ghost use Rattle.cs_value.specs.Refusals.{Refuses};
-ghost use Rattle.cs_wire.specs.Entry.{IsEntry};
-ghost use Rattle.cs_wire.specs.Changeset.{GroupData, IsFileOf, IsHeader, IsNewName};
+ghost use Rattle.cs_entries.specs.Entry.{IsEntry};
+ghost use Rattle.cs_entries.specs.Changeset.{GroupData, IsFileOf, IsHeader, IsNewName};
 ghost use Rattle.cs_value.specs.Table.{IsFlags};
-ghost use Rattle.cs_wire.specs.ReadFaults.{HasEntry, ReadFails};
+ghost use Rattle.cs_entries.specs.ReadFaults.{HasEntry, ReadFails};
 
-use crate::entry_ref::EntryRef;
-use crate::fault::{ReadError, ReadFaultKind};
 use crate::header::HeaderRef;
 use crate::item::Item;
 use crate::reader::header::read_header;
-use crate::reader::{has_entry, read_entry, refuse};
+use crate::reader::refuse;
 use crate::seen::Seen;
+use cs_entries::{EntryRef, ReadError, ReadFaultKind, has_entry, read_entry};
 use std::alloc::Global;
 use std::borrow::CowSlice;
 use std::marker::Model;
@@ -44,7 +43,7 @@ impl<'a> Model for Walk<'a> {
 
 impl<'a> Walk<'a> {
     ghost use Rattle.cs_wire.specs.Cursor.{Begins, IsItem, IsNext, with_entry, with_item, last_flags};
-    ghost use Rattle.cs_wire.specs.Items.{header_of};
+    ghost use Rattle.cs_wire.specs.Headers.{header_of};
     /// Before a file.
     pub(crate) fn new(alloc: Global, file: &'a [u8]) -> Walk<'a>
         ensures { result ≡ record { file = file.now; place = 0; flags = []; is_bare = false } }

@@ -1,11 +1,10 @@
 //! Writing the files of changesets.
-ghost use Rattle.std.specs.Prelude.{◌≡◌, ◌++◌, ◌∷◌, [], if◌then◌else◌, IfOk, OnErr, OnOk, length, take};
-ghost use Rattle.cs_wire.specs.Changeset.{IsHeader, header_bytes, group_bytes, file_bytes};
+ghost use Rattle.std.specs.Prelude.{◌≡◌, ◌++◌, IfOk, OnErr, OnOk, length, take};
+ghost use Rattle.cs_entries.specs.Changeset.{IsHeader, header_bytes, group_bytes, file_bytes};
 
 use crate::changeset::Changeset;
-use crate::entry_ref::EntryRef;
-use crate::format::TABLE;
 use crate::group::Group;
+use cs_entries::{EntryRef, TABLE};
 use cs_value::{NoMemory, varint_write};
 use std::alloc::Global;
 
@@ -34,7 +33,7 @@ fn write_group(out: &mut Vec<u8>, group: &Group) -> Result<(), NoMemory>
     Ok(())
 }
 
-#[tactic(auto, unfolding(crate::specs::Changeset::header_bytes, crate::specs::Changeset::flags_bytes))]
+#[tactic(auto, unfolding(cs_entries::specs::Changeset::header_bytes, cs_entries::specs::Changeset::flags_bytes))]
 pub(crate) fn write_header(out: &mut Vec<u8>, name: &str, flags: &[u8]) -> Result<(), NoMemory>
     requires { IsHeader (record { name = name.now; flags = flags.now }) }
     ensures ok { OnOk result (out.new.items ≡ out.old.items ++ header_bytes (record { name = name.now; flags = flags.now })) }
@@ -46,34 +45,4 @@ pub(crate) fn write_header(out: &mut Vec<u8>, name: &str, flags: &[u8]) -> Resul
     out.extend_from_slice(name.as_bytes())?;
     out.push(0)?;
     Ok(())
-}
-
-/// Appends the operation and the indirect flag of an entry.
-pub(crate) fn write_operation(
-    out: &mut Vec<u8>,
-    operation: u8,
-    indirect: bool,
-) -> Result<(), NoMemory>
-    ensures ok { OnOk result (out.new.items ≡ out.old.items ++ operation ∷ (if indirect then 1 else 0) ∷ []) }
-    ensures err { OnErr result (take (length out.old.items) out.new.items ≡ out.old.items) }
-{
-    out.push(operation)?;
-    out.push(u8::from(indirect))?;
-    Ok(())
-}
-
-/// Takes back what a write has left that was refused: the bytes from this place on.
-pub(crate) fn undo_refused(
-    out: &mut Vec<u8>,
-    start: usize,
-    written: Result<(), NoMemory>,
-) -> Result<(), NoMemory>
-    ensures same { result ≡ written }
-    ensures ok { OnOk result (out.new.items ≡ out.old.items) }
-    ensures err { OnErr result (out.new.items ≡ take start out.old.items) }
-{
-    if written.is_err() {
-        out.truncate(start);
-    }
-    written
 }

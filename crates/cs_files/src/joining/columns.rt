@@ -1,7 +1,7 @@
 //! Whether the tables of two files have the same columns.
 ghost use Rattle.std.specs.Prelude.{◌≡◌, ◌↔◌, List, IfNone, IfSome, IsTrue};
 ghost use Rattle.cs_wire.specs.Changeset.{GroupData, IsChangeset};
-ghost use Rattle.cs_wire.specs.Items.{header_of};
+ghost use Rattle.cs_wire.specs.Headers.{header_of};
 ghost use Rattle.cs_tables.specs.Named.{AreListed};
 ghost use Rattle.cs_group.specs.Joining.{AgreesWith, AreJoinable, FirstClash, key_places, table_name, with_text};
 ghost use Rattle.cs_files.specs.Writing.{IsPartner};

@@ -1,6 +1,6 @@
 //! The entries of a table of a concatenation.
 ghost use Rattle.std.specs.Prelude.{◌≡◌, ◌≢◌, ◌<◌, ◌++◌, [], ℕ, All, IfOk, IfSome, IsTrue, List, OnOk, false, filter, filter_map, if◌then◌else◌, is_none, length, replicate};
-ghost use Rattle.cs_wire.specs.declared.entry.Entry.{Entry as EntryData};
+ghost use Rattle.cs_entries.specs.declared.entry.Entry.{Entry as EntryData};
 ghost use Rattle.cs_wire.specs.Entry.{entry_bytes, key_of};
 ghost use Rattle.cs_wire.specs.Changeset.{GroupData, entries_bytes};
 ghost use Rattle.cs_tables.specs.Tables.{AreLeft};

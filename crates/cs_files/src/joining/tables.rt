@@ -1,8 +1,8 @@
 //! The tables of a concatenation.
 ghost use Rattle.std.specs.Prelude.{◌≡◌, ◌≤◌, ◌++◌, [], List, IfSome, OnOk, filter, filter_map};
-ghost use Rattle.cs_wire.specs.declared.entry.Entry.{Entry as EntryData};
+ghost use Rattle.cs_entries.specs.declared.entry.Entry.{Entry as EntryData};
 ghost use Rattle.cs_wire.specs.Changeset.{GroupData, IsChangeset, IsHeader, entries_bytes, file_bytes, group_bytes};
-ghost use Rattle.cs_wire.specs.Items.{header_of};
+ghost use Rattle.cs_wire.specs.Headers.{header_of};
 ghost use Rattle.cs_tables.specs.Named.{AreListed};
 ghost use Rattle.cs_tables.specs.Tables.{AreLeft};
 ghost use Rattle.cs_group.specs.Joining.{AreJoinable, if_new, is_new, joined_entries, joined_group, key_places, outcome, some_group, table_name, with_text};

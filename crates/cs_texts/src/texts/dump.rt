@@ -1,6 +1,6 @@
 //! The text with a line for each table and each entry.
 ghost use Rattle.std.specs.Prelude.{◌≡◌};
-ghost use Rattle.cs_wire.specs.Items.{header_of};
+ghost use Rattle.cs_wire.specs.Headers.{header_of};
 ghost use Rattle.cs_texts.specs.Gathering.{Gathers};
 ghost use Rattle.cs_texts.specs.Texts.{flag_text, header_text, entry_text};
 ghost use Rattle.cs_texts.specs.Pieces.{change_text, record_text};

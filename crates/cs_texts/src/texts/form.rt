@@ -1,5 +1,5 @@
 //! The forms in which changesets are printed.
-ghost use Rattle.cs_wire.specs.Items.{header_of};
+ghost use Rattle.cs_wire.specs.Headers.{header_of};
 ghost use Rattle.cs_texts.specs.Gathering.{Gathers};
 ghost use Rattle.cs_texts.specs.Forms.{header_part, entry_part};
 

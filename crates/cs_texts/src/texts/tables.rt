@@ -1,9 +1,9 @@
 //! Changesets in a file, printed as the file is read.
 ghost use Rattle.std.specs.Prelude.{◌≡◌, ◌≤◌, ◌++◌, [], List, OnOk};
 ghost use Rattle.std.specs.List.{flat_map};
-ghost use Rattle.cs_wire.specs.declared.entry.Entry.{Entry as EntryData};
+ghost use Rattle.cs_entries.specs.declared.entry.Entry.{Entry as EntryData};
 ghost use Rattle.cs_wire.specs.Changeset.{GroupData};
-ghost use Rattle.cs_wire.specs.Items.{header_of};
+ghost use Rattle.cs_wire.specs.Headers.{header_of};
 ghost use Rattle.cs_tables.specs.Tables.{AreLeft};
 ghost use Rattle.cs_texts.specs.Gathering.{Gathers};
 ghost use Rattle.cs_texts.specs.Forms.{header_part, entry_part, form_text};

@@ -1,6 +1,6 @@
 -- `numbering::write_numbered_header`: what `write_to` asks for.
 use Rattle.std.proofs.Common.{◌≡◌, rules}
-use Rattle.cs_wire.specs.Items.{header_of}
+use Rattle.cs_wire.specs.Headers.{header_of}
 use Rattle.cs_group.specs.Numbering.{numbered_flags}
 use Rattle.cs_group.proofs.NumberingLemmas.{IsHeader-numbered}
 use Rattle.cs_files.proofs.numbering.write_numbered_header.Goals as goal

@@ -3,9 +3,10 @@ use Rattle.std.proofs.Common.{◌≡◌, ◌<◌, [], List, ℕ, length, take, g
 use Rattle.std.specs.Fn.{FnReturnsAt}
 use Rattle.std.specs.Rc.{rc_str_bytes}
 use Rattle.std.proofs.lemmas.List.{take_all}
-use Rattle.cs_wire.specs.declared.entry.Entry.{Entry}
+use Rattle.cs_entries.specs.declared.entry.Entry.{Entry}
 use Rattle.cs_wire.specs.Changeset.{HeaderData}
-use Rattle.cs_wire.specs.Items.{FlaggedEntry, header_of}
+use Rattle.cs_wire.specs.Headers.{header_of}
+use Rattle.cs_wire.specs.Items.{FlaggedEntry}
 use Rattle.cs_group.specs.Applying.{refuses_at}
 use Rattle.cs_group.proofs.ApplyLemmas.{judged_same, refuses_same}
 use Rattle.cs_run.specs.Run.{directed_entry, group_of}

@@ -1,6 +1,6 @@
 -- `running::directed`: what it ensures of an inverse.
 use Rattle.std.proofs.Common.{◌≡◌, List, ℕ, ap₂}
-use Rattle.cs_wire.specs.declared.entry.Entry.{Entry}
+use Rattle.cs_entries.specs.declared.entry.Entry.{Entry}
 use Rattle.cs_wire.specs.Views.{inverse_entry}
 use Rattle.cs_group.proofs.InverseGroups.{inverse_is}
 use Rattle.cs_run.proofs.running.directed.Goals as goal

@@ -1,8 +1,8 @@
 -- `checked::pass_entries`: the loop.
 use Rattle.std.proofs.Common.{arith}
 use Rattle.cs_tables.proofs.CheckedLemmas.{HasEntries-push}
-use Rattle.cs_wire.proofs.EntryLemmas.{entry_bytes_some}
-use Rattle.cs_wire.proofs.ReadingLemmas.{Stands-moves}
+use Rattle.cs_entries.proofs.EntryLemmas.{entry_bytes_some}
+use Rattle.cs_entries.proofs.ReadingLemmas.{Stands-moves}
 use Rattle.cs_tables.proofs.checked.pass_entries.Goals as goal
 
 pub entries-smaller : goal.entries-smaller

@@ -1,6 +1,6 @@
 -- `checked::pass_table`: the clauses `table` and `forward`.
 use Rattle.std.proofs.Common.{◌<◌, length, arith}
-use Rattle.cs_wire.specs.Items.{header_of}
+use Rattle.cs_wire.specs.Headers.{header_of}
 use Rattle.cs_tables.proofs.CheckedLemmas.{HasGroup-read, group_moves}
 use Rattle.cs_tables.proofs.checked.pass_table.Goals as goal
 

@@ -1,6 +1,6 @@
 -- `joining::entries::write_new`: the invariant of the loop, what it ensures.
 use Rattle.std.proofs.Common.{◌<◌, length, refl, arith}
-use Rattle.cs_wire.specs.declared.entry.Entry.{Entry}
+use Rattle.cs_entries.specs.declared.entry.Entry.{Entry}
 use Rattle.cs_wire.specs.Entry.{entry_bytes, key_of}
 use Rattle.cs_group.specs.Joining.{if_new}
 use Rattle.cs_files.specs.Writing.{some_bytes}

@@ -1,6 +1,6 @@
 -- `joining::tables::write_both`: what it ensures.
 use Rattle.std.proofs.Common.{◌≡◌, length, take, ap, ◌∙◌, arith}
-use Rattle.cs_wire.specs.Items.{header_of}
+use Rattle.cs_wire.specs.Headers.{header_of}
 use Rattle.cs_group.specs.Joining.{joined_entries}
 use Rattle.cs_files.proofs.JoiningLemmas.{joined_none, joined_some}
 use Rattle.cs_files.proofs.joining.tables.write_both.Goals as goal

@@ -1,5 +1,5 @@
 -- `joining::tables::write_kept_table`: what it ensures.
-use Rattle.cs_wire.specs.Items.{header_of}
+use Rattle.cs_wire.specs.Headers.{header_of}
 use Rattle.cs_group.specs.Joining.{table_name, with_text}
 use Rattle.cs_files.proofs.JoiningLemmas.{joined_alone, partner_is, partner_apart}
 use Rattle.cs_files.proofs.joining.tables.write_kept_table.Goals as goal

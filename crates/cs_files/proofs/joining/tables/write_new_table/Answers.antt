@@ -1,7 +1,7 @@
 -- `joining::tables::write_new_table`: what it ensures.
 use Rattle.std.proofs.Common.{refl, sym, ap, ◌∙◌, append-nil}
 use Rattle.std.specs.Prelude.{◌++◌}
-use Rattle.cs_wire.specs.Items.{header_of}
+use Rattle.cs_wire.specs.Headers.{header_of}
 use Rattle.cs_files.proofs.JoiningLemmas.{unlisted, there, listed_there, new_table, known_table}
 use Rattle.cs_files.proofs.joining.tables.write_new_table.Goals as goal
 

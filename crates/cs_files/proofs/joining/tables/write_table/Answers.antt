@@ -1,6 +1,6 @@
 -- `joining::tables::write_table`: what it ensures.
 use Rattle.std.proofs.lemmas.Result.{on_ok_weaker}
-use Rattle.cs_wire.specs.Items.{header_of}
+use Rattle.cs_wire.specs.Headers.{header_of}
 use Rattle.cs_files.proofs.JoiningLemmas.{whole_table}
 use Rattle.cs_files.proofs.joining.tables.write_table.Goals as goal
 

@@ -1,6 +1,6 @@
 -- `keyed::KeyedEntries::find`: the clauses `found` and `absent`.
 use Rattle.std.proofs.Common.{map}
-use Rattle.cs_wire.specs.declared.entry.Entry.{Entry}
+use Rattle.cs_entries.specs.declared.entry.Entry.{Entry}
 use Rattle.cs_wire.specs.Entry.{key_of}
 use Rattle.cs_wire.specs.Items.{FlaggedEntry}
 use Rattle.cs_wire.proofs.IndexLemmas.{is_found, is_new}

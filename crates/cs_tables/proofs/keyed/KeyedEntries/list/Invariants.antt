@@ -1,6 +1,6 @@
 -- Of the entries that are left some are listed.
 use Rattle.std.proofs.Common.{◌≡◌, ◌-◌, List, length}
-use Rattle.cs_wire.specs.declared.entry.Entry.{Entry}
+use Rattle.cs_entries.specs.declared.entry.Entry.{Entry}
 use Rattle.cs_wire.specs.Changeset.{GroupData}
 use Rattle.cs_tables.specs.Tables.{AreLeft}
 use Rattle.cs_tables.proofs.TablesLemmas.{PassedEntries}

@@ -3,7 +3,7 @@ use Rattle.std.proofs.Common.{◌≡◌, ◌∷◌, [], ℕ, List, length, map, 
 use Rattle.std.specs.FinMap.{insert}
 use Rattle.std.proofs.lemmas.List.{length-map, map-append}
 use Rattle.cs_value.proofs.ListLemmas.{AllByRecursion-push}
-use Rattle.cs_wire.specs.declared.entry.Entry.{Entry}
+use Rattle.cs_entries.specs.declared.entry.Entry.{Entry}
 use Rattle.cs_wire.specs.Entry.{key_of}
 use Rattle.cs_wire.specs.Items.{FlaggedEntry}
 use Rattle.cs_wire.proofs.IndexLemmas.{IsIndex-grown}

@@ -4,7 +4,7 @@ use Rattle.std.proofs.lemmas.List.{length-map, map-append}
 use Rattle.cs_value.proofs.ListLemmas.{AllByRecursion-push}
 use Rattle.cs_wire.specs.Changeset.{IsHeader}
 use Rattle.cs_tables.specs.declared.named.ListedTable.{ListedTable}
-use Rattle.cs_wire.specs.Items.{header_of}
+use Rattle.cs_wire.specs.Headers.{header_of}
 use Rattle.cs_tables.specs.Named.{NamedTable, table_of}
 use Rattle.cs_wire.proofs.IndexLemmas.{IsIndex-none, IsIndex-grown}
 use Rattle.cs_tables.proofs.NamedLemmas.{ListedFront-none, ListedFront-next}

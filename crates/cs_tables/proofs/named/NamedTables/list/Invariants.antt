@@ -1,9 +1,9 @@
 -- Of the tables that are left some are listed.
 use Rattle.std.proofs.Common.{◌≡◌, ◌-◌, List, length, map}
 use Rattle.std.specs.List.{AllByRecursion}
-use Rattle.cs_wire.specs.declared.entry.Entry.{Entry}
+use Rattle.cs_entries.specs.declared.entry.Entry.{Entry}
 use Rattle.cs_wire.specs.Changeset.{GroupData, IsHeader}
-use Rattle.cs_wire.specs.Items.{header_of}
+use Rattle.cs_wire.specs.Headers.{header_of}
 use Rattle.cs_tables.specs.Named.{table_of}
 use Rattle.cs_tables.specs.Tables.{AreLeft}
 use Rattle.cs_wire.specs.Views.{IsIndex}

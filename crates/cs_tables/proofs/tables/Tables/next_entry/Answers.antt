@@ -2,8 +2,8 @@
 use Rattle.std.proofs.Common.{◌≡◌, ◌<◌, ◌≤◌, [], sym, subst, arith}
 use Rattle.std.proofs.lemmas.Bool.{iff_false}
 use Rattle.cs_tables.specs.Tables.{TablesData, AreLeft, IsNextEntry}
-use Rattle.cs_wire.proofs.EntryLemmas.{entry_bytes_some}
-use Rattle.cs_wire.proofs.ReadingLemmas.{Stands-moves}
+use Rattle.cs_entries.proofs.EntryLemmas.{entry_bytes_some}
+use Rattle.cs_entries.proofs.ReadingLemmas.{Stands-moves}
 use Rattle.cs_tables.proofs.TablesLemmas.{no_entry_left, entry_left, entry_passed}
 use Rattle.cs_tables.proofs.tables.Tables.next_entry.Goals as goal
 

@@ -2,7 +2,7 @@
 use Rattle.std.proofs.Common.{◌≡◌, ◌<◌, [], sym, subst, arith}
 use Rattle.cs_tables.specs.Tables.{TablesData, AreLeft}
 use Rattle.cs_wire.specs.Changeset.{header_bytes}
-use Rattle.cs_wire.proofs.ReadingLemmas.{Stands-moves}
+use Rattle.cs_entries.proofs.ReadingLemmas.{Stands-moves}
 use Rattle.cs_tables.proofs.TablesLemmas.{no_table_left, table_left, table_passed}
 use Rattle.cs_tables.proofs.tables.Tables.open_table.Goals as goal
 

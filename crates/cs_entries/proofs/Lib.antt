@@ -1,0 +1,10 @@
+pub mod ChangeLemmas
+pub mod EntryFaults
+pub mod EntryLemmas
+pub mod FieldsLemmas
+pub mod InverseLemmas
+pub mod ItemLemmas
+pub mod ReadingLemmas
+pub mod RecordLemmas
+pub mod RunLemmas
+pub mod ShownLemmas

@@ -1,0 +1,390 @@
+//! Entries where they lie, in a file or owned.
+ghost use Rattle.std.specs.Prelude.{◌≡◌, ◌<◌, ◌++◌, IfOk, IfSome, OnErr, OnOk, length, map, option_map, take};
+ghost use Rattle.std.specs.Cow.{cow_slice_items};
+ghost use Rattle.cs_value.specs.Spelling.{record_bytes};
+ghost use Rattle.cs_entries.specs.Items.{shown_record, value_in};
+ghost use Rattle.cs_entries.specs.Records.{HasWidth, IsWhole, fields_at};
+
+use crate::entry::{Change, Entry, Operation};
+use crate::fields::{Fields, copy_cells, key_of_fields, write_fields};
+use crate::format::{DELETE, INSERT, UPDATE};
+use crate::record_ref::RecordRef;
+use crate::spelled::key_slice;
+use crate::writer::{undo_refused, write_operation};
+use cs_value::{Field, Image, Key, NoMemory, OwnedField, OwnedValue, Row};
+use std::alloc::Global;
+use std::borrow::CowSlice;
+use std::marker::Model;
+
+/// An entry where it lies, in a file or owned, or the one that undoes it: what is seen of it borrows from there,
+/// and takes no memory. Contracts see the entry, and the flags of its table.
+#[derive(Debug, Drop)]
+pub struct EntryRef<'a> {
+    flags: &'a [u8],
+    operation: Operation,
+    indirect: bool,
+    // The row, or an update's old record where it lies.
+    first: RecordRef<'a>,
+    // An update's new record there.
+    second: RecordRef<'a>,
+    // Whether an update shows its records with the fields outside the key exchanged.
+    exchanged: bool,
+}
+
+impl<'a> Model for EntryRef<'a> {
+    ghost use Rattle.std.specs.Prelude.{length};
+    ghost use Rattle.cs_entries.specs.Items.{FlaggedEntry, entry_of, shown_entry};
+    ghost use Rattle.cs_entries.specs.Records.{IsShown, fields_at};
+
+    ghost Value = { FlaggedEntry };
+
+    ghost view = { λ e. shown_entry e.exchanged (entry_of e.flags.now e.operation e.indirect (fields_at (length e.flags.now) e.first) (fields_at (length e.flags.now) e.second)) };
+
+    ghost invariant = { λ e. IsShown e.exchanged (entry_of e.flags.now e.operation e.indirect (fields_at (length e.flags.now) e.first) (fields_at (length e.flags.now) e.second)) e.operation e.first e.second };
+}
+
+impl<'a> EntryRef<'a> {
+    ghost use Rattle.cs_value.specs.Value.{IsRow};
+    ghost use Rattle.cs_value.specs.Table.{IsKeyedRow};
+    ghost use Rattle.cs_entries.specs.declared.entry.Change.TheVariants.{Update};
+    ghost use Rattle.cs_entries.specs.Records.{IsRowOperation, row_change};
+    ghost use Rattle.cs_entries.specs.Entry.{IsChange, IsEntry, after_image, before_image, entry_bytes, key_of, operation};
+    ghost use Rattle.cs_entries.specs.Inverse.{IsInverseEntry};
+    ghost use Rattle.cs_value.specs.Value.{FieldFits, field_of};
+    ghost use Rattle.cs_entries.specs.Items.{IsSpelled, entry_in, new_record, new_field as field_after, old_field as field_before};
+
+    /// The entry of a table with these flags whose records are these bytes.
+    pub(crate) fn from_bytes(
+        flags: &'a [u8],
+        operation: Operation,
+        indirect: bool,
+        first: &'a [u8],
+        second: &'a [u8],
+    ) -> EntryRef<'a>
+        requires { IsSpelled (entry_in flags.now operation indirect first.now second.now) first.now second.now }
+        ensures { result ≡ entry_in flags.now operation indirect first.now second.now }
+    {
+        EntryRef {
+            flags,
+            operation,
+            indirect,
+            first: RecordRef::Spelled(first),
+            second: RecordRef::Spelled(second),
+            exchanged: false,
+        }
+    }
+
+    /// An entry that is owned, and fits these flags (`Header::admits` of `cs_wire`).
+    pub fn from_entry(flags: &'a [u8], entry: &'a Entry) -> EntryRef<'a>
+        requires { IsEntry flags.now entry.now }
+        ensures { result ≡ record { flags = flags.now; entry = entry.now } }
+    {
+        let indirect = entry.indirect;
+        match &entry.change {
+            Change::Insert(row) => {
+                EntryRef::from_row(flags, Operation::Insert, indirect, row.values())
+            }
+            Change::Delete(row) => {
+                EntryRef::from_row(flags, Operation::Delete, indirect, row.values())
+            }
+            Change::Update { old, new } => {
+                EntryRef::from_images(flags, indirect, old.fields(), new.fields())
+            }
+        }
+    }
+
+    /// The insert or the delete of a row that is owned.
+    fn from_row(
+        flags: &'a [u8],
+        operation: Operation,
+        indirect: bool,
+        values: &'a [OwnedValue],
+    ) -> EntryRef<'a>
+        requires operation { IsRowOperation operation }
+        requires row { IsRow values.now × IsKeyedRow flags.now values.now }
+        ensures { result ≡ record { flags = flags.now; entry = record { indirect = indirect; change = row_change operation values.now } } }
+    {
+        EntryRef {
+            flags,
+            operation,
+            indirect,
+            first: RecordRef::Values(values),
+            second: RecordRef::Values(values),
+            exchanged: false,
+        }
+    }
+
+    /// The update that has these records, which are owned.
+    fn from_images(
+        flags: &'a [u8],
+        indirect: bool,
+        old: &'a [OwnedField],
+        new: &'a [OwnedField],
+    ) -> EntryRef<'a>
+        requires { IsChange flags.now (Update old.now new.now) }
+        ensures { result ≡ record { flags = flags.now; entry = record { indirect = indirect; change = Update old.now new.now } } }
+    {
+        EntryRef {
+            flags,
+            operation: Operation::Update,
+            indirect,
+            first: RecordRef::Fields(old),
+            second: RecordRef::Fields(new),
+            exchanged: false,
+        }
+    }
+
+    /// The flags of its table, one for each column.
+    pub fn flags(&self) -> &'a [u8]
+        ensures flags { result.now ≡ self.now.flags }
+        ensures well_formed { IsEntry self.now.flags self.now.entry }
+    {
+        self.flags
+    }
+
+    /// How many columns its table has.
+    pub fn column_count(&self) -> usize
+        ensures count { result ≡ length self.now.flags }
+        ensures well_formed { IsEntry self.now.flags self.now.entry }
+    {
+        self.flags.len()
+    }
+
+    /// The byte that says what the entry does: 0x12 an insert, 0x09 a delete, 0x17 an update.
+    pub fn operation(&self) -> u8
+        ensures { result ≡ operation self.now.entry.change }
+    {
+        match self.operation {
+            Operation::Insert => INSERT,
+            Operation::Delete => DELETE,
+            Operation::Update => UPDATE,
+        }
+    }
+
+    /// Whether the change was made indirectly, by a trigger or a foreign key.
+    pub fn is_indirect(&self) -> bool
+        ensures indirect { result ≡ self.now.entry.indirect }
+        ensures well_formed { IsEntry self.now.flags self.now.entry }
+    {
+        self.indirect
+    }
+
+    /// What stood in the columns before the change: None for an insert. Of an update the fields of the columns that
+    /// are neither of the key nor modified are undefined.
+    pub fn old_fields(&self) -> Option<Fields<'a>>
+        ensures fields { result ≡ before_image self.now.entry.change }
+        ensures width { IfSome result (λ fields. length fields ≡ length self.now.flags) }
+    {
+        match self.operation {
+            Operation::Insert => None,
+            Operation::Delete => Some(Fields::new(self.flags, self.first, self.first, false)),
+            Operation::Update => Some(Fields::new(
+                self.flags,
+                self.first,
+                self.second,
+                self.exchanged,
+            )),
+        }
+    }
+
+    /// What stands in the columns after the change: None for a delete. Of an update the fields of the columns that
+    /// are of the key, or not modified, are undefined.
+    pub fn new_fields(&self) -> Option<Fields<'a>>
+        ensures fields { result ≡ new_record self.now.entry.change }
+        ensures width { IfSome result (λ fields. length fields ≡ length self.now.flags) }
+    {
+        match self.operation {
+            Operation::Insert => Some(Fields::new(self.flags, self.first, self.first, false)),
+            Operation::Delete => None,
+            Operation::Update => {
+                let (own, other) = (self.second, self.first);
+                Some(Fields::new(self.flags, own, other, self.exchanged))
+            }
+        }
+    }
+
+    /// What is known of the row after the change: None for a delete. Of an update the fields of the columns that are
+    /// neither of the key nor modified are undefined.
+    pub fn fields_after(&self) -> Option<Fields<'a>>
+        ensures fields { result ≡ after_image self.now.flags self.now.entry.change }
+        ensures width { IfSome result (λ fields. length fields ≡ length self.now.flags) }
+    {
+        let exchanged = !self.exchanged;
+        match self.operation {
+            Operation::Insert => Some(Fields::new(self.flags, self.first, self.first, false)),
+            Operation::Delete => None,
+            Operation::Update => {
+                Some(Fields::new(self.flags, self.first, self.second, exchanged))
+            }
+        }
+    }
+
+    /// What stood in a column, from 0 and below [`EntryRef::column_count`], before the change, as
+    /// [`EntryRef::old_fields`] has it. It takes time in proportion to the bytes of the entry's records up to that column.
+    pub fn old_field(&self, column: usize) -> Option<Field<'a>>
+        requires { column < length self.now.flags }
+        ensures field { option_map field_of result ≡ field_before self.now.entry.change column }
+        ensures fits { IfSome result FieldFits }
+    {
+        match self.old_fields() {
+            Some(fields) => Some(fields.at(column)),
+            None => None,
+        }
+    }
+
+    /// What stands in a column, from 0 and below [`EntryRef::column_count`], after the change, as
+    /// [`EntryRef::new_fields`] has it. It takes time as [`EntryRef::old_field`] does.
+    pub fn new_field(&self, column: usize) -> Option<Field<'a>>
+        requires { column < length self.now.flags }
+        ensures field { option_map field_of result ≡ field_after self.now.entry.change column }
+        ensures fits { IfSome result FieldFits }
+    {
+        match self.new_fields() {
+            Some(fields) => Some(fields.at(column)),
+            None => None,
+        }
+    }
+
+    /// The key of the entry.
+    pub fn key(&self, alloc: Global) -> Result<Key, NoMemory>
+        ensures { IfOk result (λ key. key ≡ key_of self.now.flags self.now.entry.change) }
+    {
+        Ok(Key::from_bytes(self.key_bytes(alloc)?))
+    }
+
+    /// The bytes of the entry's key: where they lie, if they do side by side, and else a copy.
+    pub fn key_slice(&self, alloc: Global) -> Result<CowSlice<'a, u8, Global>, NoMemory>
+        ensures { IfOk result (λ key. cow_slice_items key ≡ key_of self.now.flags self.now.entry.change) }
+    {
+        if let RecordRef::Spelled(bytes) = self.first {
+            if let Some(key) = key_slice(self.flags, bytes) {
+                return Ok(CowSlice::Borrowed(key));
+            }
+        }
+        Ok(CowSlice::Owned(self.key_bytes(alloc)?))
+    }
+
+    /// The bytes of the entry's key.
+    fn key_bytes(&self, alloc: Global) -> Result<Vec<u8>, NoMemory>
+        ensures { IfOk result (λ key. key.items ≡ key_of self.now.flags self.now.entry.change) }
+    {
+        let fields = Fields::new(self.flags, self.first, self.first, false);
+        key_of_fields(alloc, self.flags, fields)
+    }
+
+    /// The entry that undoes this one: the delete of the row that it inserts, the insert of the row that it
+    /// deletes, or an update with the two values of each modified column exchanged. It takes no memory.
+    pub fn inverted(self) -> EntryRef<'a>
+        ensures flags { result.flags ≡ self.entry.flags }
+        ensures inverse { IsInverseEntry self.entry.flags self.entry.entry result.entry }
+        ensures well_formed { IsEntry result.flags result.entry }
+    {
+        let EntryRef {
+            flags,
+            operation,
+            indirect,
+            first,
+            second,
+            exchanged,
+        } = self;
+        EntryRef {
+            flags,
+            operation: operation.inverse(),
+            indirect,
+            first,
+            second,
+            exchanged: !exchanged,
+        }
+    }
+
+    /// Appends the entry's bytes. [`NoMemory`] leaves `out` as it was.
+    pub fn write_to(&self, out: &mut Vec<u8>) -> Result<(), NoMemory>
+        ensures ok { OnOk result (out.new.items ≡ out.old.items ++ entry_bytes self.now.entry) }
+        ensures err { OnErr result (out.new.items ≡ out.old.items) }
+    {
+        let start = out.len();
+        let written = self.append_to(out);
+        undo_refused(out, start, written)
+    }
+
+    /// Appends the entry's bytes, or some of them.
+    fn append_to(&self, out: &mut Vec<u8>) -> Result<(), NoMemory>
+        ensures ok { OnOk result (out.new.items ≡ out.old.items ++ entry_bytes self.now.entry) }
+        ensures err { OnErr result (take (length out.old.items) out.new.items ≡ out.old.items) }
+    {
+        write_operation(out, self.operation(), self.indirect)?;
+        match self.operation {
+            Operation::Insert | Operation::Delete => {
+                write_record(out, self.flags, self.first, self.first, false)
+            }
+            Operation::Update => {
+                let exchanged = self.exchanged;
+                write_record(out, self.flags, self.first, self.second, exchanged)?;
+                write_record(out, self.flags, self.second, self.first, exchanged)
+            }
+        }
+    }
+
+    /// A copy of the entry, in memory of its own.
+    pub fn to_entry(&self, alloc: Global) -> Result<Entry, NoMemory>
+        ensures same { IfOk result (λ e. e ≡ self.now.entry) }
+        ensures well_formed { IsEntry self.now.flags self.now.entry }
+    {
+        let change = match self.operation {
+            Operation::Insert => Change::Insert(copy_row(alloc, self.flags, self.first)?),
+            Operation::Delete => Change::Delete(copy_row(alloc, self.flags, self.first)?),
+            Operation::Update => Change::Update {
+                old: copy_image(alloc, self.flags, self.first, self.second, self.exchanged)?,
+                new: copy_image(alloc, self.flags, self.second, self.first, self.exchanged)?,
+            },
+        };
+        Ok(Entry {
+            indirect: self.indirect,
+            change,
+        })
+    }
+}
+
+/// Appends a record as it is shown: as it lies, or with the fields of another outside the key.
+fn write_record(
+    out: &mut Vec<u8>,
+    flags: &[u8],
+    own: RecordRef<'_>,
+    other: RecordRef<'_>,
+    exchanged: bool,
+) -> Result<(), NoMemory>
+    requires own { IsWhole (length flags.now) own }
+    requires other { HasWidth (length flags.now) other }
+    ensures ok { OnOk result (out.new.items ≡ out.old.items ++ record_bytes (shown_record exchanged flags.now
+        (fields_at (length flags.now) own.entry) (fields_at (length flags.now) other.entry))) }
+    ensures err { OnErr result (take (length out.old.items) out.new.items ≡ out.old.items) }
+{
+    match own {
+        RecordRef::Spelled(bytes) if !exchanged => Ok(out.extend_from_slice(bytes)?),
+        _ => write_fields(out, Fields::new(flags, own, other, exchanged)),
+    }
+}
+
+/// A copy of a row.
+fn copy_row(alloc: Global, flags: &[u8], row: RecordRef<'_>) -> Result<Row, NoMemory>
+    requires { HasWidth (length flags.now) row }
+    ensures { IfOk result (λ r. r ≡ map value_in (fields_at (length flags.now) row.entry)) }
+{
+    Ok(Row::new(copy_cells(alloc, Fields::new(flags, row, row, false))?))
+}
+
+/// A copy of a record as it is shown: as it lies, or with the fields of another outside the key.
+fn copy_image(
+    alloc: Global,
+    flags: &[u8],
+    own: RecordRef<'_>,
+    other: RecordRef<'_>,
+    exchanged: bool,
+) -> Result<Image, NoMemory>
+    requires own { HasWidth (length flags.now) own }
+    requires other { HasWidth (length flags.now) other }
+    ensures { IfOk result (λ image. image ≡ shown_record exchanged flags.now
+        (fields_at (length flags.now) own.entry) (fields_at (length flags.now) other.entry)) }
+{
+    Ok(Image::new(copy_cells(alloc, Fields::new(flags, own, other, exchanged))?))
+}

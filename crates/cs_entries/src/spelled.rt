@@ -1,0 +1,74 @@
+//! Records where they stand in a file: fields one behind the other.
+ghost use Rattle.std.specs.Prelude.{◌≡◌, ◌≤◌, ◌+◌, IfSome, List, length, take, drop};
+ghost use Rattle.std.specs.List.{AllByRecursion};
+ghost use Rattle.cs_value.specs.declared.value.OwnedField.{OwnedField};
+ghost use Rattle.cs_entries.specs.Reading.{is_key_flag};
+ghost use Rattle.cs_value.specs.Value.{FieldFits, IsRecord, field_of};
+ghost use Rattle.cs_value.specs.Key.{image_key};
+ghost use Rattle.cs_value.specs.Spelling.{record_bytes};
+ghost use Rattle.cs_entries.specs.Items.{front_of, fields_in};
+
+use crate::reader::rest_from;
+use cs_value::{Field, field_read};
+
+/// The field at the front, and the bytes behind it. Where none stands there, it is an undefined one, of no byte.
+pub(crate) fn front_field(bytes: &[u8]) -> (Field<'_>, &[u8])
+    ensures field { field_of result.0 ≡ (front_of bytes.now).0 }
+    ensures rest { result.1.now ≡ drop (front_of bytes.now).1 bytes.now }
+    ensures fits { FieldFits result.0 }
+{
+    match field_read(bytes) {
+        Ok((field, used)) => (field, &bytes[used..]),
+        Err(_) => (Field::Undefined, bytes),
+    }
+}
+
+/// How many flags at the front are those of key columns, or of others.
+fn run_len(flags: &[u8], of_key: bool) -> usize
+    ensures within { result ≤ length flags.now }
+    ensures run { AllByRecursion (λ flag. is_key_flag flag ≡ of_key) (take result flags.now) }
+{
+    let mut len = 0;
+    'flags: while len < flags.len() && (flags[len] != 0) == of_key {
+        len += 1;
+    }
+    len
+}
+
+/// The bytes behind so many fields.
+fn skip_fields(bytes: &[u8], count: usize) -> &[u8]
+    ensures { (fields : List OwnedField) → IsRecord fields → count ≤ length fields → bytes.now ≡ record_bytes fields
+        → result.now ≡ record_bytes (drop count fields) }
+{
+    let mut rest = bytes;
+    for _ in 0..count {
+        rest = front_field(rest).1;
+    }
+    rest
+}
+
+/// The bytes of so many fields, behind the first ones.
+fn columns_in(bytes: &[u8], first: usize, count: usize) -> &[u8]
+    ensures { (fields : List OwnedField) → IsRecord fields → first + count ≤ length fields → bytes.now ≡ record_bytes fields
+        → result.now ≡ record_bytes (take count (drop first fields)) }
+{
+    let behind = skip_fields(bytes, first);
+    let rest = skip_fields(behind, count);
+    &behind[..behind.len().saturating_sub(rest.len())]
+}
+
+/// The bytes of what stands in the key columns, in column order, where these columns stand side by side.
+pub(crate) fn key_slice<'a>(flags: &[u8], bytes: &'a [u8]) -> Option<&'a [u8]>
+    requires fields { IsRecord (fields_in (length flags.now) bytes.now) }
+    requires spelled { bytes.now ≡ record_bytes (fields_in (length flags.now) bytes.now) }
+    ensures { IfSome result (λ key. key.now ≡ image_key flags.now (fields_in (length flags.now) bytes.now)) }
+{
+    let first = run_len(flags, false);
+    let others = rest_from(flags, first);
+    let count = run_len(others, true);
+    let behind = rest_from(others, count);
+    if run_len(behind, false) < behind.len() {
+        return None;
+    }
+    Some(columns_in(bytes, first, count))
+}

@@ -1,0 +1,34 @@
+//! Writing the parts of entries.
+ghost use Rattle.std.specs.Prelude.{◌≡◌, ◌++◌, ◌∷◌, [], if◌then◌else◌, OnErr, OnOk, length, take};
+
+use cs_value::NoMemory;
+
+/// Appends the operation and the indirect flag of an entry.
+pub(crate) fn write_operation(
+    out: &mut Vec<u8>,
+    operation: u8,
+    indirect: bool,
+) -> Result<(), NoMemory>
+    ensures ok { OnOk result (out.new.items ≡ out.old.items ++ operation ∷ (if indirect then 1 else 0) ∷ []) }
+    ensures err { OnErr result (take (length out.old.items) out.new.items ≡ out.old.items) }
+{
+    out.push(operation)?;
+    out.push(u8::from(indirect))?;
+    Ok(())
+}
+
+/// Takes back what a write has left that was refused: the bytes from this place on.
+pub fn undo_refused(
+    out: &mut Vec<u8>,
+    start: usize,
+    written: Result<(), NoMemory>,
+) -> Result<(), NoMemory>
+    ensures same { result ≡ written }
+    ensures ok { OnOk result (out.new.items ≡ out.old.items) }
+    ensures err { OnErr result (out.new.items ≡ take start out.old.items) }
+{
+    if written.is_err() {
+        out.truncate(start);
+    }
+    written
+}
