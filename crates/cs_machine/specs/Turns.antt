@@ -1,4 +1,4 @@
--- What a command does with a store and a session: the vocabulary of private contracts.
+-- What a command and a line do with a store and a session: what the contracts of this crate are said in.
 use Rattle.std.specs.Prelude.{◌≡◌, ◌⊎◌, ℕ, Bool, true, false, IsTrue, List, map, Option, None, Some, option_map, Result, Ok, Err}
 use Rattle.sqlite.specs.State as sqlite
 use Rattle.sqlite.specs.State.{HasCleanDisk}
