@@ -1,6 +1,6 @@
 """What changesets make, and what they do to tables of rows: a model that shares no code with the program.
 
-It follows `docs/FORMAT.md` and the README. A changeset is its groups, as `reader.py` reads them: of each its flags, its
+It follows `docs/FORMAT.md`, `docs/COMMAND.md` and `docs/SHELL.md`. A changeset is its groups, as `reader.py` reads them: of each its flags, its
 name and its entries. A value is the bytes that it is spelled with, a row a tuple of values, and a key the bytes of its
 values.
 """

@@ -1213,26 +1213,6 @@ class Stores(StoreTest):
         self.assertEqual(self.apply(b"P"), (1, "", DAMAGED_STORE))
 
 
-class Readme(ProgramTest):
-    """The commands of the README, as they are printed there."""
-
-    def test_commands(self):
-        text = (HERE.parent / "README.md").read_text()
-        blocks = [block for block in text.split("```") if block.startswith("\n$ ") and not block.startswith("\n$ changeset\n")]
-        self.assertEqual(len(blocks), 3)
-        os.symlink(HERE.parent / "examples", self.folder / "examples")
-        path = {**os.environ, "PATH": f"{PROGRAM.parent}:{os.environ['PATH']}"}
-        for block in blocks:
-            for part in block.strip("\n")[2:].split("\n$ "):
-                command, _, printed = part.partition("\n")
-                with self.subTest(command=command):
-                    done = subprocess.run(
-                        ["sh", "-c", command], cwd=self.folder, env=path, stdout=subprocess.PIPE, stderr=subprocess.STDOUT,
-                        timeout=PATIENCE, text=True,
-                    )
-                    self.assertEqual(done.stdout.rstrip("\n"), printed)
-
-
 # The recorded files that are refused, and how.
 REFUSED = (
     ("patchset-insert.cs", "error 3 Patchset 0\n"),

@@ -1,6 +1,6 @@
 """The lines of a script, and what each of them prints: a model that shares no code with the program.
 
-It follows the table of lines and the table of refusals in the README, and *Lines* of `docs/DECISIONS.md`.
+It follows `docs/SHELL.md`, `docs/ERRORS.md`, and *Lines* of `docs/DECISIONS.md`.
 """
 import re
 

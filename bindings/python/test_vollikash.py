@@ -304,25 +304,27 @@ class Calls(unittest.TestCase):
 class Numbers(unittest.TestCase):
     """Numbers, names and classes are those of the documents."""
 
-    # SQLite's result codes, of those that no document has a class for; 11 is that of every read fault.
-    CLASSES = {"Ok": 0, "Abort": 4, "Misuse": 21, "Wider": 17, "Schema": 17, "AlreadyAttached": 1, "WrongStore": 1,
-               "Syntax": 1, "EmptySlot": 1, "ScriptTooLong": 1, "NoSession": 1, "SessionOpen": 1, "BadHex": 1,
-               "UnknownColumn": 1, "LineText": 1, "InputFault": 10, "OutputFault": 10, "NoRoom": 18}
-
     def numbers(self, text):
         """The numbers that this text of the header defines, by the names of the documents."""
         found = re.findall(r"VOLLIKASH_(\w+) = (\d+)", text)
         return {"".join(word.capitalize() for word in name.split("_")): (int(number), name) for name, number in found}
 
+    def documented(self):
+        """The numbers, names and classes of docs/ERRORS.md."""
+        rows = re.findall(r"^\| (\d+) \| (\w+)[^|]* \| (\d+) \|", (TOP / "docs/ERRORS.md").read_text(), re.M)
+        return [(int(number), name, int(code)) for number, name, code in rows]
+
     def test_documents(self):
         numbers = self.numbers(HEADER.read_text())
-        rows = re.findall(r"`error (\d+) (\w+)", (TOP / "README.md").read_text())
+        errors = self.documented()
+        self.assertEqual({"Ok": 0, **{name: number for number, name, _ in errors}},
+                         {name: number for name, (number, _) in numbers.items()})
+        self.assertEqual([number for number, *_ in errors], sorted({number for number, *_ in errors}))
         for document in ("FORMAT.md", "STORE.md"):
-            rows += re.findall(r"^\| (\d+) \| (\w+) \|", (TOP / "docs" / document).read_text(), re.M)
-        self.assertGreater(len(rows), 40)
-        for number, name in rows:
-            self.assertEqual(int(number), numbers[name][0])
-        self.assertEqual(len({number for number, _ in numbers.values()}), len(numbers))
+            rows = re.findall(r"^\| (\d+) \| (\w+) \|", (TOP / "docs" / document).read_text(), re.M)
+            self.assertGreater(len(rows), 10)
+            for number, name in rows:
+                self.assertEqual(int(number), numbers[name][0])
 
     def test_numbers_that_calls_answer(self):
         answered, rest = HEADER.read_text().split("/* No call of this library answers those below")
@@ -331,14 +333,12 @@ class Numbers(unittest.TestCase):
         self.assertGreater(len(self.numbers(rest)), 20)
 
     def test_classes(self):
-        stores = re.findall(r"^\| \d+ \| (\w+) \| (\d+) \|", (TOP / "docs/STORE.md").read_text(), re.M)
-        classes = {**self.CLASSES, **{name: int(number) for name, number in stores}}
         numbers = self.numbers(HEADER.read_text())
         prints = [f'    printf("%d\\n", vollikash_class(VOLLIKASH_{name}));' for _, name in numbers.values()]
         source = ["#include <stdio.h>", '#include "vollikash.h"', "int main(void)", "{", *prints, "}", ""]
         printed_classes = compiled("\n".join(source)).split()
         self.assertEqual({title: int(line) for title, line in zip(numbers, printed_classes)},
-                         {title: classes.get(title, 11) for title in numbers})
+                         {"Ok": 0, **{name: code for _, name, code in self.documented()}})
 
 
 class Linked(unittest.TestCase):
@@ -377,25 +377,6 @@ class Linked(unittest.TestCase):
             words = [sys.executable, "-c", "from vollikash import _files; print(_files.__file__, _files._find())"]
             ran = subprocess.run(words, cwd=folder, env=environment, capture_output=True, text=True, check=True)
         self.assertEqual(ran.stdout, f"{copied / '_files.py'} {built.name}.1\n")
-
-
-class Readme(unittest.TestCase):
-    """The examples of the README work as they are printed."""
-
-    def block(self, language):
-        """The one example in this language."""
-        text = (TOP / "README.md").read_text()
-        (block,) = re.findall(rf"^```{language}\n(.*?)^```$", text, re.M | re.S)
-        self.assertLess(len(block.splitlines()), 10)
-        return block
-
-    def test_python(self):
-        words, environment = [sys.executable, "-c", self.block("python")], {**os.environ, "PYTHONPATH": str(HERE)}
-        ran = subprocess.run(words, cwd=TOP, env=environment, capture_output=True, text=True, check=True)
-        self.assertEqual(ran.stdout, vollikash.dump((TOP / "examples/key-change.inverse.cs").read_bytes()))
-
-    def test_c(self):
-        self.assertEqual(compiled(self.block("c")), "")
 
 
 if __name__ == "__main__":

@@ -418,12 +418,12 @@ class Notes(unittest.TestCase):
         self.expect_end(person, 0)
 
     def test_picture(self):
-        """README's picture is the screen."""
+        """The picture of the examples' README is the screen."""
         person = self.person(lines=10, columns=72)
         person.type("a", "buy milk", ENTER, "a", "call the plumber", ENTER, "u", "r", "a", "two", "\n", "lines", ENTER)
         person.sees("refused: ")
         picture = "".join(f"{line}\n" for line in person.screen.lines())
-        self.assertTrue(f"```text\n{picture}```\n" in (ROOT / "README.md").read_text(), f"README has not\n{picture}")
+        self.assertTrue(f"```text\n{picture}```\n" in (ROOT / "examples/README.md").read_text(), f"examples/README.md has not\n{picture}")
 
 
 if __name__ == "__main__":

@@ -4,7 +4,7 @@
 usage: sync.py [FOLDER]
 
 Without FOLDER the databases and the store are made in a temporary folder. A shop and an office, each an ordinary SQLite
-database, and a hub, which is a store, have a table of one key column: README says why of one. What SQLite records and
+database, and a hub, which is a store, have a table of one key column: docs/SQLITE.md says why of one. What SQLite records and
 applies is done by its own session extension, which `tests/sqlite.c` calls, since Python's sqlite3 does not.
 """
 import contextlib

@@ -24,7 +24,7 @@ TIMEOUT = 60.0
 class StoreError(Exception):
     """A line is refused, and has changed nothing: the store goes on.
 
-    `number` and `name` say why, as README lists them; `detail` is what stands behind them, as the place of a table.
+    `number` and `name` say why, as docs/ERRORS.md lists them; `detail` is what stands behind them, as the place of a table.
     """
 
     def __init__(self, number: int, name: str, detail: str = "") -> None:

@@ -1,0 +1,162 @@
+#!/usr/bin/env python3
+"""Tests of the documents: each block of code is run, or is code that the gate proves, and each link leads to a file.
+
+The tag of a block says how: `console` blocks are commands and what they print, `python` and `c` blocks are programs, whose
+output is the `text` block after them or the comments of their last lines; `rust` blocks stand in a crate's code, and `sql`
+lines in that of `cs_records`. The program and the libraries for C and Python have to be built first, as the gate does.
+
+usage: tests/documents.py
+"""
+import os
+import pathlib
+import re
+import subprocess
+import sys
+import tempfile
+import unittest
+
+TOP = pathlib.Path(__file__).resolve().parent.parent
+PROGRAM = TOP / "crates/changeset/out/changeset"
+ARCHIVE = TOP / "bindings/c/out/libvollikash.a"
+DOCUMENTS = [TOP / "README.md", *sorted(it for folder in ("docs", "examples", "crates/*") for it in TOP.glob(f"{folder}/*.md"))]
+
+# How many seconds an answer may take.
+PATIENCE = 60
+
+BLOCK = re.compile(r"^```(\w*)\n(.*?)^```$", re.M | re.S)
+
+
+def blocks_of(document):
+    """The blocks of a document, each a tag and a text."""
+    return BLOCK.findall(document.read_text())
+
+
+def commands_of(block):
+    """The commands of a console block, each with what it prints. A here-document belongs to its command."""
+    commands = []
+    end = None
+    for line in block.splitlines():
+        if end is not None:
+            commands[-1][0].append(line)
+            end = None if line == end else end
+        elif line.startswith("$ "):
+            commands.append(([line[2:]], []))
+            found = re.search(r"<< '(\w+)'", line)
+            end = found and found[1]
+        else:
+            commands[-1][1].append(line)
+    return [("\n".join(command), "".join(f"{line}\n" for line in printed)) for command, printed in commands]
+
+
+def run(words, **options):
+    """What a program prints, its errors too."""
+    done = subprocess.run(
+        words, stdin=subprocess.DEVNULL, stdout=subprocess.PIPE, stderr=subprocess.STDOUT, timeout=PATIENCE, text=True,
+        **options,
+    )
+    return done.stdout
+
+
+def programs_of(document, language):
+    """The programs of a document in a language, each with what it is to print."""
+    blocks = [*blocks_of(document), ("", "")]
+    for (tag, text), (following, output) in zip(blocks, blocks[1:]):
+        if tag == language:
+            commented = re.findall(r"^ *print\(.*\)  # (.*)$", text, re.M)
+            yield text, output if following == "text" else "".join(f"{line}\n" for line in commented)
+
+
+def squeezed(code):
+    """Code without comments and imports, and without what a line break may add."""
+    code = re.sub(r"^ *(//.*|use .*;)$", "", code, flags=re.M)
+    return re.sub(r",(?=[)}])", "", re.sub(r"\s", "", code))
+
+
+class Blocks(unittest.TestCase):
+    """Each block of code does what the document says."""
+
+    maxDiff = None
+
+    def test_tags(self):
+        """A block whose tag is not one of these would not be run."""
+        for document in DOCUMENTS:
+            for tag, text in blocks_of(document):
+                with self.subTest(document=document.name, block=text[:40]):
+                    self.assertIn(tag, ("", "console", "sh", "python", "c", "rust", "sql", "text"))
+
+    def test_commands(self):
+        path = {**os.environ, "PATH": f"{PROGRAM.parent}:{os.environ['PATH']}"}
+        count = 0
+        for document in DOCUMENTS:
+            with tempfile.TemporaryDirectory() as folder:
+                os.symlink(TOP / "examples", f"{folder}/examples")
+                for block in (text for tag, text in blocks_of(document) if tag == "console"):
+                    for command, printed in commands_of(block):
+                        with self.subTest(document=document.name, command=command):
+                            self.assertEqual(run(["sh", "-c", command], cwd=folder, env=path), printed)
+                            count += 1
+        self.assertGreater(count, 25)
+
+    def test_scripts(self):
+        """The commands of `sh` blocks are programs of the repository."""
+        for document in DOCUMENTS:
+            for line in "".join(text for tag, text in blocks_of(document) if tag == "sh").splitlines():
+                with self.subTest(document=document.name, line=line):
+                    self.assertTrue(os.access(TOP / line, os.X_OK))
+
+    def test_python(self):
+        environment = {**os.environ, "PYTHONPATH": str(TOP / "bindings/python")}
+        count = 0
+        for document in DOCUMENTS:
+            for text, printed in programs_of(document, "python"):
+                with self.subTest(document=document.name, program=text):
+                    self.assertEqual(run([sys.executable, "-c", text], cwd=TOP, env=environment), printed)
+                    count += 1
+        self.assertGreater(count, 3)
+
+    def test_c(self):
+        flags = ["-std=c99", "-Wall", "-Wextra", "-Werror", f"-I{TOP / 'bindings/c'}"]
+        for document in DOCUMENTS:
+            for text, printed in programs_of(document, "c"):
+                with self.subTest(document=document.name), tempfile.TemporaryDirectory() as folder:
+                    pathlib.Path(folder, "main.c").write_text(text)
+                    self.assertEqual(run(["cc", *flags, "main.c", str(ARCHIVE), "-o", "main"], cwd=folder), "")
+                    self.assertEqual(run([f"{folder}/main"]), printed)
+
+    def test_proved_code(self):
+        """Rattle and SQL stand in code that the gate proves."""
+        proved = squeezed("\n".join(file.read_text() for file in sorted(TOP.glob("crates/*/src/**/*.rt"))))
+        for document in DOCUMENTS:
+            for tag, text in blocks_of(document):
+                parts = text.split("\n\n") if tag == "rust" else text.splitlines() if tag == "sql" else []
+                for part in filter(None, map(squeezed, parts)):
+                    with self.subTest(document=str(document.relative_to(TOP)), part=part):
+                        self.assertIn(part, proved)
+
+
+class Links(unittest.TestCase):
+    """What a document points to is there."""
+
+    def test_links(self):
+        for document in DOCUMENTS:
+            for link in re.findall(r"\]\(([^)#]+)(?:#[^)]*)?\)", document.read_text()):
+                with self.subTest(document=document.name, link=link):
+                    self.assertTrue((document.parent / link).exists())
+
+    def test_headings(self):
+        for document in DOCUMENTS:
+            for file, heading in re.findall(r"\]\(([^)#]*)#([^)]+)\)", document.read_text()):
+                target = document.parent / file if file else document
+                headings = re.findall(r"^#+ (.*)$", target.read_text(), re.M)
+                with self.subTest(document=document.name, heading=heading):
+                    self.assertIn(heading, [re.sub(r"[^\w -]", "", it).lower().replace(" ", "-") for it in headings])
+
+    def test_crates(self):
+        """ARCHITECTURE lists each crate, and README is short."""
+        listed = re.findall(r"^(\w+) +\w", blocks_of(TOP / "docs/ARCHITECTURE.md")[0][1], re.M)
+        self.assertEqual(sorted(listed), sorted(file.name for file in (TOP / "crates").iterdir() if file.is_dir()))
+        self.assertLess(len((TOP / "README.md").read_text().splitlines()), 150)
+
+
+if __name__ == "__main__":
+    unittest.main()
