@@ -134,6 +134,31 @@ class Blocks(unittest.TestCase):
                         self.assertIn(part, proved)
 
 
+class Manual(unittest.TestCase):
+    """The page of the manual has what the documents have."""
+
+    def setUp(self):
+        self.page = (TOP / "man/changeset.1").read_text().replace("\\-", "-").replace("\\(aq", "'").replace("\\&", "")
+
+    def test_errors(self):
+        rows = re.findall(r"^\| (\d+) \| ([^|]*) \| \d+ \|", (TOP / "docs/ERRORS.md").read_text(), re.M)
+        listed = re.findall(r"^\.B error (\d+) (.*)$", self.page, re.M)
+        self.assertEqual(listed, [(number, name) for number, name in rows if number not in ("51", "80")])
+
+    def test_lines(self):
+        rows = re.findall(r"^\| `([^`|]*)` \|", (TOP / "docs/SHELL.md").read_text(), re.M)
+        self.assertGreater(len(rows), 15)
+        for line in rows:
+            with self.subTest(line=line):
+                self.assertIn(f".B {line}\n", self.page)
+
+    def test_usage(self):
+        usage = blocks_of(TOP / "docs/COMMAND.md")[0][1]
+        for word in re.findall(r"--[a-z-]+|^  [a-z]+", usage, re.M):
+            with self.subTest(word=word):
+                self.assertIn(word.strip(), self.page)
+
+
 class Links(unittest.TestCase):
     """What a document points to is there."""
 
