@@ -18,7 +18,8 @@ import unittest
 TOP = pathlib.Path(__file__).resolve().parent.parent
 PROGRAM = TOP / "crates/changeset/out/changeset"
 ARCHIVE = TOP / "bindings/c/out/libvollikash.a"
-DOCUMENTS = [TOP / "README.md", *sorted(it for folder in ("docs", "examples", "crates/*") for it in TOP.glob(f"{folder}/*.md"))]
+FOLDERS = ("", "docs/", "examples/", "bindings/", "crates/*/")
+DOCUMENTS = sorted(it for folder in FOLDERS for it in TOP.glob(f"{folder}*.md"))
 
 # How many seconds an answer may take.
 PATIENCE = 60
