@@ -7,8 +7,8 @@ import re
 import sys
 
 # The number of parts that unittest reports, or that print as it does: three of the bindings, two of the examples, one of
-# the documents, one of stores and SQLite, and eight of the program.
-PARTS = 15
+# the documents, one of stores and SQLite, and nine of the program.
+PARTS = 16
 
 said = sys.stdin.read()
 gate = [tuple(map(int, counts)) for counts in re.findall(r"^(\d+) passed, (\d+) failed$", said, re.M)]
