@@ -1,6 +1,6 @@
 """The lines of a script, and what each of them prints: a model that shares no code with the program.
 
-It follows `docs/SHELL.md`, `docs/ERRORS.md`, and *Lines* of `docs/DECISIONS.md`.
+It follows `docs/SHELL.md`, `docs/ERRORS.md`, and `docs/DECISIONS.md`.
 """
 import re
 
