@@ -23,7 +23,7 @@ from read_write import RUNS, fill, measure
 TOP = os.path.dirname(os.path.dirname(os.path.abspath(__file__)))
 sys.path.insert(0, os.path.join(TOP, "tests"))
 
-import stores  # noqa: E402
+from support import stores  # noqa: E402
 
 # Tables of the same columns, of which the first is the key, and how many entries each is for: all, where that is None.
 Shape = collections.namedtuple("Shape", "name counts columns in_each")

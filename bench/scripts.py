@@ -24,7 +24,7 @@ from read_write import RUNS
 TOP = os.path.dirname(os.path.dirname(os.path.abspath(__file__)))
 sys.path.insert(0, os.path.join(TOP, "tests"))
 
-import stores  # noqa: E402
+from support import stores  # noqa: E402
 
 COUNTS = (1_000, 10_000, 100_000)
 

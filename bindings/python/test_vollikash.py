@@ -25,7 +25,7 @@ HERE = pathlib.Path(__file__).resolve().parent
 TOP = HERE.parent.parent
 sys.path.insert(0, str(TOP / "tests"))
 
-import reader  # noqa: E402
+from support import reader  # noqa: E402
 
 BUILT = HERE.parent / "c/out"
 HEADER = HERE.parent / "c/vollikash.h"

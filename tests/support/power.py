@@ -1,17 +1,4 @@
-#!/usr/bin/env python3
-"""Tests of the program as it is built, whose power is cut, or whose process ends, at each point of a run.
-
-`record.c` records a run once: what is written to the store, its log and OUT, what is synced, which files are made,
-renamed and removed, and what is printed between. From that the test makes the files that may be there at each point:
-all that was done, as where the process alone ends; or what was synced, and of what was done since any part: each
-subset of up to eight writes, some of more, and writes of which only some sectors of 512 bytes are there. SQLite, by
-Python's own sqlite3, finds each such store whole, with the tables from before the line that ran or from behind it, and
-no line lost that was answered; so does the program, which goes on from there, also where it is cut again as it opens
-the store. OUT is the old file or the new one. `shell.py` says which tables lines make.
-A run of the gate tries some of these files; `all` in front tries all of them, for minutes.
-
-usage: tests/cuts.py [all] [PROGRAM]
-"""
+"""Runs that are recorded (`record.c`), and the files that a power cut, or the end of the process, may leave of them."""
 import collections
 import contextlib
 import copy
@@ -22,18 +9,15 @@ import pathlib
 import random
 import re
 import sqlite3
-import sys
 import tempfile
-import unittest
 from functools import partial
 
-import refusals
-from descriptors import STORE_SCRIPTS, MarkedScript, mark
-from model import shown_tables
-from refusals import COMMANDS, CREATE, FILES, STORE, Command, T, build_shim, is_store
-from refusals import shown_tables as shown_store
-from shell import Shell
-from stores import FORMER, VERSION, expect_whole, insert, literal, read_store, run_sql
+from support.faults import MarkedScript, mark
+from support.model import shown_tables
+from support.shell import Shell
+from support.stores import VERSION, expect_whole, insert, literal, read_store, run_sql
+from support.trials import CREATE, FILES, STORE, Command, T, is_store, run
+from support.trials import shown_tables as shown_store
 
 # What a record has of a run: a file is its number, and a name stands without its folder.
 Write = collections.namedtuple("Write", "file place content")
@@ -53,13 +37,6 @@ SUBSETS, OTHERS = 8, 24
 
 # At how many of its borders a write is torn in two.
 BORDERS = 32
-
-# How many files of each run are tried in the gate, how many of these are opened by the program, too, and of how many
-# of these the opening is recorded and cut again; and the same of runs whose files have megabytes.
-SHARES, LONG_SHARES = (150, 40, 1), (16, 4, 0)
-
-# The same where all are tried, but for those of megabytes.
-ALL_SHARES, ALL_LONG_SHARES = (1_000_000, 1_000_000, 4), (300, 300, 0)
 
 # How many runs were recorded, at how many points they were cut, how many different files that makes, and how many of
 # these the program opened.
@@ -119,7 +96,7 @@ class Recording:
             self.found = {name: (os.stat(os.path.join(folder, name)).st_ino, files[name]) for name in files}
             self.folder = os.stat(folder).st_ino
             loading = {"LD_PRELOAD": shim, "RECORD_TO": str(record.fileno())}
-            self.ended = refusals.run(folder, words, stdin, loading)
+            self.ended = run(folder, words, stdin, loading)
             self.left = files_of(folder)
             record.seek(0)
             self.events = read_record(record.read())
@@ -368,7 +345,7 @@ class Run:
         script = MarkedScript(self.behind)
         with tempfile.TemporaryDirectory() as folder:
             make_files(folder, files)
-            return refusals.run(folder, script.words, script.stdin), found_by_sqlite(files_of(folder))
+            return run(folder, script.words, script.stdin), found_by_sqlite(files_of(folder))
 
     def why_not(self, files, printed, opens):
         """Why a cut may not leave these files where so much is printed, or nothing; the program opens them, or not."""
@@ -432,86 +409,3 @@ def found_by(words, version=VERSION):
         if version != VERSION:
             run_sql(os.path.join(folder, "store"), "DELETE FROM rec WHERE tab = '' AND keyb = X''", records=[version])
         return files_of(folder)
-
-
-class CutTest(unittest.TestCase):
-    """Runs that are cut."""
-
-    @classmethod
-    def setUpClass(cls):
-        folder = tempfile.TemporaryDirectory()
-        cls.addClassCleanup(folder.cleanup)
-        cls.shim = build_shim(folder.name, "record")
-
-    @classmethod
-    def tearDownClass(cls):
-        print("{runs} runs, {points} points, {files} files, {opened} opened by the program".format(**counts))
-
-    def record(self, files, words, stdin):
-        """Records a run, whose files have to be those that its record makes."""
-        recording = Recording(self.shim, files, words, stdin)
-        disk = Disk(recording)
-        for event in recording.events:
-            disk.take(event)
-        self.assertTrue(disk.files([(change, None) for change in disk.pending]) == recording.left, "another record")
-        return recording
-
-    def expect_store(self, runs, most, opened, again):
-        """Asserts that what is left of a run that is cut is a store with the tables of a line. It is one of these."""
-        recording = self.record(runs[0].files, runs[0].words, runs[0].stdin)
-        found = [run for run in runs if run.story.printed() == recording.ended[1]]
-        self.assertTrue(found, "the model answers otherwise")
-        kept = []
-        for files, printed, told, share in tried(recording, most):
-            with self.subTest(told):
-                self.assertEqual(found[0].why_not(files, printed, share < opened), "")
-            if share < again:
-                kept.append((told, found[0].again(files, printed)))
-        for told, others in kept:
-            with self.subTest("again " + told):
-                self.expect_store(others, most, opened, 0)
-
-    def test_scripts(self):
-        """Behind each cut the tables are those from before the line that ran, or from behind it."""
-        for what, lines in STORE_SCRIPTS.items():
-            with self.subTest(what):
-                self.expect_store([script_run(lines)], *SHARES)
-
-    def test_long_runs(self):
-        """The same of a log that is copied back between lines, and of an apply that is written before it ends."""
-        for run in (script_run(LONG_SCRIPT), apply_run(LARGE_APPLY)):
-            with self.subTest(run.words):
-                self.expect_store([run], *LONG_SHARES)
-
-    def test_applies(self):
-        """Behind each cut the apply stands, or nothing of it does."""
-        for words in [*COMMANDS, *APPLIES]:
-            if "apply" in words:
-                with self.subTest(" ".join(words)):
-                    self.expect_store([apply_run(words)], *SHARES)
-
-    def test_stores_of_the_former_version(self):
-        """Behind each cut the store is as it was, or in this version, and the apply stands or does not."""
-        for words in APPLIES:
-            with self.subTest(" ".join(words)):
-                self.expect_store([apply_run(words, FORMER)], *SHARES)
-
-    def test_files_that_are_written(self):
-        """Behind each cut OUT is the old file or the new one, and the other files are as they were."""
-        for words in COMMANDS:
-            if "out" in words:
-                files = found_by(words)
-                recording = self.record(files, words, b"")
-                new = {**files, "out": recording.left["out"]}
-                for left, _, told, _ in tried(recording, SHARES[0]):
-                    with self.subTest(" ".join(words), told=told):
-                        self.assertIn({name: left.get(name) for name in files}, (files, new))
-
-
-if __name__ == "__main__":
-    if sys.argv[1:2] == ["all"]:
-        SHARES, LONG_SHARES = ALL_SHARES, ALL_LONG_SHARES
-        del sys.argv[1]
-    if sys.argv[1:2] and not sys.argv[1].startswith("-"):
-        refusals.PROGRAM = pathlib.Path(sys.argv.pop(1)).resolve()
-    unittest.main()

@@ -4,8 +4,8 @@ It follows `docs/SHELL.md`, `docs/ERRORS.md`, and `docs/DECISIONS.md`.
 """
 import re
 
-import reader
-from model import ABORTS, NULL, Applying, Refusal, Session, Table, dump_lines, joined, literals, put
+from support import reader
+from support.model import ABORTS, NULL, Applying, Refusal, Session, Table, dump_lines, joined, literals, put
 
 KEYWORDS = frozenset(
     b"CREATE TABLE PRIMARY KEY INSERT INTO VALUES UPDATE SET WHERE AND DELETE FROM SELECT NOT NULL".split()

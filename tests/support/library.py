@@ -4,16 +4,12 @@ Where the two differ as the documents say they do, the difference is counted; an
 """
 import collections
 import os
-import pathlib
 import subprocess
 
-import reader
-from model import NUMBERS, Applying, Refusal, Table, content_of, have_same_columns, joined, put, quoted
+from support import reader
+from support.model import NUMBERS, Applying, Refusal, Table, content_of, have_same_columns, joined, put, quoted
+from support.program import PATIENCE, TESTS
 
-HERE = pathlib.Path(__file__).resolve().parent
-
-# How many seconds a run may take.
-PATIENCE = 120
 
 # SQLite's result codes.
 OK, ABORT, SCHEMA, MISUSE = 0, 4, 17, 21
@@ -48,7 +44,7 @@ class Library:
 
     def __init__(self, folder):
         self.program = os.path.join(folder, "sqlite")
-        command = ["cc", "-O2", "-o", self.program, str(HERE / "sqlite.c"), "-lsqlite3"]
+        command = ["cc", "-O2", "-o", self.program, str(TESTS / "sqlite.c"), "-lsqlite3"]
         try:
             built = subprocess.run(command, capture_output=True, text=True, timeout=PATIENCE)
             self.why = built.stderr.strip().split("\n")[-1] if built.returncode else ""

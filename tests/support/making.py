@@ -2,8 +2,8 @@
 
 Groups are those of `reader.py`. What is made has few keys and few values, so that much of it meets.
 """
-from model import NULL, UNDEFINED, have_same_columns, key_of, literals, quoted
-from reader import DELETE, INSERT, UPDATE, is_text, spelled, write
+from support.model import NULL, UNDEFINED, have_same_columns, key_of, literals, quoted
+from support.reader import DELETE, INSERT, UPDATE, is_text, spelled, write
 
 INTEGERS = (0, 1, 2, 3, -1, 10, 255, 256, 1 << 31, (1 << 63) - 1, -1 << 63)
 TEXTS = (

@@ -6,7 +6,7 @@ values.
 """
 import collections
 
-from reader import DELETE, INSERT, UNDEFINED, UPDATE, inverted
+from support.reader import DELETE, INSERT, UNDEFINED, UPDATE, inverted
 
 NULL = b"\x05"
 

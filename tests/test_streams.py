@@ -3,8 +3,6 @@
 
 A pipe in packet mode hands each piece to one read. `refuse.c` lets one read fail, and a limit on the size of files stops the
 output. The program has to be built first, as the gate does.
-
-usage: tests/streams.py [PROGRAM]
 """
 import errno
 import os
@@ -12,15 +10,12 @@ import pathlib
 import resource
 import signal
 import subprocess
-import sys
 import tempfile
 import threading
 import unittest
 
-import refusals
-from refusals import build_shim
-
-PATIENCE = 60
+from support.program import PATIENCE, PROGRAM, main
+from support.trials import build_shim
 
 # A script of tables, a changeset and a session: its lines, each with what it prints.
 LINES = (
@@ -85,7 +80,7 @@ class Streams(unittest.TestCase):
         refusing = {"REFUSE_CALL": "read", "REFUSE_AT": str(failing), "REFUSE_WITH": str(errno.EIO), "LD_PRELOAD": self.shim}
         with os.fdopen(reading, "rb") as stdin:
             child = subprocess.Popen(
-                [refusals.PROGRAM], stdin=stdin, stdout=subprocess.PIPE, stderr=subprocess.PIPE,
+                [PROGRAM], stdin=stdin, stdout=subprocess.PIPE, stderr=subprocess.PIPE,
                 env={**os.environ, **(refusing if failing else {})},
             )
         feeding.start()
@@ -110,7 +105,7 @@ class Streams(unittest.TestCase):
         for count in range(len(PRINTED) + 1):
             with self.subTest(count=count), open(self.folder / "out", "wb") as out:
                 done = subprocess.run(
-                    [refusals.PROGRAM], input=SCRIPT, stdout=out, stderr=subprocess.PIPE, timeout=PATIENCE,
+                    [PROGRAM], input=SCRIPT, stdout=out, stderr=subprocess.PIPE, timeout=PATIENCE,
                     preexec_fn=lambda: stop_at(count),
                 )
                 reported = OUTPUT_FAULT if count < len(PRINTED) else b""
@@ -122,15 +117,13 @@ class Streams(unittest.TestCase):
         store = self.folder / "store"
         with open("/dev/full", "wb") as full:
             done = subprocess.run(
-                [refusals.PROGRAM, store, "shell"], input=b".hex q\nCREATE TABLE t(a, PRIMARY KEY(a));\n", stdout=full,
+                [PROGRAM, store, "shell"], input=b".hex q\nCREATE TABLE t(a, PRIMARY KEY(a));\n", stdout=full,
                 stderr=subprocess.PIPE, timeout=PATIENCE,
             )
         self.assertEqual((done.returncode, done.stderr), (1, OUTPUT_FAULT))
-        done = subprocess.run([refusals.PROGRAM, store, "shell"], input=b"SELECT * FROM t;\n", capture_output=True, timeout=PATIENCE)
+        done = subprocess.run([PROGRAM, store, "shell"], input=b"SELECT * FROM t;\n", capture_output=True, timeout=PATIENCE)
         self.assertEqual(done.stdout, b"error 31 NoTable\n")
 
 
 if __name__ == "__main__":
-    if sys.argv[1:2] and not sys.argv[1].startswith("-"):
-        refusals.PROGRAM = pathlib.Path(sys.argv.pop(1)).resolve()
-    unittest.main()
+    main()

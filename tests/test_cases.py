@@ -4,43 +4,12 @@
 `cases/` has one file for each topic. A topic is a script, and after each line the text that the program prints for it,
 with `= ` before each printed line, or `=` before an empty one. Each topic is run with a store of its own, and without the
 last line feed. Build the program first, as the gate does, or by `rt run` in `crates/changeset`.
-
-usage: tests/cases.py [PROGRAM]
 """
-import collections
-import pathlib
 import subprocess
-import sys
 import unittest
 
-HERE = pathlib.Path(__file__).resolve().parent
-TABLE = HERE / "cases"
-PROGRAM = HERE.parent / "crates/changeset/out/changeset"
-
-# How many seconds one run may take.
-PATIENCE = 120
-
-# A line of a topic: its number in the file, its bytes, the bytes that it prints, and the comment of its case.
-Line = collections.namedtuple("Line", "number text printed case")
-
-
-def read_topic(file):
-    """Return the lines of the script of a topic."""
-    lines, case = [], []
-    for number, text in enumerate(file.read_bytes().split(b"\n")[:-1], 1):
-        if text.startswith(b"="):
-            lines[-1] = lines[-1]._replace(printed=lines[-1].printed + text[2:] + b"\n")
-            continue
-        if text.startswith(b"-- "):
-            is_next = bool(lines) and lines[-1].text.startswith(b"-- ")
-            case = [*case, text] if is_next else [text]
-        lines.append(Line(number, text, b"", b"\n".join(case)))
-    return lines
-
-
-def read_topics():
-    """Return the lines of each topic, by the name of its file."""
-    return {file.name: read_topic(file) for file in sorted(TABLE.iterdir())}
+from support.program import PATIENCE, PROGRAM, main
+from support.topics import read_topics
 
 
 def run(lines):
@@ -96,16 +65,6 @@ def test_of(topic, lines):
 
 for name, script_lines in read_topics().items():
     setattr(Cases, f"test_{name}", test_of(name, script_lines))
-
-
-def main():
-    global PROGRAM
-    words = sys.argv[1:]
-    if words and not words[0].startswith("-"):
-        PROGRAM = pathlib.Path(words.pop(0)).resolve()
-    if not PROGRAM.is_file():
-        sys.exit(f"no program at {PROGRAM}: build it by `rt run` in crates/changeset")
-    unittest.main(argv=[sys.argv[0], *words])
 
 
 if __name__ == "__main__":

@@ -5,19 +5,13 @@ What it has to answer comes from a reader that shares no code with it (`reader.p
 or the fault, by number, name and place; and after a refusal the slot that a line would fill, and the store, are as
 before. And files that claim more than they have take no more memory than others of their length.
 The program has to be built first, as the gate does, or by `rt run` in `crates/changeset`.
-
-usage: tests/damaged.py [PROGRAM]
 """
-import pathlib
 import subprocess
-import sys
 import unittest
 
-import reader
-from stores import UNDEFINED, delete, header, insert, update
-
-HERE = pathlib.Path(__file__).resolve().parent
-PROGRAM = HERE.parent / "crates/changeset/out/changeset"
+from support import reader
+from support.program import PROGRAM, main
+from support.stores import UNDEFINED, delete, header, insert, update
 
 # How many seconds a run may take, how many bytes a script has at most, and how many of memory a run may have.
 PATIENCE, LONGEST, MEMORY = 300, 16_000_000, 96 << 20
@@ -123,6 +117,4 @@ class DamageTest(unittest.TestCase):
 
 
 if __name__ == "__main__":
-    if sys.argv[1:2] and not sys.argv[1].startswith("-"):
-        PROGRAM = pathlib.Path(sys.argv.pop(1)).resolve()
-    unittest.main()
+    main()

@@ -4,8 +4,6 @@
 What SQLite records, inverts and applies is done by its own library, which `sqlite.c` calls; where that library is not there
 with its session extension, each of these tests is skipped. The stores are those of `vollikash.open`, and the keys of changesets
 are numbered by `vollikash.number_keys`, from the library that `bindings/check` builds.
-
-usage: tests/exchange.py [PROGRAM], where PROGRAM is the `changeset` program that is built
 """
 import os
 import pathlib
@@ -14,16 +12,15 @@ import sys
 import tempfile
 import unittest
 
-import library
+from support import library
+from support.program import PROGRAM, TOP, main
 
-HERE = pathlib.Path(__file__).resolve().parent
-TOP = HERE.parent
 sys.path.insert(0, str(TOP / "bindings/python"))
 
 import vollikash  # noqa: E402
 from vollikash._lines import spelled, spelled_name  # noqa: E402
 
-PROGRAM = TOP / "crates/changeset/out/changeset"
+os.environ["VOLLIKASH_PROGRAM"] = str(PROGRAM)
 
 # Tables of one to three columns in the key: a name, the columns, and those of the key in column order.
 TABLES = (
@@ -312,7 +309,4 @@ class Exchange(unittest.TestCase):
 
 
 if __name__ == "__main__":
-    if sys.argv[1:2] and not sys.argv[1].startswith("-"):
-        PROGRAM = pathlib.Path(sys.argv.pop(1)).resolve()
-    os.environ["VOLLIKASH_PROGRAM"] = str(PROGRAM)
-    unittest.main()
+    main()

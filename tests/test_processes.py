@@ -4,14 +4,11 @@
 While one has the store open another is refused, with StoreFault, and changes nothing; what the first was answered
 stands. Where one is killed the next finds the tables from before the line that ran, or from behind it. `shell.py` says
 which tables lines make.
-
-usage: tests/processes.py [PROGRAM]
 """
 import collections
 import contextlib
 import itertools
 import os
-import pathlib
 import random
 import signal
 import sqlite3
@@ -19,13 +16,13 @@ import subprocess
 import sys
 import tempfile
 import time
-import unittest
 
-import program
-from cuts import Story, files_of, found_by_sqlite, opened_again, script_run, tables_of
-from descriptors import MarkedScript
-from program import CREATE, CREATE_N, DELETE, INSERT, NULL_INSERT, PATIENCE, STORE_FAULT, UPDATE, StoreTest
-from shell import Shell
+from support import programs
+from support.faults import MarkedScript
+from support.power import Story, files_of, found_by_sqlite, opened_again, script_run, tables_of
+from support.program import PATIENCE, PROGRAM, main
+from support.programs import CREATE, CREATE_N, DELETE, INSERT, NULL_INSERT, STORE_FAULT, UPDATE, StoreTest
+from support.shell import Shell
 
 REFUSED = (1, "", STORE_FAULT)
 
@@ -102,7 +99,7 @@ class Processes(StoreTest):
             source.write(script)
             source.seek(0)
             pipes = {"stdin": source, "stdout": subprocess.PIPE, "stderr": subprocess.PIPE}
-            return subprocess.Popen([program.PROGRAM, "store", "shell"], cwd=self.folder, **pipes)
+            return subprocess.Popen([PROGRAM, "store", "shell"], cwd=self.folder, **pipes)
 
     def end(self, child):
         """How a program ends that was begun."""
@@ -142,7 +139,7 @@ class Processes(StoreTest):
             self.assertEqual(first.communicate(timeout=PATIENCE), (b"", b""))
             self.assertEqual(first.returncode, 0)
         (self.folder / "link").unlink()
-        self.assertEqual(self.read_alone(), program.tables_of((1, "x"), (3, "z")))
+        self.assertEqual(self.read_alone(), programs.tables_of((1, "x"), (3, "z")))
 
     def test_store_that_sqlite_has_open(self):
         """SQLite is told that the store is locked, and the program is refused where SQLite writes."""
@@ -160,7 +157,7 @@ class Processes(StoreTest):
             self.assertEqual(other.stdout.readline(), b"held\n")
             self.expect_refusals()
         (self.folder / "link").unlink()
-        self.assertEqual(self.read(), program.tables_of())
+        self.assertEqual(self.read(), programs.tables_of())
 
     def test_two_programs_that_begin_at_once(self):
         """One runs, and the other is refused or runs behind it."""
@@ -203,6 +200,4 @@ class Processes(StoreTest):
 
 
 if __name__ == "__main__":
-    if sys.argv[1:2] and not sys.argv[1].startswith("-"):
-        program.PROGRAM = pathlib.Path(sys.argv.pop(1)).resolve()
-    unittest.main()
+    main()

@@ -4,30 +4,29 @@
 What the program is to print is written out here, by the documents. Stores are written and read by Python's own
 sqlite3 (`stores.py`), and `recorded/` has files that SQLite's session extension recorded. The program has to be built
 first, as the gate does, or by `rt run` in `crates/changeset`.
-
-usage: tests/program.py [PROGRAM]
 """
-import contextlib
 import json
 import os
 import pathlib
-import select
 import signal
 import sqlite3
 import subprocess
-import sys
 import tempfile
 import time
 import unittest
 
-from stores import (
+from support.program import PATIENCE, PROGRAM, TESTS, main
+from support.programs import (
+    COMMANDS, CREATE, CREATE_N, DAMAGED_STORE, DELETE, INPUT_FAULT, INSERT, KEY, KINDS, MANY, MANY_INSERTS, N,
+    NEEDS_FULL, NULL_INSERT, NULL_UPDATE, OUTPUT_FAULT, STORE_FAULT, T, UPDATE, WIDER_INSERT, ProgramTest, StoreTest,
+    refusing, tables_of,
+)
+from support.stores import (
     FORMER, RECORDS, UNDEFINED, VERSION, Table, count_changes, delete, header, insert, literal, read_changeset,
-    read_records, read_store, records_of, run_schema, run_sql, run_statements, shown, shown_rows, update, write_store,
+    read_records, records_of, run_schema, run_sql, run_statements, shown, shown_rows, update,
 )
 
-HERE = pathlib.Path(__file__).resolve().parent
-RECORDED = HERE / "recorded"
-PROGRAM = HERE.parent / "crates/changeset/out/changeset"
+RECORDED = TESTS / "recorded"
 
 USAGE = """\
 Usage: changeset [--data C] [--notfound C] [--conflict C] [--constraint C] [--ignore-noop] FILE COMMAND ...
@@ -40,140 +39,6 @@ COMMANDs:
   shell              Run a script from standard input on the store FILE
 C is omit, replace or abort (the default).
 """
-
-# The header of a table t of two columns, of which the first is the key, and the key 1.
-T = header("t", 1, 0)
-KEY = b"\x01\x00\x00\x00\x00\x00\x00\x00\x01"
-
-# The line that makes it, and the line that makes a table n whose second column refuses NULL.
-CREATE = "CREATE TABLE t(a, b, PRIMARY KEY(a));"
-CREATE_N = "CREATE TABLE n(a, b NOT NULL, PRIMARY KEY(a));"
-
-INSERT = T + insert(1, "x")
-DELETE = T + delete(1, "x")
-UPDATE = T + update((1, "x"), (UNDEFINED, "y"))
-# So many inserts, and their file.
-MANY = 20_000
-MANY_INSERTS = T + b"".join(insert(key, "x") for key in range(MANY))
-WIDER_INSERT = header("t", 1, 0, 0) + insert(1, None, None)
-
-# The header of the table n, an insert of a row that it refuses, and an update to such a row.
-N = header("n", 1, 0)
-NULL_INSERT = N + insert(1, None)
-NULL_UPDATE = N + update((1, "x"), (UNDEFINED, None))
-
-INPUT_FAULT = "error 71 InputFault\n"
-OUTPUT_FAULT = "error 72 OutputFault\n"
-DAMAGED_STORE = "error 37 DamagedStore\n"
-STORE_FAULT = "error 38 StoreFault\n"
-
-# How many seconds an answer may take.
-PATIENCE = 120
-
-NEEDS_FULL = unittest.skipUnless(os.path.exists("/dev/full"), "no /dev/full")
-
-
-def tables_of(*rows, columns=("a", "b"), keys=(True, False), name="t"):
-    """A table with these rows, of which the first column is the key unless said otherwise."""
-    return {name: Table(columns, keys, list(rows))}
-
-
-def refusing(*rows):
-    """The table n with these rows, whose second column refuses NULL."""
-    return {"n": Table(("a", "b"), (True, False), list(rows), (True, True))}
-
-
-class ProgramTest(unittest.TestCase):
-    """A test that runs the program in a folder of its own."""
-
-    def setUp(self):
-        folder = tempfile.TemporaryDirectory()
-        self.addCleanup(folder.cleanup)
-        self.folder = pathlib.Path(folder.name)
-
-    @contextlib.contextmanager
-    def case(self, **what):
-        """One case of a table of them, in a folder of its own."""
-        with self.subTest(**what), tempfile.TemporaryDirectory() as folder:
-            self.folder = pathlib.Path(folder)
-            yield
-
-    def make(self, name, content):
-        """Makes a file of these bytes."""
-        (self.folder / name).write_bytes(content)
-
-    def bytes_of(self, name):
-        """The bytes of a file."""
-        return (self.folder / name).read_bytes()
-
-    def run_program(self, *words, stdin=b"", stdout=subprocess.PIPE):
-        """Runs the program, and answers its exit status and what it prints to both streams."""
-        source = {"stdin": stdin} if isinstance(stdin, int) else {"input": stdin}
-        done = subprocess.run(
-            [PROGRAM, *words], cwd=self.folder, stdout=stdout, stderr=subprocess.PIPE, timeout=PATIENCE, **source
-        )
-        return done.returncode, (done.stdout or b"").decode(), done.stderr.decode()
-
-    def run_lines(self, lines):
-        """Runs lines as a script, and answers its exit status and what it prints to both streams."""
-        return self.run_program(stdin="".join(line + "\n" for line in lines).encode())
-
-    def run_full(self, *words, stdin=b""):
-        """Runs the program with a standard output that takes nothing."""
-        with open("/dev/full", "wb") as full:
-            return self.run_program(*words, stdin=stdin, stdout=full)
-
-    def run_closed(self, *words, stdin=b""):
-        """Runs the program with a standard output that nobody reads any more."""
-        reading, writing = os.pipe()
-        os.close(reading)
-        with os.fdopen(writing, "wb") as pipe:
-            return self.run_program(*words, stdin=stdin, stdout=pipe)
-
-    def run_cut(self, *words):
-        """Runs the program where no file may grow, as on a disk that is full, and answers as `run_program` does."""
-        limit = "ulimit -f 0; trap '' XFSZ; exec \"$0\" \"$@\""
-        done = subprocess.run(
-            ["sh", "-c", limit, PROGRAM, *words], cwd=self.folder, capture_output=True, timeout=PATIENCE
-        )
-        return done.returncode, done.stdout.decode(), done.stderr.decode()
-
-    @contextlib.contextmanager
-    def dialogue(self, *words):
-        """The program, with a script that is not written yet."""
-        pipes = {"stdin": subprocess.PIPE, "stdout": subprocess.PIPE, "stderr": subprocess.PIPE}
-        with subprocess.Popen([PROGRAM, *words], cwd=self.folder, bufsize=0, **pipes) as child:
-            try:
-                yield child
-            finally:
-                child.kill()
-
-    def expect_answer(self, child, text, answer):
-        """Writes a part of the script, and asserts that this is read before more is written."""
-        child.stdin.write(text.encode())
-        end, read, wanted = time.monotonic() + PATIENCE, b"", answer.encode()
-        while len(read) < len(wanted):
-            ready, _, _ = select.select([child.stdout], [], [], max(0, end - time.monotonic()))
-            piece = os.read(child.stdout.fileno(), len(wanted) - len(read)) if ready else b""
-            if not piece:
-                break
-            read += piece
-        self.assertEqual(read, wanted, text)
-
-    def expect(self, words, status, printed="", reported=""):
-        """Runs the program, and asserts its exit status and what it prints to both streams."""
-        self.assertEqual(self.run_program(*words), (status, printed, reported), words)
-
-    def expect_files(self, *names):
-        """Asserts which files there are."""
-        self.assertEqual(sorted(os.listdir(self.folder)), sorted(names))
-
-
-# The kinds of conflicts, as words say what is done about them.
-KINDS = ("data", "notfound", "conflict", "constraint")
-
-# The commands, and how many arguments each has.
-COMMANDS = {"apply": 1, "concat": 2, "dump": 0, "invert": 1, "shell": 0, "sql": 0}
 
 
 class Words(ProgramTest):
@@ -538,43 +403,6 @@ class Scripts(ProgramTest):
                 self.expect_answer(child, text, answer)
             self.assertEqual(child.communicate(timeout=PATIENCE), (b"1|'x'\n", b""))
             self.assertEqual(child.returncode, 1)
-
-
-class StoreTest(ProgramTest):
-    """A test with changesets that are applied to a store."""
-
-    def run_shell(self, lines, store="store"):
-        """Runs lines on the store in a file."""
-        return self.run_program(store, "shell", stdin="".join(line + "\n" for line in lines).encode())
-
-    def write(self, tables, **how):
-        """Has SQLite write the store."""
-        write_store(self.folder / "store", tables, **how)
-
-    def read(self):
-        """The tables of the store, as SQLite reads it."""
-        return read_store(self.folder / "store")
-
-    def read_alone(self):
-        """The tables of the file alone: the log beside it has nothing that is not in it."""
-        (self.folder / "store-wal").unlink(missing_ok=True)
-        self.assertIn("store", os.listdir(self.folder))
-        return self.read()
-
-    def apply(self, changeset):
-        """Applies a changeset to the store."""
-        self.make("a.cs", changeset)
-        return self.run_program("a.cs", "apply", "store")
-
-    def expect_applied(self, changeset, printed):
-        """Applies a changeset, which succeeds with this report."""
-        self.assertEqual(self.apply(changeset), (0, printed, ""))
-
-    def expect_refused(self, changeset, line):
-        """Applies a changeset, which is refused with this line, and leaves the store."""
-        before = self.read()
-        self.assertEqual(self.apply(changeset), (1, "", line))
-        self.assertEqual(self.read(), before)
 
 
 class Applies(StoreTest):
@@ -1375,18 +1203,6 @@ class RecordedByLines(ProgramTest):
                     ([".session undo"], f"applied {len(edits)}\n"),
                     ([".session changeset c", ".hex c"], "\n"),
                 )
-
-
-def main():
-    global PROGRAM
-    words = sys.argv[1:]
-    if words and not words[0].startswith("-"):
-        PROGRAM = pathlib.Path(words.pop(0)).resolve()
-    if not PROGRAM.is_file():
-        sys.exit(f"no program at {PROGRAM}: build it by `rt run` in crates/changeset")
-    if sqlite3.sqlite_version_info < (3, 37):
-        sys.exit(f"SQLite {sqlite3.sqlite_version} has no STRICT tables: 3.37 or later is needed")
-    unittest.main(argv=[sys.argv[0], *words])
 
 
 if __name__ == "__main__":

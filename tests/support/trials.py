@@ -1,30 +1,16 @@
-#!/usr/bin/env python3
-"""Tests of the program as it is built, to which memory is refused: one allocation of a run, then the next, and so on.
-
-A line of a script is answered as with memory, or by `error 60 NoMemory` and as if it did not stand there; a command is
-carried out, or says the same on standard error and leaves its files. `refuse.c` is what refuses: it is loaded in front
-of the C library. The store in the file is read by Python's own sqlite3.
-A run of the gate tries some allocations of each script and command; `all` in front tries each of them, for minutes.
-
-usage: tests/refusals.py [all] [PROGRAM]
-"""
+"""Scripts, commands and calls that run again and again while one allocation or one call of each run is refused (`refuse.c`)."""
 import contextlib
 import os
 import pathlib
-import random
 import sqlite3
 import subprocess
-import sys
 import tempfile
-import unittest
 
-from stores import UNDEFINED, Table, delete, header, insert, read_store, update, write_store
-
-HERE = pathlib.Path(__file__).resolve().parent
-PROGRAM = HERE.parent / "crates/changeset/out/changeset"
+from support.program import PATIENCE, PROGRAM, TESTS, TOP
+from support.stores import UNDEFINED, Table, delete, header, insert, read_store, update, write_store
 
 # The program of calls that no line makes, which prints a line for each of its words.
-CALLS = HERE.parent / "crates/calls/out/calls"
+CALLS = TOP / "crates/calls/out/calls"
 
 NO_MEMORY = "error 60 NoMemory\n"
 
@@ -33,14 +19,6 @@ WITHOUT_MEMORY = {"claim"}
 
 # What names the descriptor to which a file that is loaded in front of the library writes.
 DESCRIPTORS = ("REFUSE_MARK", "RECORD_TO")
-
-# How many seconds a run may take.
-PATIENCE = 120
-
-# How many of the first allocations of a run are tried in the gate, and how many of the others.
-FIRST, OTHERS = 40, 60
-
-TRIES_ALL = False
 
 T = header("t", 1, 0)
 INSERT = T + insert(1, "x")
@@ -107,7 +85,7 @@ STORE = {"t": Table(("a", "b"), (True, False), [(1, "z"), (3, None)])}
 def build_shim(folder, name="refuse"):
     """Builds what refuses, or another file of C that is loaded in front of the library."""
     shim = os.path.join(folder, f"{name}.so")
-    subprocess.run(["cc", "-shared", "-fPIC", "-O2", "-o", shim, HERE / f"{name}.c", "-ldl"], check=True)
+    subprocess.run(["cc", "-shared", "-fPIC", "-O2", "-o", shim, TESTS / f"{name}.c", "-ldl"], check=True)
     return shim
 
 
@@ -248,59 +226,3 @@ def shown_tables(tables):
     return {
         name: (table.columns, table.keys, tuple(table.refuses or table.keys), table.rows) for name, table in tables.items()
     }
-
-
-def tried(count):
-    """Which of so many allocations are refused."""
-    if TRIES_ALL or count <= FIRST + OTHERS:
-        return range(1, count + 1)
-    return [*range(1, FIRST + 1), *sorted(random.Random(count).sample(range(FIRST + 1, count + 1), OTHERS))]
-
-
-class MemoryTest(unittest.TestCase):
-    """Runs to which one allocation is refused."""
-
-    @classmethod
-    def setUpClass(cls):
-        folder = tempfile.TemporaryDirectory()
-        cls.addClassCleanup(folder.cleanup)
-        cls.shim = build_shim(folder.name)
-
-    def expect_ends(self, trial):
-        """Refuses one allocation after another, and asserts that each run ends in a way in which it may."""
-        ends = trial.ends()
-        count = trial.count(self.shim)
-        self.assertGreater(count, 0)
-        refusals = 0
-        for at in tried(count):
-            ended, was_refused = trial.refused(self.shim, at)
-            self.assertTrue(was_refused)
-            self.assertIn(ended, ends, f"allocation {at} of {count}")
-            refusals += ended != ends[0]
-        self.assertGreater(refusals, 0)
-
-    def test_scripts(self):
-        """Each line is answered as with memory, or refused and passed over."""
-        for what, lines in SCRIPTS.items():
-            with self.subTest(what):
-                self.expect_ends(Script(lines))
-
-    def test_commands(self):
-        """Each command is carried out, or leaves its files."""
-        for words in COMMANDS:
-            with self.subTest(" ".join(words)):
-                self.expect_ends(Command(words))
-
-    @unittest.skipUnless(CALLS.exists(), "the program of the calls is not built")
-    def test_calls(self):
-        """Each call that no line makes answers as with memory, or NoMemory, and leaves what was there."""
-        self.expect_ends(Calls((HERE.parent / "crates/calls/args").read_text().split()))
-
-
-if __name__ == "__main__":
-    if sys.argv[1:2] == ["all"]:
-        TRIES_ALL = True
-        del sys.argv[1]
-    if sys.argv[1:2] and not sys.argv[1].startswith("-"):
-        PROGRAM = pathlib.Path(sys.argv.pop(1)).resolve()
-    unittest.main()

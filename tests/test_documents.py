@@ -4,8 +4,6 @@
 The tag of a block says how: `console` blocks are commands and what they print, `python` and `c` blocks are programs, whose
 output is the `text` block after them or the comments of their last lines; `rust` blocks stand in a crate's code, and `sql`
 lines in that of `cs_records`. The program and the libraries for C and Python have to be built first, as the gate does.
-
-usage: tests/documents.py
 """
 import os
 import pathlib
@@ -15,14 +13,11 @@ import sys
 import tempfile
 import unittest
 
-TOP = pathlib.Path(__file__).resolve().parent.parent
-PROGRAM = TOP / "crates/changeset/out/changeset"
+from support.program import PATIENCE, PROGRAM, TOP, main
+
 ARCHIVE = TOP / "bindings/c/out/libvollikash.a"
 FOLDERS = ("", "docs/", "examples/", "bindings/", "crates/*/")
 DOCUMENTS = sorted(it for folder in FOLDERS for it in TOP.glob(f"{folder}*.md"))
-
-# How many seconds an answer may take.
-PATIENCE = 60
 
 BLOCK = re.compile(r"^```(\w*)\n(.*?)^```$", re.M | re.S)
 
@@ -185,4 +180,4 @@ class Links(unittest.TestCase):
 
 
 if __name__ == "__main__":
-    unittest.main()
+    main()

@@ -1,0 +1,77 @@
+#!/usr/bin/env python3
+"""Tests of the program as it is built, to which a call on a file is refused: one of a run, then the next, and so on.
+
+Where a call moves one byte alone the run ends as without that, and so it does where a sync is interrupted, or a file
+of the command line; but a read or a write of the store, or of the standard streams, has failed where it is
+interrupted, and a read of the store where it moves one byte. Where one fails, and where a file is not opened, closed,
+renamed or locked, a line is refused with StoreFault and the store has the tables from before it or behind it, or the
+script ends with a fault of its streams behind the lines that were answered; and a command is carried out, or tells a
+fault and leaves its files, OUT above all. And where the process ends at the call, the store and OUT are as before a
+line or behind it. The store is read by Python's own sqlite3, and has to pass its check, and the program opens it
+again; `shell.py` says which tables lines make. `refuse.c` is what refuses.
+A run of the gate tries some of the calls of each kind. With `VOLLIKASH_TRIES=all` each is tried, for minutes.
+"""
+import errno
+import random
+import tempfile
+import unittest
+
+from support.faults import ANSWERS, ONE_BYTE, STORE_SCRIPTS, FileCommand, MarkedScript
+from support.program import TRIES_ALL, main
+from support.trials import COMMANDS, build_shim
+
+# How many of the first calls of a kind are tried in the gate, and how many of the others.
+FIRST, OTHERS = 2, 2
+
+
+def tried(count):
+    """Which of so many calls are refused."""
+    if TRIES_ALL or count <= FIRST + OTHERS:
+        return range(1, count + 1)
+    return [*range(1, FIRST + 1), *sorted(random.Random(count).sample(range(FIRST + 1, count + 1), OTHERS))]
+
+
+class DescriptorTest(unittest.TestCase):
+    """Runs to which one call on a file is refused."""
+
+    points = 0
+
+    @classmethod
+    def setUpClass(cls):
+        folder = tempfile.TemporaryDirectory()
+        cls.addClassCleanup(folder.cleanup)
+        cls.shim = build_shim(folder.name)
+
+    @classmethod
+    def tearDownClass(cls):
+        print(f"{cls.points} calls refused")
+
+    def expect_ends(self, trial):
+        """Refuses one call after another, and asserts that each run ends in a way in which it may."""
+        normal = trial.once()
+        self.assertEqual(trial.why_not(normal, normal, "", ONE_BYTE), "")
+        for call, answers in ANSWERS.items():
+            count = trial.count(self.shim, call)
+            for answer in answers:
+                for at in tried(count):
+                    ended, was_refused = trial.refused(self.shim, at, call, answer)
+                    DescriptorTest.points += was_refused
+                    with self.subTest(call=call, at=at, of=count, answer=errno.errorcode.get(answer, answer)):
+                        self.assertTrue(was_refused)
+                        self.assertEqual(trial.why_not(ended, normal, call, answer), "", ended)
+
+    def test_scripts(self):
+        """Each line is answered, or refused with StoreFault, and the store is as the answers say."""
+        for what, lines in STORE_SCRIPTS.items():
+            with self.subTest(what):
+                self.expect_ends(MarkedScript(lines))
+
+    def test_commands(self):
+        """Each command is carried out, or tells a fault and leaves its files."""
+        for words in COMMANDS:
+            with self.subTest(" ".join(words)):
+                self.expect_ends(FileCommand(words))
+
+
+if __name__ == "__main__":
+    main()

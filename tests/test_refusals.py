@@ -1,0 +1,68 @@
+#!/usr/bin/env python3
+"""Tests of the program as it is built, to which memory is refused: one allocation of a run, then the next, and so on.
+
+A line of a script is answered as with memory, or by `error 60 NoMemory` and as if it did not stand there; a command is
+carried out, or says the same on standard error and leaves its files. `refuse.c` is what refuses: it is loaded in front
+of the C library. The store in the file is read by Python's own sqlite3.
+A run of the gate tries some allocations of each script and command. With `VOLLIKASH_TRIES=all` each is tried, for minutes.
+"""
+import random
+import tempfile
+import unittest
+
+from support.program import TOP, TRIES_ALL, main
+from support.trials import CALLS, COMMANDS, SCRIPTS, Calls, Command, Script, build_shim
+
+# How many of the first allocations of a run are tried in the gate, and how many of the others.
+FIRST, OTHERS = 40, 60
+
+
+def tried(count):
+    """Which of so many allocations are refused."""
+    if TRIES_ALL or count <= FIRST + OTHERS:
+        return range(1, count + 1)
+    return [*range(1, FIRST + 1), *sorted(random.Random(count).sample(range(FIRST + 1, count + 1), OTHERS))]
+
+
+class MemoryTest(unittest.TestCase):
+    """Runs to which one allocation is refused."""
+
+    @classmethod
+    def setUpClass(cls):
+        folder = tempfile.TemporaryDirectory()
+        cls.addClassCleanup(folder.cleanup)
+        cls.shim = build_shim(folder.name)
+
+    def expect_ends(self, trial):
+        """Refuses one allocation after another, and asserts that each run ends in a way in which it may."""
+        ends = trial.ends()
+        count = trial.count(self.shim)
+        self.assertGreater(count, 0)
+        refusals = 0
+        for at in tried(count):
+            ended, was_refused = trial.refused(self.shim, at)
+            self.assertTrue(was_refused)
+            self.assertIn(ended, ends, f"allocation {at} of {count}")
+            refusals += ended != ends[0]
+        self.assertGreater(refusals, 0)
+
+    def test_scripts(self):
+        """Each line is answered as with memory, or refused and passed over."""
+        for what, lines in SCRIPTS.items():
+            with self.subTest(what):
+                self.expect_ends(Script(lines))
+
+    def test_commands(self):
+        """Each command is carried out, or leaves its files."""
+        for words in COMMANDS:
+            with self.subTest(" ".join(words)):
+                self.expect_ends(Command(words))
+
+    @unittest.skipUnless(CALLS.exists(), "the program of the calls is not built")
+    def test_calls(self):
+        """Each call that no line makes answers as with memory, or NoMemory, and leaves what was there."""
+        self.expect_ends(Calls((TOP / "crates/calls/args").read_text().split()))
+
+
+if __name__ == "__main__":
+    main()
