@@ -1,8 +1,8 @@
 """The calls on files, by libvollikash.so.
 
-The library stands beside this file where it was installed, or where the repository builds it, and is else looked for where
-the system keeps its libraries; the environment variable VOLLIKASH_LIBRARY names another one. It is loaded by the first
-call. No call keeps anything, and any number of threads may call at once: a call lets other threads of Python run.
+The library is next to this file if it is installed, or where the repository builds it, or where the system keeps its
+libraries. The environment variable VOLLIKASH_LIBRARY names another one. The first call loads it. No call keeps state, and
+several threads can call at once.
 """
 import ctypes
 import enum
@@ -15,7 +15,7 @@ Bytes = Union[bytes, bytearray, memoryview]
 
 
 class Code(enum.IntEnum):
-    """What a call of the library answers: why a file is refused, by the numbers that `vollikash.h` explains."""
+    """The numbers that the library returns, as in docs/ERRORS.md."""
 
     OK = 0
     TRUNCATED = 1
@@ -42,16 +42,15 @@ class Code(enum.IntEnum):
 
     @property
     def title(self) -> str:
-        """The name as error lines print it, as in NoMemory."""
+        """The name as in error lines, for example NoMemory."""
         return "".join(word.capitalize() for word in self.name.split("_"))
 
 
 class ChangesetError(ValueError):
-    """A file is no changeset's, or two are not joined.
+    """A file is not a changeset, or two files cannot be concatenated.
 
-    `code` and `name` say why; `which` is the file at fault, 1 for the first or only one and 2 for the second; and
-    `place` is where: a count of bytes from its start, or for SCHEMA the count of its tables before the one that
-    differs.
+    `code` and `name` are those of docs/ERRORS.md. `which` is the file at fault: 1 is the first or only one, 2 the second.
+    `place` is a byte offset in it, or for SCHEMA the zero-based index of the table that differs.
     """
 
     def __init__(self, code: Code, which: int, place: int) -> None:
@@ -66,7 +65,7 @@ class ChangesetError(ValueError):
 
 
 class _Fault(ctypes.Structure):
-    """What a call reports of itself: `struct vollikash_fault`."""
+    """The report of a call: `struct vollikash_fault`."""
 
     _fields_ = [("code", ctypes.c_int), ("file", ctypes.c_int), ("place", ctypes.c_size_t)]
 
@@ -76,30 +75,29 @@ _OUT = (ctypes.c_char_p, ctypes.c_size_t, ctypes.POINTER(ctypes.c_size_t))
 _FAULT = (ctypes.POINTER(_Fault),)
 
 
-# Bytes that are as memory has them, for a call to fill in: most of a generous buffer would be zeroed for nothing. To
-# ask for the length first would make each text twice.
+# Bytes without an initial value, for a call to fill in. To zero a large buffer, or to ask for the length first, would cost
+# more.
 _new_bytes = ctypes.PYFUNCTYPE(ctypes.py_object, ctypes.c_char_p, ctypes.c_ssize_t)(
     ("PyBytes_FromStringAndSize", ctypes.pythonapi)
 )
 
 
 def _find() -> str:
-    """What the loader is asked for."""
+    """Return the name to load the library by."""
     here = pathlib.Path(__file__).resolve().parent
     beside, built = here / "libvollikash.so", here.parents[1] / "c/out/libvollikash.so"
     if beside.exists():
         return str(beside)
-    # In the repository alone: of a copy of this file elsewhere, that path may be anybody's to write to.
+    # Only in the repository: next to a copy of this file that path may be writable for anybody.
     if here.match("bindings/python/vollikash") and built.exists():
         return str(built)
-    # A name with no slash in it: the loader looks for that where the system keeps libraries, not in the working folder. It has
-    # the first number of the version that this file calls.
+    # The loader looks for a name without a slash where the system keeps libraries. It has the major version.
     return "libvollikash.so.1"
 
 
 @functools.lru_cache(maxsize=None)
 def _library() -> ctypes.CDLL:
-    """The library, with the types of its calls."""
+    """Return the library, with the types of its calls."""
     library = ctypes.CDLL(os.environ.get("VOLLIKASH_LIBRARY") or _find())
     library.vollikash_version.argtypes = ()
     library.vollikash_check.argtypes = _FILE + _FAULT
@@ -112,19 +110,19 @@ def _library() -> ctypes.CDLL:
 
 
 def _bytes(file: Bytes) -> bytes:
-    """The bytes of a file, which nobody changes while a call reads them."""
+    """Return the bytes of a file, which nobody changes while a call reads them."""
     return file if isinstance(file, bytes) else bytes(memoryview(file))
 
 
 def _raise(fault: _Fault) -> NoReturn:
-    """Raises what a call was refused for."""
+    """Raise the exception for a fault."""
     if fault.code == Code.NO_MEMORY:
         raise MemoryError("a call of vollikash was refused memory")
     raise ChangesetError(Code(fault.code), fault.file, fault.place)
 
 
 def _made(call: Callable[..., int], room: int, *files: bytes) -> bytes:
-    """What a call makes of files, in a buffer of this length, or of the one that it asks for."""
+    """Return what a call makes of files, in a buffer of this length, or of the one that it asks for."""
     given = [argument for file in files for argument in (file, len(file))]
     while True:
         out, written, fault = _new_bytes(None, room), ctypes.c_size_t(), _Fault()
@@ -137,38 +135,40 @@ def _made(call: Callable[..., int], room: int, *files: bytes) -> bytes:
 
 
 def check(file: Bytes) -> None:
-    """Raises `ChangesetError` where the bytes are no changeset's file."""
+    """Raise `ChangesetError` if the bytes are not the file of a changeset."""
     file, fault = _bytes(file), _Fault()
     if _library().vollikash_check(file, len(file), ctypes.byref(fault)) != Code.OK:
         _raise(fault)
 
 
 def invert(file: Bytes) -> bytes:
-    """The file of the changeset that undoes this one. Raises `ChangesetError`."""
+    """Return the file of the inverse changeset. Raises `ChangesetError`."""
     file = _bytes(file)
     return _made(_library().vollikash_invert, len(file), file)
 
 
 def number_keys(file: Bytes) -> bytes:
-    """The file of the same changeset with the columns of each key numbered in column order, as SQLite's apply wants them: it
-    passes over a table whose flags are others. Raises `ChangesetError`."""
+    """Return the file with the key columns numbered in column order, as SQLite's apply needs them for a key of several columns.
+
+    Do not call it on a file that SQLite recorded. Raises `ChangesetError`.
+    """
     file = _bytes(file)
     return _made(_library().vollikash_number_keys, len(file), file)
 
 
 def concat(first: Bytes, second: Bytes) -> bytes:
-    """The file of the changeset that does what the first does, then what the second does. Raises `ChangesetError`."""
+    """Return the file that does what the first does, and then what the second does. Raises `ChangesetError`."""
     first, second = _bytes(first), _bytes(second)
     return _made(_library().vollikash_concat, len(first) + len(second), first, second)
 
 
 def dump(file: Bytes) -> str:
-    """What the file holds, a line for each table and for each entry. Raises `ChangesetError`."""
+    """Return a line for each table and each change. Raises `ChangesetError`."""
     file = _bytes(file)
     return _made(_library().vollikash_dump, 8 * len(file) + 256, file).decode()
 
 
 def sql(file: Bytes) -> str:
-    """What the file does as SQL for a reader, a statement for each entry. Raises `ChangesetError`."""
+    """Return a readable SQL statement for each change. Raises `ChangesetError`."""
     file = _bytes(file)
     return _made(_library().vollikash_sql, 8 * len(file) + 256, file).decode()

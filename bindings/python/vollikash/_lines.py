@@ -1,4 +1,4 @@
-"""The lines of the shell: how values and names are spelled, and how what is printed is read."""
+"""The lines of the shell: spelling values and names, and reading replies."""
 import re
 from typing import Iterator, List, NamedTuple, Tuple, Union
 
@@ -11,7 +11,7 @@ _APPLIED = re.compile(r"(?:ignored (?P<ignored>[0-9]+)\n)?applied (?P<count>[0-9
 
 
 class Conflict(NamedTuple):
-    """A conflict that an apply met, and what was done about it."""
+    """A conflict of an apply, and the choice for it."""
 
     kind: str
     choice: str
@@ -19,8 +19,10 @@ class Conflict(NamedTuple):
 
 
 class Report(NamedTuple):
-    """What an apply did: the conflicts that it met, the tables that it passed over, how many entries it carried out, and how
-    many it ignored, since they change nothing. Where there are no conflicts and none is ignored, `Store.revert` undoes it."""
+    """The report of an apply: conflicts, skipped tables, and the numbers of entries that were carried out and ignored.
+
+    If there are no conflicts and no ignored entries, `Store.revert` undoes the apply.
+    """
 
     conflicts: List[Conflict]
     skipped: List[str]

@@ -1,4 +1,4 @@
-"""Stores, and sessions on them, by a program that runs the lines of a shell."""
+"""Stores and sessions, by a program that runs the lines of the shell."""
 import os
 import re
 import threading
@@ -13,18 +13,18 @@ _REFUSED = re.compile(r"error (?P<number>[0-9]+) (?P<name>[A-Za-z]+)(?: (?P<rest
 
 _CHOICES = ("omit", "replace", "abort")
 
-# How many bytes of the lines that a program takes are for a session's own: what it noted can be asked for, and undone, when
-# no edit is taken any more.
+# The bytes of lines that are kept for the session's own lines, so that its changeset can be read and undone when the
+# program takes no more edits.
 _KEPT = 4096
 
-# How many seconds a line may take.
+# The seconds that a line may take.
 TIMEOUT = 60.0
 
 
 class StoreError(Exception):
-    """A line is refused, and has changed nothing: the store goes on.
+    """A call was refused. It has changed nothing, and the store can be used.
 
-    `number` and `name` say why, as docs/ERRORS.md lists them; `detail` is what stands behind them, as the place of a table.
+    `number` and `name` are those of docs/ERRORS.md. `detail` is the rest of the error line, such as the index of a table.
     """
 
     def __init__(self, number: int, name: str, detail: str = "") -> None:
@@ -38,11 +38,11 @@ class StoreError(Exception):
 
 
 class ConflictError(StoreError):
-    """An apply met a conflict that ends it, and has changed nothing. `kind` is data, notfound, conflict or constraint."""
+    """An apply or a revert ended at a conflict, and has changed nothing."""
 
     @property
     def kind(self) -> str:
-        """What the entry met: a row that differs, that is missing, or that is there, or a column that refuses None."""
+        """The kind of the conflict: data, notfound, conflict or constraint."""
         return self.detail.split(" ", 1)[0]
 
     @property
@@ -52,7 +52,7 @@ class ConflictError(StoreError):
 
 
 def _raise(number: int, name: str, rest: str) -> NoReturn:
-    """Raises what a line was refused for."""
+    """Raise the exception for an error line."""
     if number == Code.NO_MEMORY:
         raise MemoryError("the changeset program was refused memory")
     if name in ("Abort", "Misuse"):
@@ -63,22 +63,23 @@ def _raise(number: int, name: str, rest: str) -> NoReturn:
 
 
 def _assigned(values: Mapping[str, Value], between: str) -> str:
-    """Columns with their values."""
+    """Return columns with their values."""
     if not values:
         raise ValueError("no column is named")
     return between.join(f"{spelled_name(name)}={spelled(value)}" for name, value in values.items())
 
 
 class Store:
-    """A store in a file, or one in memory where the path is ":memory:". `open` makes it.
+    """A store in a file, or in memory for the path ":memory:". Made by `open`.
 
-    Any number of threads may use one: a lock lets one call through at a time. Each call is one line, or two, of the
-    program's shell. A call that is refused raises `StoreError`, `ConflictError` or `ChangesetError` and changes nothing;
-    a value or a name that a line cannot hold raises ValueError before anything is sent; a program that is not there, has
-    ended or does not answer in time raises `ProgramError`, and the store is closed.
+    Several threads can share a store: a lock lets one call through at a time. Each call is one or two lines of the shell.
 
-    A program takes 16777216 bytes of lines. A store in a file is opened anew behind them; one in memory, and one with a
-    session, raises `StoreError`, ScriptTooLong, before anything is sent.
+    A refused call raises `StoreError`, `ConflictError` or `ChangesetError`, and changes nothing. A value or a name that no
+    line can hold raises ValueError before anything is sent. If the program is missing, has ended or does not answer in
+    time, that is `ProgramError`, and the store is closed.
+
+    A program takes 16777216 bytes of lines. After that a store in a file is opened again. A store in memory, or with an
+    open session, raises `StoreError` with ScriptTooLong before anything is sent.
     """
 
     def __init__(self, path: Union[str, "os.PathLike[str]"], timeout: float = TIMEOUT) -> None:
@@ -89,7 +90,7 @@ class Store:
         self._process = self._start()
 
     def _start(self) -> Process:
-        """Runs the program."""
+        """Start the program."""
         try:
             return Process(self._path, self._timeout)
         except ProgramError as error:
@@ -99,14 +100,14 @@ class Store:
             _raise(int(refused["number"]), refused["name"], refused["rest"] or "")
 
     def _make_room(self, lines: Sequence[str], kept: int) -> None:
-        """Runs the program anew where it does not take these lines any more, if nothing but the file is lost with it."""
+        """Start the program again if it takes no such lines any more, and if only the file matters."""
         if not self._process.fits(lines, kept):
             self._run_anew()
         if not self._process.fits(lines, kept):
             raise StoreError(63, "ScriptTooLong")
 
     def _run_anew(self) -> None:
-        """Runs the program anew, if nothing but the file is lost with it."""
+        """Start the program again, if only the file matters."""
         if not self._has_session and self._path != ":memory:":
             self._process.close()
             self._process = self._start()
@@ -120,12 +121,12 @@ class Store:
         self.close()
 
     def close(self) -> None:
-        """Ends the program. What was carried out stands in the file."""
+        """End the program. What was done remains in the file."""
         with self._lock:
             self._process.close()
 
     def _ask(self, *lines: str, kept: int = _KEPT) -> str:
-        """What the last of some lines is answered, or the first that is refused. So many bytes of lines are left then."""
+        """Return the reply to the last of some lines, or raise the error of the first that is refused. Keeps bytes of lines."""
         with self._lock:
             self._make_room(lines, kept)
             printed = ""
@@ -137,8 +138,8 @@ class Store:
             return printed
 
     def create(self, table: str, columns: Sequence[str], key: Sequence[str], refuses: Collection[str] = ()) -> None:
-        """Makes a table without rows: its columns, those of its key, and those that refuse None, as the ones of the key do
-        anyway. A name among `refuses` that is no column's raises ValueError before anything is sent."""
+        """Create a table without rows: its columns, those of the key, and those that refuse None. Key columns refuse None
+        anyway. A name in `refuses` that is not a column raises ValueError before anything is sent."""
         names, marked = list(columns), list(refuses)
         for name in marked:
             if name not in names:
@@ -148,19 +149,19 @@ class Store:
         self._ask(f"CREATE TABLE {spelled_name(table)}({named}, PRIMARY KEY({keys}));")
 
     def insert(self, table: str, *values: Value) -> None:
-        """Puts a row there, with a value for each column."""
+        """Insert one row, with a value for each column."""
         self._ask(f"INSERT INTO {spelled_name(table)} VALUES({', '.join(map(spelled, values))});")
 
     def update(self, table: str, values: Mapping[str, Value], where: Mapping[str, Value]) -> None:
-        """Sets columns of the row whose key columns have these values."""
+        """Set columns of the row whose key columns have the values of `where`."""
         self._ask(f"UPDATE {spelled_name(table)} SET {_assigned(values, ', ')} WHERE {_assigned(where, ' AND ')};")
 
     def delete(self, table: str, where: Mapping[str, Value]) -> None:
-        """Removes the row whose key columns have these values."""
+        """Delete the row whose key columns have the values of `where`."""
         self._ask(f"DELETE FROM {spelled_name(table)} WHERE {_assigned(where, ' AND ')};")
 
     def rows(self, table: str) -> Iterator[Tuple[Value, ...]]:
-        """The rows of a table as they stand now, by the bytes of their keys."""
+        """Return an iterator over the current rows of a table, by the bytes of their keys."""
         return read_rows(self._ask(f"SELECT * FROM {spelled_name(table)};"))
 
     def apply(
@@ -173,13 +174,14 @@ class Store:
         constraint: str = "abort",
         ignore_noop: bool = False,
     ) -> Report:
-        """Applies a changeset, and tells what that did. What is done about a row that differs, is missing or is there, or
-        would have None in a column that refuses it, is "omit", "replace" or "abort": that raises `ConflictError`, and
-        changes nothing. Only a row that differs or is there can be replaced: "replace" for another conflict raises
-        `ConflictError` too, where one is met. Where a row is to be replaced by one that would have None there, both
-        conflicts are met, one behind the other, and the row stays. With `ignore_noop` entries that would change nothing
-        are ignored, and meet no conflict: a DELETE whose row is missing, an INSERT whose row is there as it says, and an
-        UPDATE whose row has the new values."""
+        """Apply a changeset in one transaction, and return a report.
+
+        `data`, `notfound`, `conflict` and `constraint` are the choices for a row that differs, that does not exist, that
+        exists, and that would have None in a column that refuses it. "omit" leaves the row. "replace" writes the new row;
+        only a row that differs or exists can be replaced. "abort", and "replace" where it is not possible, raise
+        `ConflictError`, and nothing is changed. With `ignore_noop` an entry that has a conflict and would change nothing is
+        ignored. docs/COMMAND.md has the details.
+        """
         choices = {"data": data, "notfound": notfound, "conflict": conflict, "constraint": constraint}
         for kind, choice in choices.items():
             if choice not in _CHOICES:
@@ -188,17 +190,19 @@ class Store:
         return read_report(self._ask(f".load f {bytes(file).hex()}", f".apply f {said}"))
 
     def revert(self, file: Bytes) -> Report:
-        """Applies the inverse of a changeset. A conflict raises `ConflictError`, and changes nothing."""
+        """Apply the inverse of a changeset. A conflict raises `ConflictError`, and nothing is changed."""
         return read_report(self._ask(f".load f {bytes(file).hex()}", ".revert f"))
 
     def session(self, *tables: str) -> "Session":
-        """Begins to note what is written to these tables. A store has one session at a time: another one raises StoreError."""
+        """Open a session that records these tables. There is one at a time: a second one raises StoreError."""
         return Session(self, tables)
 
 
 class Session:
-    """What is written to the tables of a store since they were attached. `Store.session` makes it; `close` ends it, and
-    changes no row. While it is open, each call of the store goes through it."""
+    """The changes of the attached tables of a store since they were attached. Made by `Store.session`.
+
+    While a session is open, it records each call of the store.
+    """
 
     def __init__(self, store: Store, tables: Sequence[str]) -> None:
         self._store = store
@@ -224,43 +228,43 @@ class Session:
         self._forget()
 
     def _forget(self) -> None:
-        """Ends the session, if the store still has it."""
+        """Close the session, if the store still has it."""
         try:
             self.close()
         except (ProgramError, StoreError):
             pass
 
     def attach(self, table: str) -> None:
-        """Attaches one more table."""
+        """Attach one more table."""
         self._store._ask(f".session attach {spelled_name(table)}")
 
     def changeset(self) -> bytes:
-        """The file of the net changes of the attached tables since then."""
+        """Return the changeset file of the net changes of the attached tables."""
         return bytes.fromhex(self._store._ask(".session changeset c", ".hex c", kept=0).strip())
 
     def is_empty(self) -> bool:
-        """Whether no row of the attached tables was written."""
+        """Return whether no row of the attached tables was written."""
         return self._store._ask(".session isempty", kept=0) == "1\n"
 
     def undo(self) -> Report:
-        """Gives the attached tables back as they were attached."""
+        """Restore the attached tables to their rows when they were attached."""
         return read_report(self._store._ask(".session undo", kept=0))
 
     def close(self) -> None:
-        """Ends the session, and changes no row."""
+        """Close the session, and change no row."""
         try:
             self._store._ask(".session close", kept=0)
         except StoreError as error:
-            # The program takes no more lines: it is run anew by the next one, and the session ends with it.
+            # The program takes no more lines: the next one starts it again, without the session.
             if error.name != "ScriptTooLong":
                 raise
         self._store._has_session = False
 
 
 def open(path: Union[str, "os.PathLike[str]"], *, timeout: float = TIMEOUT) -> Store:
-    """Opens the store in a file, which is made where it is missing, or one in memory for ":memory:".
+    """Open the store in a file, or create it. For ":memory:" the store is in memory.
 
-    `timeout` is how many seconds a line may take. Raises `StoreError` where the file holds something else or another
-    program has it open, and `ProgramError` where there is no program.
+    `timeout` is the number of seconds that a call may take. Raises `StoreError` if the file is not a store or another
+    program has it open, and `ProgramError` if there is no program.
     """
     return Store(path, timeout)
