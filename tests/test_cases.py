@@ -1,9 +1,8 @@
 #!/usr/bin/env python3
-"""Runs the table of cases on the built program.
+"""The table of cases: each file of `tests/cases` is a script, with the text that the program prints for each line.
 
-`cases/` has one file for each topic. A topic is a script, and after each line the text that the program prints for it,
-with `= ` before each printed line, or `=` before an empty one. Each topic is run with a store of its own, and without the
-last line feed. Build the program first, as the gate does, or by `rt run` in `crates/changeset`.
+A line of a file that begins with `= ` is printed by the line before it, and `=` is an empty printed line. Each file runs on
+a store of its own. The program has to be built first.
 """
 import subprocess
 import unittest

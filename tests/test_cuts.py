@@ -1,13 +1,10 @@
 #!/usr/bin/env python3
-"""Tests of the program as it is built, whose power is cut, or whose process ends, at each point of a run.
+"""What a power cut, or the end of the process, leaves at each point of a run.
 
-`record.c` records a run once: what is written to the store, its log and OUT, what is synced, which files are made,
-renamed and removed, and what is printed between. From that the test makes the files that may be there at each point:
-all that was done, as where the process alone ends; or what was synced, and of what was done since any part: each
-subset of up to eight writes, some of more, and writes of which only some sectors of 512 bytes are there. SQLite, by
-Python's own sqlite3, finds each such store whole, with the tables from before the line that ran or from behind it, and
-no line lost that was answered; so does the program, which goes on from there, also where it is cut again as it opens
-the store. OUT is the old file or the new one. `shell.py` says which tables lines make.
+`record.c` records what a run writes, syncs, creates, renames, removes and prints. At each point the test makes the files that
+may be there: all writes, as after the end of the process; or the synced ones with any part of the later ones, also writes of
+which only some sectors of 512 bytes are there. SQLite has to find each such store whole, with the tables before or after the line
+that ran. The program opens it and goes on, and is cut again while it opens it. OUT is the old file or the new one.
 A run of the gate tries some of these files. With `VOLLIKASH_TRIES=all` all are tried, for minutes.
 """
 import tempfile

@@ -1,10 +1,9 @@
 #!/usr/bin/env python3
-"""Tests of the program as it is built on damaged files: each file cut at each place, and each byte set to each other value.
+"""Damaged files: each file cut at each byte, and each byte set to each other value.
 
-What it has to answer comes from a reader that shares no code with it (`reader.py`): the inverse of what the bytes hold,
-or the fault, by number, name and place; and after a refusal the slot that a line would fill, and the store, are as
-before. And files that claim more than they have take no more memory than others of their length.
-The program has to be built first, as the gate does, or by `rt run` in `crates/changeset`.
+A reader that shares no code with the program (`support/reader.py`) says what is right: the inverse, or the fault with its
+offset. After a fault the slot and the store are unchanged. Files that claim more than they have take no more memory than others of
+their length. The program has to be built first.
 """
 import subprocess
 import unittest

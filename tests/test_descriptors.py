@@ -1,14 +1,9 @@
 #!/usr/bin/env python3
-"""Tests of the program as it is built, to which a call on a file is refused: one of a run, then the next, and so on.
+"""Failing files: one call on a file fails, is interrupted, moves one byte, or ends the process.
 
-Where a call moves one byte alone the run ends as without that, and so it does where a sync is interrupted, or a file
-of the command line; but a read or a write of the store, or of the standard streams, has failed where it is
-interrupted, and a read of the store where it moves one byte. Where one fails, and where a file is not opened, closed,
-renamed or locked, a line is refused with StoreFault and the store has the tables from before it or behind it, or the
-script ends with a fault of its streams behind the lines that were answered; and a command is carried out, or tells a
-fault and leaves its files, OUT above all. And where the process ends at the call, the store and OUT are as before a
-line or behind it. The store is read by Python's own sqlite3, and has to pass its check, and the program opens it
-again; `shell.py` says which tables lines make. `refuse.c` is what refuses.
+`refuse.c` lets one call of a run fail, then the next, and so on. A script ends as its printed lines say, and the store has the
+tables that go with them, read by SQLite and by the program. A command is done, or reports a fault and leaves its files, OUT above
+all. `support/shell.py` says which tables lines make.
 A run of the gate tries some of the calls of each kind. With `VOLLIKASH_TRIES=all` each is tried, for minutes.
 """
 import errno

@@ -1,9 +1,9 @@
 #!/usr/bin/env python3
-"""Changesets go both ways between stores and ordinary SQLite databases: those of sessions here, and those that SQLite records.
+"""Changesets between stores and ordinary SQLite databases, in both directions.
 
-What SQLite records, inverts and applies is done by its own library, which `sqlite.c` calls; where that library is not there
-with its session extension, each of these tests is skipped. The stores are those of `vollikash.open`, and the keys of changesets
-are numbered by `vollikash.number_keys`, from the library that `bindings/check` builds.
+SQLite's library records, inverts and applies, by `sqlite.c`. If it is not there with its session extension, these tests are
+skipped. Stores are those of `vollikash.open`. Keys are numbered by `vollikash.number_keys`. The program and the libraries have to
+be built first.
 """
 import os
 import pathlib

@@ -1,9 +1,8 @@
 #!/usr/bin/env python3
-"""Tests of the program as it is built, of which several run on one store, or of which one is killed.
+"""Several programs on one store, and programs that are killed.
 
-While one has the store open another is refused, with StoreFault, and changes nothing; what the first was answered
-stands. Where one is killed the next finds the tables from before the line that ran, or from behind it. `shell.py` says
-which tables lines make.
+While one program has the store open, another one gets StoreFault and changes nothing. After one is killed, the next finds the
+tables before or after the line that ran. `support/shell.py` says which tables lines make. The program has to be built first.
 """
 import collections
 import contextlib

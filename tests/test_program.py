@@ -1,9 +1,8 @@
 #!/usr/bin/env python3
-"""Tests of the program as it is built: its words, the files that it reads and writes, and its exit statuses.
+"""The command: its words, the files that it reads and writes, stores, and exit statuses.
 
-What the program is to print is written out here, by the documents. Stores are written and read by Python's own
-sqlite3 (`stores.py`), and `recorded/` has files that SQLite's session extension recorded. The program has to be built
-first, as the gate does, or by `rt run` in `crates/changeset`.
+What the program has to print is written out here, by the documents. Python's own sqlite3 writes and reads the stores
+(`support/stores.py`). `recorded/` has files that SQLite's session extension recorded. The program has to be built first.
 """
 import json
 import os

@@ -1,9 +1,8 @@
 #!/usr/bin/env python3
-"""Tests of the program as it is built, to which memory is refused: one allocation of a run, then the next, and so on.
+"""Out of memory: one allocation of a run is refused, then the next, and so on (`refuse.c`).
 
-A line of a script is answered as with memory, or by `error 60 NoMemory` and as if it did not stand there; a command is
-carried out, or says the same on standard error and leaves its files. `refuse.c` is what refuses: it is loaded in front
-of the C library. The store in the file is read by Python's own sqlite3.
+A line of a script is answered as with memory, or by `error 60 NoMemory` as if it were not there. A command is done, or prints
+that line and leaves its files.
 A run of the gate tries some allocations of each script and command. With `VOLLIKASH_TRIES=all` each is tried, for minutes.
 """
 import random

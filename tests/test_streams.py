@@ -1,8 +1,8 @@
 #!/usr/bin/env python3
-"""Tests of scripts whose standard streams fail: input that comes in pieces and fails after each, output that stops at each byte.
+"""Failing standard streams: a read fails after each byte of a script, and a write stops at each byte of the output.
 
 A pipe in packet mode hands each piece to one read. `refuse.c` lets one read fail, and a limit on the size of files stops the
-output. The program has to be built first, as the gate does.
+output. The program has to be built first.
 """
 import errno
 import os

@@ -1,4 +1,4 @@
-"""Scripts on stores and commands on files, and how they may end where a call on a file fails."""
+"""Scripts on stores and commands on files, and how they may end if a call on a file fails."""
 import copy
 import errno
 import os

@@ -1,10 +1,9 @@
-"""Compares the program as it is built with a model of it, on changesets, damaged files and scripts made from a seed.
+"""Compares the program with a model, on changesets, damaged files and scripts that are made from a seed.
 
-The model shares no code with the program: `reader.py` reads files, `model.py` joins and applies them, and `shell.py`
-answers lines; `making.py` makes what they are asked. Where SQLite's library with its session extension is there, the
-model's inverses, joins, applies and net changesets are compared with that library's too (`library.py`).
-Each case is made from the seed and its number alone. Where something differs, the lines of the case, and as few of
-them as still differ, are kept in files, and the command that runs them again is printed; the exit status is 1 then.
+The model shares no code with the program: `reader` reads files, `model` concatenates and applies them, `shell` answers lines, and
+`making` makes what they are asked. If SQLite's library with its session extension is there, the model is compared with it
+(`library`). A case depends only on the seed and its number. If something differs, the lines of the case, and as few of them
+as still differ, are kept in files.
 """
 import argparse
 import collections

@@ -1,6 +1,6 @@
-"""The model beside SQLite's own library: inverses, joins and applies of changesets, by `sqlite.c`.
+"""The model next to SQLite's own library: inverses, concatenations, applies and net changesets, by `sqlite.c`.
 
-Where the two differ as the documents say they do, the difference is counted; any other is one that the fuzzer tells.
+Documented differences are counted. Any other one is reported.
 """
 import collections
 import os
