@@ -10,14 +10,13 @@ import unittest
 
 from support import reader
 from support.program import PROGRAM, main
+from support.samples import INSERT, T
 from support.stores import UNDEFINED, delete, header, insert, update
 
 # How many seconds a run may take, how many bytes a script has at most, and how many of memory a run may have.
 PATIENCE, LONGEST, MEMORY = 300, 16_000_000, 96 << 20
 
-T = header("t", 1, 0)
 K1, K2 = (b"\x01" + key.to_bytes(8, "big") for key in (1, 2))
-INSERT = T + insert(1, "x")
 
 FILES = {
     "an INSERT": INSERT,

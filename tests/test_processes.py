@@ -20,7 +20,8 @@ from support import programs
 from support.faults import MarkedScript
 from support.power import Story, files_of, found_by_sqlite, opened_again, script_run, tables_of
 from support.program import PATIENCE, PROGRAM, main
-from support.programs import CREATE, CREATE_N, DELETE, INSERT, NULL_INSERT, STORE_FAULT, UPDATE, StoreTest
+from support.programs import StoreTest
+from support.samples import CREATE, CREATE_N, DELETE, INSERT, NULL_INSERT, STORE_FAULT, UPDATE
 from support.shell import Shell
 
 REFUSED = (1, "", STORE_FAULT)

@@ -16,10 +16,10 @@ import unittest
 
 from support.program import PATIENCE, PROGRAM, TESTS, main
 from support.programs import (
-    COMMANDS, CREATE, CREATE_N, DAMAGED_STORE, DELETE, INPUT_FAULT, INSERT, KEY, KINDS, MANY, MANY_INSERTS, N,
-    NEEDS_FULL, NULL_INSERT, NULL_UPDATE, OUTPUT_FAULT, STORE_FAULT, T, UPDATE, WIDER_INSERT, ProgramTest, StoreTest,
-    refusing, tables_of,
+    COMMANDS, DAMAGED_STORE, KEY, KINDS, MANY, MANY_INSERTS, NEEDS_FULL, NULL_UPDATE, WIDER_INSERT, ProgramTest,
+    StoreTest, refusing, tables_of,
 )
+from support.samples import CREATE, CREATE_N, DELETE, INPUT_FAULT, INSERT, N, NULL_INSERT, OUTPUT_FAULT, STORE_FAULT, T, UPDATE
 from support.stores import (
     FORMER, RECORDS, UNDEFINED, VERSION, Table, count_changes, delete, header, insert, literal, read_changeset,
     read_records, records_of, run_schema, run_sql, run_statements, shown, shown_rows, update,

@@ -15,6 +15,7 @@ import threading
 import unittest
 
 from support.program import PATIENCE, PROGRAM, main
+from support.samples import INPUT_FAULT, OUTPUT_FAULT
 from support.trials import build_shim
 
 # A script of tables, a changeset and a session: its lines, each with what it prints.
@@ -37,8 +38,6 @@ LINES = (
 SCRIPT = "".join(f"{line}\n" for line, _ in LINES).encode()
 PRINTED = "".join(printed for _, printed in LINES).encode()
 
-INPUT_FAULT = b"error 71 InputFault\n"
-OUTPUT_FAULT = b"error 72 OutputFault\n"
 
 
 def printed_for(count):
@@ -86,13 +85,13 @@ class Streams(unittest.TestCase):
         feeding.start()
         printed, reported = child.communicate(timeout=PATIENCE)
         feeding.join()
-        return child.returncode, printed, reported
+        return child.returncode, printed, reported.decode()
 
     def test_pieces_of_a_line(self):
         script = b".hex q\n-- .hex"
         refused = b"error 62 EmptySlot\n"
         for pieces in ([script], [script[i : i + 1] for i in range(len(script))], [script[:3], script[3:]]):
-            self.assertEqual(self.run_pieces(pieces), (1, refused, b""))
+            self.assertEqual(self.run_pieces(pieces), (1, refused, ""))
         self.assertEqual(self.run_pieces([script[i : i + 1] for i in range(len(script))], len(script)), (1, refused, INPUT_FAULT))
 
     def test_answers_lines_until_a_read_fails(self):
@@ -108,8 +107,8 @@ class Streams(unittest.TestCase):
                     [PROGRAM], input=SCRIPT, stdout=out, stderr=subprocess.PIPE, timeout=PATIENCE,
                     preexec_fn=lambda: stop_at(count),
                 )
-                reported = OUTPUT_FAULT if count < len(PRINTED) else b""
-                self.assertEqual((done.returncode, done.stderr), (1, reported))
+                reported = OUTPUT_FAULT if count < len(PRINTED) else ""
+                self.assertEqual((done.returncode, done.stderr.decode()), (1, reported))
                 self.assertEqual((self.folder / "out").read_bytes(), PRINTED[:count])
 
     @unittest.skipUnless(os.path.exists("/dev/full"), "no /dev/full")
@@ -120,7 +119,7 @@ class Streams(unittest.TestCase):
                 [PROGRAM, store, "shell"], input=b".hex q\nCREATE TABLE t(a, PRIMARY KEY(a));\n", stdout=full,
                 stderr=subprocess.PIPE, timeout=PATIENCE,
             )
-        self.assertEqual((done.returncode, done.stderr), (1, OUTPUT_FAULT))
+        self.assertEqual((done.returncode, done.stderr.decode()), (1, OUTPUT_FAULT))
         done = subprocess.run([PROGRAM, store, "shell"], input=b"SELECT * FROM t;\n", capture_output=True, timeout=PATIENCE)
         self.assertEqual(done.stdout, b"error 31 NoTable\n")
 

@@ -7,12 +7,10 @@ import sqlite3
 import tempfile
 
 from support.model import shown_tables
+from support.samples import CREATE, INPUT_FAULT, OUTPUT_FAULT, STORE_FAULT
 from support.shell import Shell
-from support.trials import CREATE, SCRIPTS, Command, Script, run
+from support.trials import SCRIPTS, Command, Script, run
 
-STORE_FAULT = "error 38 StoreFault\n"
-INPUT_FAULT = "error 71 InputFault\n"
-OUTPUT_FAULT = "error 72 OutputFault\n"
 
 # What a call answers: that it is interrupted, that it moves one byte, an error, or nothing, since the process ends.
 INTERRUPTED, ONE_BYTE, ENDED = errno.EINTR, 0, -1

@@ -14,9 +14,10 @@ from functools import partial
 
 from support.faults import MarkedScript, mark
 from support.model import shown_tables
+from support.samples import CREATE, T
 from support.shell import Shell
 from support.stores import VERSION, expect_whole, insert, literal, read_store, run_sql
-from support.trials import CREATE, FILES, STORE, Command, T, is_store, run
+from support.trials import FILES, STORE, Command, is_store, run
 from support.trials import shown_tables as shown_store
 
 # What a record has of a run: a file is its number, and a name stands without its folder.

@@ -9,33 +9,21 @@ import time
 import unittest
 
 from support.program import PATIENCE, PROGRAM
-from support.stores import UNDEFINED, Table, delete, header, insert, read_store, update, write_store
+from support.samples import N, T
+from support.stores import UNDEFINED, Table, header, insert, read_store, update, write_store
 
-# The header of a table t of two columns, of which the first is the key, and the key 1.
-T = header("t", 1, 0)
+# A key column with the value 1.
 KEY = b"\x01\x00\x00\x00\x00\x00\x00\x00\x01"
 
-# The line that makes it, and the line that makes a table n whose second column refuses NULL.
-CREATE = "CREATE TABLE t(a, b, PRIMARY KEY(a));"
-CREATE_N = "CREATE TABLE n(a, b NOT NULL, PRIMARY KEY(a));"
-
-INSERT = T + insert(1, "x")
-DELETE = T + delete(1, "x")
-UPDATE = T + update((1, "x"), (UNDEFINED, "y"))
 # So many inserts, and their file.
 MANY = 20_000
 MANY_INSERTS = T + b"".join(insert(key, "x") for key in range(MANY))
 WIDER_INSERT = header("t", 1, 0, 0) + insert(1, None, None)
 
-# The header of the table n, an insert of a row that it refuses, and an update to such a row.
-N = header("n", 1, 0)
-NULL_INSERT = N + insert(1, None)
+# An update to a row that the table n refuses.
 NULL_UPDATE = N + update((1, "x"), (UNDEFINED, None))
 
-INPUT_FAULT = "error 71 InputFault\n"
-OUTPUT_FAULT = "error 72 OutputFault\n"
 DAMAGED_STORE = "error 37 DamagedStore\n"
-STORE_FAULT = "error 38 StoreFault\n"
 
 NEEDS_FULL = unittest.skipUnless(os.path.exists("/dev/full"), "no /dev/full")
 

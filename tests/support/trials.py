@@ -7,7 +7,8 @@ import subprocess
 import tempfile
 
 from support.program import PATIENCE, PROGRAM, TESTS, TOP
-from support.stores import UNDEFINED, Table, delete, header, insert, read_store, update, write_store
+from support.samples import CREATE, CREATE_N, DELETE, INSERT, NULL_INSERT, UPDATE
+from support.stores import Table, delete, header, insert, read_store, write_store
 
 # The program of calls that no line makes, which prints a line for each of its words.
 CALLS = TOP / "crates/calls/out/calls"
@@ -20,16 +21,7 @@ WITHOUT_MEMORY = {"claim"}
 # What names the descriptor to which a file that is loaded in front of the library writes.
 DESCRIPTORS = ("REFUSE_MARK", "RECORD_TO")
 
-T = header("t", 1, 0)
-INSERT = T + insert(1, "x")
-DELETE = T + delete(1, "x")
-UPDATE = T + update((1, "x"), (UNDEFINED, "y"))
 TWO_TABLES = INSERT + insert(2, None) + header("w", 0, 1) + insert("blob", b"\x00\xff") + delete(None, 5)
-
-NULL_INSERT = header("n", 1, 0) + insert(1, None)
-
-CREATE = "CREATE TABLE t(a, b, PRIMARY KEY(a));"
-CREATE_N = "CREATE TABLE n(a, b NOT NULL, PRIMARY KEY(a));"
 
 # Scripts, by what they show.
 SCRIPTS = {
