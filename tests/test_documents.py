@@ -94,7 +94,7 @@ class Blocks(unittest.TestCase):
         self.assertGreater(count, 25)
 
     def test_scripts(self):
-        """The commands of `sh` blocks are programs of the repository."""
+        """The commands of `sh` blocks are programs of the repository: the gate, and the one that `test_try.py` runs."""
         for document in DOCUMENTS:
             for line in "".join(text for tag, text in blocks_of(document) if tag == "sh").splitlines():
                 with self.subTest(document=document.name, line=line):
