@@ -1,5 +1,6 @@
 #!/usr/bin/env python3
-"""Adds up the tests of a run of the gate, as `rt ci` and unittest report them on standard input, in one last line.
+"""Adds up the tests of a run of the gate, as `rt ci` and unittest report them on standard input, in
+one last line.
 
 A part that does not report its tests counts as one failure.
 """

@@ -1,5 +1,7 @@
 #!/usr/bin/env python3
-"""Prints how many checks the gate runs side by side: one a processor, and no more than have 4 GB of free memory each."""
+"""Prints how many checks the gate runs side by side: one a processor, and no more than have 4 GB of
+free memory each.
+"""
 import os
 from pathlib import Path
 

@@ -1,8 +1,9 @@
 #!/usr/bin/env python3
-"""The table of cases: each file of `tests/cases` is a script, with the text that the program prints for each line.
+"""The table of cases: each file of `tests/cases` is a script, with the text that the program prints
+for each line.
 
-A line of a file that begins with `= ` is printed by the line before it, and `=` is an empty printed line. Each file runs on
-a store of its own. The program has to be built first.
+A line of a file that begins with `= ` is printed by the line before it, and `=` is an empty printed
+line. Each file runs on a store of its own. The program has to be built first.
 """
 import subprocess
 import unittest
@@ -25,7 +26,9 @@ def expected(lines):
 
 
 def first_wrong(lines):
-    """Return the number of lines in the shortest front of a script that does not run as expected, by halving."""
+    """Return the number of lines in the shortest front of a script that does not run as expected,
+    by halving.
+    """
     right, wrong = 0, len(lines)
     while right + 1 < wrong:
         middle = (right + wrong) // 2
@@ -37,7 +40,9 @@ def first_wrong(lines):
 
 
 def difference(topic, lines):
-    """Return a message: the line that does not run as expected, its case, and what is printed from there on."""
+    """Return a message: the line that does not run as expected, its case, and what is printed from
+    there on.
+    """
     front = lines[:first_wrong(lines)]
     line = front[-1]
     status, printed, errors = run(front)

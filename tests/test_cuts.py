@@ -1,11 +1,13 @@
 #!/usr/bin/env python3
 """What a power cut, or the end of the process, leaves at each point of a run.
 
-`record.c` records what a run writes, syncs, creates, renames, removes and prints. At each point the test makes the files that
-may be there: all writes, as after the end of the process; or the synced ones with any part of the later ones, also writes of
-which only some sectors of 512 bytes are there. SQLite has to find each such store whole, with the tables before or after the line
-that ran. The program opens it and goes on, and is cut again while it opens it. OUT is the old file or the new one.
-A run of the gate tries some of these files. With `VOLLIKASH_TRIES=all` all are tried, for minutes.
+`record.c` records what a run writes, syncs, creates, renames, removes and prints. At each point the
+test makes the files that may be there: all writes, as after the end of the process; or the synced
+ones with any part of the later ones, also writes of which only some sectors of 512 bytes are there.
+SQLite has to find each such store whole, with the tables before or after the line that ran. The
+program opens it and goes on, and is cut again while it opens it. OUT is the old file or the new
+one. A run of the gate tries some of these files. With `VOLLIKASH_TRIES=all` all are tried, for
+minutes.
 """
 import tempfile
 import unittest
@@ -18,8 +20,9 @@ from support.program import TRIES_ALL, main
 from support.stores import FORMER
 from support.trials import COMMANDS, build_shim
 
-# How many files of each run are tried in the gate, how many of these are opened by the program, too, and of how many
-# of these the opening is recorded and cut again; and the same of runs whose files have megabytes.
+# How many files of each run are tried in the gate, how many of these are opened by the program,
+# too, and of how many of these the opening is recorded and cut again; and the same of runs whose
+# files have megabytes.
 SHARES, LONG_SHARES = (150, 40, 1), (16, 4, 0)
 if TRIES_ALL:
     # All but those of megabytes.
@@ -49,7 +52,9 @@ class CutTest(unittest.TestCase):
         return recording
 
     def expect_store(self, runs, most, opened, again):
-        """Asserts that what is left of a run that is cut is a store with the tables of a line. It is one of these."""
+        """Asserts that what is left of a run that is cut is a store with the tables of a line. It
+        is one of these.
+        """
         recording = self.record(runs[0].files, runs[0].words, runs[0].stdin)
         found = [run for run in runs if run.story.printed() == recording.ended[1]]
         self.assertTrue(found, "the model answers otherwise")
@@ -70,7 +75,9 @@ class CutTest(unittest.TestCase):
                 self.expect_store([script_run(lines)], *SHARES)
 
     def test_long_runs(self):
-        """The same of a log that is copied back between lines, and of an apply that is written before it ends."""
+        """The same of a log that is copied back between lines, and of an apply that is written
+        before it ends.
+        """
         for run in (script_run(LONG_SCRIPT), apply_run(LARGE_APPLY)):
             with self.subTest(run.words):
                 self.expect_store([run], *LONG_SHARES)
@@ -83,13 +90,16 @@ class CutTest(unittest.TestCase):
                     self.expect_store([apply_run(words)], *SHARES)
 
     def test_stores_of_the_former_version(self):
-        """Behind each cut the store is as it was, or in this version, and the apply stands or does not."""
+        """Behind each cut the store is as it was, or in this version, and the apply stands or does
+        not.
+        """
         for words in APPLIES:
             with self.subTest(" ".join(words)):
                 self.expect_store([apply_run(words, FORMER)], *SHARES)
 
     def test_files_that_are_written(self):
-        """Behind each cut OUT is the old file or the new one, and the other files are as they were."""
+        """Behind each cut OUT is the old file or the new one, and the other files are as they were.
+        """
         for words in COMMANDS:
             if "out" in words:
                 files = found_by(words)

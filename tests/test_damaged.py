@@ -1,9 +1,10 @@
 #!/usr/bin/env python3
 """Damaged files: each file cut at each byte, and each byte set to each other value.
 
-A reader that shares no code with the program (`support/reader.py`) says what is right: the inverse, or the fault with its
-offset. After a fault the slot and the store are unchanged. Files that claim more than they have take no more memory than others of
-their length. The program has to be built first.
+A reader that shares no code with the program (`support/reader.py`) says what is right: the inverse,
+or the fault with its offset. After a fault the slot and the store are unchanged. Files that claim
+more than they have take no more memory than others of their length. The program has to be built
+first.
 """
 import subprocess
 import unittest
@@ -13,7 +14,8 @@ from support.program import PROGRAM, main
 from support.samples import INSERT, T
 from support.stores import UNDEFINED, delete, header, insert, update
 
-# How many seconds a run may take, how many bytes a script has at most, and how many of memory a run may have.
+# How many seconds a run may take, how many bytes a script has at most, and how many of memory a run
+# may have.
 PATIENCE, LONGEST, MEMORY = 300, 16_000_000, 96 << 20
 
 K1, K2 = (b"\x01" + key.to_bytes(8, "big") for key in (1, 2))
@@ -50,9 +52,11 @@ def wanted(data):
 
 
 def scripts(datas):
-    """Scripts that invert each of these bytes into one slot, print it, and undo what is refused on a store; and what they print.
+    """Scripts that invert each of these bytes into one slot, print it, and undo what is refused on
+    a store; and what they print.
 
-    Each begins with a store of one row, and ends with it."""
+    Each begins with a store of one row, and ends with it.
+    """
     begin = "CREATE TABLE t(a, b, PRIMARY KEY(a));\nINSERT INTO t VALUES(7, 'seven');\n.load y\n"
     lines, printed, size, slot = [begin], [], len(begin), b""
     for data in datas:

@@ -1,10 +1,11 @@
 #!/usr/bin/env python3
 """Failing files: one call on a file fails, is interrupted, moves one byte, or ends the process.
 
-`refuse.c` lets one call of a run fail, then the next, and so on. A script ends as its printed lines say, and the store has the
-tables that go with them, read by SQLite and by the program. A command is done, or reports a fault and leaves its files, OUT above
-all. `support/shell.py` says which tables lines make.
-A run of the gate tries some of the calls of each kind. With `VOLLIKASH_TRIES=all` each is tried, for minutes.
+`refuse.c` lets one call of a run fail, then the next, and so on. A script ends as its printed lines
+say, and the store has the tables that go with them, read by SQLite and by the program. A command is
+done, or reports a fault and leaves its files, OUT above all. `support/shell.py` says which tables
+lines make. A run of the gate tries some of the calls of each kind. With `VOLLIKASH_TRIES=all` each
+is tried, for minutes.
 """
 import errno
 import random
@@ -42,7 +43,8 @@ class DescriptorTest(unittest.TestCase):
         print(f"{cls.points} calls refused")
 
     def expect_ends(self, trial):
-        """Refuses one call after another, and asserts that each run ends in a way in which it may."""
+        """Refuses one call after another, and asserts that each run ends in a way in which it may.
+        """
         normal = trial.once()
         self.assertEqual(trial.why_not(normal, normal, "", ONE_BYTE), "")
         for call, answers in ANSWERS.items():
@@ -56,7 +58,8 @@ class DescriptorTest(unittest.TestCase):
                         self.assertEqual(trial.why_not(ended, normal, call, answer), "", ended)
 
     def test_scripts(self):
-        """Each line is answered, or refused with StoreFault, and the store is as the answers say."""
+        """Each line is answered, or refused with StoreFault, and the store is as the answers say.
+        """
         for what, lines in STORE_SCRIPTS.items():
             with self.subTest(what):
                 self.expect_ends(MarkedScript(lines))

@@ -1,9 +1,11 @@
 #!/usr/bin/env python3
-"""Tests of the documents: each block of code is run, or is code that the gate proves, and each link leads to a file.
+"""Tests of the documents: each block of code is run, or is code that the gate proves, and each link
+leads to a file.
 
-The tag of a block says how: `console` blocks are commands and what they print, `python` and `c` blocks are programs, whose
-output is the `text` block after them or the comments of their last lines; `rust` blocks stand in a crate's code, and `sql`
-lines in that of `cs_records`. The program and the libraries for C and Python have to be built first, as the gate does.
+The tag of a block says how: `console` blocks are commands and what they print, `python` and `c`
+blocks are programs, whose output is the `text` block after them or the comments of their last
+lines; `rust` blocks stand in a crate's code, and `sql` lines in that of `cs_records`. The program
+and the libraries for C and Python have to be built first, as the gate does.
 """
 import os
 import pathlib
@@ -28,7 +30,9 @@ def blocks_of(document):
 
 
 def commands_of(block):
-    """The commands of a console block, each with what it prints. A here-document belongs to its command."""
+    """The commands of a console block, each with what it prints. A here-document belongs to its
+    command.
+    """
     commands = []
     end = None
     for line in block.splitlines():
@@ -94,7 +98,9 @@ class Blocks(unittest.TestCase):
         self.assertGreater(count, 25)
 
     def test_scripts(self):
-        """The commands of `sh` blocks are programs of the repository: the gate, and the one that `test_try.py` runs."""
+        """The commands of `sh` blocks are programs of the repository: the gate, and the one that
+        `test_try.py` runs.
+        """
         for document in DOCUMENTS:
             for line in "".join(text for tag, text in blocks_of(document) if tag == "sh").splitlines():
                 with self.subTest(document=document.name, line=line):

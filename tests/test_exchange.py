@@ -1,9 +1,9 @@
 #!/usr/bin/env python3
 """Changesets between stores and ordinary SQLite databases, in both directions.
 
-SQLite's library records, inverts and applies, by `sqlite.c`. If it is not there with its session extension, these tests are
-skipped. Stores are those of `vollikash.open`. Keys are numbered by `vollikash.number_keys`. The program and the libraries have to
-be built first.
+SQLite's library records, inverts and applies, by `sqlite.c`. If it is not there with its session
+extension, these tests are skipped. Stores are those of `vollikash.open`. Keys are numbered by
+`vollikash.number_keys`. The program and the libraries have to be built first.
 """
 import os
 import pathlib
@@ -22,7 +22,8 @@ from vollikash._lines import spelled, spelled_name  # noqa: E402
 
 os.environ["VOLLIKASH_PROGRAM"] = str(PROGRAM)
 
-# Tables of one to three columns in the key: a name, the columns, and those of the key in column order.
+# Tables of one to three columns in the key: a name, the columns, and those of the key in column
+# order.
 TABLES = (
     ("t", ("a", "b"), ("a",)),
     ("last of three", ("a", "b", "c"), ("c",)),
@@ -145,8 +146,9 @@ class Base:
         return bytes.fromhex(made[2:])
 
     def apply(self, file, choices="aaaa"):
-        """Has SQLite apply a changeset, where each conflict ends that unless said otherwise: its result code, and the
-        conflicts."""
+        """Has SQLite apply a changeset, where each conflict ends that unless said otherwise: its
+        result code, and the conflicts.
+        """
         (told,) = self.ask(f"apply {choices} x{file.hex()}")
         return told
 
@@ -173,7 +175,9 @@ class Exchange(unittest.TestCase):
             self.skipTest(f"SQLite's library with its session extension is not there: {self.library.why}")
 
     def sides(self, table, order, edits):
-        """A store and a database with a table, whose key the database declares in this order, and the rows that edits make."""
+        """A store and a database with a table, whose key the database declares in this order, and
+        the rows that edits make.
+        """
         path = self.folder / "base.db"
         path.unlink(missing_ok=True)
         store, base = vollikash.open(":memory:"), Base(self.library, path)
@@ -250,9 +254,10 @@ class Exchange(unittest.TestCase):
             self.assertEqual(self.assert_same(store, base, table), before)
 
     def test_null_where_it_is_refused(self):
-        """What SQLite records of a table without such columns is applied to one with them: here and by SQLite the same
-        entries meet a conflict, which ends the apply or leaves the row. How both differ where a row is to be replaced by
-        one that is refused is told in `library.py`."""
+        """What SQLite records of a table without such columns is applied to one with them: here and
+        by SQLite the same entries meet a conflict, which ends the apply or leaves the row. How both
+        differ where a row is to be replaced by one that is refused is told in `library.py`.
+        """
         conflicts = 0
         for words in TABLES:
             for seed in range(SEEDS):
@@ -270,7 +275,9 @@ class Exchange(unittest.TestCase):
         self.assertGreater(conflicts, 0)
 
     def expect_same_conflicts(self, table, store, base, recorded):
-        """Applies what was recorded to both, which meet as many constraint conflicts, and answers how many."""
+        """Applies what was recorded to both, which meet as many constraint conflicts, and answers
+        how many.
+        """
         before = self.assert_same(store, base, table)
         with store.session(table.name) as session:
             conflicts = store.apply(recorded, constraint="omit").conflicts
@@ -287,8 +294,9 @@ class Exchange(unittest.TestCase):
         return len(conflicts)
 
     def test_a_key_in_another_order(self):
-        """SQLite numbers a key as PRIMARY KEY(..) lists it. What it records is applied here and inverted as it is; with its key
-        numbered in column order SQLite passes over it."""
+        """SQLite numbers a key as PRIMARY KEY(..) lists it. What it records is applied here and
+        inverted as it is; with its key numbered in column order SQLite passes over it.
+        """
         for words in TABLES:
             table = Table(*words)
             if len(table.key) == 1:

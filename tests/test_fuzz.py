@@ -1,5 +1,6 @@
 #!/usr/bin/env python3
-"""Ten seconds of `tests/fuzz`: made-up changesets, damaged files and scripts, compared with the model and SQLite's library.
+"""Ten seconds of `tests/fuzz`: made-up changesets, damaged files and scripts, compared with the
+model and SQLite's library.
 
 `VOLLIKASH_SECONDS` sets another time.
 """

@@ -1,8 +1,9 @@
 #!/usr/bin/env python3
 """Several programs on one store, and programs that are killed.
 
-While one program has the store open, another one gets StoreFault and changes nothing. After one is killed, the next finds the
-tables before or after the line that ran. `support/shell.py` says which tables lines make. The program has to be built first.
+While one program has the store open, another one gets StoreFault and changes nothing. After one is
+killed, the next finds the tables before or after the line that ran. `support/shell.py` says which
+tables lines make. The program has to be built first.
 """
 import collections
 import contextlib
@@ -35,8 +36,8 @@ DELAYS = (0, 0, 1, 3, 6, 10, 20)
 # What an apply prints that replaces a row.
 REPLACED = "conflict 3 conflict replace 't'\napplied 1\n"
 
-# A program that has SQLite write the store, until its standard input ends. It is one of its own, since a process that
-# closes a file drops all locks that it has on it.
+# A program that has SQLite write the store, until its standard input ends. It is one of its own,
+# since a process that closes a file drops all locks that it has on it.
 HOLDING = """
 import sqlite3, sys
 base = sqlite3.connect("store", isolation_level=None)
@@ -66,7 +67,9 @@ def script_of(lines):
 
 
 def ends_of(found, pair):
-    """All ways in which two programs may end that begin at once: one behind the other, or one alone; and the tables."""
+    """All ways in which two programs may end that begin at once: one behind the other, or one
+    alone; and the tables.
+    """
     ends = []
     for order in [(0,), (1,), (0, 1), (1, 0)]:
         shell, ended = found, [REFUSED, REFUSED]
@@ -78,7 +81,8 @@ def ends_of(found, pair):
 
 
 def long_lines():
-    """Lines without an end that write a table of ten rows, some of which take pages of their own."""
+    """Lines without an end that write a table of ten rows, some of which take pages of their own.
+    """
     for key in itertools.count():
         yield f"INSERT INTO t VALUES({key}, X'{'00ff' * (key * 97 % 3000)}');"
         yield f"UPDATE t SET b='row {key}' WHERE a={key - key % 3};"
@@ -111,7 +115,9 @@ class Processes(StoreTest):
         return found_by_sqlite(files_of(self.folder))
 
     def expect_refusals(self):
-        """Asserts that others are refused on the store, by lines, an apply and a listing, and leave its files."""
+        """Asserts that others are refused on the store, by lines, an apply and a listing, and leave
+        its files.
+        """
         before = files_of(self.folder)
         for words, lines in (
             (["store", "shell"], ["INSERT INTO t VALUES(9, 'z');", "CREATE TABLE u(a, PRIMARY KEY(a));"]),
@@ -124,7 +130,9 @@ class Processes(StoreTest):
         self.assertEqual(files_of(self.folder), before)
 
     def test_store_that_another_program_has_open(self):
-        """Others are refused before and behind its lines, and in its session, and nothing of it is lost."""
+        """Others are refused before and behind its lines, and in its session, and nothing of it is
+        lost.
+        """
         self.make("a.cs", INSERT)
         os.symlink("store", self.folder / "link")
         with self.dialogue("store", "shell") as first:
@@ -142,7 +150,8 @@ class Processes(StoreTest):
         self.assertEqual(self.read_alone(), programs.tables_of((1, "x"), (3, "z")))
 
     def test_store_that_sqlite_has_open(self):
-        """SQLite is told that the store is locked, and the program is refused where SQLite writes."""
+        """SQLite is told that the store is locked, and the program is refused where SQLite writes.
+        """
         self.make("a.cs", INSERT)
         os.symlink("store", self.folder / "link")
         with self.dialogue("store", "shell") as first:

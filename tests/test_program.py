@@ -1,8 +1,9 @@
 #!/usr/bin/env python3
 """The command: its words, the files that it reads and writes, stores, and exit statuses.
 
-What the program has to print is written out here, by the documents. Python's own sqlite3 writes and reads the stores
-(`support/stores.py`). `recorded/` has files that SQLite's session extension recorded. The program has to be built first.
+What the program has to print is written out here, by the documents. Python's own sqlite3 writes and
+reads the stores (`support/stores.py`). `recorded/` has files that SQLite's session extension
+recorded. The program has to be built first.
 """
 import json
 import os
@@ -236,7 +237,8 @@ class Files(ProgramTest):
         ))
 
     def test_out_is_the_old_file_or_the_new_one(self):
-        """What stands in OUT where the file that is written beside it cannot be, and where it can."""
+        """What stands in OUT where the file that is written beside it cannot be, and where it can.
+        """
         self.make("a.cs", INSERT)
         self.make("o.cs", b"old")
         os.chmod(self.folder / "o.cs", 0o640)
@@ -289,7 +291,9 @@ class Files(ProgramTest):
             self.assertEqual(os.listdir(folder), ["o.cs"])
 
     def test_out_is_no_plain_file(self):
-        """Bytes are written into a pipe as they are, behind what stands in the standard output, and not into a folder."""
+        """Bytes are written into a pipe as they are, behind what stands in the standard output, and
+        not into a folder.
+        """
         self.make("a.cs", INSERT)
         for out in ("/dev/stdout", "/dev/fd/1"):
             done = subprocess.run([PROGRAM, "a.cs", "invert", out], cwd=self.folder, capture_output=True, timeout=PATIENCE)
@@ -316,7 +320,8 @@ class Files(ProgramTest):
         self.expect_files("a.cs", "o.cs", ".changeset-0.new")
 
     def test_longest_file(self):
-        """A file of zero bytes is no changeset; one byte more than it may have, and it is not read."""
+        """A file of zero bytes is no changeset; one byte more than it may have, and it is not read.
+        """
         for length, line in ((1_073_741_824, "error 2 NotTable 0\n"), (1_073_741_825, INPUT_FAULT)):
             with self.subTest(length=length), open(self.folder / "sparse", "wb") as file:
                 file.truncate(length)
@@ -434,7 +439,8 @@ class Applies(StoreTest):
             self.assertEqual(self.read(), tables_of((1, "x")))
 
     def test_conflicts_abort(self):
-        """What stands in the table, the entries, and the kind of the conflict that ends the call."""
+        """What stands in the table, the entries, and the kind of the conflict that ends the call.
+        """
         same = update((1, UNDEFINED), (UNDEFINED, UNDEFINED))
         for rows, entries, kind in (
             ([(1, "z")], [insert(1, "x")], "conflict"),
@@ -508,7 +514,8 @@ class Applies(StoreTest):
         self.assertEqual(self.read(), tables_of(*rows))
 
 
-# The declaration of the table t, and its row (1, 'x'); and the declaration of n, which the former version has not.
+# The declaration of the table t, and its row (1, 'x'); and the declaration of n, which the former
+# version has not.
 TABLE = ("", b"t", b"\x02\x01\x01a\x00\x01b")
 ROW = ("t", KEY, KEY + b"\x03\x01x")
 REFUSING = ("", b"n", b"\x02\x01\x01a\x02\x01b")
@@ -556,7 +563,9 @@ class Policies(StoreTest):
             self.assertEqual(self.read(), tables_of(*left))
 
     def test_a_changeset_that_arrives_twice(self):
-        """Its entries are conflicts the second time, or are ignored where that is asked for, under each policy."""
+        """Its entries are conflicts the second time, or are ignored where that is asked for, under
+        each policy.
+        """
         for rows, changeset, count, left in (
             ([], INSERT, 1, [(1, "x")]), ([(1, "x")], DELETE, 1, []), ([(1, "x")], UPDATE, 1, [(1, "y")]),
             ([(1, "x")], T + insert(2, "q") + delete(1, "x"), 2, [(2, "q")]),
@@ -675,7 +684,9 @@ class Rules(StoreTest):
         self.assertEqual(self.read(), {**refusing((2, ""), (4, 0)), **tables_of((1, None), (2, None))})
 
     def expect_ended(self, rows, changeset, choices, status, told, left):
-        """Applies a changeset to these rows of n, by the command and by a line, and asserts what is told and left."""
+        """Applies a changeset to these rows of n, by the command and by a line, and asserts what is
+        told and left.
+        """
         with self.case(rows=rows, changeset=changeset, choices=choices):
             options = [f"--{choice}" for choice in choices.split()]
             self.write(refusing(*rows))
@@ -694,7 +705,9 @@ class Rules(StoreTest):
         self.write(tables)
 
     def expect_conflicts(self, rows, changeset, choices, met, applied=0, left=None):
-        """Asserts what an apply meets, kinds with what is done about them, and how many entries it carries out."""
+        """Asserts what an apply meets, kinds with what is done about them, and how many entries it
+        carries out.
+        """
         told = "".join(f"conflict {KINDS.index(kind) + 1} {kind} {choice} 'n'\n" for kind, choice in met)
         self.expect_ended(rows, changeset, choices, 0, f"{told}applied {applied}\n", rows if left is None else left)
 
@@ -711,7 +724,9 @@ class Rules(StoreTest):
                 self.expect_conflicts(rows, changeset, "constraint=omit" + others, [("constraint", "omit")])
 
     def test_rows_that_are_replaced(self):
-        """The conflict that is replaced is met first, and then that of the new row; the row stays as it was."""
+        """The conflict that is replaced is met first, and then that of the new row; the row stays
+        as it was.
+        """
         for kind, rows, changeset in (
             ("conflict", [(1, "x")], NULL_INSERT), ("conflict", [(1, "z")], NULL_INSERT), ("data", [(1, "z")], NULL_UPDATE),
         ):
@@ -817,7 +832,8 @@ class Rules(StoreTest):
                 self.assertEqual(self.run_shell(["SELECT * FROM n;"]), (0, "1|'x'\n" * (len(records) - 1), ""))
 
     def test_new_table_in_a_store_of_the_former_version(self):
-        """The store is of this version by then, and the table may have rules; the others have none."""
+        """The store is of this version by then, and the table may have rules; the others have none.
+        """
         for log in (False, True):
             with self.case(log=log):
                 self.write(tables_of((1, None)), log=log, version=FORMER)
@@ -891,7 +907,9 @@ class Shells(StoreTest):
         self.assertEqual(self.bytes_of("text"), b"this is no database" * 100)
 
     def test_stores_of_the_former_version(self):
-        """They are opened with their tables, and are of this version from then on; what else they hold stays."""
+        """They are opened with their tables, and are of this version from then on; what else they
+        hold stays.
+        """
         tables = tables_of((1, "x"), (2, None), (3, b"\xff"))
         for log in (False, True):
             with self.case(log=log):
@@ -966,7 +984,9 @@ class Stores(StoreTest):
                 self.assertEqual(read_records(self.folder / "store"), [VERSION])
 
     def test_files_of_sqlite(self):
-        """Files of other page sizes, with a rollback journal or a log: the store's file alone has what was written."""
+        """Files of other page sizes, with a rollback journal or a log: the store's file alone has
+        what was written.
+        """
         rows = [(key, "row %d" % key) for key in range(200)]
         for page_size in (512, 1024, 4096, 65536):
             for log in (False, True):
@@ -999,7 +1019,8 @@ class Stores(StoreTest):
                 self.assertEqual(self.declared(), [text])
 
     def test_store_beside_other_tables(self):
-        """A store that has more than its table of records is refused as it is, and not as damaged."""
+        """A store that has more than its table of records is refused as it is, and not as damaged.
+        """
         for text in (
             "ANALYZE",
             "CREATE TABLE other(x)",
@@ -1138,7 +1159,9 @@ def edit_line(name, table, old, new):
 
 
 def session_file(groups):
-    """The file of groups, as a session writes it: the flag of each column of the key is 1, and no entry is indirect."""
+    """The file of groups, as a session writes it: the flag of each column of the key is 1, and no
+    entry is indirect.
+    """
     def entry(old, new):
         return insert(*new) if old is None else delete(*old) if new is None else update(old, new)
 
@@ -1152,7 +1175,9 @@ class RecordedByLines(ProgramTest):
     """The same files by lines of a script, on tables that lines made."""
 
     def expect_parts(self, *parts):
-        """Runs a script of parts, each of them lines and what these print, and asserts that no line is refused."""
+        """Runs a script of parts, each of them lines and what these print, and asserts that no line
+        is refused.
+        """
         lines = [line for lines, _ in parts for line in lines]
         self.assertEqual(self.run_lines(lines), (0, "".join(printed for _, printed in parts), ""))
 

@@ -1,9 +1,9 @@
 #!/usr/bin/env python3
 """Out of memory: one allocation of a run is refused, then the next, and so on (`refuse.c`).
 
-A line of a script is answered as with memory, or by `error 60 NoMemory` as if it were not there. A command is done, or prints
-that line and leaves its files.
-A run of the gate tries some allocations of each script and command. With `VOLLIKASH_TRIES=all` each is tried, for minutes.
+A line of a script is answered as with memory, or by `error 60 NoMemory` as if it were not there. A
+command is done, or prints that line and leaves its files. A run of the gate tries some allocations
+of each script and command. With `VOLLIKASH_TRIES=all` each is tried, for minutes.
 """
 import random
 import tempfile
@@ -33,7 +33,9 @@ class MemoryTest(unittest.TestCase):
         cls.shim = build_shim(folder.name)
 
     def expect_ends(self, trial):
-        """Refuses one allocation after another, and asserts that each run ends in a way in which it may."""
+        """Refuses one allocation after another, and asserts that each run ends in a way in which it
+        may.
+        """
         ends = trial.ends()
         count = trial.count(self.shim)
         self.assertGreater(count, 0)
@@ -59,7 +61,9 @@ class MemoryTest(unittest.TestCase):
 
     @unittest.skipUnless(CALLS.exists(), "the program of the calls is not built")
     def test_calls(self):
-        """Each call that no line makes answers as with memory, or NoMemory, and leaves what was there."""
+        """Each call that no line makes answers as with memory, or NoMemory, and leaves what was
+        there.
+        """
         self.expect_ends(Calls((TOP / "crates/calls/args").read_text().split()))
 
 

@@ -1,8 +1,9 @@
 #!/usr/bin/env python3
-"""Failing standard streams: a read fails after each byte of a script, and a write stops at each byte of the output.
+"""Failing standard streams: a read fails after each byte of a script, and a write stops at each
+byte of the output.
 
-A pipe in packet mode hands each piece to one read. `refuse.c` lets one read fail, and a limit on the size of files stops the
-output. The program has to be built first.
+A pipe in packet mode hands each piece to one read. `refuse.c` lets one read fail, and a limit on
+the size of files stops the output. The program has to be built first.
 """
 import errno
 import os
@@ -73,7 +74,9 @@ class Streams(unittest.TestCase):
         cls.shim = build_shim(cls.kept.name)
 
     def run_pieces(self, pieces, failing=None):
-        """Runs a script that comes in pieces, where one read fails, from 1; its status, output and errors."""
+        """Runs a script that comes in pieces, where one read fails, from 1; its status, output and
+        errors.
+        """
         reading, writing = os.pipe2(os.O_DIRECT)
         feeding = threading.Thread(target=feed, args=(writing, pieces))
         refusing = {"REFUSE_CALL": "read", "REFUSE_AT": str(failing), "REFUSE_WITH": str(errno.EIO), "LD_PRELOAD": self.shim}

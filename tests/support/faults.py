@@ -12,7 +12,8 @@ from support.shell import Shell
 from support.trials import SCRIPTS, Command, Script, run
 
 
-# What a call answers: that it is interrupted, that it moves one byte, an error, or nothing, since the process ends.
+# What a call answers: that it is interrupted, that it moves one byte, an error, or nothing, since
+# the process ends.
 INTERRUPTED, ONE_BYTE, ENDED = errno.EINTR, 0, -1
 ERRORS = (errno.EIO, errno.ENOSPC)
 
@@ -40,7 +41,8 @@ STORE_SCRIPTS = {
 
 
 def is_harmless(call, answer, streams):
-    """Whether a run has to end as without this answer, where these calls are of standard streams."""
+    """Whether a run has to end as without this answer, where these calls are of standard streams.
+    """
     failing = {ONE_BYTE: ("pread",), INTERRUPTED: ("pread", "pwrite", *streams)}
     return answer in failing and call not in failing[answer]
 
@@ -61,7 +63,9 @@ class MarkedScript(Script):
         ])
 
     def left(self, folder):
-        """The tables of the store, which the program opens, and leaves. Half a new store is none yet to SQLite."""
+        """The tables of the store, which the program opens, and leaves. Half a new store is none
+        yet to SQLite.
+        """
         with tempfile.TemporaryDirectory() as copied:
             for name in os.listdir(folder):
                 shutil.copy(os.path.join(folder, name), copied)
@@ -92,7 +96,9 @@ class MarkedScript(Script):
         return told or ("" if left in lefts else f"the store has {left}, and not one of {lefts}")
 
     def replay(self, printed, reported, answer):
-        """What the store may have behind lines that printed this; and why no lines print it, or nothing."""
+        """What the store may have behind lines that printed this; and why no lines print it, or
+        nothing.
+        """
         shell, others = Shell(), []
         for number, line in enumerate(self.asked):
             before, tried = self.tables(shell), copy.deepcopy(shell)
@@ -156,7 +162,9 @@ class FileCommand(Command):
         return "" if left == self.before else "a file is not as it was"
 
     def is_whole(self, left, after):
-        """Whether each file is as before or as after, where one that was begun beside OUT may stand, too."""
+        """Whether each file is as before or as after, where one that was begun beside OUT may
+        stand, too.
+        """
         names = [name for name, _ in self.before[0]]
         files = [file for file in left[0] if file[0] in names]
         return files in (self.before[0], after[0]) and left[1] in (self.before[1], after[1])

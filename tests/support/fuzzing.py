@@ -1,9 +1,11 @@
-"""Compares the program with a model, on changesets, damaged files and scripts that are made from a seed.
+"""Compares the program with a model, on changesets, damaged files and scripts that are made from a
+seed.
 
-The model shares no code with the program: `reader` reads files, `model` concatenates and applies them, `shell` answers lines, and
-`making` makes what they are asked. If SQLite's library with its session extension is there, the model is compared with it
-(`library`). A case depends only on the seed and its number. If something differs, the lines of the case, and as few of them
-as still differ, are kept in files.
+The model shares no code with the program: `reader` reads files, `model` concatenates and applies
+them, `shell` answers lines, and `making` makes what they are asked. If SQLite's library with its
+session extension is there, the model is compared with it (`library`). A case depends only on the
+seed and its number. If something differs, the lines of the case, and as few of them as still
+differ, are kept in files.
 """
 import argparse
 import collections
@@ -68,7 +70,9 @@ class Script:
 
 
 def run(folder, words, text=b""):
-    """Runs the program in a folder: its exit status, and what it prints to both streams; none where it does not end."""
+    """Runs the program in a folder: its exit status, and what it prints to both streams; none where
+    it does not end.
+    """
     try:
         done = subprocess.run([PROGRAM, *words], cwd=folder, input=text, capture_output=True, timeout=PATIENCE)
     except subprocess.TimeoutExpired:
@@ -144,7 +148,9 @@ class Case:
         self.expect_script(script)
 
     def of_damaged_files(self):
-        """Damaged files are inverted, joined, printed and applied, and change nothing where they are refused."""
+        """Damaged files are inverted, joined, printed and applied, and change nothing where they
+        are refused.
+        """
         made = self.changesets(CHANGESETS)
         whole = [reader.write(groups) for groups in made]
         script = Script(self.tables_lines())
@@ -167,7 +173,8 @@ class Case:
         self.expect_script(script)
 
     def ask_inverse(self, file):
-        """Has SQLite's library asked for the inverse of a damaged file, where that is a file still."""
+        """Has SQLite's library asked for the inverse of a damaged file, where that is a file still.
+        """
         try:
             self.questions.append(library.Inverse(reader.Reader(file).groups()))
         except reader.Fault:
@@ -235,7 +242,9 @@ class Case:
         script.add(line)
 
     def of_sessions(self):
-        """Edits of attached tables, and what a session tells of them, and undoes. SQL has no zero characters."""
+        """Edits of attached tables, and what a session tells of them, and undoes. SQL has no zero
+        characters.
+        """
         script = Script([line for line in self.tables_lines() if b"\0" not in line])
         before, edits, maker = self.done(script), [], self.maker
         names = [library.quoted(name, b'"') for name in script.shell.tables]
@@ -412,7 +421,9 @@ def run_cases(words, start, folder, counts, beside):
 
 
 def table_difference():
-    """Return the first line of the table of cases that the model answers otherwise, or an empty text."""
+    """Return the first line of the table of cases that the model answers otherwise, or an empty
+    text.
+    """
     for topic, lines in read_topics().items():
         for line, answer in zip(lines, Script([line.text for line in lines]).answers):
             if answer != line.printed:
@@ -443,7 +454,9 @@ def report(counts, beside):
 
 
 def run_for(words):
-    """Runs cases until the time is up, and prints what was compared: whether none differs, and SQLite's library."""
+    """Runs cases until the time is up, and prints what was compared: whether none differs, and
+    SQLite's library.
+    """
     start, counts = time.monotonic(), collections.Counter()
     with tempfile.TemporaryDirectory() as folder:
         beside = library.Library(folder)

@@ -1,4 +1,5 @@
-"""The model next to SQLite's own library: inverses, concatenations, applies and net changesets, by `sqlite.c`.
+"""The model next to SQLite's own library: inverses, concatenations, applies and net changesets, by
+`sqlite.c`.
 
 Documented differences are counted. Any other one is reported.
 """
@@ -40,7 +41,8 @@ class Difference(Exception):
 
 
 class Library:
-    """SQLite's library, where there is one to compile against, and the counts of what it was asked."""
+    """SQLite's library, where there is one to compile against, and the counts of what it was asked.
+    """
 
     def __init__(self, folder):
         self.program = os.path.join(folder, "sqlite")
@@ -141,9 +143,10 @@ class PutOff(Exception):
 class LaterApplying(Applying):
     """An apply that tells constraint conflicts as SQLite does.
 
-    An entry whose new row would have NULL where it is refused is put off until those behind it of its table were tried,
-    is tried once more then, and is told of where it is tried a third time. Each time an UPDATE of a row that differs is
-    told to meet that one first. The row that an INSERT was to replace is removed the first time, and stays so.
+    An entry whose new row would have NULL where it is refused is put off until those behind it of
+    its table were tried, is tried once more then, and is told of where it is tried a third time.
+    Each time an UPDATE of a row that differs is told to meet that one first. The row that an INSERT
+    was to replace is removed the first time, and stays so.
     """
 
     def carry_out_all(self, name, entries):
@@ -170,10 +173,12 @@ class LaterApplying(Applying):
 
 
 class Apply:
-    """Whether an apply to tables of these rows does what SQLite's does to ordinary tables, with the same NOT NULL.
+    """Whether an apply to tables of these rows does what SQLite's does to ordinary tables, with the
+    same NOT NULL.
 
-    Which entries meet a constraint conflict, what is answered to it and what that leaves is the same. When it is told is
-    not, nor whether the row is there that an INSERT was to replace: `LaterApplying` says how SQLite does both.
+    Which entries meet a constraint conflict, what is answered to it and what that leaves is the
+    same. When it is told is not, nor whether the row is there that an INSERT was to replace:
+    `LaterApplying` says how SQLite does both.
     """
 
     def __init__(self, tables, groups, choices):
@@ -246,7 +251,9 @@ class Apply:
 
 
 class Recording:
-    """Whether the net changeset of lines of edits, behind others, is the one that SQLite's session records of them."""
+    """Whether the net changeset of lines of edits, behind others, is the one that SQLite's session
+    records of them.
+    """
 
     def __init__(self, tables, before, edits, groups):
         self.tables = tables
@@ -351,7 +358,9 @@ def shown(value):
 
 
 def script_of(tables, groups, choices):
-    """Lines that do the same: the rows are put there by a changeset, since a line holds not every text."""
+    """Lines that do the same: the rows are put there by a changeset, since a line holds not every
+    text.
+    """
     for name, table in tables.items():
         yield create_text(name, table) + b";"
         if table.rows:

@@ -1,4 +1,5 @@
-"""Changesets, damaged files and lines of scripts, made from a source of chance that is the same each time.
+"""Changesets, damaged files and lines of scripts, made from a source of chance that is the same
+each time.
 
 Groups are those of `reader.py`. What is made has few keys and few values, so that much of it meets.
 """
@@ -32,7 +33,8 @@ FIELDS = (b"\x00", b"\x00", NULL, NULL, b"\x02" + bytes(8), b"\x06", b"\x03\x01\
 
 CHOICES = (b"omit", b"replace", b"abort")
 
-# What is chosen where entries are carried out though they meet a conflict, and may then meet a second one.
+# What is chosen where entries are carried out though they meet a conflict, and may then meet a
+# second one.
 TRYING_AGAIN = (b" data=replace", b" notfound=omit", b" conflict=replace", b" constraint=omit")
 
 
@@ -116,7 +118,9 @@ class Maker:
         return operation, indirect, self.update(flags, row) if operation == UPDATE else [row]
 
     def group(self, flags, name, rows=()):
-        """A group of a table, of which some entries are of these rows, or of such with other values."""
+        """A group of a table, of which some entries are of these rows, or of such with other
+        values.
+        """
         entries, keys = [], set()
         count = self.upto(self.pick((1, 3, 6, 12)))
         for _ in range(count):
@@ -134,7 +138,9 @@ class Maker:
         return [(name, self.flags()) for name in self.chance.sample(NAMES, self.upto(4))]
 
     def changeset(self, tables):
-        """The groups of a changeset of some of these tables, rarely with other flags than a table has."""
+        """The groups of a changeset of some of these tables, rarely with other flags than a table
+        has.
+        """
         groups = []
         for name, flags in self.chance.sample(tables, self.chance.randrange(len(tables) + 1)):
             if self.is_one_in(12):
@@ -147,7 +153,9 @@ class Maker:
         return bytes(flag and self.pick((1, 2, 255)) for flag in flags)
 
     def changeset_of(self, tables):
-        """The groups of a changeset that is made for the rows of tables, which are those of `model.py`."""
+        """The groups of a changeset that is made for the rows of tables, which are those of
+        `model.py`.
+        """
         groups = []
         names = self.chance.sample(list(tables), self.upto(len(tables))) if tables else []
         for name in names:
@@ -161,7 +169,9 @@ class Maker:
         return [self.with_nulls(tables, self.widths(group)) for group in groups]
 
     def other_flags(self, flags):
-        """Flags of a table with one column less, one more, or another key; or such as are numbered otherwise."""
+        """Flags of a table with one column less, one more, or another key; or such as are numbered
+        otherwise.
+        """
         turned = self.turned(flags)
         other = self.pick((flags[:-1], flags + b"\x00", bytes(reversed(flags)), turned, turned, turned))
         return other if any(other) else flags
@@ -186,7 +196,9 @@ class Maker:
         ]
 
     def with_null(self, table, record):
-        """A record with NULL in a column outside the key that refuses it, where it has a value in such a column."""
+        """A record with NULL in a column outside the key that refuses it, where it has a value in
+        such a column.
+        """
         parts = enumerate(zip(table.flags, table.refuses, record))
         places = [place for place, (flag, mark, field) in parts if mark and not flag and field != UNDEFINED]
         null = self.pick(places) if places else None
@@ -250,7 +262,8 @@ class Maker:
             group[2].clear()
 
     def damaged(self, file, other):
-        """A file in which a few things are not as they were; parts of another one may stand in it."""
+        """A file in which a few things are not as they were; parts of another one may stand in it.
+        """
         for _ in range(self.pick((1, 1, 1, 2, 3))):
             file = self.pick(DAMAGES)(self, file, other)
         return file

@@ -1,8 +1,9 @@
-"""What changesets make, and what they do to tables of rows: a model that shares no code with the program.
+"""What changesets make, and what they do to tables of rows: a model that shares no code with the
+program.
 
-It follows `docs/FORMAT.md`, `docs/COMMAND.md` and `docs/SHELL.md`. A changeset is its groups, as `reader.py` reads them: of each its flags, its
-name and its entries. A value is the bytes that it is spelled with, a row a tuple of values, and a key the bytes of its
-values.
+It follows `docs/FORMAT.md`, `docs/COMMAND.md` and `docs/SHELL.md`. A changeset is its groups, as
+`reader.py` reads them: of each its flags, its name and its entries. A value is the bytes that it is
+spelled with, a row a tuple of values, and a key the bytes of its values.
 """
 import collections
 
@@ -29,7 +30,9 @@ class Refusal(Exception):
 
 
 class Table:
-    """The columns of a table, for each whether it is of the key and whether it refuses NULL, and its rows by their keys."""
+    """The columns of a table, for each whether it is of the key and whether it refuses NULL, and
+    its rows by their keys.
+    """
 
     def __init__(self, columns, flags, refuses=()):
         self.columns = columns
@@ -113,7 +116,9 @@ def joined(first, second):
 # ---- applies
 
 def judged(flags, table):
-    """Whether changes of columns with these flags are for a table: `skipped`, `wider` or `compatible`."""
+    """Whether changes of columns with these flags are for a table: `skipped`, `wider` or
+    `compatible`.
+    """
     if table is None or not have_same_columns(flags, table.flags[:len(flags)]):
         return "skipped"
     return "wider" if len(flags) < len(table.flags) else "compatible"
@@ -146,7 +151,9 @@ def is_left(entry, row):
 
 
 class Applying:
-    """An apply to tables: what it writes, which is taken back where it is refused, and what it prints."""
+    """An apply to tables: what it writes, which is taken back where it is refused, and what it
+    prints.
+    """
 
     def __init__(self, tables, choices):
         self.tables = tables
@@ -223,7 +230,9 @@ def take_back(tables, writes):
 # ---- sessions
 
 class Session:
-    """The tables that are attached, and of each the keys that were written, with the rows that stood there first."""
+    """The tables that are attached, and of each the keys that were written, with the rows that
+    stood there first.
+    """
 
     def __init__(self):
         self.attached = {}
@@ -278,8 +287,9 @@ def python_value(value):
 
 
 def shown_tables(tables):
-    """Tables as `refusals.py` compares them: of each the columns, which are of the key, which refuse NULL, and the rows by
-    their keys."""
+    """Tables as `refusals.py` compares them: of each the columns, which are of the key, which
+    refuse NULL, and the rows by their keys.
+    """
     return {
         name.decode(): (
             tuple(column.decode() for column in table.columns), tuple(map(bool, table.flags)), tuple(table.refuses),

@@ -1,4 +1,6 @@
-"""Runs that are recorded (`record.c`), and the files that a power cut, or the end of the process, may leave of them."""
+"""Runs that are recorded (`record.c`), and the files that a power cut, or the end of the process,
+may leave of them.
+"""
 import collections
 import contextlib
 import copy
@@ -33,20 +35,22 @@ EVENTS = {form.__name__.lower(): form for form in (Write, Length, Sync, Create, 
 
 SECTOR = 512
 
-# Of up to so many changes each subset is tried; of more, so many, and as many where writes are torn.
+# Of up to so many changes each subset is tried; of more, so many, and as many where writes are
+# torn.
 SUBSETS, OTHERS = 8, 24
 
 # At how many of its borders a write is torn in two.
 BORDERS = 32
 
-# How many runs were recorded, at how many points they were cut, how many different files that makes, and how many of
-# these the program opened.
+# How many runs were recorded, at how many points they were cut, how many different files that
+# makes, and how many of these the program opened.
 counts = collections.Counter(runs=0, points=0, files=0, opened=0)
 
 # The lines by which the program goes on behind a cut.
 GOING_ON = ["CREATE TABLE next(n, PRIMARY KEY(n));", "INSERT INTO next VALUES(1);", "SELECT * FROM next;"]
 
-# The files that are applied: those of commands, one of many rows, and one that memory does not hold as it is applied.
+# The files that are applied: those of commands, one of many rows, and one that memory does not hold
+# as it is applied.
 CHANGESETS = {
     **FILES, "many": T + b"".join(insert(key, b"\x00\xff" * key) for key in range(2, 200)),
     "large": T + b"".join(insert(key, b"\x00\xff" * 50_000) for key in range(10, 100)),
@@ -89,7 +93,9 @@ def make_files(folder, files):
 
 
 class Recording:
-    """A run on files: those that it found, what it did to them, how it ended, and those that it left."""
+    """A run on files: those that it found, what it did to them, how it ended, and those that it
+    left.
+    """
 
     def __init__(self, shim, files, words, stdin):
         with tempfile.TemporaryDirectory() as folder, tempfile.TemporaryFile() as record:
@@ -104,8 +110,9 @@ class Recording:
 
 
 class Disk:
-    """The files of a folder: what is on the disk for sure, and what was done since, in its order; and how many bytes
-    were printed."""
+    """The files of a folder: what is on the disk for sure, and what was done since, in its order;
+    and how many bytes were printed.
+    """
 
     def __init__(self, recording):
         self.folder = recording.folder
@@ -132,7 +139,8 @@ class Disk:
         return (change.file if isinstance(change, (Write, Length)) else self.folder) == file
 
     def changed(self, changes):
-        """The names and the contents, by the numbers of files, where these changes are on the disk."""
+        """The names and the contents, by the numbers of files, where these changes are on the disk.
+        """
         names = dict(self.names)
         contents = {file: bytearray(content) for file, content in self.contents.items()}
         for change in changes:
@@ -168,7 +176,9 @@ def count_sectors(write):
 
 
 def kept(change, sectors):
-    """What is on the disk of a change: all of it, or of a write these of its sectors, which are counted from 0."""
+    """What is on the disk of a change: all of it, or of a write these of its sectors, which are
+    counted from 0.
+    """
     if sectors is None:
         yield change
         return
@@ -190,7 +200,9 @@ def in_two(whole, sectors):
 
 
 def junk(write, end, chance):
-    """A write of which the length alone is there: behind what was synced a file has zeros, or any bytes."""
+    """A write of which the length alone is there: behind what was synced a file has zeros, or any
+    bytes.
+    """
     start = max(write.place, end)
     size = max(write.place + len(write.content) - start, 0)
     content = chance.choice([0, chance.getrandbits(8 * size + 1) >> 1]).to_bytes(size, "big")
@@ -198,7 +210,9 @@ def junk(write, end, chance):
 
 
 def torn(whole, ends, seed):
-    """Of each of these changes nothing, all of it, or of a write some sectors or the length, by chance."""
+    """Of each of these changes nothing, all of it, or of a write some sectors or the length, by
+    chance.
+    """
     chance = random.Random(seed)
     parts = []
     for change, _ in whole:
@@ -217,8 +231,9 @@ def borders(write, chance):
 
 
 def choices(disk, point):
-    """What may be there of what was not synced: for each way a call that makes a list, of changes that are there and
-    of which sectors of each, where that are not all."""
+    """What may be there of what was not synced: for each way a call that makes a list, of changes
+    that are there and of which sectors of each, where that are not all.
+    """
     pending, whole = disk.pending, [(change, None) for change in disk.pending]
     seeds = [f"{point} {number}" for number in range(OTHERS)]
     yield partial(list, whole)
@@ -238,7 +253,9 @@ def choices(disk, point):
 
 
 def cuts(recording):
-    """Each point of a run, and what may be there: the disk, and the call that makes a list of changes."""
+    """Each point of a run, and what may be there: the disk, and the call that makes a list of
+    changes.
+    """
     disk = Disk(recording)
     for point, event in enumerate([Print(b""), *recording.events]):
         disk.take(event)
@@ -247,8 +264,9 @@ def cuts(recording):
 
 
 def tried(recording, most):
-    """Of the cuts of a run so many, each once: the files, how much is printed by then, what tells of the cut, and a
-    number by chance, below the count of those that are tried."""
+    """Of the cuts of a run so many, each once: the files, how much is printed by then, what tells
+    of the cut, and a number by chance, below the count of those that are tried.
+    """
     count = sum(1 for _ in cuts(recording))
     chance = random.Random(count)
     picked = set(chance.sample(range(count), min(most, count)))
@@ -286,7 +304,9 @@ def described(choice):
 # ---- stores
 
 class Story:
-    """What the model has of lines, where each may have a mark behind its answer: what is printed, and the tables."""
+    """What the model has of lines, where each may have a mark behind its answer: what is printed,
+    and the tables.
+    """
 
     def __init__(self, shell, lines, is_marked=False):
         self.shells, self.answers = [shell], []
@@ -305,7 +325,9 @@ class Story:
         return (int(self.shells[-1].is_refused), self.printed(), ""), tables_of(self.shells[-1])
 
     def may_stand(self, printed):
-        """The shells whose tables may be there where so much is printed: from before the next line, or behind it."""
+        """The shells whose tables may be there where so much is printed: from before the next line,
+        or behind it.
+        """
         count = end = 0
         for answer, behind in zip(self.answers, self.marks):
             if printed < end + len(answer or behind):
@@ -328,8 +350,9 @@ def opened_again(shell):
 
 
 class Run:
-    """A run on the store in a folder: the files that it finds, its words and its script, what the model has, and the
-    version of the store that it finds."""
+    """A run on the store in a folder: the files that it finds, its words and its script, what the
+    model has, and the version of the store that it finds.
+    """
 
     def __init__(self, files, words, stdin, story, version=VERSION):
         self.files, self.words, self.stdin, self.story, self.version = files, words, stdin, story, version
@@ -349,7 +372,9 @@ class Run:
             return run(folder, script.words, script.stdin), found_by_sqlite(files_of(folder))
 
     def why_not(self, files, printed, opens):
-        """Why a cut may not leave these files where so much is printed, or nothing; the program opens them, or not."""
+        """Why a cut may not leave these files where so much is printed, or nothing; the program
+        opens them, or not.
+        """
         shells = self.story.may_stand(printed)
         tables = found_by_sqlite(files)
         as_found = self.version != VERSION and found_by_sqlite(files, self.version) == tables_of(self.story.shells[0])
@@ -370,8 +395,9 @@ class Run:
 
 
 def found_by_sqlite(files, version=VERSION):
-    """The tables that SQLite finds, which has to find the file whole, and its records in this version. There are none
-    where it is no database yet."""
+    """The tables that SQLite finds, which has to find the file whole, and its records in this
+    version. There are none where it is no database yet.
+    """
     with tempfile.TemporaryDirectory() as folder:
         make_files(folder, files)
         store = os.path.join(folder, "store")

@@ -70,7 +70,8 @@ class ProgramTest(unittest.TestCase):
         return done.returncode, (done.stdout or b"").decode(), done.stderr.decode()
 
     def run_lines(self, lines):
-        """Runs lines as a script, and answers its exit status and what it prints to both streams."""
+        """Runs lines as a script, and answers its exit status and what it prints to both streams.
+        """
         return self.run_program(stdin="".join(line + "\n" for line in lines).encode())
 
     def run_full(self, *words, stdin=b""):
@@ -86,7 +87,9 @@ class ProgramTest(unittest.TestCase):
             return self.run_program(*words, stdin=stdin, stdout=pipe)
 
     def run_cut(self, *words):
-        """Runs the program where no file may grow, as on a disk that is full, and answers as `run_program` does."""
+        """Runs the program where no file may grow, as on a disk that is full, and answers as
+        `run_program` does.
+        """
         limit = "ulimit -f 0; trap '' XFSZ; exec \"$0\" \"$@\""
         done = subprocess.run(
             ["sh", "-c", limit, PROGRAM, *words], cwd=self.folder, capture_output=True, timeout=PATIENCE

@@ -1,4 +1,5 @@
-"""A reader of changeset files that shares no code with the program: what a file holds, or the fault that it is refused for.
+"""A reader of changeset files that shares no code with the program: what a file holds, or the fault
+that it is refused for.
 
 It follows `docs/FORMAT.md`, byte by byte. A field is the bytes that it is spelled with.
 """
@@ -210,7 +211,9 @@ def inverted(groups):
 
 
 def numbered_flags(flags):
-    """The flags that SQLite writes of a table whose key has its columns in order: 1, 2 and so on. No byte is more than 255."""
+    """The flags that SQLite writes of a table whose key has its columns in order: 1, 2 and so on.
+    No byte is more than 255.
+    """
     numbered, number = [], 0
     for flag in flags:
         number += flag != 0

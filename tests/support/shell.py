@@ -1,4 +1,5 @@
-"""The lines of a script, and what each of them prints: a model that shares no code with the program.
+"""The lines of a script, and what each of them prints: a model that shares no code with the
+program.
 
 It follows `docs/SHELL.md`, `docs/ERRORS.md`, and `docs/DECISIONS.md`.
 """
@@ -127,7 +128,8 @@ def statement(tokens):
 
 
 def create_form(tokens):
-    """What follows CREATE: the table, its columns, which of them refuse NULL, and those of its key."""
+    """What follows CREATE: the table, its columns, which of them refuse NULL, and those of its key.
+    """
     tokens.fixed(b"TABLE")
     table = tokens.take("name")
     tokens.fixed(b"(")
@@ -242,7 +244,9 @@ class Shell:
         self.is_refused = False
 
     def answer(self, line):
-        """What a line prints: lines, as bytes without their line feeds. Whether one was refused is known afterwards."""
+        """What a line prints: lines, as bytes without their line feeds. Whether one was refused is
+        known afterwards.
+        """
         try:
             return list(self.run(line))
         except (Refusal, reader.Fault) as refusal:

@@ -1,9 +1,9 @@
 """Changesets and stores as bytes: what the tests of the program hand it, and what they read back.
 
-A table is its columns' names, for each column whether it is of the key, its rows, tuples of `int`, `str`, `bytes` and
-`None`, and for each column whether it refuses NULL: where that is not told, those of the key do. A store is a file of
-SQLite with the table of records (`docs/STORE.md`); it is written and read here by Python's own sqlite3. A changeset is
-bytes (`docs/FORMAT.md`).
+A table is its columns' names, for each column whether it is of the key, its rows, tuples of `int`,
+`str`, `bytes` and `None`, and for each column whether it refuses NULL: where that is not told,
+those of the key do. A store is a file of SQLite with the table of records (`docs/STORE.md`); it is
+written and read here by Python's own sqlite3. A changeset is bytes (`docs/FORMAT.md`).
 """
 import collections
 import contextlib
@@ -115,7 +115,9 @@ def expect_whole(base):
 
 
 def read_records(path):
-    """The records of a file as SQLite reads it, by name and key. The file has to pass SQLite's own check."""
+    """The records of a file as SQLite reads it, by name and key. The file has to pass SQLite's own
+    check.
+    """
     with contextlib.closing(sqlite3.connect(path)) as base:
         expect_whole(base)
         return base.execute("SELECT tab, keyb, rowb FROM rec ORDER BY tab, keyb").fetchall()
@@ -146,7 +148,9 @@ def take_value(data, at):
 
 
 def take_record(data, at, count):
-    """The fields of a record of so many columns, each a value or UNDEFINED, and the place behind them."""
+    """The fields of a record of so many columns, each a value or UNDEFINED, and the place behind
+    them.
+    """
     fields = []
     for _ in range(count):
         field, at = (UNDEFINED, at + 1) if data[at] == 0 else take_value(data, at)
@@ -155,8 +159,9 @@ def take_record(data, at, count):
 
 
 def read_changeset(data):
-    """The groups of a changeset: of each the name, the flags and the entries. An entry is the old record and the new
-    one, where it has such."""
+    """The groups of a changeset: of each the name, the flags and the entries. An entry is the old
+    record and the new one, where it has such.
+    """
     groups, at = [], 0
     while at < len(data):
         assert data[at] == 0x54, data
@@ -199,8 +204,9 @@ def read_declaration(data):
 
 
 def read_store(path, version=VERSION):
-    """The tables of a store, with their rows by the bytes of their keys. Every record has to be as it is defined in this
-    version."""
+    """The tables of a store, with their rows by the bytes of their keys. Every record has to be as
+    it is defined in this version.
+    """
     records = read_records(path)
     tables = {key.decode(): read_declaration(value) for name, key, value in records if name == "" and key}
     for name, _, value in records:
@@ -229,7 +235,9 @@ def table_of(base, name):
 
 
 def run_statements(tables, text):
-    """The tables that SQLite has after the statements of a text, in which the columns are c1, c2 and so on."""
+    """The tables that SQLite has after the statements of a text, in which the columns are c1, c2
+    and so on.
+    """
     with contextlib.closing(sqlite3.connect(":memory:")) as base:
         for name, table in tables.items():
             columns = ["c%d" % (place + 1) for place in range(len(table.columns))]

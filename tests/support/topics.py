@@ -5,7 +5,8 @@ from support.program import TESTS
 
 TABLE = TESTS / "cases"
 
-# A line of a topic: its number in the file, its bytes, the bytes that it prints, and the comment of its case.
+# A line of a topic: its number in the file, its bytes, the bytes that it prints, and the comment of
+# its case.
 Line = collections.namedtuple("Line", "number text printed case")
 
 

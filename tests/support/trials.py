@@ -1,4 +1,6 @@
-"""Scripts, commands and calls that run again and again while one allocation or one call of each run is refused (`refuse.c`)."""
+"""Scripts, commands and calls that run again and again while one allocation or one call of each run
+is refused (`refuse.c`).
+"""
 import contextlib
 import os
 import pathlib
@@ -114,7 +116,9 @@ class Trial:
             return run(folder, self.words, self.stdin, refusing, self.program), self.left(folder)
 
     def refused(self, shim, at, call="malloc", answer=0):
-        """How it ends where this allocation, or this call, is refused with an answer, and whether one was."""
+        """How it ends where this allocation, or this call, is refused with an answer, and whether
+        one was.
+        """
         reading, writing = os.pipe()
         try:
             refusing = {
@@ -155,7 +159,9 @@ class Script(Trial):
         return shown_tables(read_store(store)) if is_store(store) else {}
 
     def ends(self):
-        """All ways in which it may end: as with memory, or with one line refused, or with none read."""
+        """All ways in which it may end: as with memory, or with one line refused, or with none
+        read.
+        """
         ends = [self.once()]
         for place in range(len(self.lines)):
             before = Script(self.lines[:place]).once()[0][1]
@@ -194,7 +200,9 @@ class Calls(Trial):
     program = CALLS
 
     def ends(self):
-        """All ways in which they may end: as with memory, or with one refused, which leaves what was there, or with none made."""
+        """All ways in which they may end: as with memory, or with one refused, which leaves what
+        was there, or with none made.
+        """
         ends = [self.once()]
         for place, word in enumerate(self.words):
             if word in WITHOUT_MEMORY:

@@ -1,8 +1,8 @@
 """The calls on files, by libvollikash.so.
 
-The library is next to this file if it is installed, or where the repository builds it, or where the system keeps its
-libraries. The environment variable VOLLIKASH_LIBRARY names another one. The first call loads it. No call keeps state, and
-several threads can call at once.
+The library is next to this file if it is installed, or where the repository builds it, or where the
+system keeps its libraries. The environment variable VOLLIKASH_LIBRARY names another one. The first
+call loads it. No call keeps state, and several threads can call at once.
 """
 import ctypes
 import enum
@@ -49,8 +49,9 @@ class Code(enum.IntEnum):
 class ChangesetError(ValueError):
     """A file is not a changeset, or two files cannot be concatenated.
 
-    `code` and `name` are those of docs/ERRORS.md. `which` is the file at fault: 1 is the first or only one, 2 the second.
-    `place` is a byte offset in it, or for SCHEMA the zero-based index of the table that differs.
+    `code` and `name` are those of docs/ERRORS.md. `which` is the file at fault: 1 is the first or
+    only one, 2 the second. `place` is a byte offset in it, or for SCHEMA the zero-based index of
+    the table that differs.
     """
 
     def __init__(self, code: Code, which: int, place: int) -> None:
@@ -75,8 +76,8 @@ _OUT = (ctypes.c_char_p, ctypes.c_size_t, ctypes.POINTER(ctypes.c_size_t))
 _FAULT = (ctypes.POINTER(_Fault),)
 
 
-# Bytes without an initial value, for a call to fill in. To zero a large buffer, or to ask for the length first, would cost
-# more.
+# Bytes without an initial value, for a call to fill in. To zero a large buffer, or to ask for the
+# length first, would cost more.
 _new_bytes = ctypes.PYFUNCTYPE(ctypes.py_object, ctypes.c_char_p, ctypes.c_ssize_t)(
     ("PyBytes_FromStringAndSize", ctypes.pythonapi)
 )
@@ -91,7 +92,8 @@ def _find() -> str:
     # Only in the repository: next to a copy of this file that path may be writable for anybody.
     if here.match("bindings/python/vollikash") and built.exists():
         return str(built)
-    # The loader looks for a name without a slash where the system keeps libraries. It has the major version.
+    # The loader looks for a name without a slash where the system keeps libraries. It has the major
+    # version.
     return "libvollikash.so.1"
 
 
@@ -122,7 +124,9 @@ def _raise(fault: _Fault) -> NoReturn:
 
 
 def _made(call: Callable[..., int], room: int, *files: bytes) -> bytes:
-    """Return what a call makes of files, in a buffer of this length, or of the one that it asks for."""
+    """Return what a call makes of files, in a buffer of this length, or of the one that it asks
+    for.
+    """
     given = [argument for file in files for argument in (file, len(file))]
     while True:
         out, written, fault = _new_bytes(None, room), ctypes.c_size_t(), _Fault()
@@ -148,7 +152,8 @@ def invert(file: Bytes) -> bytes:
 
 
 def number_keys(file: Bytes) -> bytes:
-    """Return the file with the key columns numbered in column order, as SQLite's apply needs them for a key of several columns.
+    """Return the file with the key columns numbered in column order, as SQLite's apply needs them
+    for a key of several columns.
 
     Do not call it on a file that SQLite recorded. Raises `ChangesetError`.
     """
@@ -157,7 +162,9 @@ def number_keys(file: Bytes) -> bytes:
 
 
 def concat(first: Bytes, second: Bytes) -> bytes:
-    """Return the file that does what the first does, and then what the second does. Raises `ChangesetError`."""
+    """Return the file that does what the first does, and then what the second does. Raises
+    `ChangesetError`.
+    """
     first, second = _bytes(first), _bytes(second)
     return _made(_library().vollikash_concat, len(first) + len(second), first, second)
 

@@ -19,7 +19,8 @@ class Conflict(NamedTuple):
 
 
 class Report(NamedTuple):
-    """The report of an apply: conflicts, skipped tables, and the numbers of entries that were carried out and ignored.
+    """The report of an apply: conflicts, skipped tables, and the numbers of entries that were
+    carried out and ignored.
 
     If there are no conflicts and no ignored entries, `Store.revert` undoes the apply.
     """
@@ -82,7 +83,9 @@ def _read_value(printed: str, at: int) -> Tuple[Value, int]:
 
 
 def read_rows(printed: str) -> Iterator[Tuple[Value, ...]]:
-    """The rows that a SELECT prints. A text may have line feeds, since a changeset can put them there."""
+    """The rows that a SELECT prints. A text may have line feeds, since a changeset can put them
+    there.
+    """
     at, row = 0, []  # type: Tuple[int, List[Value]]
     while at < len(printed):
         value, at = _read_value(printed, at)

@@ -19,8 +19,9 @@ _LONGEST = 16777216
 
 
 class ProgramError(OSError):
-    """The program is not there, has ended, or has not answered in time. The store is closed then. `said` is what it said
-    on standard error."""
+    """The program is not there, has ended, or has not answered in time. The store is closed then.
+    `said` is what it said on standard error.
+    """
 
     def __init__(self, why: str, said: str = "") -> None:
         super().__init__(why)
@@ -28,14 +29,17 @@ class ProgramError(OSError):
 
 
 def find_program() -> str:
-    """The program: VOLLIKASH_PROGRAM names it, or it stands beside this file or where the repository builds it, or on PATH."""
+    """The program: VOLLIKASH_PROGRAM names it, or it stands beside this file or where the
+    repository builds it, or on PATH.
+    """
     named = os.environ.get("VOLLIKASH_PROGRAM")
     if named:
         return named
     here = pathlib.Path(__file__).resolve().parent
     beside = here / "changeset"
     built = here.parents[2] / "crates/changeset/out/changeset"
-    # In the repository alone: of a copy of this file elsewhere, that path may be anybody's to write to.
+    # In the repository alone: of a copy of this file elsewhere, that path may be anybody's to write
+    # to.
     for program in (beside, *([built] if here.match("bindings/python/vollikash") else [])):
         if program.exists():
             return str(program)
@@ -77,7 +81,9 @@ class Process:
         self.ask(f".load m {self._mark}")
 
     def fits(self, lines: Sequence[str], kept: int) -> bool:
-        """Whether the program takes these lines, and so many bytes behind them: it takes 16777216 bytes in all."""
+        """Whether the program takes these lines, and so many bytes behind them: it takes 16777216
+        bytes in all.
+        """
         return sum(len((line + _BEHIND).encode()) for line in lines) + kept <= self.left
 
     def has_half(self) -> bool:

@@ -13,8 +13,8 @@ _REFUSED = re.compile(r"error (?P<number>[0-9]+) (?P<name>[A-Za-z]+)(?: (?P<rest
 
 _CHOICES = ("omit", "replace", "abort")
 
-# The bytes of lines that are kept for the session's own lines, so that its changeset can be read and undone when the
-# program takes no more edits.
+# The bytes of lines that are kept for the session's own lines, so that its changeset can be read
+# and undone when the program takes no more edits.
 _KEPT = 4096
 
 # The seconds that a line may take.
@@ -24,7 +24,8 @@ TIMEOUT = 60.0
 class StoreError(Exception):
     """A call was refused. It has changed nothing, and the store can be used.
 
-    `number` and `name` are those of docs/ERRORS.md. `detail` is the rest of the error line, such as the index of a table.
+    `number` and `name` are those of docs/ERRORS.md. `detail` is the rest of the error line, such as
+    the index of a table.
     """
 
     def __init__(self, number: int, name: str, detail: str = "") -> None:
@@ -72,14 +73,17 @@ def _assigned(values: Mapping[str, Value], between: str) -> str:
 class Store:
     """A store in a file, or in memory for the path ":memory:". Made by `open`.
 
-    Several threads can share a store: a lock lets one call through at a time. Each call is one or two lines of the shell.
+    Several threads can share a store: a lock lets one call through at a time. Each call is one or
+    two lines of the shell.
 
-    A refused call raises `StoreError`, `ConflictError` or `ChangesetError`, and changes nothing. A value or a name that no
-    line can hold raises ValueError before anything is sent. If the program is missing, has ended or does not answer in
-    time, that is `ProgramError`, and the store is closed.
+    A refused call raises `StoreError`, `ConflictError` or `ChangesetError`, and changes nothing. A
+    value or a name that no line can hold raises ValueError before anything is sent. If the program
+    is missing, has ended or does not answer in time, that is `ProgramError`, and the store is
+    closed.
 
-    A program takes 16777216 bytes of lines. After that a store in a file is opened again. A store in memory, or with an
-    open session, raises `StoreError` with ScriptTooLong before anything is sent.
+    A program takes 16777216 bytes of lines. After that a store in a file is opened again. A store
+    in memory, or with an open session, raises `StoreError` with ScriptTooLong before anything is
+    sent.
     """
 
     def __init__(self, path: Union[str, "os.PathLike[str]"], timeout: float = TIMEOUT) -> None:
@@ -100,7 +104,8 @@ class Store:
             _raise(int(refused["number"]), refused["name"], refused["rest"] or "")
 
     def _make_room(self, lines: Sequence[str], kept: int) -> None:
-        """Start the program again if it takes no such lines any more, and if only the file matters."""
+        """Start the program again if it takes no such lines any more, and if only the file matters.
+        """
         if not self._process.fits(lines, kept):
             self._run_anew()
         if not self._process.fits(lines, kept):
@@ -126,7 +131,9 @@ class Store:
             self._process.close()
 
     def _ask(self, *lines: str, kept: int = _KEPT) -> str:
-        """Return the reply to the last of some lines, or raise the error of the first that is refused. Keeps bytes of lines."""
+        """Return the reply to the last of some lines, or raise the error of the first that is
+        refused. Keeps bytes of lines.
+        """
         with self._lock:
             self._make_room(lines, kept)
             printed = ""
@@ -138,8 +145,10 @@ class Store:
             return printed
 
     def create(self, table: str, columns: Sequence[str], key: Sequence[str], refuses: Collection[str] = ()) -> None:
-        """Create a table without rows: its columns, those of the key, and those that refuse None. Key columns refuse None
-        anyway. A name in `refuses` that is not a column raises ValueError before anything is sent."""
+        """Create a table without rows: its columns, those of the key, and those that refuse None.
+        Key columns refuse None anyway. A name in `refuses` that is not a column raises ValueError
+        before anything is sent.
+        """
         names, marked = list(columns), list(refuses)
         for name in marked:
             if name not in names:
@@ -176,11 +185,12 @@ class Store:
     ) -> Report:
         """Apply a changeset in one transaction, and return a report.
 
-        `data`, `notfound`, `conflict` and `constraint` are the choices for a row that differs, that does not exist, that
-        exists, and that would have None in a column that refuses it. "omit" leaves the row. "replace" writes the new row;
-        only a row that differs or exists can be replaced. "abort", and "replace" where it is not possible, raise
-        `ConflictError`, and nothing is changed. With `ignore_noop` an entry that has a conflict and would change nothing is
-        ignored. docs/COMMAND.md has the details.
+        `data`, `notfound`, `conflict` and `constraint` are the choices for a row that differs, that
+        does not exist, that exists, and that would have None in a column that refuses it. "omit"
+        leaves the row. "replace" writes the new row; only a row that differs or exists can be
+        replaced. "abort", and "replace" where it is not possible, raise `ConflictError`, and
+        nothing is changed. With `ignore_noop` an entry that has a conflict and would change nothing
+        is ignored. docs/COMMAND.md has the details.
         """
         choices = {"data": data, "notfound": notfound, "conflict": conflict, "constraint": constraint}
         for kind, choice in choices.items():
@@ -190,16 +200,21 @@ class Store:
         return read_report(self._ask(f".load f {bytes(file).hex()}", f".apply f {said}"))
 
     def revert(self, file: Bytes) -> Report:
-        """Apply the inverse of a changeset. A conflict raises `ConflictError`, and nothing is changed."""
+        """Apply the inverse of a changeset. A conflict raises `ConflictError`, and nothing is
+        changed.
+        """
         return read_report(self._ask(f".load f {bytes(file).hex()}", ".revert f"))
 
     def session(self, *tables: str) -> "Session":
-        """Open a session that records these tables. There is one at a time: a second one raises StoreError."""
+        """Open a session that records these tables. There is one at a time: a second one raises
+        StoreError.
+        """
         return Session(self, tables)
 
 
 class Session:
-    """The changes of the attached tables of a store since they were attached. Made by `Store.session`.
+    """The changes of the attached tables of a store since they were attached. Made by
+    `Store.session`.
 
     While a session is open, it records each call of the store.
     """
@@ -264,7 +279,7 @@ class Session:
 def open(path: Union[str, "os.PathLike[str]"], *, timeout: float = TIMEOUT) -> Store:
     """Open the store in a file, or create it. For ":memory:" the store is in memory.
 
-    `timeout` is the number of seconds that a call may take. Raises `StoreError` if the file is not a store or another
-    program has it open, and `ProgramError` if there is no program.
+    `timeout` is the number of seconds that a call may take. Raises `StoreError` if the file is not
+    a store or another program has it open, and `ProgramError` if there is no program.
     """
     return Store(path, timeout)
