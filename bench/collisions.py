@@ -48,8 +48,8 @@ def main():
         finder = os.path.join(folder, "collide")
         subprocess.run(["cc", "-O2", "-o", finder, os.path.join(scripts.TOP, "bench/collide.c")], check=True)
         for count, bits in COUNTS:
-            for what, keys in (("made to collide", collided(finder, count, bits)), ("rising", range(count))):
-                for how, shape in (("joined", joined), ("applied in a session", noted)):
+            for what, keys in (("crafted keys", collided(finder, count, bits)), ("other keys", range(count))):
+                for how, shape in (("concat", joined), ("apply in a session", noted)):
                     lines, printed = shape(keys)
                     script = "".join(line + "\n" for line in lines).encode()
                     taken = scripts.measure(scripts.run_on_file, program, script, printed.encode())
