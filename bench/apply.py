@@ -1,13 +1,15 @@
 #!/usr/bin/env python3
-"""Times applying a changeset to a store in a file, and applying its inverse, which is what a revert does.
+"""Times the apply of a changeset to a store in a file, and the apply of its inverse.
 
-The store is written by SQLite: a table of two columns, tables that ten entries each are for, a table of a thousand
-columns, or one whose columns have names of 10 kB, with a row for each entry that updates or deletes one. A third of the
-entries inserts a row, a third deletes one, a third updates one. Opening a store reads and checks every record; it is
-timed alone by applying a changeset of no bytes, and is part of the other times. After the inverse the store has the
-records that it had. Entries a second are those of the apply and of its inverse, opening aside. A peak below about 50 MiB
-is that of this script, from which the program is started.
-The program has to be built first: `cd crates/changeset && rt run`.
+The store has one table of two columns, a table for each ten entries, a table of a thousand columns,
+or one whose columns have names of 10 kB. SQLite writes it. A third of the entries are INSERTs, a
+third DELETEs and a third UPDATEs.
+
+Opening a store reads and checks every record. An apply of an empty changeset times that alone. The
+other times contain it, and entries per second do not. After the inverse the store has its first
+records again. A peak under 50 MiB is that of this script, which starts the program.
+
+Build the program first: `cd crates/changeset && rt run`.
 
 usage: bench/apply.py [PROGRAM]
 """
@@ -25,7 +27,8 @@ sys.path.insert(0, os.path.join(TOP, "tests"))
 
 from support import stores  # noqa: E402
 
-# Tables of the same columns, of which the first is the key, and how many entries each is for: all, where that is None.
+# Tables of the same columns, the first of them the key. `in_each` is the number of entries for each
+# table, or None for one table.
 Shape = collections.namedtuple("Shape", "name counts columns in_each")
 
 SHAPES = (
@@ -72,7 +75,7 @@ def changeset(shape, entries):
 
 
 def tables_before(shape, entries):
-    """The tables before the entries of a shape, of which each third inserts its row."""
+    """The tables before the entries of a shape. Each third entry inserts its row."""
     return {
         name: stores.Table(shape.columns, keys_of(shape), [row_of(shape, key) for key in range(count) if key % 3 != 0])
         for name, count in names(shape, entries).items()

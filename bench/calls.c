@@ -1,6 +1,6 @@
 /*
-** Times vollikash_invert of a file, or vollikash_concat of two, in this process: prints the shortest of some runs in
-** seconds, and the count of the bytes that were made.
+** Times vollikash_invert of a file, or vollikash_concat of two. Prints the seconds of the shortest of
+** some calls, and the number of bytes of the output.
 **
 ** usage: calls FILE [FILE2]
 */

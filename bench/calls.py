@@ -1,13 +1,16 @@
 #!/usr/bin/env python3
-"""Times calls of the library from C, in one process: `vollikash_invert` of a file and `vollikash_concat` of two; and beside
-each the call of SQLite's own session extension that does the same, on the same files.
+"""Times `vollikash_invert` and `vollikash_concat` from C, and SQLite's calls on the same files.
 
-A time is the shortest of five calls in one process, with the files in memory and a buffer that is long enough. The files are
-those of `read_write.py`, of 1000, 10000, 100000 and 1000000 entries: all in one table, with keys that rise and with keys in
-no order, as a session writes them; and ten in each table. Half of the keys of the second file of a join are the first one's too.
-SQLite's join takes time in proportion to the square of the count of tables, and is left out for more than some thousand of them.
-The library has to be built first: `make -C bindings/c`. Where there is no SQLite with its session extension to compile
-against, its columns are left out.
+A time is the shortest of five calls in one process. The files are in memory, and the buffer is long
+enough. They have 1000 to 1000000 entries, as those of `read_write.py`: all in one table, with keys
+in order or shuffled as a session writes them, or ten in each table. Half of the keys of the second
+file of a concatenation are also in the first.
+
+SQLite's concatenation takes time in proportion to the square of the number of tables. It is left
+out for more than 1000 tables. Without a SQLite that has its session extension, its columns are left
+out.
+
+Build the library first: `make -C bindings/c`.
 
 usage: bench/calls.py
 """

@@ -1,6 +1,7 @@
-/* Prints integers whose keys have nearly one hash under the fixed seed of the map that sessions and joins use: so many of
- * its low bits, which choose the place of the first look, and the seven high ones, by which entries are told apart there,
- * are 0. A key of one integer is the byte 1 and eight bytes, the most significant first.
+/* Prints COUNT integers whose keys collide under the fixed seed of the program's maps. The low BITS
+ * bits of the hash choose the first place of a key, and the seven high ones distinguish the entries
+ * there. All of them are 0. The key of an integer is the byte 1 and eight bytes, the most significant
+ * first.
  *
  * usage: collide COUNT BITS
  */
@@ -17,7 +18,7 @@ static uint64_t folded(uint64_t a, uint64_t b)
     return (uint64_t)product ^ (uint64_t)(product >> 64);
 }
 
-/* The state behind a byte. */
+/* The state after a byte. */
 static uint64_t with_byte(uint64_t state, uint64_t byte)
 {
     return folded(state ^ (byte | byte << 8 | byte << 16), MULTIPLIER ^ 2);

@@ -1,10 +1,11 @@
 #!/usr/bin/env python3
-"""Times keys that are made to have nearly one hash under the fixed seed of the maps of sessions and joins, beside others.
+"""Times keys that are crafted to collide under the fixed seed of the program's maps, and others.
 
-`collide.c` finds the keys. So many rows with such keys, and as many with the keys 0, 1 and so on, are joined with their
-inverse, and applied to a store in a new file, in a session that tells its changeset behind that. A time is that of the
-whole process, the shortest of three runs.
-A C compiler is needed, and the program has to be built first: `cd crates/changeset && rt run`.
+`collide.c` finds the crafted keys. The others are 0, 1 and so on. A changeset that inserts rows with
+these keys is concatenated with its inverse, and is applied to a new store in a session. A time is
+that of the whole process, the shortest of three runs.
+
+It needs a C compiler. Build the program first: `cd crates/changeset && rt run`.
 
 usage: bench/collisions.py [PROGRAM]
 """
@@ -16,12 +17,12 @@ import tempfile
 import scripts
 from scripts import Script, stores
 
-# How many keys, and how many bits of a hash choose the place of the first look in a map of so many.
+# How many keys, and how many bits of a hash choose the first place in a map of that many.
 COUNTS = ((2_500, 9), (5_000, 10), (10_000, 11))
 
 
 def collided(finder, count, bits):
-    """Keys that are made to collide."""
+    """Keys that collide."""
     said = subprocess.run([finder, str(count), str(bits)], stdout=subprocess.PIPE, check=True).stdout
     return list(map(int, said.split()))
 
@@ -31,14 +32,14 @@ def loaded(slot, entry, keys):
     return f".load {slot} " + (stores.header("t", 1, 0) + b"".join(entry(key, "hello") for key in keys)).hex()
 
 
-def joined(keys):
-    """Rows are inserted by one changeset and deleted by another, and both are joined."""
+def concatenated(keys):
+    """A changeset that inserts rows is concatenated with one that deletes them."""
     return Script([], [loaded("a", stores.insert, keys), loaded("b", stores.delete, keys), ".concat a b c"], "", "").alone()
 
 
-def noted(keys):
-    """Rows are inserted in a session, which tells its changeset."""
-    return Script(["t"], [loaded("a", stores.insert, keys), ".apply a"], scripts.applied(len(keys)), "").told()
+def in_session(keys):
+    """A session records inserted rows, and writes its changeset."""
+    return Script(["t"], [loaded("a", stores.insert, keys), ".apply a"], scripts.applied(len(keys)), "").with_changeset()
 
 
 def main():
@@ -49,7 +50,7 @@ def main():
         subprocess.run(["cc", "-O2", "-o", finder, os.path.join(scripts.TOP, "bench/collide.c")], check=True)
         for count, bits in COUNTS:
             for what, keys in (("crafted keys", collided(finder, count, bits)), ("other keys", range(count))):
-                for how, shape in (("concat", joined), ("apply in a session", noted)):
+                for how, shape in (("concat", concatenated), ("apply in a session", in_session)):
                     lines, printed = shape(keys)
                     script = "".join(line + "\n" for line in lines).encode()
                     taken = scripts.measure(scripts.run_on_file, program, script, printed.encode())

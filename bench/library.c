@@ -1,7 +1,7 @@
 /*
-** Times sqlite3changeset_invert of a file, or sqlite3changeset_concat of two, of SQLite's own session extension, in this
-** process: prints the shortest of some runs in seconds, and the count of the bytes that were made. `calls.c` times the
-** calls of this library in the same way.
+** Times sqlite3changeset_invert of a file, or sqlite3changeset_concat of two, of SQLite's session
+** extension. Prints the seconds of the shortest of some calls, and the number of bytes of the output,
+** as `calls.c` does for this library.
 **
 ** usage: library FILE [FILE2]
 */

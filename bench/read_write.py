@@ -1,15 +1,16 @@
 #!/usr/bin/env python3
-"""Times the commands on files: inverting, joining, and printing as readable text and as SQL.
+"""Times the commands `invert`, `concat`, `dump` and `sql` on files.
 
-The program reads a file, inverts it and writes the inverse, so a time is that of reading, the search for
-repeated keys and tables, inverting and writing. It reads two files and writes their join: half of the entries of
-each have a key that the other has too, in each pair of operations. And it reads a file and prints it, or its SQL,
-into another. Two shapes of 1000, 10000, 100000 and 1000000 entries, which each of the two files of a join has:
-all in one table, and ten in each table; then 100000 tables of one entry, and one entry with a blob of 100 million
-bytes. The bytes are those of what is read. The floor beside each is `cp` of the
-same file, or `cat` of the two: a process that does nothing but copy. A peak below about 15 MiB is that of this
-script, from which the program is started. Calls that write are counted by the system, where it has /proc.
-The program has to be built first: `cd crates/changeset && rt run`.
+A time is that of the whole process: it reads, looks for repeated keys and tables, and writes. The
+files have 1000 to 1000000 entries, all in one table or ten in each table; 100000 tables of one
+entry; or one entry with a blob of 100 million bytes. `concat` reads two files of this size. Half of
+the entries of each have a key that the other has too, in each pair of operations.
+
+The bytes are those that are read. The floor is `cp` of the same file, or `cat` of both. A peak
+under 15 MiB is that of this script, which starts the program. The system counts the calls that
+write, where it has /proc.
+
+Build the program first: `cd crates/changeset && rt run`.
 
 usage: bench/read_write.py [PROGRAM]
 """
@@ -25,7 +26,7 @@ BLOB = 100_000_000
 
 
 def header(name):
-    """The header of a table of two columns, of which the first is the key."""
+    """The header of a table of two columns. The first is the key."""
     return b"\x54\x02\x01\x00" + name + b"\x00"
 
 
@@ -103,7 +104,7 @@ def one_blob_more(entries):
         yield b"\x09\x00\x01" + key.to_bytes(8, "big") + b"\x04" + varint(BLOB) + bytes(BLOB)
 
 
-# The files of the two sides of a join, and of how many entries each.
+# The two files of a concatenation, and the number of entries of each.
 SHAPES = (
     (one_table, one_table_more, COUNTS),
     (tables_of_ten, tables_of_ten_more, COUNTS),
@@ -113,7 +114,7 @@ SHAPES = (
 
 
 def written(child):
-    """How many calls of a process that has ended wrote something, or `-` where that is not known."""
+    """The number of calls by which an ended process wrote, or `-` if it is not known."""
     try:
         os.waitid(os.P_PID, child.pid, os.WEXITED | os.WNOWAIT)
         with open(f"/proc/{child.pid}/io") as counts:

@@ -1,15 +1,22 @@
 #!/usr/bin/env python3
-"""Times scripts of 1000, 10000 and 100000 lines, on a store in memory and on one in a new file, with a session and without.
+"""Times scripts of 1000, 10000 and 100000 lines, on a store in memory and on one in a new file.
 
-INSERT lines, each of a row of its own; INSERT lines of rows of a hundred tables; UPDATE lines of one row; lines of which
-a half inserts a row each, a quarter updates one and a quarter deletes one; and one `.apply`, of as many INSERT entries.
-Each of these alone, in a session to which the tables are attached, and so with `.session changeset` behind it and with
-`.session undo` behind that. And `.load` and `.hex` in turn, of files of 24 bytes. Each script has to print what it is
-known to, with no line refused.
-A time is that of the whole process, the shortest of three runs, or that of one that takes more than five seconds. A run
-that takes more than a minute is ended, and `-` is printed for it. The file lies in the folder for temporary files, or in
-that of TMPDIR. Microseconds are those of a line, or of an entry that is applied.
-The program has to be built first: `cd crates/changeset && rt run`.
+The scripts are:
+
+- INSERT lines of one table, and of a hundred tables;
+- UPDATE lines of one row;
+- half INSERT, a quarter UPDATE and a quarter DELETE lines;
+- one `.apply` of that many INSERT entries.
+
+Each of them runs without a session, in a session, with `.session changeset` at the end, and with
+`.session undo` after that. One more script has `.load` and `.hex` in turn, of files of 24 bytes.
+Each script has to print what it should, with no line refused.
+
+A time is that of the whole process: the shortest of three runs, or the first one if it takes more
+than five seconds. A run of more than a minute is ended, and prints `-`. The file is in the folder
+for temporary files, or in TMPDIR. Microseconds are for a line, or for an entry that is applied.
+
+Build the program first: `cd crates/changeset && rt run`.
 
 usage: bench/scripts.py [PROGRAM]
 """
@@ -28,10 +35,10 @@ from support import stores  # noqa: E402
 
 COUNTS = (1_000, 10_000, 100_000)
 
-# How many seconds a run may take, and those of a run that is not done again.
+# The most seconds of a run, and the seconds of a run that is not repeated.
 LONGEST, LONG = 60, 5
 
-# The tables of scripts of many.
+# The number of tables of a script that has many.
 TABLES = 100
 
 
@@ -41,7 +48,7 @@ def created(tables):
 
 
 class Script:
-    """The tables of a script, its lines, what these print, and what is printed as they are undone."""
+    """The tables of a script, its lines, what they print, and what their undo prints."""
 
     def __init__(self, tables, lines, printed, undone):
         self.tables = tables
@@ -53,35 +60,35 @@ class Script:
         """The lines, and what they print."""
         return created(self.tables) + self.lines, self.printed
 
-    def noted(self):
+    def in_session(self):
         """The same in a session."""
         attach = [f".session attach {table}" for table in self.tables]
         return created(self.tables) + [".session open"] + attach + self.lines, self.printed
 
-    def told(self):
-        """The same, and the session tells its changeset."""
-        lines, printed = self.noted()
+    def with_changeset(self):
+        """The same, and the session writes its changeset."""
+        lines, printed = self.in_session()
         return lines + [".session changeset c"], printed
 
-    def given_back(self):
+    def undone_again(self):
         """The same, and the session undoes it."""
-        lines, printed = self.told()
+        lines, printed = self.with_changeset()
         return lines + [".session undo"], printed + self.undone
 
 
 def applied(count):
-    """What an apply of so many entries prints."""
+    """What an apply of this many entries prints."""
     return f"applied {count}\n"
 
 
 def inserts(count):
-    """INSERT lines, each of a row of its own."""
+    """INSERT lines of different rows."""
     lines = [f"INSERT INTO t VALUES({key}, 'hello');" for key in range(count)]
     return Script(["t"], lines, "", applied(count))
 
 
 def inserts_everywhere(count):
-    """INSERT lines of rows of many tables, in turn."""
+    """INSERT lines of many tables, in turn."""
     lines = [f"INSERT INTO t{key % TABLES} VALUES({key}, 'hello');" for key in range(count)]
     return Script([f"t{table}" for table in range(TABLES)], lines, "", applied(count))
 
@@ -93,7 +100,7 @@ def updates(count):
 
 
 def edits(count):
-    """Of each four lines, two insert a row, one updates the first and one deletes the second."""
+    """Two lines in four insert a row, one updates the first and one deletes the second."""
     lines = []
     for key in range(0, count // 2, 2):
         lines += [
@@ -106,13 +113,13 @@ def edits(count):
 
 
 def applies(count):
-    """A file of so many entries is applied."""
+    """An apply of a file of this many entries."""
     file = stores.header("t", 1, 0) + b"".join(stores.insert(key, "hello") for key in range(count))
     return Script(["t"], [f".load a {file.hex()}", ".apply a"], applied(count), applied(count))
 
 
 def slots(count):
-    """A file is loaded into one of ten slots, and printed, in turn."""
+    """Lines that load a file into one of ten slots and print it, in turn."""
     files = [(stores.header("t", 1, 0) + stores.insert(key, "hello")).hex() for key in range(count // 2)]
     lines = [line for key, file in enumerate(files) for line in (f".load s{key % 10} {file}", f".hex s{key % 10}")]
     return Script([], lines, "".join(file + "\n" for file in files), "")
@@ -128,9 +135,9 @@ SHAPES = (
 
 WAYS = (
     ("", Script.alone),
-    (" in a session", Script.noted),
-    (" in a session, .session changeset", Script.told),
-    (" in a session, .session changeset, .session undo", Script.given_back),
+    (" in a session", Script.in_session),
+    (" in a session, .session changeset", Script.with_changeset),
+    (" in a session, .session changeset, .session undo", Script.undone_again),
 )
 
 SCRIPTS = [(what + how, shape, way) for what, shape in SHAPES for how, way in WAYS]
@@ -138,7 +145,7 @@ SCRIPTS.append((".load, .hex", slots, Script.alone))
 
 
 def run(program, store, script, printed):
-    """How many seconds a script takes on a store, or None where that is too many. It has to print this."""
+    """The seconds of a script on a store, or None if they are too many. It has to print `printed`."""
     start = time.perf_counter()
     try:
         done = subprocess.run([program, store, "shell"], input=script, stdout=subprocess.PIPE, timeout=LONGEST)
@@ -146,7 +153,7 @@ def run(program, store, script, printed):
         return None
     taken = time.perf_counter() - start
     if done.returncode != 0 or done.stdout != printed:
-        sys.exit(f"{program}: exit status {done.returncode}, with other lines printed than have to be")
+        sys.exit(f"{program}: exit status {done.returncode}, and other output than expected")
     return taken
 
 
@@ -165,7 +172,7 @@ STORES = (("memory", run_in_memory), ("file", run_on_file))
 
 
 def measure(run_once, program, script, printed):
-    """The shortest of some runs, in seconds, or None where one takes too many."""
+    """The seconds of the shortest of some runs, or None if one takes too many."""
     best = run_once(program, script, printed)
     for _ in range(RUNS - 1):
         if best is None or best > LONG:

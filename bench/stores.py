@@ -1,8 +1,9 @@
 #!/usr/bin/env python3
-"""Times stores from Python beside Python's own sqlite3, on files: rows that are put there one by one, each in a transaction of
-its own, and all rows that are read.
+"""Times a store from Python and Python's own sqlite3, on files.
 
-What is timed has to be built first: `make -C bindings/c`, and `rt run` in `crates/changeset`.
+Each row is inserted in a transaction of its own. Then all rows are read.
+
+Build the libraries and the program first: `make -C bindings/c`, and `rt run` in `crates/changeset`.
 
 usage: bench/stores.py [ROWS ..]
 """
@@ -19,22 +20,22 @@ import vollikash  # noqa: E402
 
 
 def timed(work):
-    """How many seconds some work takes."""
+    """The seconds that some work takes."""
     started = time.perf_counter()
     work()
     return time.perf_counter() - started
 
 
 def by_vollikash(folder, count):
-    """The seconds of so many inserts, of a SELECT, and of the same inserts in a session."""
+    """The seconds of the inserts, of reading all rows, and of the same inserts in a session."""
     with vollikash.open(folder / "store") as store:
         for name in ("t", "u"):
             store.create(name, ["a", "b"], key=["a"])
         inserts = timed(lambda: [store.insert("t", key, f"row {key}") for key in range(count)])
         reads = timed(lambda: list(store.rows("t")))
         with store.session("u"):
-            noted = timed(lambda: [store.insert("u", key, f"row {key}") for key in range(count)])
-    return inserts, reads, noted
+            recorded = timed(lambda: [store.insert("u", key, f"row {key}") for key in range(count)])
+    return inserts, reads, recorded
 
 
 def by_sqlite3(folder, count):
@@ -50,14 +51,14 @@ def by_sqlite3(folder, count):
 
 
 def main():
-    """Prints a line for each count of rows, in microseconds a row."""
-    print("rows      insert  sqlite3  noted   select  sqlite3   (microseconds a row)")
+    """Prints a line for each number of rows, in microseconds for a row."""
+    print("rows      insert  sqlite3  session   rows  sqlite3   (microseconds a row)")
     for count in map(int, sys.argv[1:] or ("1000", "10000", "100000")):
         with tempfile.TemporaryDirectory() as name:
             folder = pathlib.Path(name)
-            inserts, reads, noted = by_vollikash(folder, count)
+            inserts, reads, recorded = by_vollikash(folder, count)
             theirs, read = by_sqlite3(folder, count)
-        shown = (seconds * 1e6 / count for seconds in (inserts, theirs, noted, reads, read))
+        shown = (seconds * 1e6 / count for seconds in (inserts, theirs, recorded, reads, read))
         print(f"{count:<8}" + "".join(f"{one:8.1f}" for one in shown))
 
 

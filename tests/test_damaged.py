@@ -73,7 +73,7 @@ def scripts(datas):
 
 
 def run(script, limit=None):
-    """What the program prints where it runs a script, with so many bytes of memory."""
+    """What the program prints for a script, with this many bytes of memory."""
     words = [PROGRAM] if limit is None else ["sh", "-c", f"ulimit -v {limit >> 10}; exec \"$0\"", PROGRAM]
     done = subprocess.run(words, input=script.encode(), capture_output=True, timeout=PATIENCE)
     return done.stdout.decode() + done.stderr.decode()
@@ -111,7 +111,7 @@ class DamageTest(unittest.TestCase):
                 self.assertEqual(run(f".load x {file.hex()}\n.invert x y\n", MEMORY), said)
 
     def test_empty_groups(self):
-        """Many tables, of which the last has no entry."""
+        """Many tables. The last one has no entry."""
         file = b"".join(b"\x54\x01\x01%d\x00\x12\x00\x01" % number + bytes(8) for number in range(300_000)) + header("t", 1)
         inverse, said = wanted(file)
         self.assertIsNone(inverse)

@@ -21,7 +21,7 @@ FIRST, OTHERS = 2, 2
 
 
 def tried(count):
-    """Which of so many calls are refused."""
+    """Which of this many calls are refused."""
     if TRIES_ALL or count <= FIRST + OTHERS:
         return range(1, count + 1)
     return [*range(1, FIRST + 1), *sorted(random.Random(count).sample(range(FIRST + 1, count + 1), OTHERS))]
@@ -65,7 +65,7 @@ class DescriptorTest(unittest.TestCase):
                 self.expect_ends(MarkedScript(lines))
 
     def test_commands(self):
-        """Each command is carried out, or tells a fault and leaves its files."""
+        """Each command succeeds, or reports an error and leaves its files."""
         for words in COMMANDS:
             with self.subTest(" ".join(words)):
                 self.expect_ends(FileCommand(words))

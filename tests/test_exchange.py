@@ -62,7 +62,7 @@ class Table:
         return tuple(maker.choice(KEYS if column in self.key else self.values) for column in self.columns)
 
     def edits(self, maker, count):
-        """So many edits, by method and arguments of a store, each of which is carried out."""
+        """This many edits, as methods and arguments of a store. Each of them succeeds."""
         while count > 0:
             row, other = self.pick_row(maker), maker.choice([*self.rows.values(), None])
             if other is None and self.key_of(row) not in self.rows:
@@ -254,9 +254,9 @@ class Exchange(unittest.TestCase):
             self.assertEqual(self.assert_same(store, base, table), before)
 
     def test_null_where_it_is_refused(self):
-        """What SQLite records of a table without such columns is applied to one with them: here and
-        by SQLite the same entries meet a conflict, which ends the apply or leaves the row. How both
-        differ where a row is to be replaced by one that is refused is told in `library.py`.
+        """A changeset of a table without NOT NULL is applied to one with it. Here and in SQLite the
+        same entries have a conflict, which ends the apply or leaves the row. `library.py` has the
+        differences for a replaced row.
         """
         conflicts = 0
         for words in TABLES:

@@ -55,7 +55,7 @@ PAIRS = [
     ([CREATE_N, "INSERT INTO n VALUES(2, NULL);"], [CREATE_N, f".load a {NULL_INSERT.hex()}", ".apply a constraint=omit"]),
 ]
 
-# What a store has that they find, or that is not there yet.
+# The content of a store that exists, or None.
 FOUND = [[], [CREATE], [CREATE, "INSERT INTO t VALUES(1, 'x');"]]
 
 counts = collections.Counter(refused=0, killed=0)
@@ -81,7 +81,7 @@ def ends_of(found, pair):
 
 
 def long_lines():
-    """Lines without an end that write a table of ten rows, some of which take pages of their own.
+    """Endless lines that write a table of ten rows. Some rows take pages of their own.
     """
     for key in itertools.count():
         yield f"INSERT INTO t VALUES({key}, X'{'00ff' * (key * 97 % 3000)}');"
@@ -150,7 +150,7 @@ class Processes(StoreTest):
         self.assertEqual(self.read_alone(), programs.tables_of((1, "x"), (3, "z")))
 
     def test_store_that_sqlite_has_open(self):
-        """SQLite is told that the store is locked, and the program is refused where SQLite writes.
+        """SQLite reports a locked store, and the program is refused while SQLite writes.
         """
         self.make("a.cs", INSERT)
         os.symlink("store", self.folder / "link")

@@ -355,7 +355,7 @@ class Scripts(ProgramTest):
         self.assertEqual(self.run_program(stdin=script), (1, printed, ""))
 
     def test_longest_script(self):
-        """What a script of so many line feeds, and something behind them, prints."""
+        """What a script prints that has this many line feeds and then something else."""
         for feeds, behind, status, printed in (
             (16_777_216, b"", 0, ""),
             (16_777_210, b".hex q", 1, "error 62 EmptySlot\n"),
@@ -502,7 +502,7 @@ class Applies(StoreTest):
         self.expect_unprinted(self.run_closed)
 
     def test_large_store(self):
-        """Thousands of rows, of which some are updated, some deleted and others inserted."""
+        """Thousands of rows: some are updated, some deleted and others inserted."""
         self.write(tables_of(*((key, "row %d" % key) for key in range(3000))))
         entries = [delete(key, "row %d" % key) for key in range(0, 1000)]
         entries += [update((key, "row %d" % key), (UNDEFINED, "r" * (key % 700))) for key in range(1000, 2000)]
@@ -848,7 +848,7 @@ class Rules(StoreTest):
                 ]))
 
     def test_refused_store_of_the_former_version_keeps_its_byte(self):
-        """A row of a table that is not declared stands behind valid ones."""
+        """A row of an undeclared table follows valid rows."""
         self.write(tables_of((1, "x")), version=FORMER)
         run_sql(self.folder / "store", records=[("u", KEY, ROW[2])])
         for _ in range(2):

@@ -17,7 +17,7 @@ FIRST, OTHERS = 40, 60
 
 
 def tried(count):
-    """Which of so many allocations are refused."""
+    """Which of this many allocations are refused."""
     if TRIES_ALL or count <= FIRST + OTHERS:
         return range(1, count + 1)
     return [*range(1, FIRST + 1), *sorted(random.Random(count).sample(range(FIRST + 1, count + 1), OTHERS))]

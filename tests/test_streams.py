@@ -58,7 +58,7 @@ def feed(descriptor, pieces):
 
 
 def stop_at(count):
-    """Lets no file grow beyond so many bytes."""
+    """Lets no file grow beyond this many bytes."""
     signal.signal(signal.SIGXFSZ, signal.SIG_IGN)
     resource.setrlimit(resource.RLIMIT_FSIZE, (count, count))
 

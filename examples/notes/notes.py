@@ -81,7 +81,7 @@ class Notes:
         return self._act(f"note {number} deleted", lambda: self.store.delete(TABLE, {"number": number}))
 
     def undo(self) -> str:
-        """Undoes the last action that is not undone."""
+        """Undoes the last action that is still done."""
         return self._move(self.done, self.undone, "undo", lambda changes: self.store.revert(changes))
 
     def redo(self) -> str:

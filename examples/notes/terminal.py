@@ -172,7 +172,7 @@ class Terminal:
             self._write(drawn)
 
     def _read(self, seconds: float) -> bool:
-        """Reads what is typed in so many seconds, and answers whether anything was."""
+        """Reads what is typed in this many seconds. Returns whether anything was typed."""
         if not select.select([sys.stdin], [], [], seconds)[0]:
             return False
         try:

@@ -52,7 +52,7 @@ class Screen:
         self.rest = self.said = ""
 
     def write(self, text):
-        """Takes what a program writes, of which a sequence may not be whole yet."""
+        """Takes what a program writes. Its last sequence may be incomplete."""
         text, at = self.rest + text, 0
         while at < len(text):
             found = TOLD.match(text, at)
@@ -116,7 +116,7 @@ class Person:
             os.write(self.terminal, key if isinstance(key, bytes) else key.encode())
 
     def read(self, seconds):
-        """Reads what is written in so many seconds; answers whether there may be more."""
+        """Reads what is written in this many seconds. Returns whether there may be more."""
         if not select.select([self.terminal], [], [], seconds)[0]:
             return True
         try:

@@ -1,5 +1,5 @@
 #!/usr/bin/env python3
-"""Two SQLite databases and a store keep one table the same by changesets, and a conflict is settled; each step is told.
+"""Two SQLite databases and a store keep one table the same by changesets, and a conflict is settled. Each step is printed.
 
 usage: sync.py [FOLDER]
 
@@ -140,7 +140,7 @@ def begin(sides: Sides) -> None:
 
 
 def change_in_hub(sides: Sides) -> None:
-    """The hub changes rows in a session, and SQLite applies the changeset that the session tells."""
+    """The hub changes rows in a session, and SQLite applies the changeset of the session."""
     print("2. The hub changes a row and deletes another, in a session.")
     with sides.hub.session(TABLE) as session:
         sides.hub.update(TABLE, {"count": 45}, where={"part": 1})
@@ -153,7 +153,7 @@ def change_in_hub(sides: Sides) -> None:
 
 
 def change_apart(sides: Sides) -> bytes:
-    """The shop changes rows, of which the hub has changed one meanwhile."""
+    """The shop changes rows. The hub has changed one of them in the meantime."""
     print("3. The shop sells 10 bolts and gets a new part. Meanwhile the hub has counted the bolts, and found 48.")
     changes = sides.shop.record(
         "UPDATE stock SET count = 35 WHERE part = 1", "INSERT INTO stock VALUES(4, 'latch', 7)"
@@ -209,7 +209,7 @@ def send_back(sides: Sides, changes: bytes) -> None:
 
 
 def undo(sides: Sides, changes: bytes) -> None:
-    """What was settled is undone on each side: the hub's session tells the changeset that does so."""
+    """What was settled is undone on each side: the hub's session writes the changeset that does so."""
     print("8. What was settled is undone: the hub reverts its changeset in a session, and the others apply that one's.")
     with sides.hub.session(TABLE) as session:
         sides.hub.revert(changes)

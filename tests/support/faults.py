@@ -146,7 +146,7 @@ class FileCommand(Command):
             return ""
         if is_harmless(call, answer, ("write",) if wanted or refusal else ()):
             return "a call that was interrupted, or moved one byte, changes the run"
-        # What is said on standard error is said nowhere where that is not written.
+        # If standard error cannot be written, its text is lost.
         if call == "write" and refusal and (status, reported) == (usual, "") and left == after:
             return ""
         if not wanted.startswith(printed):

@@ -20,7 +20,7 @@ import time
 
 from support import library, reader, trials
 from support.making import Maker
-from support.model import Refusal, dump_lines, joined, shown_tables, sql_lines
+from support.model import Refusal, concatenated, dump_lines, shown_tables, sql_lines
 from support.program import PATIENCE, PROGRAM
 from support.shell import Shell, Words
 from support.stores import read_store
@@ -133,13 +133,13 @@ class Case:
         return [self.maker.changeset(tables) for _ in range(count)]
 
     def of_changesets(self):
-        """Changesets that are inverted, joined and printed."""
+        """Changesets that are inverted, concatenated and printed."""
         script, made = Script(), self.changesets(CHANGESETS)
         for groups in made:
             line = self.maker.load(reader.write(groups))
             script.add(line, self.maker.slot_line())
             self.questions.append(library.Inverse(groups))
-            self.questions.append(library.Join(groups, self.maker.pick(made)))
+            self.questions.append(library.Concat(groups, self.maker.pick(made)))
         for _ in range(LINES):
             line = self.maker.slot_line()
             script.add(line)
@@ -148,7 +148,7 @@ class Case:
         self.expect_script(script)
 
     def of_damaged_files(self):
-        """Damaged files are inverted, joined, printed and applied, and change nothing where they
+        """Damaged files are inverted, concatenated, printed and applied, and change nothing where they
         are refused.
         """
         made = self.changesets(CHANGESETS)
@@ -242,7 +242,7 @@ class Case:
         script.add(line)
 
     def of_sessions(self):
-        """Edits of attached tables, and what a session tells of them, and undoes. SQL has no zero
+        """Edits of attached tables, and what a session reports of them, and undoes. SQL has no zero
         characters.
         """
         script = Script([line for line in self.tables_lines() if b"\0" not in line])
@@ -310,7 +310,7 @@ class Case:
         return run(self.folder, words(*paths))
 
     def of_commands(self):
-        """Files that are inverted, joined and printed by commands, some of them damaged."""
+        """Files that are inverted, concatenated and printed by commands, some of them damaged."""
         whole = [reader.write(groups) for groups in self.changesets(CHANGESETS)]
         for file in whole[1:]:
             if self.maker.is_one_in(4):
@@ -321,7 +321,7 @@ class Case:
             self.expect_printed(file, "dump", dump_lines)
             self.expect_printed(file, "sql", sql_lines)
             self.expect_made([file], "invert", reader.inverted)
-            self.expect_made([file, other], "concat", joined)
+            self.expect_made([file, other], "concat", concatenated)
 
     def wanted(self, files, make):
         """What is made of files, and the line of a refusal."""

@@ -8,7 +8,7 @@ import os
 import subprocess
 
 from support import reader
-from support.model import NUMBERS, Applying, Refusal, Table, content_of, have_same_columns, joined, put, quoted
+from support.model import NUMBERS, Applying, Refusal, Table, concatenated, content_of, have_same_columns, put, quoted
 from support.program import PATIENCE, TESTS
 
 
@@ -24,12 +24,12 @@ APPLY_NOTHING = "applies with updates that modify nothing, which SQLite does not
 APPLY_WIDER = "applies to a table of more columns, which SQLite applies to: not asked"
 APPLY_NOOP = "applies that ignore what changes nothing, which SQLite's library can from 3.42 on: not compared"
 APPLY_CASE = "applies among tables whose names differ in case alone, which are one to SQLite: not asked"
-APPLY_LATER = "applies whose constraint conflicts SQLite tells behind the others of their table: compared in its order"
+APPLY_LATER = "applies whose constraint conflicts SQLite reports after the others of their table: compared in its order"
 APPLY_REMOVED = "applies whose second attempt fails: SQLite has removed the row, which stays here: compared without it"
 SESSION_ORDER = "net changesets whose tables and entries SQLite orders otherwise"
 SESSION_FLAGS = "net changesets of a table whose key SQLite numbers, and this marks by 1: compared with flags of 1"
 SESSION_CASE = "sessions on tables with names that differ in case alone, which are one to SQLite: not asked"
-REFUSED = "files that are refused here, of which SQLite's library reads some, and behind the end of others: not asked"
+REFUSED = "files that are refused here, some of which SQLite's library reads, others past their end: not asked"
 
 
 class Difference(Exception):
@@ -63,7 +63,7 @@ class Library:
         return done.stdout.split(b"\n")
 
     def ask(self, questions):
-        """Asks questions, and raises the first difference that no document tells."""
+        """Asks questions, and raises the first difference that the documents do not name."""
         if not self.is_there or not questions:
             return
         asked = [question.lines() for question in questions]
@@ -96,8 +96,8 @@ class Inverse:
         return ()
 
 
-class Join:
-    """Whether the join of two files is SQLite's."""
+class Concat:
+    """Whether the concatenation of two files is SQLite's."""
 
     def __init__(self, first, second):
         self.first = first
@@ -123,7 +123,7 @@ class Join:
         """Compares the answers."""
         lines = [b".load a " + hexed(self.first), b".load b " + hexed(self.second), b".concat a b c", b".hex c"]
         try:
-            groups = joined(self.first, self.second)
+            groups = concatenated(self.first, self.second)
         except Refusal:
             if told != [b"%d " % SCHEMA]:
                 raise Difference(lines, b"%d " % SCHEMA, told)
@@ -137,16 +137,16 @@ class Join:
 
 
 class PutOff(Exception):
-    """An entry meets a constraint conflict, and is tried again."""
+    """An entry has a constraint conflict, and is tried again."""
 
 
 class LaterApplying(Applying):
-    """An apply that tells constraint conflicts as SQLite does.
+    """An apply that reports constraint conflicts as SQLite does.
 
-    An entry whose new row would have NULL where it is refused is put off until those behind it of
-    its table were tried, is tried once more then, and is told of where it is tried a third time.
-    Each time an UPDATE of a row that differs is told to meet that one first. The row that an INSERT
-    was to replace is removed the first time, and stays so.
+    An entry whose new row would break a NOT NULL constraint is postponed. It is tried again after
+    the other entries of its table, and its conflict is reported at the third try. Each try of an
+    UPDATE of a row that differs reports that conflict first. The row that an INSERT replaces is
+    removed at the first try, and remains removed.
     """
 
     def carry_out_all(self, name, entries):
@@ -156,7 +156,7 @@ class LaterApplying(Applying):
             entries = [entry for entry in entries if self.is_put_off(name, entry)]
 
     def is_put_off(self, name, entry):
-        """Carries an entry out, unless that is put off."""
+        """Carries an entry out. Returns whether it is postponed."""
         try:
             self.carry_out(name, entry)
         except PutOff:
@@ -176,9 +176,9 @@ class Apply:
     """Whether an apply to tables of these rows does what SQLite's does to ordinary tables, with the
     same NOT NULL.
 
-    Which entries meet a constraint conflict, what is answered to it and what that leaves is the
-    same. When it is told is not, nor whether the row is there that an INSERT was to replace:
-    `LaterApplying` says how SQLite does both.
+    Both have the same constraint conflicts, choices and tables after them. They differ in when a
+    conflict is reported, and in whether the row that an INSERT replaces is there. `LaterApplying`
+    is how SQLite does both.
     """
 
     def __init__(self, tables, groups, choices):

@@ -48,7 +48,7 @@ def content(kind, text):
     return kind + spelled(len(text)) + text
 
 
-# The values of keys, of which a table has few, and all.
+# The few values of keys, and all values.
 KEYS = tuple(map(integer, INTEGERS[:5])) + (content(b"\x03", b"x"), content(b"\x03", b"1"), content(b"\x04", b"1"))
 VALUES = (
     (NULL,) + tuple(map(integer, INTEGERS)) + tuple(content(b"\x03", text.encode()) for text in TEXTS)
@@ -64,7 +64,7 @@ class Maker:
         self.pick = chance.choice
 
     def is_one_in(self, count):
-        """Whether something happens that does so once in so many times."""
+        """Whether something happens that happens once in this many times."""
         return self.chance.randrange(count) == 0
 
     def upto(self, most):
@@ -91,7 +91,7 @@ class Maker:
     # ---- changesets
 
     def flags(self):
-        """Flags of a table, of which one is not 0."""
+        """Flags of a table. At least one is not 0."""
         count = self.pick((127, 128)) if self.is_one_in(200) else self.pick((1, 2, 2, 2, 3, 3, 4, 6))
         flags = [self.pick((0, 0, 1)) for _ in range(count)]
         flags[self.chance.randrange(min(count, 6))] = 1
@@ -185,7 +185,7 @@ class Maker:
         return group if is_good else self.group(flags, name)
 
     def with_nulls(self, tables, group):
-        """A group of which sometimes most entries have NULL in a column that refuses it."""
+        """A group. Sometimes most of its entries have NULL in a NOT NULL column."""
         flags, name, entries = group
         table = tables.get(name)
         if table is None or not have_same_columns(flags, table.flags) or self.is_one_in(3):
@@ -205,7 +205,7 @@ class Maker:
         return [NULL if place == null else field for place, field in enumerate(record)]
 
     def clean(self, tables, groups):
-        """Groups of which each entry does what it can do to the row that stands under its key."""
+        """Groups whose entries all apply to the current row of their key."""
         cleaned = []
         for flags, name, entries in groups:
             kept = []
@@ -437,7 +437,7 @@ class Maker:
         ))
 
     def spoiled(self, line):
-        """A line of which a few bytes are others, or in other places."""
+        """A line with a few bytes changed or moved."""
         for _ in range(self.upto(2)):
             at = self.place(line)
             line = line[:at] + self.pick(SPOILERS) + line[at + self.chance.randrange(3):]

@@ -102,8 +102,8 @@ def merged_entries(flags, first, second):
     return [entry for entry in entries if entry is not None] + list(later.values())
 
 
-def joined(first, second):
-    """The groups of the join of two changesets."""
+def concatenated(first, second):
+    """The groups of the concatenation of two changesets."""
     known = {name: flags for flags, name, _ in first}
     for place, (flags, name, _) in enumerate(second):
         if name in known and not have_same_columns(known[name], flags):
@@ -213,7 +213,7 @@ class Applying:
 
 
 def put(tables, name, key, row):
-    """Puts a row under a key, or removes the one that stands there; and tells what stood there."""
+    """Puts a row under a key, or removes the row under it. Returns the previous row."""
     rows = tables[name].rows
     former = rows.pop(key, None)
     if row is not None:
@@ -315,7 +315,7 @@ def content_of(value):
 
 
 def literal(value):
-    """A value as a literal, and `-` for a field that is not defined."""
+    """A value as a literal, and `-` for an undefined field."""
     kind = value[:1]
     if kind == b"\x01":
         return b"%d" % int.from_bytes(value[1:], "big", signed=True)

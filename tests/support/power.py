@@ -35,8 +35,8 @@ EVENTS = {form.__name__.lower(): form for form in (Write, Length, Sync, Create, 
 
 SECTOR = 512
 
-# Of up to so many changes each subset is tried; of more, so many, and as many where writes are
-# torn.
+# Each subset is tried of up to SUBSETS changes. Of more, OTHERS subsets are tried, and as many with
+# torn writes.
 SUBSETS, OTHERS = 8, 24
 
 # At how many of its borders a write is torn in two.
@@ -195,7 +195,7 @@ def some(whole, seed):
 
 
 def in_two(whole, sectors):
-    """These changes, where the last one is a write of which some sectors are there."""
+    """These changes. The last one is a write, and only some of its sectors are there."""
     return [*whole[:-1], (whole[-1][0], sectors)]
 
 
@@ -278,7 +278,7 @@ def tried(recording, most):
         points.add(point)
         if (digest(files), disk.printed) not in seen:
             seen.add((digest(files), disk.printed))
-            told = f"behind event {point} of {len(recording.events)}: {described(choice())!r:.500}"
+            told = f"after event {point} of {len(recording.events)}: {described(choice())!r:.500}"
             yield files, disk.printed, told, chance.random() * len(picked)
     counts["runs"] += 1
     counts["points"] += len(points)
@@ -286,7 +286,7 @@ def tried(recording, most):
 
 
 def digest(files):
-    """What tells files from others."""
+    """A digest that distinguishes files."""
     told = hashlib.blake2b()
     for name in sorted(files):
         told.update(f"{name} {len(files[name])} ".encode() + files[name])
@@ -430,7 +430,7 @@ def apply_run(words, version=VERSION):
 
 
 def found_by(words, version=VERSION):
-    """The files that a command finds, of which the store is written in a version."""
+    """The files before a command. The store has the given version."""
     with tempfile.TemporaryDirectory() as folder:
         Command(words).prepare(folder)
         if version != VERSION:

@@ -29,7 +29,7 @@ NEEDS_FULL = unittest.skipUnless(os.path.exists("/dev/full"), "no /dev/full")
 
 
 def tables_of(*rows, columns=("a", "b"), keys=(True, False), name="t"):
-    """A table with these rows, of which the first column is the key unless said otherwise."""
+    """A table with these rows. Its first column is the key by default."""
     return {name: Table(columns, keys, list(rows))}
 
 
@@ -98,7 +98,7 @@ class ProgramTest(unittest.TestCase):
 
     @contextlib.contextmanager
     def dialogue(self, *words):
-        """The program, with a script that is not written yet."""
+        """The program, before its script is written."""
         pipes = {"stdin": subprocess.PIPE, "stdout": subprocess.PIPE, "stderr": subprocess.PIPE}
         with subprocess.Popen([PROGRAM, *words], cwd=self.folder, bufsize=0, **pipes) as child:
             try:
@@ -150,7 +150,7 @@ class StoreTest(ProgramTest):
         return read_store(self.folder / "store")
 
     def read_alone(self):
-        """The tables of the file alone: the log beside it has nothing that is not in it."""
+        """The tables of the file alone: the log alongside it has nothing more."""
         (self.folder / "store-wal").unlink(missing_ok=True)
         self.assertIn("store", os.listdir(self.folder))
         return self.read()

@@ -1,7 +1,7 @@
 """The small changesets, lines and error lines that several suites use."""
 from support.stores import UNDEFINED, delete, header, insert, update
 
-# The header of a table t of two columns, of which the first is the key, and three changes of its
+# The header of a table t of two columns, the first of them the key, and three changes of its
 # row (1, 'x').
 T = header("t", 1, 0)
 INSERT = T + insert(1, "x")

@@ -6,7 +6,7 @@ It follows `docs/SHELL.md`, `docs/ERRORS.md`, and `docs/DECISIONS.md`.
 import re
 
 from support import reader
-from support.model import ABORTS, NULL, Applying, Refusal, Session, Table, dump_lines, joined, literals, put
+from support.model import ABORTS, NULL, Applying, Refusal, Session, Table, concatenated, dump_lines, literals, put
 
 KEYWORDS = frozenset(
     b"CREATE TABLE PRIMARY KEY INSERT INTO VALUES UPDATE SET WHERE AND DELETE FROM SELECT NOT NULL".split()
@@ -377,7 +377,7 @@ class Shell:
         """`.concat FIRST SECOND INTO`: both slots have something before either is read."""
         first, second, into = words.slots(3)
         self.content(first), self.content(second)
-        self.contents[into] = reader.write(joined(self.groups(first), self.groups(second)))
+        self.contents[into] = reader.write(concatenated(self.groups(first), self.groups(second)))
 
     def dot_hex(self, words):
         """`.hex SLOT`"""

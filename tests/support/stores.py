@@ -19,7 +19,7 @@ RECORDS = (
 # The record of a store's version, and that of the former one.
 VERSION, FORMER = ("", b"", b"\x02"), ("", b"", b"\x01")
 
-# The field of an update that is not defined.
+# An undefined field of an update.
 UNDEFINED = object()
 
 
