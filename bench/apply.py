@@ -112,7 +112,8 @@ def main():
                 reverted, _ = measure_apply(program, inverse, after, again, printed)
                 assert stores.read_records(again) == stores.read_records(before)
                 print(
-                    f"{entries:>9} {opened:>8.3f} {applied:>8.3f} {reverted:>9.3f} {entries / (applied - opened):>11.0f} "
+                    f"{entries:>9} {opened:>8.3f} {applied:>8.3f} {reverted:>9.3f} "
+                    f"{entries / (applied - opened):>11.0f} "
                     f"{entries / (reverted - opened):>11.0f} {peak / 2**20:>10.1f}",
                     flush=True,
                 )

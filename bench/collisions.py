@@ -34,12 +34,14 @@ def loaded(slot, entry, keys):
 
 def concatenated(keys):
     """A changeset that inserts rows is concatenated with one that deletes them."""
-    return Script([], [loaded("a", stores.insert, keys), loaded("b", stores.delete, keys), ".concat a b c"], "", "").alone()
+    lines = [loaded("a", stores.insert, keys), loaded("b", stores.delete, keys), ".concat a b c"]
+    return Script([], lines, "", "").alone()
 
 
 def in_session(keys):
     """A session records inserted rows, and writes its changeset."""
-    return Script(["t"], [loaded("a", stores.insert, keys), ".apply a"], scripts.applied(len(keys)), "").with_changeset()
+    lines = [loaded("a", stores.insert, keys), ".apply a"]
+    return Script(["t"], lines, scripts.applied(len(keys)), "").with_changeset()
 
 
 def main():

@@ -48,7 +48,8 @@ def difference(topic, lines):
     status, printed, errors = run(front)
     start = len(expected(front[:-1])[1])
     return (
-        f"\ntests/cases/{topic}, line {line.number}: {line.text[:200]!r}\nin the case\n{line.case.decode(errors='replace')}\n"
+        f"\ntests/cases/{topic}, line {line.number}: {line.text[:200]!r}\n"
+        f"in the case\n{line.case.decode(errors='replace')}\n"
         f"expected {line.printed[:500]!r}\nprinted  {printed[start:][:500]!r}\nexit status {status}, {errors[:500]!r}"
     )
 

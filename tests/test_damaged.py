@@ -30,7 +30,9 @@ FILES = {
     "two tables": header("z", 1, 0) + insert(1, "x") + INSERT,
     "an UPDATE to what was there": T + update((1, "x"), (UNDEFINED, "x")),
     "an UPDATE of nothing": T + b"\x17\x00" + K1 + b"\x00\x00\x00",
-    "an entry of each operation": T + insert(1, "x") + delete(2, "q") + b"\x17\x00\x01" + bytes(7) + b"\x03\x03\x01x\x00\x03\x01y",
+    "an entry of each operation": (
+        T + insert(1, "x") + delete(2, "q") + b"\x17\x00\x01" + bytes(7) + b"\x03\x03\x01x\x00\x03\x01y"
+    ),
 }
 
 
@@ -112,7 +114,8 @@ class DamageTest(unittest.TestCase):
 
     def test_empty_groups(self):
         """Many tables. The last one has no entry."""
-        file = b"".join(b"\x54\x01\x01%d\x00\x12\x00\x01" % number + bytes(8) for number in range(300_000)) + header("t", 1)
+        groups = (b"\x54\x01\x01%d\x00\x12\x00\x01" % number + bytes(8) for number in range(300_000))
+        file = b"".join(groups) + header("t", 1)
         inverse, said = wanted(file)
         self.assertIsNone(inverse)
         self.assertEqual(run(f".load x {file.hex()}\n.invert x y\n", 4 * MEMORY), said)

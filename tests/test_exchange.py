@@ -262,7 +262,8 @@ class Exchange(unittest.TestCase):
         for words in TABLES:
             for seed in range(SEEDS):
                 with self.subTest(table=words[0], seed=seed):
-                    maker, beside = random.Random(f"null {words} {seed}"), [name for name in words[1] if name not in words[2]]
+                    maker = random.Random(f"null {words} {seed}")
+                    beside = [name for name in words[1] if name not in words[2]]
                     table = Table(*words, beside[seed % 2:], [value for value in VALUES if value is not None])
                     rows, other = list(table.edits(maker, ROWS)), Table(*words, values=(*VALUES, None, None))
                     self.sides(other, table.key, rows)[0].close()

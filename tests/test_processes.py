@@ -52,10 +52,13 @@ PAIRS = [
     (["INSERT INTO t VALUES(1, 'x');"], [f".load a {INSERT.hex()}", ".apply a", "SELECT * FROM t;"]),
     ([f".load a {INSERT.hex()}", ".apply a", ".revert a"], [f".load a {DELETE.hex()}", ".apply a notfound=omit"]),
     ([f".load a {UPDATE.hex()}", ".apply a", "SELECT * FROM t;"], ["SELECT * FROM t;", "DELETE FROM t WHERE a=1;"]),
-    ([CREATE_N, "INSERT INTO n VALUES(2, NULL);"], [CREATE_N, f".load a {NULL_INSERT.hex()}", ".apply a constraint=omit"]),
+    (
+        [CREATE_N, "INSERT INTO n VALUES(2, NULL);"],
+        [CREATE_N, f".load a {NULL_INSERT.hex()}", ".apply a constraint=omit"],
+    ),
 ]
 
-# The content of a store that exists, or None.
+# The lines that have made the store before. Without a line there is no store yet.
 FOUND = [[], [CREATE], [CREATE, "INSERT INTO t VALUES(1, 'x');"]]
 
 counts = collections.Counter(refused=0, killed=0)

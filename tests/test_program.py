@@ -20,7 +20,9 @@ from support.programs import (
     COMMANDS, DAMAGED_STORE, KEY, KINDS, MANY, MANY_INSERTS, NEEDS_FULL, NULL_UPDATE, WIDER_INSERT, ProgramTest,
     StoreTest, refusing, tables_of,
 )
-from support.samples import CREATE, CREATE_N, DELETE, INPUT_FAULT, INSERT, N, NULL_INSERT, OUTPUT_FAULT, STORE_FAULT, T, UPDATE
+from support.samples import (
+    CREATE, CREATE_N, DELETE, INPUT_FAULT, INSERT, N, NULL_INSERT, OUTPUT_FAULT, STORE_FAULT, T, UPDATE
+)
 from support.stores import (
     FORMER, RECORDS, UNDEFINED, VERSION, Table, count_changes, delete, header, insert, literal, read_changeset,
     read_records, records_of, run_schema, run_sql, run_statements, shown, shown_rows, update,
@@ -296,7 +298,9 @@ class Files(ProgramTest):
         """
         self.make("a.cs", INSERT)
         for out in ("/dev/stdout", "/dev/fd/1"):
-            done = subprocess.run([PROGRAM, "a.cs", "invert", out], cwd=self.folder, capture_output=True, timeout=PATIENCE)
+            done = subprocess.run(
+                [PROGRAM, "a.cs", "invert", out], cwd=self.folder, capture_output=True, timeout=PATIENCE
+            )
             self.assertEqual((done.returncode, done.stdout, done.stderr), (0, DELETE, b""))
         with open(self.folder / "log", "wb") as log:
             log.write(b"before")
@@ -523,7 +527,10 @@ REFUSING = ("", b"n", b"\x02\x01\x01a\x02\x01b")
 # Records that are those of no tables, and what is wrong with them.
 DAMAGED = (
     ("no declaration", [VERSION, ROW]),
-    *((f"the version {version.hex()}", [("", b"", version)]) for version in (b"", b"\0", b"\3", b"\1\0", b"\2\0", b"\2\1")),
+    *(
+        (f"the version {version.hex()}", [("", b"", version)])
+        for version in (b"", b"\0", b"\3", b"\1\0", b"\2\0", b"\2\1")
+    ),
     ("no version", [TABLE]),
     ("a byte too many behind a declaration", [VERSION, ("", b"t", b"\x02\x01\x01a\x00\x01b\x00")]),
     ("a byte too few of a declaration", [VERSION, ("", b"t", b"\x02\x01\x01a\x00\x01")]),
@@ -534,7 +541,10 @@ DAMAGED = (
     ("a byte that no column of the key has", [VERSION, ("", b"t", b"\x02\x03\x01a\x01\x01b")]),
     ("no key column, but one that refuses NULL", [VERSION, ("", b"t", b"\x02\x00\x01a\x02\x01b")]),
     ("NULL in a column that refuses it", [VERSION, REFUSING, ("n", KEY, KEY + b"\x05")]),
-    ("a row behind such a one", [VERSION, REFUSING, ("n", KEY, KEY + b"\x05"), ("n", b"\x03\x00", b"\x03\x00\x03\x01x")]),
+    (
+        "a row after such a row",
+        [VERSION, REFUSING, ("n", KEY, KEY + b"\x05"), ("n", b"\x03\x00", b"\x03\x00\x03\x01x")],
+    ),
     ("a row of a table that is not declared", [VERSION, TABLE, ROW, ("u", KEY, ROW[2])]),
     ("a column twice", [VERSION, ("", b"t", b"\x02\x01\x01a\x00\x01a")]),
     ("a column without a name", [VERSION, ("", b"t", b"\x02\x01\x01a\x00\x00")]),
@@ -577,13 +587,15 @@ class Policies(StoreTest):
                 self.assertEqual((status, printed, reported[:14]), (1, "", "error 41 Abort"))
                 for choice in ("omit", "replace", "abort"):
                     options = [f"--{kind}={choice}" for kind in KINDS]
-                    self.expect([*options, "--ignore-noop", "a.cs", "apply", "store"], 0, f"ignored {count}\napplied 0\n")
+                    words = [*options, "--ignore-noop", "a.cs", "apply", "store"]
+                    self.expect(words, 0, f"ignored {count}\napplied 0\n")
                 self.expect(["a.cs", "apply", "store", "--ignore-noop"], 0, f"ignored {count}\napplied 0\n")
                 self.assertEqual(self.read(), tables_of(*left))
 
     def test_what_changes_something_is_not_ignored(self):
         for rows, changeset, kind in (
-            ([(1, "z")], INSERT, "conflict"), ([(1, "z")], DELETE, "data"), ([(1, "z")], UPDATE, "data"), ([], UPDATE, "notfound"),
+            ([(1, "z")], INSERT, "conflict"), ([(1, "z")], DELETE, "data"),
+            ([(1, "z")], UPDATE, "data"), ([], UPDATE, "notfound"),
         ):
             self.expect_policy(rows, changeset, ["--ignore-noop"], 1, "", f"error 41 Abort {kind} 't'\n", rows)
 
@@ -618,8 +630,9 @@ class Policies(StoreTest):
         entries = insert(1, "x") + delete(2, "q") + delete(3, "r") + insert(4, "s")
         self.expect_policy(
             [(1, "z"), (3, "t")], T + entries, ["--data=replace", "--notfound=omit", "--conflict=replace"], 0,
-            "conflict 3 conflict replace 't'\nconflict 2 notfound omit 't'\nconflict 1 data replace 't'\napplied 3\n", "",
-            [(1, "x"), (4, "s")],
+            "conflict 3 conflict replace 't'\nconflict 2 notfound omit 't'\n"
+            "conflict 1 data replace 't'\napplied 3\n",
+            "", [(1, "x"), (4, "s")],
         )
 
     def test_store_in_memory(self):
@@ -650,7 +663,8 @@ class Rules(StoreTest):
             ("CREATE TABLE n(a, b NOT NULL NOT NULL, PRIMARY KEY(a));", 30),
             ("CREATE TABLE n(a, NOT NULL, PRIMARY KEY(a));", 19),
             ("CREATE TABLE n(a, b, PRIMARY KEY(a NOT NULL));", 36), ("CREATE TABLE not(a, PRIMARY KEY(a));", 14),
-            ('CREATE TABLE n(a, b "NOT" NULL, PRIMARY KEY(a));', 21), ("CREATE TABLE n(a, b NOTNULL, PRIMARY KEY(a));", 21),
+            ('CREATE TABLE n(a, b "NOT" NULL, PRIMARY KEY(a));', 21),
+            ("CREATE TABLE n(a, b NOTNULL, PRIMARY KEY(a));", 21),
         ):
             with self.subTest(line=line):
                 self.assertEqual(self.run_shell([line]), (1, f"error 61 Syntax {column}\n", ""))
@@ -728,7 +742,8 @@ class Rules(StoreTest):
         as it was.
         """
         for kind, rows, changeset in (
-            ("conflict", [(1, "x")], NULL_INSERT), ("conflict", [(1, "z")], NULL_INSERT), ("data", [(1, "z")], NULL_UPDATE),
+            ("conflict", [(1, "x")], NULL_INSERT), ("conflict", [(1, "z")], NULL_INSERT),
+            ("data", [(1, "z")], NULL_UPDATE),
         ):
             self.expect_end(rows, changeset, f"{kind}=replace", "41 Abort")
             self.expect_end(rows, changeset, f"{kind}=replace constraint=replace", "42 Misuse")
@@ -753,12 +768,15 @@ class Rules(StoreTest):
         null_for_x = head + b"\x17\0" + first + bytes.fromhex("030178") + b"\0\5"
         for lines, printed in (
             ([CREATE_N, "INSERT INTO n VALUES(1, NULL);", "INSERT INTO n VALUES(1, 'x');"], "error 39 NotNull\n"),
-            (["UPDATE n SET b=NULL WHERE a=1;", "UPDATE n SET b=NULL WHERE a=2;"], "error 39 NotNull\nerror 34 NoRow\n"),
-            (["DELETE FROM n WHERE a=1;", f".load a {null_of_second.hex()}", ".apply a"], "error 41 Abort constraint 'n'\n"),
-            ([f".load a {null_of_second.hex()}", ".apply a constraint=omit"], "conflict 4 constraint omit 'n'\napplied 0\n"),
+            (["UPDATE n SET b=NULL WHERE a=1;", "UPDATE n SET b=NULL WHERE a=2;"],
+             "error 39 NotNull\nerror 34 NoRow\n"),
+            (["DELETE FROM n WHERE a=1;", f".load a {null_of_second.hex()}", ".apply a"],
+             "error 41 Abort constraint 'n'\n"),
+            ([f".load a {null_of_second.hex()}", ".apply a constraint=omit"],
+             "conflict 4 constraint omit 'n'\napplied 0\n"),
             ([f".load a {null_of_second.hex()}", ".apply a constraint=replace"], "error 42 Misuse constraint 'n'\n"),
-            (["INSERT INTO n VALUES(1, 'x');", f".load a {null_of_first.hex()}", ".apply a conflict=replace constraint=omit",
-              "SELECT * FROM n;"],
+            (["INSERT INTO n VALUES(1, 'x');", f".load a {null_of_first.hex()}",
+              ".apply a conflict=replace constraint=omit", "SELECT * FROM n;"],
              "conflict 3 conflict replace 'n'\nconflict 4 constraint omit 'n'\napplied 0\n1|'x'\n"),
             (["UPDATE n SET b='z' WHERE a=1;", f".load a {null_for_x.hex()}", ".apply a data=replace constraint=omit",
               "SELECT * FROM n;"],
@@ -775,7 +793,8 @@ class Rules(StoreTest):
         table = Table(("a", "b", "c"), (True, False, False), [(1, "x", None)], (True, True, False))
         self.write({"n": table})
         head = header("n", 1, 0, 0)
-        for old, new in (((1, UNDEFINED, None), (UNDEFINED, UNDEFINED, 5)), ((1, UNDEFINED, UNDEFINED), (UNDEFINED,) * 3),
+        for old, new in (((1, UNDEFINED, None), (UNDEFINED, UNDEFINED, 5)),
+                         ((1, UNDEFINED, UNDEFINED), (UNDEFINED,) * 3),
                          ((1, UNDEFINED, 5), (UNDEFINED, UNDEFINED, None))):
             self.expect_applied(head + update(old, new), "applied 1\n")
         self.assertEqual(self.read(), {"n": table})
@@ -797,8 +816,8 @@ class Rules(StoreTest):
         lines = [
             ".session open", ".session attach n", "UPDATE n SET b='y' WHERE a=1;", "UPDATE n SET b=NULL WHERE a=1;",
             f".load a {(NULL_INSERT + insert(2, 'w')).hex()}", ".apply a conflict=replace constraint=omit",
-            ".session changeset c", ".dump c", ".invert c d", ".apply d", ".apply c", ".session undo", ".session isempty",
-            "SELECT * FROM n;",
+            ".session changeset c", ".dump c", ".invert c d", ".apply d", ".apply c", ".session undo",
+            ".session isempty", "SELECT * FROM n;",
         ]
         printed = (
             "error 39 NotNull\nconflict 3 conflict replace 'n'\nconflict 4 constraint omit 'n'\napplied 1\n"
@@ -814,7 +833,9 @@ class Rules(StoreTest):
             with self.case(log=log):
                 self.write(refusing((1, "x")), log=log)
                 for _ in range(2):
-                    lines = ["INSERT INTO n VALUES(2, NULL);", f".load a {NULL_UPDATE.hex()}", ".apply a", "SELECT * FROM n;"]
+                    lines = [
+                        "INSERT INTO n VALUES(2, NULL);", f".load a {NULL_UPDATE.hex()}", ".apply a", "SELECT * FROM n;"
+                    ]
                     printed = "error 39 NotNull\nerror 41 Abort constraint 'n'\n1|'x'\n"
                     self.assertEqual(self.run_shell(lines), (1, printed, ""))
                     self.assertEqual(self.read_alone(), refusing((1, "x")))
@@ -871,7 +892,8 @@ class Shells(StoreTest):
 
     def test_store_of_sqlite(self):
         self.write(tables_of((1, "x")))
-        self.assertEqual(self.run_shell([f".load a {UPDATE.hex()}", ".apply a", "SELECT * FROM t;"]), (0, "applied 1\n1|'y'\n", ""))
+        lines = [f".load a {UPDATE.hex()}", ".apply a", "SELECT * FROM t;"]
+        self.assertEqual(self.run_shell(lines), (0, "applied 1\n1|'y'\n", ""))
         self.assertEqual(self.read(), tables_of((1, "y")))
 
     def test_session_on_a_file(self):
@@ -953,7 +975,8 @@ class Shells(StoreTest):
         endings = set()
         for wait in (0.1, 0.5, 1.0, 2.0, 3.0):
             self.make("store", before)
-            with subprocess.Popen([PROGRAM, "a.cs", "apply", "store"], cwd=self.folder, stdout=subprocess.PIPE) as child:
+            words = [PROGRAM, "a.cs", "apply", "store"]
+            with subprocess.Popen(words, cwd=self.folder, stdout=subprocess.PIPE) as child:
                 time.sleep(wait)
                 child.kill()
                 child.communicate(timeout=PATIENCE)

@@ -79,7 +79,9 @@ class Streams(unittest.TestCase):
         """
         reading, writing = os.pipe2(os.O_DIRECT)
         feeding = threading.Thread(target=feed, args=(writing, pieces))
-        refusing = {"REFUSE_CALL": "read", "REFUSE_AT": str(failing), "REFUSE_WITH": str(errno.EIO), "LD_PRELOAD": self.shim}
+        refusing = {
+            "REFUSE_CALL": "read", "REFUSE_AT": str(failing), "REFUSE_WITH": str(errno.EIO), "LD_PRELOAD": self.shim
+        }
         with os.fdopen(reading, "rb") as stdin:
             child = subprocess.Popen(
                 [PROGRAM], stdin=stdin, stdout=subprocess.PIPE, stderr=subprocess.PIPE,
@@ -95,7 +97,8 @@ class Streams(unittest.TestCase):
         refused = b"error 62 EmptySlot\n"
         for pieces in ([script], [script[i : i + 1] for i in range(len(script))], [script[:3], script[3:]]):
             self.assertEqual(self.run_pieces(pieces), (1, refused, ""))
-        self.assertEqual(self.run_pieces([script[i : i + 1] for i in range(len(script))], len(script)), (1, refused, INPUT_FAULT))
+        pieces = [script[i : i + 1] for i in range(len(script))]
+        self.assertEqual(self.run_pieces(pieces, len(script)), (1, refused, INPUT_FAULT))
 
     def test_answers_lines_until_a_read_fails(self):
         for count in range(len(SCRIPT) + 1):
@@ -123,7 +126,9 @@ class Streams(unittest.TestCase):
                 stderr=subprocess.PIPE, timeout=PATIENCE,
             )
         self.assertEqual((done.returncode, done.stderr.decode()), (1, OUTPUT_FAULT))
-        done = subprocess.run([PROGRAM, store, "shell"], input=b"SELECT * FROM t;\n", capture_output=True, timeout=PATIENCE)
+        done = subprocess.run(
+            [PROGRAM, store, "shell"], input=b"SELECT * FROM t;\n", capture_output=True, timeout=PATIENCE
+        )
         self.assertEqual(done.stdout, b"error 31 NoTable\n")
 
 

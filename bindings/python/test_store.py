@@ -40,7 +40,7 @@ def store_with_table(path=":memory:", **given):
 
 
 def store_with_rule(path=":memory:", *rows):
-    """A store with these rows in a table n of two columns, of which the first is its key, and the second refuses None."""
+    """A store with these rows in a table n. Its first column is the key, its second is NOT NULL."""
     store = vollikash.open(path)
     store.create("n", ["a", "b"], key=["a"], refuses=["b"])
     for row in rows:
@@ -100,8 +100,9 @@ class Stores(Folder):
     def test_each_plane(self):
         """Texts of each plane of Unicode, and every character of the first but those that no text of a line has."""
         texts = ["".join(map(chr, range(start, start + 64))) for start in range(0x10000, 0x110000, 0x8000)]
-        texts += ["".join(chr(code) for code in range(start, start + 256) if chr(code) != "\n" and not 0xD800 <= code < 0xE000)
-                  for start in range(0, 0x10000, 256)]
+        for start in range(0, 0x10000, 256):
+            codes = (code for code in range(start, start + 256) if not 0xD800 <= code < 0xE000)
+            texts.append("".join(map(chr, codes)).replace("\n", ""))
         with store_with_table() as store:
             for key, text in enumerate(texts):
                 store.insert("t", key, text)
@@ -272,7 +273,8 @@ class Rules(Folder):
             self.expect_conflict(rows, file, 41, "constraint", **{kind: "replace"})
             self.expect_conflict(rows, file, 42, "constraint", constraint="replace", **{kind: "replace"})
             self.expect_left(rows, file, [(kind, "omit")], constraint="replace", **{kind: "omit"})
-            self.expect_left(rows, file, [(kind, "replace"), ("constraint", "omit")], constraint="omit", **{kind: "replace"})
+            met = [(kind, "replace"), ("constraint", "omit")]
+            self.expect_left(rows, file, met, constraint="omit", **{kind: "replace"})
         self.expect_left([], NULL_UPDATE, [("notfound", "omit")], notfound="omit", constraint="omit")
 
     def test_choices_that_are_none(self):
@@ -314,7 +316,10 @@ class Rules(Folder):
             self.assertEqual(list(store.rows("n")), [(1, "z"), (2, "y")])
 
     def test_from_store_to_store(self):
-        """What a session tells of a table without the rule is applied to one with it, but for the rows that it refuses."""
+        """A session's changeset of a table without NOT NULL is applied to one with it.
+
+        The rows that this refuses are left out.
+        """
         with vollikash.open(":memory:") as source, store_with_rule(self.folder / "target.db") as target:
             source.create("n", ["a", "b"], key=["a"])
             with source.session("n") as session:
@@ -475,7 +480,8 @@ class Installed(Folder):
         """An empty environment has them, and runs a store from another folder."""
         where = self.folder / "environment"
         venv.create(where, with_pip=True)
-        pip = [where / "bin/python", "-m", "pip", "--disable-pip-version-check", "install", "--no-index", "--quiet", str(HERE)]
+        options = ["--disable-pip-version-check", "install", "--no-index", "--quiet"]
+        pip = [where / "bin/python", "-m", "pip", *options, str(HERE)]
         subprocess.run(pip, check=True, capture_output=True)
         (self.folder / "main.py").write_text(textwrap.dedent("""
             import vollikash
@@ -489,9 +495,11 @@ class Installed(Folder):
                 store.apply(changes, conflict="replace")
                 print(list(store.rows("t")), vollikash.dump(changes), end="")
         """))
-        environment = {name: value for name, value in os.environ.items() if not name.startswith(("VOLLIKASH", "PYTHON"))}
+        ours = ("VOLLIKASH", "PYTHON")
+        environment = {name: value for name, value in os.environ.items() if not name.startswith(ours)}
+        command = [where / "bin/python", "main.py"]
         ran = subprocess.run(
-            [where / "bin/python", "main.py"], cwd=self.folder, env=environment, capture_output=True, text=True, check=True
+            command, cwd=self.folder, env=environment, capture_output=True, text=True, check=True
         )
         self.assertEqual(ran.stdout, "[(1, 'x')] table 't' columns 2 flags 1,0\ninsert 0 new 1,'x'\n")
 

@@ -1,8 +1,9 @@
 #!/usr/bin/env python3
-"""Tests of the library as it is linked: the calls on files of the module `vollikash`, and those of vollikash.h by `bindings/c/check.c`.
+"""Tests of the linked library: the calls on files of the module `vollikash` and of vollikash.h.
 
-What is wanted is what the changeset program does with the same files: the recorded ones of `examples/` and
-`tests/recorded`, their prefixes, and those that the table of cases `tests/cases` loads, most of which are damaged.
+`bindings/c/check.c` makes the calls of vollikash.h. Each result has to be that of the program with
+the same file. The files are the recorded ones of `examples/` and `tests/recorded`, their prefixes,
+and those of the table of cases `tests/cases`, most of which are damaged.
 `bindings/check` builds what this needs, and runs it.
 
 usage: bindings/python/test_vollikash.py
@@ -123,7 +124,10 @@ def wanted_of(files):
 
 
 def numbered_by_reader(file):
-    """A file with the columns of its keys numbered, in digits, by the reader of the tests: no line of the program does it."""
+    """A file with its key columns numbered by the reader of the tests, in digits.
+
+    No line of the program does this.
+    """
     return f"{reader.write(reader.numbered(reader.Reader(file).groups())).hex()}\n"
 
 

@@ -1,7 +1,7 @@
-"""Builds the wheel of `vollikash`, which carries the library and the program that the repository has built.
+"""Builds the wheel of `vollikash` from the library and the program that are built.
 
-It is what `pip install bindings/python` calls, behind `make -C bindings/c` and `(cd crates/changeset && rt run)`. It needs
-nothing but Python. The wheel is for Linux on x86-64.
+`pip install bindings/python` calls it, after `make -C bindings/c` and
+`(cd crates/changeset && rt run)`. It needs only Python. The wheel is for Linux on x86-64.
 """
 import base64
 import hashlib

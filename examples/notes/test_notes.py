@@ -423,7 +423,8 @@ class Notes(unittest.TestCase):
         person.type("a", "buy milk", ENTER, "a", "call the plumber", ENTER, "u", "r", "a", "two", "\n", "lines", ENTER)
         person.sees("refused: ")
         picture = "".join(f"{line}\n" for line in person.screen.lines())
-        self.assertTrue(f"```text\n{picture}```\n" in (ROOT / "examples/README.md").read_text(), f"examples/README.md has not\n{picture}")
+        readme = (ROOT / "examples/README.md").read_text()
+        self.assertTrue(f"```text\n{picture}```\n" in readme, f"examples/README.md does not have\n{picture}")
 
 
 if __name__ == "__main__":

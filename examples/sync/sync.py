@@ -1,11 +1,11 @@
 #!/usr/bin/env python3
-"""Two SQLite databases and a store keep one table the same by changesets, and a conflict is settled. Each step is printed.
+"""Synchronises two SQLite databases and a store by changesets, with a conflict, and prints each step.
 
 usage: sync.py [FOLDER]
 
-Without FOLDER the databases and the store are made in a temporary folder. A shop and an office, each an ordinary SQLite
-database, and a hub, which is a store, have a table of one key column: docs/SQLITE.md says why of one. What SQLite records and
-applies is done by its own session extension, which `tests/sqlite.c` calls, since Python's sqlite3 does not.
+A shop and an office are ordinary SQLite databases, and a hub is a store. They have a table with a
+key of one column: docs/SQLITE.md says why of one. `tests/sqlite.c` calls SQLite's session extension,
+since Python's sqlite3 does not. Without FOLDER all three are made in a temporary folder.
 """
 import contextlib
 import pathlib

@@ -467,7 +467,9 @@ def run_for(words):
 
 def arguments():
     """The options of a run."""
-    parser = argparse.ArgumentParser(description="Compares the program with a model, on cases that are made from a seed.")
+    parser = argparse.ArgumentParser(
+        description="Compares the program with a model, on cases that are made from a seed."
+    )
     parser.add_argument("--seconds", type=float, default=60)
     parser.add_argument("--seed", type=int, default=1)
     parser.add_argument("--case", type=int)

@@ -25,7 +25,8 @@ CLAIMS = tuple(map(
 
 # What is put into a line that is spoiled.
 SPOILERS = (
-    b"", b"", b".", b"_", b"'", b'"', b" ", b"\t", b"\r", b"x", b"0", b"-", b";", b"(", b",", b"=", b"X'", b"\xff", b"\xc3",
+    b"", b"", b".", b"_", b"'", b'"', b" ", b"\t", b"\r", b"x", b"0", b"-", b";", b"(", b",", b"=",
+    b"X'", b"\xff", b"\xc3",
 )
 
 # Fields that may not stand everywhere, or nowhere.
@@ -415,7 +416,8 @@ class Maker:
         if self.is_one_in(3):
             settings = self.chance.sample(TRYING_AGAIN, len(TRYING_AGAIN))
         if self.is_one_in(3):
-            settings.insert(self.chance.randrange(len(settings) + 1), b" noop=" + self.pick((b"ignore", b"ignore", b"report")))
+            place = self.chance.randrange(len(settings) + 1)
+            settings.insert(place, b" noop=" + self.pick((b"ignore", b"ignore", b"report")))
         return b"".join(settings)
 
     def slot_line(self):

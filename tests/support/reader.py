@@ -8,8 +8,8 @@ UNDEFINED = b"\x00"
 
 # The numbers of faults, and their names.
 NAMES = dict(enumerate(
-    "Truncated NotTable Patchset BadVarint ColumnCount NoKey BadName DuplicateTable EmptyGroup BadOp BadFlag BadType RealValue "
-    "BadText UndefinedField Unpaired NullKey DuplicateKey".split(), 1
+    "Truncated NotTable Patchset BadVarint ColumnCount NoKey BadName DuplicateTable EmptyGroup "
+    "BadOp BadFlag BadType RealValue BadText UndefinedField Unpaired NullKey DuplicateKey".split(), 1
 ))
 
 

@@ -224,5 +224,6 @@ def is_store(path):
 def shown_tables(tables):
     """Tables, as they are compared."""
     return {
-        name: (table.columns, table.keys, tuple(table.refuses or table.keys), table.rows) for name, table in tables.items()
+        name: (table.columns, table.keys, tuple(table.refuses or table.keys), table.rows)
+        for name, table in tables.items()
     }
