@@ -5,7 +5,7 @@ The store has one table of two columns, a table for each ten entries, a table of
 or one whose columns have names of 10 kB. SQLite writes it. A third of the entries are INSERTs, a
 third DELETEs and a third UPDATEs.
 
-Opening a store reads and checks every record. An apply of an empty changeset times that alone. The
+Opening a store reads and checks every record. An apply of an empty changeset times only that. The
 other times contain it, and entries per second do not. After the inverse the store has its first
 records again. A peak under 50 MiB is that of this script, which starts the program.
 

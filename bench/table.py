@@ -42,7 +42,7 @@ HEADING = (
 
 
 class Row(NamedTuple):
-    """A row of the table. An empty text stands for what was not measured."""
+    """A row of the table. What was not measured is an empty text."""
 
     ratio: str
     what: str

@@ -29,8 +29,8 @@ class ProgramError(OSError):
 
 
 def find_program() -> str:
-    """The program: VOLLIKASH_PROGRAM names it, or it stands beside this file or where the
-    repository builds it, or on PATH.
+    """The program: VOLLIKASH_PROGRAM, the file `changeset` in this folder, the one that the
+    repository builds, or the one on PATH.
     """
     named = os.environ.get("VOLLIKASH_PROGRAM")
     if named:
@@ -38,8 +38,8 @@ def find_program() -> str:
     here = pathlib.Path(__file__).resolve().parent
     beside = here / "changeset"
     built = here.parents[2] / "crates/changeset/out/changeset"
-    # In the repository alone: of a copy of this file elsewhere, that path may be anybody's to write
-    # to.
+    # Only in the repository: if this file is copied elsewhere, anybody may be able to write to that
+    # path.
     for program in (beside, *([built] if here.match("bindings/python/vollikash") else [])):
         if program.exists():
             return str(program)
@@ -81,8 +81,8 @@ class Process:
         self.ask(f".load m {self._mark}")
 
     def fits(self, lines: Sequence[str], kept: int) -> bool:
-        """Whether the program takes these lines, and so many bytes behind them: it takes 16777216
-        bytes in all.
+        """Whether the program accepts these lines and `kept` more bytes. It accepts 16777216 bytes
+        in all.
         """
         return sum(len((line + _BEHIND).encode()) for line in lines) + kept <= self.left
 
