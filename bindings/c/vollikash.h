@@ -107,7 +107,7 @@ enum vollikash_code {
     VOLLIKASH_NO_SESSION = 64,      /* no session is open */
     VOLLIKASH_SESSION_OPEN = 65,    /* a session is open */
     VOLLIKASH_BAD_HEX = 66,         /* the digits are not hexadecimal, two for each byte */
-    VOLLIKASH_UNKNOWN_COLUMN = 67,  /* a column is missing, named twice, or not named as it must be */
+    VOLLIKASH_UNKNOWN_COLUMN = 67,  /* a column is missing, named twice, or misnamed */
     VOLLIKASH_LINE_TEXT = 68,       /* the line is not UTF-8 */
     VOLLIKASH_INPUT_FAULT = 71,     /* a read failed */
     VOLLIKASH_OUTPUT_FAULT = 72     /* a write failed */
