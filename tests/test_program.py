@@ -1033,34 +1033,12 @@ class Stores(StoreTest):
     def test_other_databases(self):
         for text, line in (
             ("CREATE TABLE rec(x)", DAMAGED_STORE),
-            ("CREATE TABLE other(x)", STORE_FAULT),
-            ("CREATE VIEW rec AS SELECT 1", STORE_FAULT),
+            ("CREATE VIEW rec AS SELECT 1", DAMAGED_STORE),
         ):
             with self.case(text=text):
                 run_sql(self.folder / "store", text)
                 self.assertEqual(self.apply(INSERT), (1, "", line))
                 self.assertEqual(self.declared(), [text])
-
-    def test_store_beside_other_tables(self):
-        """A store that has more than its table of records is refused as it is, and not as damaged.
-        """
-        for text in (
-            "ANALYZE",
-            "CREATE TABLE other(x)",
-            "CREATE VIEW other AS SELECT 1",
-            "CREATE INDEX other ON rec(rowb)",
-        ):
-            with self.case(text=text):
-                self.write(tables_of((1, "x")))
-                run_sql(self.folder / "store", text)
-                records = read_records(self.folder / "store")
-                self.assertEqual(self.apply(INSERT), (1, "", STORE_FAULT))
-                self.assertEqual(read_records(self.folder / "store"), records)
-
-    def test_table_of_records_behind_another(self):
-        run_sql(self.folder / "store", "CREATE TABLE other(x)")
-        run_sql(self.folder / "store", RECORDS, records=[VERSION])
-        self.assertEqual(self.apply(INSERT), (1, "", STORE_FAULT))
 
     def declared(self):
         """The texts that declare what the store's file has."""

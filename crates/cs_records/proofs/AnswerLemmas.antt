@@ -1,5 +1,5 @@
 -- What a query over one table shows: the rows that pass, each shown, in the order that is asked for.
-use Rattle.std.proofs.Common.{◌≡◌, ℕ, Bool, false, cond, List, [], ◌∷◌, map, filter, inl, inr, refl, ap, subst, ◌∙◌, arith}
+use Rattle.std.proofs.Common.{◌≡◌, ℕ, ◌-◌, ◌^◌, nat_le, Bool, true, false, cond, List, [], ◌∷◌, map, filter, slice_get, None, unwrap_or, inl, inr, refl, ap, subst, ◌∙◌, arith}
 use Rattle.std.specs.List.{list_all, flat_map}
 use Rattle.std.specs.List.Sorted.{IsPermutation, IsSorted}
 use Rattle.std.specs.Ordering.{is_lt}
@@ -20,8 +20,8 @@ use Rattle.sqlite_schema.specs.declared.command.Command.TheVariants.{Select}
 use Rattle.sqlite_sql.proofs.QueryLemmas.{output_cmp_total}
 use Rattle.sqlite.specs.State.{State, Shown}
 use Rattle.sqlite.proofs.Callers.{reads_as}
-use Rattle.cs_records.specs.Records.{record_schema}
-use Rattle.cs_records.proofs.QueryTexts.{plain_query, Asks}
+use Rattle.cs_records.specs.Statements.{plain_query, alone, IsSelect}
+use Rattle.cs_records.proofs.QueryTexts.{unlisted, plainly, commands}
 use Rattle.cs_records.proofs.RowLemmas.{ascending_from_pairs}
 
 -- ---- an order of what was made of elements is an order of the elements
@@ -91,13 +91,13 @@ rising_of f cmp total xs sorted =
     (ascending_from_pairs (λ a b. is_lt (cmp b a) ≡ false) (map f xs) (λ i j d below low. sorted_far (λ x y. is_lt (cmp x y)) (ranks_by total (λ x. x)) (map f xs) sorted i j d (omega arith) low))
 
 -- the answer of a query over one table shows the rows that pass, in the order that is asked for
-pub answer_chosen : (terms project : List Term) (order : List (Term × Key)) (db : Trees) (params : Row) (rows : List Row) → IsAnswer (plain_query terms project order) db params rows
-    → ShowsChosen (plain_query terms project order) (db 0) params rows
-answer_chosen terms project order db params rows a =
-    let q = plain_query terms project order in
+pub answer_chosen : (tree : ℕ) (terms project : List Term) (order : List (Term × Key)) (db : Trees) (params : Row) (rows : List Row) → IsAnswer (plain_query tree terms project order) db params rows
+    → ShowsChosen (plain_query tree terms project order) (db tree) params rows
+answer_chosen tree terms project order db params rows a =
+    let q = plain_query tree terms project order in
     let made : Row → Output = λ r. output q (params ∷ r ∷ []) in
-    let passing = filter (passes_where q params) (db 0) in
-    let staged : a.staged ≡ map (λ r. params ∷ r ∷ []) passing = a.grouped ∙ chosen_matches (passes_where q params) (λ r. params ∷ r ∷ []) (db 0) in
+    let passing = filter (passes_where q params) (db tree) in
+    let staged : a.staged ≡ map (λ r. params ∷ r ∷ []) passing = a.grouped ∙ chosen_matches (passes_where q params) (λ r. params ∷ r ∷ []) (db tree) in
     let kept : a.kept ≡ map made passing = a.distinct ∙ ap (map (output q)) staged ∙ map-map (output q) (λ r. params ∷ r ∷ []) passing in
     let found = of_made made passing a.ordered (subst (λ k. IsPermutation k a.ordered) kept a.same) in
     let sorted : IsSorted (output_cmp q) (map made found.0) = subst (IsSorted (output_cmp q)) found.2 a.sorted in
@@ -108,10 +108,19 @@ answer_chosen terms project order db params rows a =
       is = a.shown ∙ ap (map (λ (o : Output). o.1)) found.2 ∙ map-map (λ (o : Output). o.1) made found.0;
     }
 
--- a text that asks for that shows it
-pub shows_chosen : (sql : List ℕ) (terms project : List Term) (order : List (Term × Key)) → Asks sql (plain_query terms project order)
-    → (params : Row) (old new : State) (rows : List Row) → old.now.schema ≡ record_schema → Shown sql params old new rows
-    → ShowsChosen (plain_query terms project order) (old.now.trees 0) params rows
-shows_chosen sql terms project order asks params old new rows has shown =
-    answer_chosen terms project order (overlay old.now.trees []) params rows
-    ((reads_as sql params old new record_schema has (Select (record { lets = []; body = plain_query terms project order }) asks.names) asks.is asks.plain asks.unlisted rows shown).answer Null)
+-- where a statement computes no table, it reads those of the database
+pub overlay_none : (db : Trees) (tree : ℕ) → overlay db [] tree ≡ db tree
+overlay_none db tree =
+    let none : List (List Row) = [] in
+    elim (nat_le (2 ^ 31) tree) as (λ b. unwrap_or (cond b (slice_get none (tree - 2 ^ 31)) None) (db tree) ≡ db tree) [ true ↦ refl | false ↦ refl ]
+
+-- a text that is that query shows it
+pub shows_chosen : (sql : List ℕ) (tree : ℕ) (terms project : List Term) (order : List (Term × Key)) (params : Row) (old new : State) (rows : List Row)
+    → IsSelect old.now.schema sql (plain_query tree terms project order) → Shown sql params old new rows
+    → ShowsChosen (plain_query tree terms project order) (old.now.trees tree) params rows
+shows_chosen sql tree terms project order params old new rows asks shown =
+    let q = plain_query tree terms project order in
+    let it = asks.0 in
+    let is = commands old.now.schema sql it asks.1 ∙ asks.2.1 in
+    let reads = reads_as sql params old new old.now.schema refl (Select (alone q) asks.2.0) is (plainly old.now.schema sql it asks.1) (unlisted old.now.schema sql it asks.1.is) rows shown in
+    subst (λ l. ShowsChosen q l params rows) (overlay_none old.now.trees tree) (answer_chosen tree terms project order (overlay old.now.trees []) params rows (reads.answer Null))

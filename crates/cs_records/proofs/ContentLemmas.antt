@@ -1,9 +1,10 @@
 -- What calls keep of a connection: its content, and what a crash leaves.
 use Rattle.std.proofs.Common.{◌≡◌, Bool, true, false, not, IsTrue, inl, inr, refl, sym, ◌∙◌, true≢false, arith}
 use Rattle.sqlite_trees.specs.Tree.{Trees}
-use Rattle.sqlite.specs.State.{State, IsUnchanged, IsRolledBack, Survives}
+use Rattle.sqlite.specs.Effect.{Database, IsDatabase}
+use Rattle.sqlite.specs.State.{State, KeepsCommit, Survives}
 use Rattle.sqlite.proofs.StateLemmas.{survives_weaker}
-use Rattle.cs_records.specs.Records.{Rests, IsUndone, KeepsContent, KeepsCrash}
+use Rattle.cs_records.specs.Records.{Rests, GoesOn, IsUndone, KeepsContent, KeepsCrash, KeepsOthers, by_one, by_each}
 
 -- ---- nothing is done
 
@@ -47,6 +48,18 @@ rests_keeps_content old new (inr undone) closed settled = record {
   committed = λ k. (undone.undone k).1;
 }
 
+-- what was committed stays
+pub rests_commit : (old new : State) → Rests old new → KeepsCommit old new
+rests_commit old new (inl same) = record { was_open = λ k. same.0.was_open; committed = λ k. same.0.committed_is }
+rests_commit old new (inr undone) = record { was_open = undone.was_open; committed = λ k. (undone.undone k).1 }
+
+-- as it does where the transaction goes on, and where nothing is done
+pub on_commit : (old new : State) → GoesOn old new → KeepsCommit old new
+on_commit old new on = record { was_open = λ k. on.was_open; committed = λ k. on.committed_is }
+
+pub commit_itself : (s : State) → KeepsCommit s s
+commit_itself s = record { was_open = λ k. k; committed = λ k. refl }
+
 -- ---- autocommit
 
 -- a connection that is not in autocommit is in a transaction
@@ -58,3 +71,25 @@ in_transaction false e = absurd (true≢false (sym e))
 pub in_autocommit : (b : Bool) → true ≡ not b → b ≡ false
 in_autocommit true e = absurd (true≢false e)
 in_autocommit false e = refl
+
+-- ---- what else the database has
+
+-- it is kept by one call after another, and by doing nothing
+pub others_then : (a b c : Database) → IsDatabase b → KeepsOthers a b → KeepsOthers b c → KeepsOthers a c
+others_then a b c sound one two = record {
+  tables = λ table has other.
+      let first = one.tables table has other in
+      let second = two.tables table first.0 other in
+      (second.0, second.1 ∙ first.1);
+  indexes = λ index has. two.indexes index (one.indexes index has);
+  views = two.views ∙ one.views;
+  frozen = by_each a b c one.frozen sound two.frozen;
+}
+
+pub others_itself : (db : Database) → KeepsOthers db db
+others_itself db = record {
+  tables = λ table has other. (has, refl);
+  indexes = λ index has. has;
+  views = refl;
+  frozen = by_one db db (record { rows = λ t catalog version frozen. refl; texts = λ row has foreign. has; version = refl });
+}

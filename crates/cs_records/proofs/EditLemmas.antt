@@ -7,7 +7,7 @@ use Rattle.std.specs.declared.cmp.Ordering.TheVariants.{Less, Equal, Greater}
 use Rattle.std.proofs.lemmas.Bool.{and_parts, or_parts, not-true, both_ways, cases_Bool, false_from_ne_true}
 use Rattle.std.proofs.lemmas.Cmp.{int_ranked, tied_itself}
 use Rattle.sqlite_value.specs.declared.value.Value.TheVariants.{Int}
-use Rattle.sqlite_value.specs.Order.{Row, value_cmp}
+use Rattle.sqlite_value.specs.Order.{Row, column, value_cmp}
 use Rattle.sqlite_value.proofs.OrderLemmas.{value_cmp-Int, value_cmp_total}
 use Rattle.sqlite_value.specs.declared.keys.Collation.TheVariants.{Binary}
 use Rattle.sqlite_sql.specs.declared.ops.BinaryOp.TheVariants.{Compare}
@@ -19,9 +19,14 @@ use Rattle.sqlite_trees.proofs.TreeLemmas.{all-put_row}
 use Rattle.sqlite_rules.specs.Lists.{Has}
 use Rattle.sqlite_rules.specs.Edit.{id_in, without_all, put_all, is_taken, are_fresh, have_rowids}
 use Rattle.sqlite_rules.proofs.ListLemmas.{all_has, all_from, test_has, has_filtered, has_kept}
-use Rattle.sqlite_rules.proofs.TableLemmas.{int_is, put_all_has, put_all_keeps, without_all_has}
-use Rattle.sqlite.specs.Effect.{Database, IsDatabase}
-use Rattle.cs_records.specs.Records.{record_schema, is_under, records_of, changed, AreNumbered, HoldsRecords, Sets}
+use Rattle.sqlite_rules.proofs.TableLemmas.{int_is, put_all_adds, put_all_has, put_all_keeps, without_all_has}
+use Rattle.std.proofs.lemmas.List.Elements.{recursion_from_All}
+use Rattle.sqlite_trees.specs.Tree.{Trees}
+use Rattle.sqlite_schema.specs.Names.{same_name}
+use Rattle.sqlite_schema.specs.declared.schema.Table.{Table}
+use Rattle.sqlite_schema.specs.declared.schema.Schema.{Schema}
+use Rattle.sqlite.specs.Effect.{Database, IsDatabase, SparesFrozen}
+use Rattle.cs_records.specs.Records.{by_one, records_tree, record_rows, table_name, IsApart, DeclaresRecords, content, is_under, records_of, changed, AreNumbered, HoldsRecords, Sets}
 use Rattle.cs_records.proofs.RowLemmas.{IsRecordRow, truth_is, same_is, same_itself, record_row, one_number, ascending_from_pairs, pairs_from_ascending, AreRecords, are_records, under_is, IsUnder, records_under, records_is}
 
 -- ---- rowids
@@ -45,7 +50,7 @@ pub same_as_itself : (n : ℤ) → is_eq (value_cmp (Int n) (Int n)) ≡ true
 same_as_itself n = ap is_eq (tied_itself value_cmp_total (Int n))
 
 -- the row that has the number
-number_is : (db : Database) (row : Row) (id : ℤ) → HoldsRecords db → Has (db.trees 0) row → has_rowid id row ≡ true → rowid row ≡ Int id
+number_is : (db : Database) (row : Row) (id : ℤ) → HoldsRecords db → Has (record_rows db) row → has_rowid id row ≡ true → rowid row ≡ Int id
 number_is db row id holds has same =
     let x = record_row db row holds has in
     let number = ap rowid x.is in
@@ -165,31 +170,75 @@ pub record Replaces (rows : List Row) (tab key : List ℕ) (here : Option (List 
   pub is : after ≡ put_all (without_all rows gone) news
   pub set : IsUnder (put_all (without_all rows gone) news) tab key here
 
-module _ (db : Database) (holds : HoldsRecords db) (tab key : List ℕ) (here : Option (List ℕ)) (next : List Row) (edit : Replaces (db.trees 0) tab key here next) where
+module _ (db : Database) (holds : HoldsRecords db) (tab key : List ℕ) (here : Option (List ℕ)) (next : List Row) (edit : Replaces (record_rows db) tab key here next) where
   -- a row of another record is not taken out
-  untaken : (row : Row) → Has (db.trees 0) row → is_under tab key row ≡ false → (id : ℤ) → Has edit.gone id → has_rowid id row ≡ false
+  untaken : (row : Row) → Has (record_rows db) row → is_under tab key row ≡ false → (id : ℤ) → Has edit.gone id → has_rowid id row ≡ false
   untaken row has other id there = false_from_ne_true _ (λ same.
       let it = edit.taken id there in
       let one = one_number db row it.0 holds has it.1 (number_is db row id holds has same ∙ sym it.3) in
       both_ways _ other (subst (λ r. is_under tab key r ≡ true) (sym one) it.2))
 
   -- so the other rows stay
-  replaced : Changes (db.trees 0) next tab key here
+  replaced : Changes (record_rows db) next tab key here
   replaced =
-      let left = without_all (db.trees 0) edit.gone in
+      let left = without_all (record_rows db) edit.gone in
       record {
-        stays = λ row has other. subst (λ l. Has l row) (sym edit.is) (put_all_keeps edit.news left row edit.fresh (left_kept edit.gone (db.trees 0) row has (untaken row has other)));
+        stays = λ row has other. subst (λ l. Has l row) (sym edit.is) (put_all_keeps edit.news left row edit.fresh (left_kept edit.gone (record_rows db) row has (untaken row has other)));
         was = λ row has other. elim (put_all_has edit.news left row (subst (λ l. Has l row) edit.is has)) [
           | inl new ↦ absurd (both_ways _ other (edit.given row new))
-          | inr there ↦ without_all_has edit.gone (db.trees 0) row there
+          | inr there ↦ without_all_has edit.gone (record_rows db) row there
         ];
         set = subst (λ l. IsUnder l tab key here) (sym edit.is) edit.set;
       }
 
--- it changes that one record
-pub edit_sets : (db after : Database) (tab key : List ℕ) (here : Option (List ℕ)) → HoldsRecords db → after.schema ≡ record_schema → IsDatabase after → Replaces (db.trees 0) tab key here (after.trees 0)
-    → Sets db after tab key here
-edit_sets db after tab key here holds schema sound edit =
-    let numbered : AreNumbered (after.trees 0) = rw edit.is (edit_numbered (db.trees 0) edit.news edit.gone holds.numbered edit.keyed edit.fresh) in
-    let next : HoldsRecords after = record { schema = schema; sound = sound; numbered = numbered } in
-    record { holds = next; change = changed_records (db.trees 0) (after.trees 0) tab key here (are_records after next) (replaced db holds tab key here (after.trees 0) edit) }
+-- an edit of one tree, which spares each table in another
+pub record Edits (schema : Schema) (tree : ℕ) (old : Trees) (tab key : List ℕ) (here : Option (List ℕ)) (next : Trees) : Type 0 where
+  pub replaces : Replaces (old tree) tab key here (next tree)
+  pub spares : AllByRecursion (λ t. t.tree ≢ tree → next t.tree ≡ old t.tree) schema.tables
+
+-- a row that is put in alone, where it is that of the record
+pub puts_one : (schema : Schema) (tree : ℕ) (old next : Trees) (tab key value : List ℕ) (new : Row) → is_under tab key new ≡ true → content (column new 3) ≡ value → have_rowids (new ∷ []) ≡ true
+    → are_fresh (old tree) (new ∷ []) ≡ true → next tree ≡ put_all (old tree) (new ∷ []) → AllByRecursion (λ t. t.tree ≢ tree → next t.tree ≡ old t.tree) schema.tables
+    → Edits schema tree old tab key (Some value) next
+puts_one schema tree old next tab key value new under is keyed fresh rows spares = record {
+  replaces = record {
+    gone = [];
+    news = new ∷ [];
+    taken = λ id none. absurd none;
+    given = λ row has. elim has [ inl same ↦ subst (λ r. is_under tab key r ≡ true) (sym same) under | inr none ↦ absurd none ];
+    keyed = keyed;
+    fresh = fresh;
+    is = rows;
+    set = (new, put_all_adds (new ∷ []) (old tree) new fresh (inl refl), under, is);
+  };
+  spares = spares;
+}
+
+-- a table with another name has another tree
+pub elsewhere_is : (schema : Schema) (table : Table) → DeclaresRecords schema → Has schema.tables table → same_name table.name table_name ≡ false → table.tree ≢ records_tree schema
+elsewhere_is schema table declares has =
+    (all_has (IsApart (records_tree schema)) schema.tables table (recursion_from_All (IsApart (records_tree schema)) schema.tables declares.apart) has).elsewhere
+
+-- it changes that one record, and nothing else
+pub edit_sets : (db after : Database) (tab key : List ℕ) (here : Option (List ℕ)) → HoldsRecords db → after.schema ≡ db.schema → IsDatabase after → SparesFrozen db after
+    → Edits db.schema (records_tree db.schema) db.trees tab key here after.trees → Sets db after tab key here
+edit_sets db after tab key here holds same sound frozen edit =
+    let tree = records_tree db.schema in
+    let put = edit.replaces in
+    let rows : record_rows after ≡ after.trees tree = ap (λ (s : Schema). after.trees (records_tree s)) same in
+    let numbered : AreNumbered (record_rows after) = rw (rows, put.is) (edit_numbered (record_rows db) put.news put.gone holds.numbered put.keyed put.fresh) in
+    let next : HoldsRecords after = record { declares = subst DeclaresRecords (sym same) holds.declares; sound = sound; numbered = numbered } in
+    record {
+      holds = next;
+      change = changed_records (record_rows db) (record_rows after) tab key here (are_records after next)
+          (subst (λ l. Changes (record_rows db) l tab key here) (sym rows) (replaced db holds tab key here (after.trees tree) put));
+      others = record {
+        tables = λ table has other. (
+          subst (λ (s : Schema). Has s.tables table) (sym same) has,
+          all_has (λ t. t.tree ≢ tree → after.trees t.tree ≡ db.trees t.tree) db.schema.tables table edit.spares has (elsewhere_is db.schema table holds.declares has other),
+        );
+        indexes = λ index has. subst (λ (s : Schema). Has s.indexes index) (sym same) has;
+        views = ap (λ (s : Schema). s.views) same;
+        frozen = by_one db after frozen;
+      };
+    }

@@ -16,9 +16,9 @@ use Rattle.sqlite_rules.specs.Lists.{Has}
 use Rattle.sqlite_rules.proofs.ListLemmas.{all_has, all_from, has_filtered, has_kept}
 use Rattle.sqlite.specs.State.{State, Shown}
 use Rattle.sqlite.proofs.Callers.{one_permutation}
-use Rattle.cs_records.specs.Records.{HoldsRecords, is_under, content, records_in}
+use Rattle.cs_records.specs.Records.{records_tree, record_rows, HoldsRecords, is_under, content, records_in}
 use Rattle.cs_records.proofs.RowLemmas.{IsRecordRow, AreRecords, HaveOneKey, IsUnder, equal_texts, equal_blobs, are_records, records_filtered, under_is, records_under}
-use Rattle.cs_records.proofs.QueryTexts.{find_text, find_asks, at_key}
+use Rattle.cs_records.specs.Statements.{find_text, at_key}
 use Rattle.cs_records.proofs.AnswerLemmas.{shows_chosen}
 
 -- the rows that show a value that may be there
@@ -87,9 +87,9 @@ shown_found rows tab key (Some value) chosen h under same =
 pub finds : (tab key : List ℕ) (old new : State) (rows : List Row) → HoldsRecords old.now → Shown find_text (Text tab ∷ Blob key ∷ []) old new rows
     → rows ≡ found_rows (records_in old.now tab key)
 finds tab key old new rows h shown =
-    let all = old.now.trees 0 in
+    let all = record_rows old.now in
     let records = are_records old.now h in
-    let s = shows_chosen find_text _ _ _ find_asks (Text tab ∷ Blob key ∷ []) old new rows h.schema shown in
+    let s = shows_chosen find_text (records_tree old.now.schema) _ _ _ (Text tab ∷ Blob key ∷ []) old new rows h.declares.statements.finds shown in
     s.is ∙ shown_found all tab key _ s.chosen records (records_under all tab key) (subst (λ l. IsPermutation l s.chosen) (filter-at_key tab key [] all records) s.same)
 
 -- the first row that is shown gives the value, and where there is none there is no value

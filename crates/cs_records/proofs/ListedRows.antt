@@ -21,10 +21,10 @@ use Rattle.sqlite_trees.proofs.ListLemmas.{map-map, filter_all, filter_same, all
 use Rattle.sqlite_rules.specs.Lists.{Has}
 use Rattle.sqlite_rules.proofs.ListLemmas.{all_has, all_from, has_filtered}
 use Rattle.sqlite.specs.State.{State, Shown}
-use Rattle.cs_records.specs.Records.{RecordData, HoldsRecords, ListsTable, ListsAll, is_under, content, record_cmp, records_of, records_in, shown_keyed, shown_record}
+use Rattle.cs_records.specs.Records.{records_tree, record_rows, RecordData, HoldsRecords, ListsTable, ListsAll, is_under, content, record_cmp, records_of, records_in, shown_keyed, shown_record}
 use Rattle.cs_records.proofs.RowLemmas.{IsRecordRow, AreRecords, HaveOneKey, same_is, are_records, records_filtered, records_permuted, records_of-permutation, records_of-filter, ascending_of_members, pairs_from_ascending, has_permuted}
 use Rattle.cs_records.proofs.OrderLemmas.{tied_bytes, both_tied, below_from, ascending_both}
-use Rattle.cs_records.proofs.QueryTexts.{list_text, list_query, list_asks, all_text, all_query, all_asks}
+use Rattle.cs_records.specs.Statements.{list_text, list_query, all_text, all_query}
 use Rattle.cs_records.proofs.AnswerLemmas.{passes_where, sorts, shows_chosen}
 use Rattle.cs_records.proofs.FoundRows.{name_passes}
 
@@ -52,11 +52,11 @@ abbrev by_key : Row → Row → Ordering
 by_key a b = slice_cmp nat_cmp (content (column a 2)) (content (column b 2))
 
 -- on rows of records the query tests and sorts by these
-list_passes : (tab : List ℕ) (row : Row) → IsRecordRow row → passes_where list_query (Text tab ∷ []) row ≡ has_name tab row
-list_passes tab row r = rw (name_passes row tab r, and-true)
+list_passes : (tree : ℕ) (tab : List ℕ) (row : Row) → IsRecordRow row → passes_where (list_query tree) (Text tab ∷ []) row ≡ has_name tab row
+list_passes tree tab row r = rw (name_passes row tab r, and-true)
 
-list_sorts : (tab : List ℕ) (a b : Row) → IsRecordRow a → IsRecordRow b → sorts list_query (Text tab ∷ []) a b ≡ by_key a b
-list_sorts tab a b x y = then-Equal _ ∙ rw (x.is, y.is) (value_cmp-Blob x.key y.key)
+list_sorts : (tree : ℕ) (tab : List ℕ) (a b : Row) → IsRecordRow a → IsRecordRow b → sorts (list_query tree) (Text tab ∷ []) a b ≡ by_key a b
+list_sorts tree tab a b x y = then-Equal _ ∙ rw (x.is, y.is) (value_cmp-Blob x.key y.key)
 
 -- entries that rise are sorted
 below_entries : {X : Type 0} (key : List ℕ) (entries : List (List ℕ × X)) → AllByRecursion (λ e. slice_cmp nat_cmp key e.0 ≡ Less) entries → IsTrue (below_all (slice_cmp nat_cmp) key entries)
@@ -90,11 +90,12 @@ found_entry tab key (row ∷ rows) named =
 pub lists_table : (tab : List ℕ) (old new : State) (rows : List Row) → HoldsRecords old.now → Shown list_text (Text tab ∷ []) old new rows
     → ListsTable (records_in old.now) tab (map shown_keyed rows)
 lists_table tab old new rows h shown =
-    let all = old.now.trees 0 in
+    let all = record_rows old.now in
+    let tree = records_tree old.now.schema in
     let records = are_records old.now h in
-    let s = shows_chosen list_text _ _ _ list_asks (Text tab ∷ []) old new rows h.schema shown in
-    let passing : filter (passes_where list_query (Text tab ∷ [])) all ≡ filter (has_name tab) all =
-    filter_same (passes_where list_query (Text tab ∷ [])) (has_name tab) all (all_weaker IsRecordRow _ (list_passes tab) all records.each) in
+    let s = shows_chosen list_text tree _ _ _ (Text tab ∷ []) old new rows h.declares.statements.lists shown in
+    let passing : filter (passes_where (list_query tree) (Text tab ∷ [])) all ≡ filter (has_name tab) all =
+    filter_same (passes_where (list_query tree) (Text tab ∷ [])) (has_name tab) all (all_weaker IsRecordRow _ (list_passes tree tab) all records.each) in
     let same : IsPermutation (filter (has_name tab) all) s.chosen = subst (λ l. IsPermutation l s.chosen) passing s.same in
     let named_records = records_filtered (has_name tab) all records in
     let chosen_records = records_permuted _ s.chosen same named_records in
@@ -107,7 +108,7 @@ lists_table tab old new rows h shown =
     } in
     subst (ListsTable (records_in old.now) tab) (sym listed) (record {
       rising = sorted_entries (map keyed_of s.chosen) (ascending-map (λ a b. slice_cmp nat_cmp a.0 b.0 ≡ Less) keyed_of s.chosen
-          (rise (sorts list_query (Text tab ∷ [])) by_key (on_total (λ r. content (column r 2)) nat_list_cmp_total) (list_sorts tab) s.chosen one chosen_records s.rising));
+          (rise (sorts (list_query tree) (Text tab ∷ [])) by_key (on_total (λ r. content (column r 2)) nat_list_cmp_total) (list_sorts tree tab) s.chosen one chosen_records s.rising));
       each = λ key. found_entry tab key s.chosen named ∙ records_of-permutation _ s.chosen tab key named_records same ∙ records_of-filter (has_name tab) all tab key (λ row has fails. rw fails);
     })
 
@@ -121,8 +122,8 @@ abbrev by_record : Row → Row → Ordering
 by_record a b = record_cmp (record_of a) (record_of b)
 
 -- on rows of records the query sorts by this order
-all_sorts : (a b : Row) → IsRecordRow a → IsRecordRow b → sorts all_query [] a b ≡ by_record a b
-all_sorts a b x y = rw (then-Equal, x.is, y.is, value_cmp-Text, value_cmp-Blob)
+all_sorts : (tree : ℕ) (a b : Row) → IsRecordRow a → IsRecordRow b → sorts (all_query tree) [] a b ≡ by_record a b
+all_sorts tree a b x y = rw (then-Equal, x.is, y.is, value_cmp-Text, value_cmp-Blob)
 
 -- a name and a key find the record of the row
 found_record : (tab key : List ℕ) (rows : List Row) → option_map (λ r. r.value) (find (λ r. bytes_eq r.tab tab && bytes_eq r.key key) (map record_of rows)) ≡ records_of rows tab key
@@ -136,16 +137,17 @@ found_record tab key (row ∷ rows) =
 -- the query lists all records
 pub lists_all : (old new : State) (rows : List Row) → HoldsRecords old.now → Shown all_text [] old new rows → ListsAll (records_in old.now) (map shown_record rows)
 lists_all old new rows h shown =
-    let all = old.now.trees 0 in
+    let all = record_rows old.now in
+    let tree = records_tree old.now.schema in
     let records = are_records old.now h in
-    let s = shows_chosen all_text _ _ _ all_asks [] old new rows h.schema shown in
-    let same : IsPermutation all s.chosen = subst (λ l. IsPermutation l s.chosen) (filter_all (passes_where all_query []) all (all_of _ (λ row. refl) all)) s.same in
+    let s = shows_chosen all_text tree _ _ _ [] old new rows h.declares.statements.lists_all shown in
+    let same : IsPermutation all s.chosen = subst (λ l. IsPermutation l s.chosen) (filter_all (passes_where (all_query tree) []) all (all_of _ (λ row. refl) all)) s.same in
     let chosen_records = records_permuted all s.chosen same records in
     let listed : map shown_record rows ≡ map record_of s.chosen = ap (map shown_record) s.is ∙ map-map shown_record _ s.chosen in
     let one : (a b : Row) → Has s.chosen a → Has s.chosen b → by_record a b ≡ Equal → HaveOneKey a b = λ a b p q tied.
     (let parts = both_tied _ _ tied in record { tab = tied_bytes _ _ parts.0; key = tied_bytes _ _ parts.1 }) in
     let total : IsTotalOrder by_record = then_total (on_total (λ r. content (column r 1)) nat_list_cmp_total) (on_total (λ r. content (column r 2)) nat_list_cmp_total) in
-    let up = rise (sorts all_query []) by_record total all_sorts s.chosen one chosen_records s.rising in
+    let up = rise (sorts (all_query tree) []) by_record total (all_sorts tree) s.chosen one chosen_records s.rising in
     subst (ListsAll (records_in old.now)) (sym listed) (record {
       rising = pairs_from_ascending (λ a b. record_cmp a b ≡ Less) (map record_of s.chosen) (ascending-map (λ a b. record_cmp a b ≡ Less) record_of s.chosen up);
       each = λ tab key. found_record tab key s.chosen ∙ records_of-permutation all s.chosen tab key records same;

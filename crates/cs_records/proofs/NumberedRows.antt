@@ -19,10 +19,10 @@ use Rattle.sqlite_rules.specs.Lists.{Has}
 use Rattle.sqlite_rules.proofs.ListLemmas.{all_has, has_either, has_right}
 use Rattle.sqlite_catalog.proofs.ListFacts.{ascending_push}
 use Rattle.sqlite.specs.State.{State, Shown}
-use Rattle.cs_records.specs.Records.{record_schema, AreNumbered, AreRisingNumbers}
+use Rattle.cs_records.specs.Records.{records_tree, record_rows, DeclaresRecords, AreNumbered, AreRisingNumbers}
+use Rattle.cs_records.specs.Statements.{number_text, number_query}
 use Rattle.cs_records.proofs.RowLemmas.{ascending_from_pairs, pairs_from_ascending, ascending-permutation, ascending_of_members}
 use Rattle.cs_records.proofs.OrderLemmas.{below_from, ascending_both}
-use Rattle.cs_records.proofs.QueryTexts.{number_text, number_query, number_asks}
 use Rattle.cs_records.proofs.AnswerLemmas.{passes_where, sorts, ShowsChosen, shows_chosen}
 
 -- ---- numbers
@@ -126,21 +126,24 @@ ends_at rows i last number row low here h is stays numbers =
 abbrev numbered_of : Row → Row
 numbered_of row = column row 0 ∷ []
 
-number_sorts : (a b : Row) → sorts number_query [] a b ≡ value_cmp (rowid a) (rowid b)
-number_sorts a b = then-Equal (value_cmp (rowid a) (rowid b))
+number_sorts : (tree : ℕ) (a b : Row) → sorts (number_query tree) [] a b ≡ value_cmp (rowid a) (rowid b)
+number_sorts tree a b = then-Equal (value_cmp (rowid a) (rowid b))
 
-module _ (old new : State) (rows : List Row) (has : old.now.schema ≡ record_schema) (shown : Shown number_text [] old new rows) where
+module _ (old new : State) (rows : List Row) (has : DeclaresRecords old.now.schema) (shown : Shown number_text [] old new rows) where
+  abbrev tree : ℕ
+  tree = records_tree old.now.schema
+
   -- the query shows the number of each row of the table
-  all_shown : ShowsChosen number_query (old.now.trees 0) [] rows
-  all_shown = shows_chosen number_text _ _ _ number_asks [] old new rows has shown
+  all_shown : ShowsChosen (number_query tree) (record_rows old.now) [] rows
+  all_shown = shows_chosen number_text tree _ _ _ [] old new rows has.statements.numbers shown
 
-  all_chosen : IsPermutation (old.now.trees 0) all_shown.chosen
-  all_chosen = subst (λ l. IsPermutation l all_shown.chosen) (filter_all (passes_where number_query []) (old.now.trees 0) (all_of _ (λ row. refl) (old.now.trees 0))) all_shown.same
+  all_chosen : IsPermutation (record_rows old.now) all_shown.chosen
+  all_chosen = subst (λ l. IsPermutation l all_shown.chosen) (filter_all (passes_where (number_query tree) []) (record_rows old.now) (all_of _ (λ row. refl) (record_rows old.now))) all_shown.same
 
   -- where the numbers rise, each row has one, and no two the same
-  pub numbered : AreRisingNumbers rows → AreNumbered (old.now.trees 0)
+  pub numbered : AreRisingNumbers rows → AreNumbered (record_rows old.now)
   numbered h =
-      let all = old.now.trees 0 in
+      let all = record_rows old.now in
       let s = all_shown in
       let rising : AreRisingNumbers (map numbered_of s.chosen) = subst AreRisingNumbers s.is h in
       let back = IsPermutation-sym all s.chosen all_chosen in
@@ -154,21 +157,21 @@ module _ (old new : State) (rows : List Row) (has : old.now.schema ≡ record_sc
       }
 
   -- and where each row has one, and no two the same, they rise
-  pub rising_if_numbered : AreNumbered (old.now.trees 0) → AreRisingNumbers rows
+  pub rising_if_numbered : AreNumbered (record_rows old.now) → AreRisingNumbers rows
   rising_if_numbered h =
-      let all = old.now.trees 0 in
+      let all = record_rows old.now in
       let s = all_shown in
       let each : AllByRecursion (λ row. (n : ℤ) × (rowid row ≡ Int n)) s.chosen = all-permutation (λ row. (n : ℤ) × (rowid row ≡ Int n)) all s.chosen all_chosen h.each in
       let apart : IsAscending (λ a b. rowid a ≢ rowid b) s.chosen =
       ascending-permutation (λ a b. rowid a ≢ rowid b) (λ a b other same. other (sym same)) all s.chosen all_chosen (ascending_from_pairs (λ a b. rowid a ≢ rowid b) all h.once) in
       let up : IsAscending (λ a b. value_cmp (rowid a) (rowid b) ≡ Less) s.chosen =
-      ascending_of_members (λ a b. (is_lt (sorts number_query [] b a) ≡ false) × (rowid a ≢ rowid b)) (λ a b. value_cmp (rowid a) (rowid b) ≡ Less) s.chosen
+      ascending_of_members (λ a b. (is_lt (sorts (number_query tree) [] b a) ≡ false) × (rowid a ≢ rowid b)) (λ a b. value_cmp (rowid a) (rowid b) ≡ Less) s.chosen
       (λ a b p q both.
       let m = all_has (λ row. (n : ℤ) × (rowid row ≡ Int n)) s.chosen a each p in
       let n = all_has (λ row. (n : ℤ) × (rowid row ≡ Int n)) s.chosen b each q in
-      below_from value_cmp value_cmp_total (rowid a) (rowid b) (subst (λ o. is_lt o ≡ false) (number_sorts b a) both.0)
+      below_from value_cmp value_cmp_total (rowid a) (rowid b) (subst (λ o. is_lt o ≡ false) (number_sorts tree b a) both.0)
       (λ tied. both.1 (m.1 ∙ ap Int (tied_numbers m.0 n.0 (rw (m.1, n.1) at tied)) ∙ sym n.1)))
-      (ascending_both (λ a b. is_lt (sorts number_query [] b a) ≡ false) (λ a b. rowid a ≢ rowid b) s.chosen s.rising apart) in
+      (ascending_both (λ a b. is_lt (sorts (number_query tree) [] b a) ≡ false) (λ a b. rowid a ≢ rowid b) s.chosen s.rising apart) in
       subst AreRisingNumbers (sym s.is) (record {
         each = all-map (λ row. (n : ℤ) × (column row 0 ≡ Int n)) numbered_of s.chosen each;
         rising = ascending-map (λ a b. value_cmp (column a 0) (column b 0) ≡ Less) numbered_of s.chosen up;

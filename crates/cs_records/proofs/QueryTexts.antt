@@ -1,19 +1,10 @@
--- What the texts of the queries mean: under the schema of the table of records, and that none of them writes under any.
-use Rattle.std.proofs.Common.{◌≡◌, ℕ, pos, negsuc, Bool, true, false, cond, List, [], ◌∷◌, codes, None, Result, Ok, Err, refl}
-use Rattle.sqlite_value.specs.declared.value.Value.TheVariants.{Int}
-use Rattle.sqlite_value.specs.declared.keys.Collation.TheVariants.{Binary}
-use Rattle.sqlite_value.specs.declared.keys.Key.{Key}
-use Rattle.sqlite_value.specs.Keys.{ascending}
+-- What is known of the texts: that no query writes, whatever the schema is, and what a text is that is compiled.
+use Rattle.std.proofs.Common.{◌≡◌, ℕ, Bool, true, false, cond, List, None, Result, Ok, Err, refl, sym, ap, subst, ◌∙◌}
 use Rattle.sqlite_ast.specs.declared.Statement.{Statement}
 use Rattle.sqlite_ast.specs.declared.Statement.TheVariants as written
 use Rattle.sqlite_syntax.specs.declared.statement.Parsed.{Parsed}
-use Rattle.sqlite_sql.specs.declared.ops.BinaryOp.TheVariants.{Compare}
-use Rattle.sqlite_sql.specs.declared.ops.CompareOp.TheVariants.{Eq}
-use Rattle.sqlite_sql.specs.Term.{Term, lit, col, op2}
-use Rattle.sqlite_sql.specs.Query.{Query, inner, end}
 use Rattle.sqlite_schema.specs.declared.schema.Schema.{Schema}
 use Rattle.sqlite_schema.specs.declared.command.Command.{Command}
-use Rattle.sqlite_schema.specs.declared.command.Command.TheVariants.{Select}
 use Rattle.sqlite_resolve.specs.Lowering.{Checked, and_then}
 use Rattle.sqlite_resolve.specs.Compile.{first, returning, meaning, planned, compiled, with_command}
 use Rattle.sqlite_resolve.specs.declared.compiled.Compiled.{Compiled}
@@ -22,7 +13,8 @@ use Rattle.sqlite_resolve.specs.declared.error.CompileError.TheVariants.{NoSuchT
 use Rattle.sqlite_tied.specs.Compute.{everything}
 use Rattle.sqlite.specs.Listing.{understood, reads_listing, listing_schema, if_select, is_select}
 use Rattle.sqlite.proofs.Callers.{IsPlain, command_of}
-use Rattle.cs_records.specs.Records.{record_schema, ShowsOnly, IsQuery}
+use Rattle.cs_records.specs.Records.{ShowsOnly, IsQuery}
+use Rattle.cs_records.specs.Statements.{find_text, list_text, all_text, number_text, IsPlainStatement, IsCommand}
 
 -- ---- a SELECT writes nothing, whatever the schema is
 
@@ -66,86 +58,44 @@ select_is_query sql h schema =
     elim (reads_listing schema sql) as (λ b. ShowsOnly (cond b (if_select (compiled listing_schema sql)) (compiled schema sql)))
     [ true ↦ selected_shows _ (compiled_shows listing_schema sql h) | false ↦ compiled_shows schema sql h ]
 
--- ---- what the texts ask for
+-- as these texts do
+pub find_is_query : IsQuery find_text
+unfolding first everything
+find_is_query = select_is_query find_text refl
 
--- rows of the one table that pass, shown and in an order
-abbrev pub plain_query : List Term → List Term → List (Term × Key) → Query
-plain_query filter project order = record {
-  from = inner 0 end;
-  filter = filter;
-  group = None;
-  project = project;
-  distinct = false;
-  collations = [];
-  order = order;
-  limit = lit (Int (negsuc 0));
-  offset = lit (Int (pos 0));
-}
+pub list_is_query : IsQuery list_text
+unfolding first everything
+list_is_query = select_is_query list_text refl
 
--- under the schema of the table of records the text is that query
-pub record Asks (sql : List ℕ) (q : Query) : Type 0 where
-  pub names : List (List ℕ)
-  pub is : command_of (understood record_schema sql) ≡ Select (record { lets = []; body = q }) names
-  pub plain : IsPlain (understood record_schema sql)
-  pub unlisted : reads_listing record_schema sql ≡ false
-  pub selects : is_select_text (first sql) ≡ true
+pub all_is_query : IsQuery all_text
+unfolding first everything
+all_is_query = select_is_query all_text refl
 
--- a text that is such a query writes nothing
-pub asks_query : (sql : List ℕ) (q : Query) → Asks sql q → IsQuery sql
-asks_query sql q asks = select_is_query sql asks.selects
+pub number_is_query : IsQuery number_text
+unfolding first everything
+number_is_query = select_is_query number_text refl
 
--- SQL's =, under the collation BINARY
-abbrev equals : Term → Term → Term
-equals a b = op2 (Compare Eq Binary) a b
+-- ---- a text that is compiled
 
--- the query for one record
-abbrev pub find_text : List ℕ
-find_text = codes "SELECT rowb FROM rec WHERE tab = ?1 AND keyb = ?2"
+-- it is understood as it is compiled, and is no query on sqlite_schema
+pub understood_is : (schema : Schema) (sql : List ℕ) (it : Compiled) → compiled schema sql ≡ Ok it → understood schema sql ≡ Ok it
+unfolding understood
+understood_is schema sql it is = rw is refl
 
--- the name and the key are the first two parameters
-abbrev pub at_key : List Term
-at_key = equals (col 1 1) (col 0 0) ∷ equals (col 1 2) (col 0 1) ∷ []
+pub unlisted : (schema : Schema) (sql : List ℕ) (it : Compiled) → compiled schema sql ≡ Ok it → reads_listing schema sql ≡ false
+unlisted schema sql it is = rw is refl
 
-abbrev pub find_query : Query
-find_query = plain_query at_key (col 1 3 ∷ []) []
+-- and is as plain as it says
+pub plainly : (schema : Schema) (sql : List ℕ) (it : Compiled) → IsPlainStatement schema sql it → IsPlain (understood schema sql)
+plainly schema sql it plain = subst IsPlain (sym (understood_is schema sql it plain.is)) (plain.returns_nothing, plain.reads_no_time)
 
-pub find_asks : Asks find_text find_query
-unfolding understood first everything
-find_asks = record { names = codes "rowb" ∷ []; is = refl; plain = (refl, refl); unlisted = refl; selects = refl }
+-- its command is the one that it says
+pub commands : (schema : Schema) (sql : List ℕ) (it : Compiled) → IsPlainStatement schema sql it → command_of (understood schema sql) ≡ it.command
+commands schema sql it plain = ap command_of (understood_is schema sql it plain.is)
 
--- rising, by bytes
-abbrev pub up : Key
-up = ascending Binary
+module _ (schema : Schema) (sql : List ℕ) (command : Command) (its : IsCommand schema sql command) where
+  pub command_is : command_of (understood schema sql) ≡ command
+  command_is = commands schema sql its.0 its.1 ∙ its.2
 
--- the query for the records under a name
-abbrev pub list_text : List ℕ
-list_text = codes "SELECT keyb, rowb FROM rec WHERE tab = ?1 ORDER BY keyb"
-
-abbrev pub list_query : Query
-list_query = plain_query (equals (col 1 1) (col 0 0) ∷ []) (col 1 2 ∷ col 1 3 ∷ []) ((col 1 2, up) ∷ [])
-
-pub list_asks : Asks list_text list_query
-unfolding understood first everything
-list_asks = record { names = codes "keyb" ∷ codes "rowb" ∷ []; is = refl; plain = (refl, refl); unlisted = refl; selects = refl }
-
--- the query for all records
-abbrev pub all_text : List ℕ
-all_text = codes "SELECT tab, keyb, rowb FROM rec ORDER BY tab, keyb"
-
-abbrev pub all_query : Query
-all_query = plain_query [] (col 1 1 ∷ col 1 2 ∷ col 1 3 ∷ []) ((col 1 1, up) ∷ (col 1 2, up) ∷ [])
-
-pub all_asks : Asks all_text all_query
-unfolding understood first everything
-all_asks = record { names = codes "tab" ∷ codes "keyb" ∷ codes "rowb" ∷ []; is = refl; plain = (refl, refl); unlisted = refl; selects = refl }
-
--- the query for the numbers of the rows
-abbrev pub number_text : List ℕ
-number_text = codes "SELECT rowid FROM rec ORDER BY rowid"
-
-abbrev pub number_query : Query
-number_query = plain_query [] (col 1 0 ∷ []) ((col 1 0, up) ∷ [])
-
-pub number_asks : Asks number_text number_query
-unfolding understood first everything
-number_asks = record { names = codes "rowid" ∷ []; is = refl; plain = (refl, refl); unlisted = refl; selects = refl }
+  pub command_plain : IsPlain (understood schema sql)
+  command_plain = plainly schema sql its.0 its.1

@@ -23,13 +23,15 @@ use Rattle.std.proofs.lemmas.List.Sorted.{Contains-permutation, IsPermutation-sy
 use Rattle.sqlite_trees.proofs.ListLemmas.{ascending-get_or, all-permutation, all-filter, ascending-filter, along_permutation}
 use Rattle.sqlite_schema.specs.declared.schema.Kind.TheVariants as kind
 use Rattle.sqlite_schema.specs.declared.schema.Constraint.{Constraint}
-use Rattle.sqlite_schema.specs.declared.schema.Constraint.TheVariants.{Datatype, NotNull, Unique}
-use Rattle.sqlite_schema.specs.Rules.{passes, Keeps, is_of, are_typed, are_present, clashes, agree, differ}
+use Rattle.sqlite_schema.specs.declared.schema.Constraint.TheVariants.{Datatype, NotNull}
+use Rattle.sqlite_schema.specs.Rules.{passes, is_of, are_typed, are_present, clashes, agree, differ}
 use Rattle.sqlite_rules.specs.Lists.{Has}
-use Rattle.sqlite_rules.proofs.ListLemmas.{all_has, all_from, some_from, has_found, has_contained, contains_had}
+use Rattle.sqlite_rules.proofs.ListLemmas.{all_has, all_from, some_from, has_found, has_got, has_contained, contains_had}
+use Rattle.sqlite_rules.proofs.RuleLemmas.{keeps_at}
 use Rattle.sqlite_catalog.proofs.ListFacts.{find_within}
+use Rattle.sqlite_catalog.proofs.AlterLemmas.{keys_are_unique}
 use Rattle.sqlite.specs.Effect.{Database}
-use Rattle.cs_records.specs.Records.{record_table, record_schema, content, is_under, records_of, records_in, HoldsRecords}
+use Rattle.cs_records.specs.Records.{records_table, records_tree, record_rows, content, is_under, records_of, records_in, HoldsRecords}
 
 -- ---- bytes that are the same
 
@@ -102,7 +104,7 @@ same_values : (a b c d x y z w : Value) → a ≡ x → b ≡ y → c ≡ z → 
 same_values a b c d x y z w p q r s = cc
 
 -- the types and NOT NULL give the three values, and the number is given
-row_is : (row : Row) (n : ℤ) → are_typed None 0 record_table.columns (drop 1 row) ≡ true → are_present None 0 record_table.columns row ≡ true → rowid row ≡ Int n → IsRecordRow row
+row_is : (row : Row) (n : ℤ) → are_typed None 0 (records_table 0).columns (drop 1 row) ≡ true → are_present None 0 (records_table 0).columns row ≡ true → rowid row ≡ Int n → IsRecordRow row
 row_is [] n typed present number = absurd cc
 row_is (a ∷ []) n typed present number = absurd cc
 row_is (a ∷ b ∷ []) n typed present number = absurd (never (and_parts _ false present).1)
@@ -120,15 +122,19 @@ row_is (a ∷ b ∷ c ∷ d ∷ []) n typed present number =
 
 -- ---- the rules of the schema
 
+-- the table is one of the schema
+pub is_listed : (db : Database) → HoldsRecords db → Has db.schema.tables (records_table (records_tree db.schema))
+is_listed db h = has_got db.schema.tables h.declares.place _ h.declares.table
+
 -- each row passes each rule
-passes_rule : (db : Database) (rule : Constraint) (row : Row) → HoldsRecords db → Has (db.trees 0) row → passes rule record_schema db.trees record_table row ≡ true
-passes_rule db rule row h has =
-    all_has (λ r. passes rule record_schema db.trees record_table r ≡ true) (db.trees 0) row (subst (λ s. Keeps rule s db.trees) h.schema (h.sound.obeys.rules rule)).0 has
+passes_rule : (db : Database) (rule : Constraint) (row : Row) → HoldsRecords db → Has (record_rows db) row
+    → passes rule db.schema db.trees (records_table (records_tree db.schema)) row ≡ true
+passes_rule db rule row h has = keeps_at rule db.schema db.trees (records_table (records_tree db.schema)) row (h.sound.obeys.rules rule) (is_listed db h) has
 
 -- each row has the form of a record
-pub record_row : (db : Database) (row : Row) → HoldsRecords db → Has (db.trees 0) row → IsRecordRow row
+pub record_row : (db : Database) (row : Row) → HoldsRecords db → Has (record_rows db) row → IsRecordRow row
 record_row db row h has =
-    let number = all_has (λ r. (n : ℤ) × (rowid r ≡ Int n)) (db.trees 0) row h.numbered.each has in
+    let number = all_has (λ r. (n : ℤ) × (rowid r ≡ Int n)) (record_rows db) row h.numbered.each has in
     row_is row number.0 (and_parts _ _ (passes_rule db Datatype row h has)).0 (passes_rule db NotNull row h has) number.1
 
 -- ---- two rows
@@ -162,8 +168,8 @@ one_member Same back (x ∷ xs) apart a b (inr p) (inl q) same = absurd (all_has
 one_member Same back (x ∷ xs) apart a b (inr p) (inr q) same = one_member Same back xs apart.1 a b p q same
 
 -- two rows of one number are one
-pub one_number : (db : Database) (a b : Row) → HoldsRecords db → Has (db.trees 0) a → Has (db.trees 0) b → rowid a ≡ rowid b → a ≡ b
-one_number db a b h = one_member (λ r s. rowid r ≡ rowid s) (λ r s. sym) (db.trees 0) (ascending_from_pairs (λ r s. rowid r ≢ rowid s) (db.trees 0) h.numbered.once) a b
+pub one_number : (db : Database) (a b : Row) → HoldsRecords db → Has (record_rows db) a → Has (record_rows db) b → rowid a ≡ rowid b → a ≡ b
+one_number db a b h = one_member (λ r s. rowid r ≡ rowid s) (λ r s. sym) (record_rows db) (ascending_from_pairs (λ r s. rowid r ≢ rowid s) (record_rows db) h.numbered.once) a b
 
 -- SQL finds one key of two rows that have it
 agrees : (a b : Row) (x : IsRecordRow a) (y : IsRecordRow b) → HaveOneKey a b → agree plain (1 ∷ 2 ∷ []) a (1 ∷ 2 ∷ []) b ≡ true
@@ -176,17 +182,17 @@ agrees a b x y same =
     and_from _ _ texts (and_from _ _ blobs refl)
 
 -- the rule Unique leaves no row that clashes with another
-unclashed : (db : Database) (row : Row) → HoldsRecords db → Has (db.trees 0) row → clashes plain (1 ∷ 2 ∷ []) (db.trees 0) row ≡ false
-unclashed db row h has = not_false _ (and_parts _ _ (passes_rule db Unique row h has)).0
+unclashed : (db : Database) (row : Row) → HoldsRecords db → Has (record_rows db) row → clashes plain (1 ∷ 2 ∷ []) (record_rows db) row ≡ false
+unclashed db row h has = keys_are_unique db.schema db.trees (records_table (records_tree db.schema)) 0 (1 ∷ 2 ∷ []) row h.sound (is_listed db h) refl has
 
 -- two rows with the same name and key are one
-pub one_record : (db : Database) (a b : Row) → HoldsRecords db → Has (db.trees 0) a → Has (db.trees 0) b → HaveOneKey a b → a ≡ b
+pub one_record : (db : Database) (a b : Row) → HoldsRecords db → Has (record_rows db) a → Has (record_rows db) b → HaveOneKey a b → a ≡ b
 one_record db a b h p q same =
     let x = record_row db a h p in
     let y = record_row db b h q in
     let alike : differ (rowid a) (rowid b) ≡ false = elim (cases_Bool (differ (rowid a) (rowid b))) [
       | inl apart ↦ absurd (
-          let clash = some_from (λ other. agree plain (1 ∷ 2 ∷ []) other (1 ∷ 2 ∷ []) b && differ (rowid other) (rowid b)) (db.trees 0) a p (and_from _ _ (agrees a b x y same) apart) in
+          let clash = some_from (λ other. agree plain (1 ∷ 2 ∷ []) other (1 ∷ 2 ∷ []) b && differ (rowid other) (rowid b)) (record_rows db) a p (and_from _ _ (agrees a b x y same) apart) in
           let none = unclashed db b h q in
           cc
           )
@@ -207,11 +213,11 @@ one_key_back : (a b : Row) → HaveOneKey a b → HaveOneKey b a
 one_key_back a b same = record { tab = sym same.tab; key = sym same.key }
 
 -- the rows of a database that holds records are
-pub are_records : (db : Database) → HoldsRecords db → AreRecords (db.trees 0)
+pub are_records : (db : Database) → HoldsRecords db → AreRecords (record_rows db)
 are_records db h = record {
-  each = all_from IsRecordRow (db.trees 0) (λ row has. record_row db row h has);
-  apart = ascending_of_members (λ a b. rowid a ≢ rowid b) (λ a b. ¬ HaveOneKey a b) (db.trees 0) (λ a b p q other same. other (ap rowid (one_record db a b h p q same)))
-      (ascending_from_pairs (λ a b. rowid a ≢ rowid b) (db.trees 0) h.numbered.once);
+  each = all_from IsRecordRow (record_rows db) (λ row has. record_row db row h has);
+  apart = ascending_of_members (λ a b. rowid a ≢ rowid b) (λ a b. ¬ HaveOneKey a b) (record_rows db) (λ a b p q other same. other (ap rowid (one_record db a b h p q same)))
+      (ascending_from_pairs (λ a b. rowid a ≢ rowid b) (record_rows db) h.numbered.once);
 }
 
 -- what holds of any two elements, in either order, holds along each permutation
@@ -306,5 +312,5 @@ unfolding records_of
 records_of-filter p rows tab key so = ap (option_map (λ row. content (column row 3))) (find_within (is_under tab key) p rows so)
 
 -- a database that holds records holds what is in its rows
-pub records_in_is : (db : Database) (tab key : List ℕ) (o : Option (List ℕ)) → HoldsRecords db → IsUnder (db.trees 0) tab key o → records_in db tab key ≡ o
-records_in_is db tab key o h under = records_is (db.trees 0) tab key o (are_records db h) under
+pub records_in_is : (db : Database) (tab key : List ℕ) (o : Option (List ℕ)) → HoldsRecords db → IsUnder (record_rows db) tab key o → records_in db tab key ≡ o
+records_in_is db tab key o h under = records_is (record_rows db) tab key o (are_records db h) under

@@ -1,6 +1,21 @@
 -- What a statement leaves where it is refused, and what a known one may commit.
-use Rattle.std.proofs.Common.{◌≡◌, ◌≢◌, ◌⊎◌, ◌||◌, inl, inr, ℕ, ◌≤◌, Option, List, [], length, append-nil, Bool, true, false, None, Ok, Err, Result, IsTrue, if◌then◌else◌, sym, ap, subst, subst₂, ◌∙◌, arith}
-use Rattle.std.proofs.lemmas.Bool.{cases_Bool, both_ways}
+use Rattle.std.proofs.Common.{◌≡◌, ◌≢◌, ◌⊎◌, ◌||◌, ◌==◌, inl, inr, ℕ, ◌≤◌, Option, List, [], ◌∷◌, length, map, find, append-nil, Bool, true, false, None, Some, option_map, option_and_then, slice_get, Ok, Err, Result, IsTrue, IfSome, if◌then◌else◌, refl, sym, ap, subst, subst₂, ◌∙◌, arith}
+use Rattle.std.specs.List.{AllByRecursion, filter_map, flat_map}
+use Rattle.std.specs.Char.{to_ascii_lowercase}
+use Rattle.std.specs.Cmp.Lexicographic.{texts_ties}
+use Rattle.std.proofs.lemmas.Bool.{cases_Bool, both_ways, eqb-true, false_from_ne_true}
+use Rattle.std.proofs.lemmas.List.Elements.{recursion_from_All}
+use Rattle.sqlite_value.specs.declared.keys.Order.{Order}
+use Rattle.sqlite_schema.specs.declared.schema.Keys.{Keys}
+use Rattle.sqlite_schema.specs.declared.schema.Reference.{Reference}
+use Rattle.sqlite_schema.specs.declared.schema.Table.{Table}
+use Rattle.sqlite_schema.specs.Names.{same_name}
+use Rattle.sqlite_schema.specs.Rules.{ParentKey, key_in, key_places, declared_order}
+use Rattle.sqlite_rules.specs.declared.action.Deed.{Deed}
+use Rattle.sqlite_rules.specs.Edit.{Edit, taken_by, Applies}
+use Rattle.sqlite_rules.specs.Action.{works, work_for, work_by, Writes as WritesEdit}
+use Rattle.sqlite_rules.proofs.ListLemmas.{all_has, all_from, has_found}
+use Rattle.sqlite.specs.Does.{Tally, AtPlace, OnRows}
 use Rattle.sqlite_value.specs.Order.{Row}
 use Rattle.sqlite_trees.specs.Tree.{Trees}
 use Rattle.sqlite_schema.specs.declared.schema.Schema.{Schema}
@@ -14,10 +29,11 @@ use Rattle.sqlite.specs.Given.{IsPlain}
 use Rattle.sqlite.specs.Listing.{understood}
 use Rattle.sqlite.specs.Calls.{IsWrite}
 use Rattle.sqlite.specs.Effect.{is_query}
-use Rattle.sqlite.specs.State.{State, Shows, Writes, HasCleanDisk, Survives, is_pragma, ExecutesIn, Executes, IsNotRun, IsNoStatement, IsUnchanged, IsRolledBack, IsMisplaced, MayCommit, RunsCommand, CommitsBy, shows_rows}
-use Rattle.sqlite.proofs.Callers.{command_of, statement_of}
+use Rattle.sqlite.specs.State.{State, mode_of, Shows, Writes, HasCleanDisk, Survives, is_pragma, ExecutesIn, Executes, IsNotRun, IsNoStatement, IsUnchanged, IsRolledBack, IsMisplaced, MayCommit, RunsCommand, CommitsBy, shows_rows}
+use Rattle.sqlite.proofs.Callers.{command_of, statement_of, one_step}
 use Rattle.sqlite.proofs.StateLemmas.{survives_weaker}
-use Rattle.cs_records.specs.Records.{Rests, KeepsCrash, GoesOn, IsUndone}
+use Rattle.cs_records.specs.Records.{table_name, records_tree, IsApart, DeclaresRecords, Rests, KeepsCrash, GoesOn, IsUndone}
+use Rattle.cs_records.proofs.RowLemmas.{same_is}
 
 -- ---- for each text
 
@@ -80,15 +96,6 @@ module _ (sql : List ℕ) (params : Row) (schema : Schema) (command : Command) (
       let may = rw (bare.0, bare.1, append-nil params) at h.2 in
       subst₂ (λ k t. MayCommit s None k t params db) (ap command_of known ∙ is) (ap (statement_of sql) known) may
 
-  -- inside a transaction it commits nothing, unless it ends the transaction
-  pub inside_keeps_crash : command ≢ Commit → ((name : List ℕ) → command ≢ Release name) → (old new : State) → (HasCleanDisk old → old.now.schema ≡ schema) → (HasCleanDisk old → IsTrue old.in_transaction)
-      → Survives old new (CommitsBy sql params old) → KeepsCrash old new
-  inside_keeps_crash commits releases old new has inside survives = survives_weaker old new _ (λ _. ⊥) (λ clean db by. elim (commits_as old db (has (omega (arith, survives.clean))) by) [
-    | inl (inl ends, at) ↦ commits ends
-    | inl (inr ends, at) ↦ releases ends.0 ends.2
-    | inr writes ↦ both_ways _ writes.0 (inside (omega (arith, survives.clean)))
-  ]) survives
-
   -- where it is no write, its failure rolls back, or it was not in its place
   pub fails_as : ¬ IsWrite command → is_query command || is_pragma command ≡ false → (old new : State) (e : Error) → old.now.schema ≡ schema → IsWhole sql (length params) (understood schema sql)
       → Executes sql params old new (Err e) → IsRolledBack old new ⊎ (IsMisplaced old command e × IsUnchanged old new)
@@ -110,6 +117,28 @@ module _ (sql : List ℕ) (params : Row) (schema : Schema) (command : Command) (
         | inr fails ↦ inl fails.3
       ]
 
+-- the text is a statement under the schema, and does not end a transaction
+pub record EndsNothing (schema : Schema) (sql : List ℕ) : Type 0 where
+  pub command : Command
+  pub is : command_of (understood schema sql) ≡ command
+  pub plain : IsPlain (understood schema sql)
+  pub commits : command ≢ Commit
+  pub releases : (name : List ℕ) → command ≢ Release name
+
+-- inside a transaction it commits nothing
+pub inside_keeps_crash : (sql : List ℕ) (params : Row) (old new : State) → (HasCleanDisk old → EndsNothing old.now.schema sql) → (HasCleanDisk old → IsTrue old.in_transaction)
+    → Survives old new (CommitsBy sql params old) → KeepsCrash old new
+inside_keeps_crash sql params old new has inside survives = survives_weaker old new _ (λ _. ⊥) (λ clean db by. never (omega (arith, survives.clean)) db by) survives
+  where
+    never : HasCleanDisk old → (db : Trees) → CommitsBy sql params old db → ⊥
+    never was db by =
+        let it = has was in
+        elim (commits_as sql params old.now.schema it.command it.is it.plain old db refl by) [
+          | inl (inl ends, at) ↦ it.commits ends
+          | inl (inr ends, at) ↦ it.releases ends.0 ends.2
+          | inr writes ↦ both_ways _ writes.0 (inside was)
+        ]
+
 -- the state after a rollback
 pub undone_by : (old new : State) → IsRolledBack old new → IsUndone old new
 undone_by old new h = record { autocommit = h.autocommit; was_open = h.was_open; now = λ is_open. (h.undone is_open).0; committed = λ is_open. (h.undone is_open).1 }
@@ -127,3 +156,77 @@ went (inr further) = further
 -- what two values that are given alike say
 pub same_value : {B E : Type 0} {a b : B} → ◌≡◌ {A = Result B E} (Ok a) (Ok b) → a ≡ b
 same_value e = cc
+
+-- ---- a statement on the rows of a table
+
+-- it is on the table at its place
+pub on_table : (old new : State) (tally : Tally) (params : Row) (place : ℕ) (table : Table) (command : Command) → slice_get old.now.schema.tables place ≡ Some table
+    → AtPlace (λ t. OnRows (record { limit = old.step_limit; keys = (mode_of old).keys; schema = old.now.schema; table = t; params = params }) (mode_of old) None command old.now.trees)
+    (slice_get old.now.schema.tables place) (Ok (tally, new.now))
+    → OnRows (record { limit = old.step_limit; keys = (mode_of old).keys; schema = old.now.schema; table = table; params = params }) (mode_of old) None command old.now.trees (Ok (tally, new.now))
+on_table old new tally params place table command has =
+    subst (λ o. AtPlace (λ t. OnRows (record { limit = old.step_limit; keys = (mode_of old).keys; schema = old.now.schema; table = t; params = params }) (mode_of old) None command old.now.trees) o (Ok (tally, new.now))) has
+
+-- ---- no key refers to the table of records
+
+-- what is a name but for case has the same other names
+name_apart : (a b c : List ℕ) → same_name a b ≡ true → same_name b c ≡ false → same_name a c ≡ false
+unfolding same_name
+name_apart a b c same other =
+    let is : map to_ascii_lowercase a ≡ map to_ascii_lowercase b =
+    same_is (map to_ascii_lowercase a) (map to_ascii_lowercase b) (texts_ties (map to_ascii_lowercase a) (map to_ascii_lowercase b) ∙ same) in
+    rw is other
+
+-- a key that refers to a table with another tree sets off nothing here
+key_elsewhere : (tree : ℕ) (names : List (List ℕ)) (found : Option Table) → IfSome found (λ t. t.tree ≢ tree)
+    → IfSome (option_and_then (λ t. option_and_then (key_in t) (key_places t names)) found) (λ key. (key.0 == tree) ≡ false)
+key_elsewhere tree names None h = tt
+key_elsewhere tree names (Some t) h = at (key_places t names)
+  where
+    in_order : (places : List ℕ) (order : Option Order) → IfSome {T = ParentKey} (option_map (λ o. (t.tree, places, o)) order) (λ key. (key.0 == tree) ≡ false)
+    in_order places None = tt
+    in_order places (Some o) = false_from_ne_true _ (λ same. h (eqb-true t.tree tree same))
+
+    at : (places : Option (List ℕ)) → IfSome (option_and_then (key_in t) places) (λ key. (key.0 == tree) ≡ false)
+    at None = tt
+    at (Some places) = in_order places (declared_order t places)
+
+no_work : (depth tree : ℕ) (moves : List (Row × Row)) (child : Table) (ref : Reference) (deed : Option Deed) (key : Option ParentKey) → IfSome key (λ k. (k.0 == tree) ≡ false)
+    → work_by depth tree moves child ref deed key ≡ None
+no_work depth tree moves child ref None key h = refl
+no_work depth tree moves child ref (Some deed) None h = refl
+no_work depth tree moves child ref (Some deed) (Some key) h = rw h refl
+
+none_mapped : {X Y : Type 0} (f : X → Option Y) (xs : List X) → AllByRecursion (λ x. f x ≡ None) xs → filter_map f xs ≡ []
+none_mapped f [] h = refl
+none_mapped f (x ∷ xs) h = rw h.0 (none_mapped f xs h.1)
+
+none_flat : {X Y : Type 0} (f : X → List Y) (xs : List X) → AllByRecursion (λ x. f x ≡ []) xs → flat_map f xs ≡ []
+none_flat f [] h = refl
+none_flat f (x ∷ xs) h = rw h.0 (none_flat f xs h.1)
+
+-- so a write of the table sets off no action
+pub no_works : (schema : Schema) (keys : Keys) (olds news : List Row) → DeclaresRecords schema → works schema keys 0 (records_tree schema) olds news ≡ []
+no_works schema keys olds news declares =
+    let tree = records_tree schema in
+    let apart = recursion_from_All (IsApart tree) schema.tables declares.apart in
+    none_flat _ schema.tables (all_from _ schema.tables (λ child has.
+    let own = all_has (IsApart tree) schema.tables child apart has in
+    let elsewhere = recursion_from_All _ child.references own.references in
+    none_mapped (work_for schema keys 0 tree olds news child) child.references (all_from _ child.references (λ ref there.
+    no_work 0 tree _ child ref _ _ (key_elsewhere tree ref.parent_columns _ (parent ref (all_has (λ key. same_name key.parent table_name ≡ false) child.references ref elsewhere there)))))))
+  where
+    at : (ref : Reference) → same_name ref.parent table_name ≡ false → (o : Option Table) → find (λ t. same_name t.name ref.parent) schema.tables ≡ o → IfSome o (λ t. t.tree ≢ records_tree schema)
+    at ref other None none = tt
+    at ref other (Some t) some =
+        let found = has_found (λ t. same_name t.name ref.parent) schema.tables t some in
+        (all_has (IsApart (records_tree schema)) schema.tables t (recursion_from_All (IsApart (records_tree schema)) schema.tables declares.apart) found.0).elsewhere (name_apart t.name ref.parent table_name found.1 other)
+
+    parent : (ref : Reference) → same_name ref.parent table_name ≡ false → IfSome (find (λ t. same_name t.name ref.parent) schema.tables) (λ t. t.tree ≢ records_tree schema)
+    parent ref other = at ref other _ refl
+
+-- and is its one step
+pub one_edit : (schema : Schema) (keys : Keys) (db next : Trees) (edit : Edit) → DeclaresRecords schema → edit.table.tree ≡ records_tree schema → WritesEdit schema keys db edit (Ok next)
+    → Applies schema keys db edit next
+one_edit schema keys db next edit declares is h =
+    one_step schema keys db next edit (subst (λ t. works schema keys 0 t (taken_by db edit) edit.news ≡ []) (sym is) (no_works schema keys (taken_by db edit) edit.news declares)) h

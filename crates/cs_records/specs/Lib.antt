@@ -1,3 +1,5 @@
 pub mod Faults
+pub mod Layout
+pub mod Meaning
 pub mod Records
 pub mod Statements

@@ -1,7 +1,7 @@
 -- Records in one SQL table: a record has the name of a table, a key and a value, and no two records have both the name
 -- and the key.
 use Rattle.std.specs.Prelude.{bytes_eq, ◌⊎◌, ◌≡◌, ◌≢◌, ℕ, ℤ, Bool, true, false, ◌&&◌, if◌then◌else◌, List, [], ◌∷◌, codes}
-use Rattle.std.specs.Prelude.{Option, None, option_map, Result, Ok, Err, ⊤, IsTrue, AllPairs}
+use Rattle.std.specs.Prelude.{Option, Some, None, option_map, option_and_then, unwrap_or, slice_get, Result, Ok, Err, ⊤, IsTrue, All, AllPairs}
 use Rattle.std.specs.List.{AllByRecursion, find}
 use Rattle.std.specs.Cmp.Lexicographic.{slice_cmp}
 use Rattle.std.specs.Ordering.{nat_cmp, ordering_then}
@@ -19,12 +19,20 @@ use Rattle.sqlite_schema.specs.declared.schema.Kind.{Kind}
 use Rattle.sqlite_schema.specs.declared.schema.Kind.TheVariants as kind
 use Rattle.sqlite_schema.specs.declared.schema.Column.{Column}
 use Rattle.sqlite_schema.specs.declared.schema.Table.{Table}
+use Rattle.sqlite_schema.specs.declared.schema.Index.{Index}
 use Rattle.sqlite_schema.specs.declared.schema.Schema.{Schema}
-use Rattle.sqlite_catalog.specs.Listing.{automatic}
+use Rattle.sqlite_schema.specs.declared.schema.View.{View}
+use Rattle.sqlite_schema.specs.Names.{same_name, table_named, view_named}
+use Rattle.sqlite_rules.specs.Lists.{Has}
+use Rattle.sqlite_catalog.specs.Change.{is_used, created, next_tree, KeepsRows}
+use Rattle.sqlite_resolve.specs.Compile.{table_defined_by}
+use Rattle.sqlite.specs.Does.{sequence_text}
 use Rattle.sqlite_resolve.specs.declared.compiled.Compiled.{Compiled}
 use Rattle.sqlite_resolve.specs.declared.error.CompileError.{CompileError}
-use Rattle.sqlite.specs.Effect.{Database, IsDatabase}
+use Rattle.sqlite.specs.Effect.{Database, IsDatabase, SparesFrozen}
 use Rattle.sqlite.specs.Listing.{understood}
+use Rattle.cs_records.specs.Meaning.{AreStatements}
+use Rattle.cs_records.specs.Statements.{create_text}
 
 -- ---- the table
 
@@ -38,11 +46,16 @@ required name k = record {
   collation = Binary;
 }
 
--- CREATE TABLE rec(tab TEXT NOT NULL, keyb BLOB NOT NULL, rowb BLOB NOT NULL, PRIMARY KEY(tab, keyb)) STRICT
-abbrev pub record_table : Table
-record_table = record {
-  name = codes "rec";
-  tree = 0;
+-- the name of the table
+abbrev pub table_name : List ℕ
+table_name = codes "rec"
+
+-- CREATE TABLE rec(tab TEXT NOT NULL, keyb BLOB NOT NULL, rowb BLOB NOT NULL, PRIMARY KEY(tab, keyb)) STRICT,
+-- whose rows are in this tree
+abbrev pub records_table : ℕ → Table
+records_table tree = record {
+  name = table_name;
+  tree = tree;
   columns =
       required (codes "tab") kind.Text ∷ required (codes "keyb") kind.Blob
       ∷ required (codes "rowb") kind.Blob ∷ [];
@@ -57,26 +70,39 @@ record_table = record {
   is_counted = false;
 }
 
--- the table is declared as that one, wherever its rows are kept
-pub record IsDeclaredAsRecords (table : Table) : Type 0 where
-  pub name : table.name ≡ record_table.name
-  pub columns : table.columns ≡ record_table.columns
-  pub keys : (table.key ≡ None) × (table.primary ≡ record_table.primary) × (table.uniques ≡ record_table.uniques)
-      × (table.orders ≡ record_table.orders)
-  pub rules : (table.checks ≡ []) × (table.references ≡ []) × (table.computed ≡ []) × (table.stamps ≡ record_table.stamps)
-      × (table.is_counted ≡ false)
+-- the tree of the table with that name
+abbrev pub records_tree : Schema → ℕ
+records_tree schema = unwrap_or (option_map (λ t. t.tree) (option_and_then (slice_get schema.tables) (table_named schema table_name))) 0
 
--- what a database with that table, and no other, declares
-abbrev pub record_schema : Schema
-record_schema = record {
-  tables = record_table ∷ [];
-  indexes = automatic record_table 0 (1 ∷ 2 ∷ []) 1 ∷ [];
-  views = [];
-}
+-- another table has another tree, and no key of a table refers to that of records
+pub record IsApart (tree : ℕ) (table : Table) : Type 0 where
+  pub elsewhere : same_name table.name table_name ≡ false → table.tree ≢ tree
+  pub references : All (λ key. same_name key.parent table_name ≡ false) table.references
 
--- a database that declares nothing
-abbrev pub empty_schema : Schema
-empty_schema = record { tables = []; indexes = []; views = [] }
+-- where rows of the table are unique under name and key in an index, these are compared by their bytes
+abbrev pub IsOfKey : ℕ → Index → Type 0
+IsOfKey tree index = IsTrue index.is_unique → index.table ≡ tree → index.columns ≡ 1 ∷ 2 ∷ [] → index.order ≡ plain
+
+-- the schema declares the table of records, and each text of a statement on records is that statement on the table
+pub record DeclaresRecords (schema : Schema) : Type 0 where
+  pub place : ℕ
+  pub named : table_named schema table_name ≡ Some place
+  pub table : slice_get schema.tables place ≡ Some (records_table (records_tree schema))
+  pub apart : All (IsApart (records_tree schema)) schema.tables
+  pub keyed : All (IsOfKey (records_tree schema)) schema.indexes
+  pub statements : AreStatements schema place (records_tree schema)
+
+-- a table that has the name is declared otherwise, or no table has it and a view does
+abbrev pub IsDeclaredOtherwise : Schema → Type 0
+IsDeclaredOtherwise schema =
+    ((place : ℕ) × (table : Table) × (table_named schema table_name ≡ Some place) × (slice_get schema.tables place ≡ Some table)
+    × (table ≢ records_table table.tree))
+    ⊎ ((table_named schema table_name ≡ None) × (place : ℕ) × (view : View) × (view_named schema table_name ≡ Some place)
+    × (slice_get schema.views place ≡ Some view) × (view.foreign ≡ None))
+
+-- nothing has the name of the table
+abbrev pub LacksRecords : Schema → Type 0
+LacksRecords schema = is_used schema table_name ≡ false
 
 -- ---- its records
 
@@ -109,14 +135,18 @@ pub record AreNumbered (rows : List Row) : Type 0 where
   pub each : AllByRecursion (λ row. (n : ℤ) × (rowid row ≡ Int n)) rows
   pub once : AllPairs (λ a b. rowid a ≢ rowid b) rows
 
--- the database has the table of records and no other
+-- the rows of the table
+abbrev pub record_rows : Database → List Row
+record_rows db = db.trees (records_tree db.schema)
+
+-- the database has the table of records
 pub record HoldsRecords (db : Database) : Type 0 where
-  pub schema : db.schema ≡ record_schema
+  pub declares : DeclaresRecords db.schema
   pub sound : IsDatabase db
-  pub numbered : AreNumbered (db.trees 0)
+  pub numbered : AreNumbered (record_rows db)
 
 abbrev pub records_in : Database → Records
-records_in db = records_of (db.trees 0)
+records_in db = records_of (record_rows db)
 
 -- a record, as it is listed
 pub record RecordData : Type 0 where
@@ -141,10 +171,41 @@ pub record ListsTable (records : Records) (tab : List ℕ) (listed : List (List 
 
 -- ---- what statements do
 
--- the records are as before but for this one
+-- a table that the text defines is added, without a row
+pub record Adds (text : List ℕ) (old new : Database) : Type 0 where
+  pub table : Table
+  pub defined : table_defined_by text ≡ Ok table
+  pub schema : new.schema ≡ created old.schema table
+  pub empty : new.trees (next_tree old.schema) ≡ []
+  pub others : KeepsRows old.schema.tables old.trees new.trees
+
+-- what SQL here does not understand is spared, by one statement after another; each leaves a database
+pub data IsSpared : Database → Database → Type 0 where
+  by_one : (old new : Database) → SparesFrozen old new → IsSpared old new
+  by_each : (old mid new : Database) → IsSpared old mid → IsDatabase mid → IsSpared mid new → IsSpared old new
+
+-- each other table and each index is declared as it was, each other table has its rows, and so has what SQL does not
+-- understand
+pub record KeepsOthers (old new : Database) : Type 0 where
+  pub tables : (table : Table) → Has old.schema.tables table → same_name table.name table_name ≡ false
+      → Has new.schema.tables table × (new.trees table.tree ≡ old.trees table.tree)
+  pub indexes : (index : Index) → Has old.schema.indexes index → Has new.schema.indexes index
+  pub views : new.schema.views ≡ old.schema.views
+  pub frozen : IsSpared old new
+
+-- a table is added that the text for the table of records defines, and may be the one in which SQL counts
+pub record Makes (old new : Database) : Type 0 where
+  pub sound : IsDatabase new
+  pub first : Database
+  pub adds : Adds create_text old first
+  pub counts : (new ≡ first) ⊎ Adds sequence_text first new
+  pub frozen : SparesFrozen old new
+
+-- the records are as before but for this one, and so is all else
 pub record Sets (old new : Database) (tab key : List ℕ) (here : Option (List ℕ)) : Type 0 where
   pub holds : HoldsRecords new
   pub change : (t k : List ℕ) → records_in new t k ≡ changed (records_in old) tab key here t k
+  pub others : KeepsOthers old new
 
 -- the statement changed nothing, or its failure took the database back to the last commit
 abbrev pub Rests : State → State → Type 0

@@ -1,57 +1,131 @@
 //! What a database declares, compared with the table of records.
-ghost use Rattle.std.specs.Prelude.{◌≡◌, ◌↔◌, [], ◌∷◌, true, false, None, IsTrue, All};
+ghost use Rattle.std.specs.Prelude.{◌≡◌, ◌≢◌, ◌↔◌, [], ◌∷◌, true, false, None, IsTrue, All, IfOk};
 ghost use Rattle.sqlite_value.specs.Keys.{plain};
-ghost use Rattle.sqlite_schema.specs.Names.{same_name};
-ghost use Rattle.sqlite_catalog.specs.Listing.{automatic};
-ghost use Rattle.cs_records.specs.Records.{required, record_table, record_schema, empty_schema, IsDeclaredAsRecords};
+ghost use Rattle.sqlite_schema.specs.Names.{same_name, table_named};
+ghost use Rattle.cs_records.specs.Layout.{IsDeclaration};
+ghost use Rattle.cs_records.specs.Records.{required, records_table, table_name, IsApart, IsOfKey};
 
-use sqlite_schema::schema::{Column, Index, Kind, Schema as DatabaseSchema, Stamps, Table};
+use crate::fault::RecordsError;
+use crate::meaning::are_statements;
+use sqlite_schema::names::same_name;
+use sqlite_schema::schema::{Column, Index, Kind, Reference, Schema, Stamps, Table};
 use sqlite_value::keys::{Collation, Order};
 use sqlite_value::value::Value;
+use std::alloc::Global;
 
-/// Whether nothing is declared.
-pub fn declares_nothing(schema: &DatabaseSchema) -> bool
-    ensures { IsTrue result ↔ (schema.now ≡ empty_schema) }
-{
-    schema.tables.is_empty() && schema.indexes.is_empty() && schema.views.is_empty()
+/// What a database declares under the name of the table of records.
+#[derive(Clone, Copy, Debug)]
+pub enum Declaration {
+    /// Nothing has the name.
+    Missing,
+    /// The table of records.
+    Records,
+    /// Another table, or a view.
+    Other,
+    /// What the statements on records cannot read and write: the table of records, if a table refers to it or an index
+    /// compares its keys in another way; a table that the database keeps as it is; an index or a trigger.
+    Unsupported,
 }
 
-/// Whether the table of records is declared, and nothing else.
-pub fn declares_records(schema: &DatabaseSchema) -> bool
-    ensures { IsTrue result ↔ (schema.now ≡ record_schema) }
+/// What the schema declares under the name of the table of records.
+pub fn declaration_of(alloc: Global, schema: &Schema) -> Result<Declaration, RecordsError>
+    ensures { IfOk result (IsDeclaration schema.now) }
 {
-    let [table] = schema.tables.as_slice() else {
-        return false;
+    let Some(place) = schema.table_named(b"rec") else {
+        return Ok(without_table(schema));
     };
-    let [index] = schema.indexes.as_slice() else {
-        return false;
+    let Some(table) = schema.tables.get(place) else {
+        return Ok(Declaration::Unsupported);
     };
-    is_record_table(table) && is_record_index(index) && schema.views.is_empty()
+    if !is_declared_as_records(table) {
+        return Ok(Declaration::Other);
+    }
+    if is_apart(schema, table.tree) && are_statements(alloc, schema, place, table.tree)? {
+        Ok(Declaration::Records)
+    } else {
+        Ok(Declaration::Unsupported)
+    }
 }
 
-/// Returns true only if a table has the name of the table of records and is declared otherwise. False says nothing.
-pub fn misdeclares_records(schema: &DatabaseSchema) -> bool
-    ensures { IsTrue result → ¬ All (λ table. same_name table.name record_table.name ≡ true
-        → IsDeclaredAsRecords table) schema.now.tables }
+/// What a database declares that has no table with the name of the table of records.
+fn without_table(schema: &Schema) -> Declaration
+    requires { table_named schema.now table_name ≡ None }
+    ensures { IsDeclaration schema.now result }
 {
-    for table in schema.tables.as_slice() {
-        if table.is_named(b"rec") && !is_declared_as_records(table) {
-            return true;
+    if schema.index_named(b"rec").is_some() {
+        return Declaration::Unsupported;
+    }
+    let Some(at) = schema.view_named(b"rec") else {
+        return Declaration::Missing;
+    };
+    match schema.views.get(at) {
+        Some(view) if view.foreign.is_none() => Declaration::Other,
+        _ => Declaration::Unsupported,
+    }
+}
+
+/// Whether the table with this tree shares it with no other, no table refers to it, and indexes compare the keys of its
+/// rows by their bytes.
+fn is_apart(schema: &Schema, tree: u32) -> bool
+    ensures { IsTrue result → All (IsApart tree) schema.now.tables
+        × All (IsOfKey tree) schema.now.indexes }
+{
+    are_tables_apart(schema.tables.as_slice(), tree) && are_of_key(schema.indexes.as_slice(), tree)
+}
+
+fn are_tables_apart(tables: &[Table], tree: u32) -> bool
+    ensures { IsTrue result → All (IsApart tree) tables.now }
+{
+    for table in tables {
+        if !is_table_apart(table, tree) {
+            return false;
         }
     }
-    false
+    true
 }
 
-/// Whether the table is that of records, and the first of the database.
-fn is_record_table(table: &Table) -> bool
-    ensures { IsTrue result ↔ (table.now ≡ record_table) }
+fn is_table_apart(table: &Table, tree: u32) -> bool
+    ensures { IsTrue result → IsApart tree table.now }
 {
-    table.tree == 0 && is_declared_as_records(table)
+    (table.is_named(b"rec") || table.tree != tree) && refers_elsewhere(table.references.as_slice())
+}
+
+/// Whether no key refers to the table of records.
+fn refers_elsewhere(keys: &[Reference]) -> bool
+    ensures { IsTrue result → All (λ key. same_name key.parent table_name ≡ false) keys.now }
+{
+    for key in keys {
+        if same_name(key.parent.as_slice(), b"rec") {
+            return false;
+        }
+    }
+    true
+}
+
+/// Whether indexes compare the keys of rows of the table with this tree by their bytes.
+fn are_of_key(indexes: &[Index], tree: u32) -> bool
+    ensures { IsTrue result → All (IsOfKey tree) indexes.now }
+{
+    for index in indexes {
+        if !is_of_key(index, tree) {
+            return false;
+        }
+    }
+    true
+}
+
+fn is_of_key(index: &Index, tree: u32) -> bool
+    ensures { IsTrue result → IsOfKey tree index.now }
+{
+    !index.is_unique
+        || index.table != tree
+        || !is_record_key(index.columns.as_slice())
+        || is_plain(index.order)
 }
 
 /// Whether the table is declared as that of records, wherever its rows are kept.
 fn is_declared_as_records(table: &Table) -> bool
-    ensures { IsTrue result ↔ IsDeclaredAsRecords table.now }
+    ensures { IsTrue result ↔ (table.now ≡ records_table table.now.tree) }
 {
     table.name.as_slice() == b"rec".as_slice()
         && are_record_columns(table.columns.as_slice())
@@ -60,7 +134,7 @@ fn is_declared_as_records(table: &Table) -> bool
 }
 
 fn are_record_columns(columns: &[Column]) -> bool
-    ensures { IsTrue result ↔ (columns.now ≡ record_table.columns) }
+    ensures { IsTrue result ↔ (columns.now ≡ (records_table 0).columns) }
 {
     let [tab, key, row] = columns else {
         return false;
@@ -83,8 +157,8 @@ fn is_required(column: &Column, name: &[u8], kind: Kind) -> bool
 
 /// Whether the key is that of the table of records, and nothing else is to be unique.
 fn has_record_keys(table: &Table) -> bool
-    ensures { IsTrue result ↔ ((table.now.key ≡ None) × (table.now.primary ≡ record_table.primary)
-        × (table.now.uniques ≡ record_table.uniques) × (table.now.orders ≡ record_table.orders)) }
+    ensures { IsTrue result ↔ ((table.now.key ≡ None) × (table.now.primary ≡ (records_table 0).primary)
+        × (table.now.uniques ≡ (records_table 0).uniques) × (table.now.orders ≡ (records_table 0).orders)) }
 {
     let [unique] = table.uniques.as_slice() else {
         return false;
@@ -99,7 +173,7 @@ fn has_record_keys(table: &Table) -> bool
 }
 
 fn is_record_key(places: &[usize]) -> bool
-    ensures { IsTrue result ↔ (places.now ≡ record_table.primary) }
+    ensures { IsTrue result ↔ (places.now ≡ (records_table 0).primary) }
 {
     places == [1, 2].as_slice()
 }
@@ -113,7 +187,7 @@ fn is_plain(order: Order) -> bool
 /// Whether there is no check, no reference, no default that is computed and no counter.
 fn has_no_rules(table: &Table) -> bool
     ensures { IsTrue result ↔ ((table.now.checks ≡ []) × (table.now.references ≡ [])
-        × (table.now.computed ≡ []) × (table.now.stamps ≡ record_table.stamps)
+        × (table.now.computed ≡ []) × (table.now.stamps ≡ (records_table 0).stamps)
         × (table.now.is_counted ≡ false)) }
 {
     table.checks.roots.is_empty()
@@ -124,18 +198,7 @@ fn has_no_rules(table: &Table) -> bool
 }
 
 fn is_unstamped(stamps: &Stamps) -> bool
-    ensures { IsTrue result ↔ (stamps.now ≡ record_table.stamps) }
+    ensures { IsTrue result ↔ (stamps.now ≡ (records_table 0).stamps) }
 {
     stamps.places.is_empty() && stamps.terms.roots.is_empty() && stamps.formats.is_empty()
-}
-
-fn is_record_index(index: &Index) -> bool
-    ensures { IsTrue result ↔ (index.now ≡ automatic record_table 0 (1 ∷ 2 ∷ []) 1) }
-{
-    index.name.as_slice() == b"sqlite_autoindex_rec_1".as_slice()
-        && index.tree == 1
-        && index.table == 0
-        && is_record_key(index.columns.as_slice())
-        && is_plain(index.order)
-        && index.is_unique
 }

@@ -6,24 +6,28 @@
 //! ```rust
 //! let mut conn = Connection::open_in_memory(alloc)?;
 //! transactions::begin(&mut conn)?;
-//! make_table(&mut conn)?;
+//! make_table(&mut conn, alloc)?;
 //! put_record(&mut conn, "t", b"key", b"value", true)?;
 //! transactions::commit(&mut conn)?;
 //! assert_eq!(rt; find_record(&mut conn, "t", b"key")?, Some(value));
 //! ```
 //!
-//! `records` has the statements that read and write records, `layout` compares the schema of a database with the
-//! table of records, `transactions` has the statements that begin and end a transaction, and `fault` says why a call
-//! is refused.
+//! `records` has the statements that read and write records, and `texts` their texts. `layout` finds the table of
+//! records among what a database declares. `meaning` compiles each text under that schema, and `expected` compares what
+//! is compiled with the statement that it is meant to be. `transactions` has the statements that begin and end a
+//! transaction, and `fault` says why a call is refused.
 #![tactic(auto)]
 
+mod expected;
 mod fault;
 mod layout;
+mod meaning;
 mod records;
+mod texts;
 pub mod transactions;
 
 pub use fault::RecordsError;
-pub use layout::{declares_nothing, declares_records, misdeclares_records};
+pub use layout::{Declaration, declaration_of};
 pub use records::{
     Keyed, Record, all_records, find_record, has_row_numbers, list_records, make_table, put_record,
     remove_record,

@@ -3,16 +3,19 @@
 ghost use Rattle.std.specs.Prelude.{◌≡◌, ◌↔◌, ◌<ℤ◌, [], false, Some, None, option_map, map};
 ghost use Rattle.std.specs.Prelude.{IsTrue, IfOk, IfErr, IfSome, OnOk, OnErr};
 ghost use Rattle.sqlite.specs.Effect.{IsDatabase};
-ghost use Rattle.sqlite.specs.State.{HasCleanDisk, IsUnchanged, Shown, Survives};
+ghost use Rattle.sqlite.specs.State.{HasCleanDisk, IsUnchanged, KeepsCommit, Shown, Survives};
 ghost use Rattle.sqlite.specs.Held.{state};
 ghost use Rattle.sqlite.specs.Values.{bound};
 ghost use Rattle.cs_records.specs.Records.{HoldsRecords, Sets, ListsAll, ListsTable};
-ghost use Rattle.cs_records.specs.Records.{records_in, Rests, GoesOn, KeepsCrash};
+ghost use Rattle.cs_records.specs.Records.{records_in, Makes, Rests, GoesOn, KeepsCrash};
 ghost use Rattle.cs_records.specs.Records.{IsQuery, shown_record, shown_keyed};
-ghost use Rattle.cs_records.specs.Records.{AreNumbered, AreRisingNumbers, record_schema, empty_schema};
+ghost use Rattle.cs_records.specs.Records.{AreNumbered, AreRisingNumbers, DeclaresRecords, LacksRecords, KeepsOthers, record_rows};
 ghost use Rattle.cs_records.specs.Statements.{put_text as text_that_puts};
 
 use crate::fault::RecordsError;
+use crate::layout::{Declaration, declaration_of};
+use crate::meaning::creates;
+use crate::texts;
 use sqlite::types::ValueRef;
 use sqlite::{Alter, Connection, Row, params};
 use std::alloc::Global;
@@ -83,11 +86,7 @@ pub fn find_record<S: Alter>(
         → OnErr result (Rests (state S.Store conn.old) (state S.Store conn.new)) }
     ensures keeps_crash { KeepsCrash (state S.Store conn.old) (state S.Store conn.new) }
 {
-    let rows = query_rows(
-        conn,
-        "SELECT rowb FROM rec WHERE tab = ?1 AND keyb = ?2",
-        params![tab, key],
-    )?;
+    let rows = query_rows(conn, texts::FIND, params![tab, key])?;
     match rows.first() {
         Some(row) => Ok(Some(row.get(0)?)),
         None => Ok(None),
@@ -98,11 +97,7 @@ pub fn find_record<S: Alter>(
 fn put_text(is_new: bool) -> &'static str
     ensures { result.now ≡ text_that_puts is_new }
 {
-    if is_new {
-        "INSERT INTO rec VALUES(?1, ?2, ?3)"
-    } else {
-        "INSERT INTO rec VALUES(?1, ?2, ?3) ON CONFLICT(tab, keyb) DO UPDATE SET rowb = ?3"
-    }
+    if is_new { texts::INSERT } else { texts::PUT }
 }
 
 /// Puts the value under a table's name and a key, inside a transaction: a new record, where it is known that none has
@@ -150,10 +145,7 @@ pub fn remove_record<S: Alter>(
         → (HasCleanDisk (state S.Store conn.old) → IsTrue (state S.Store conn.old).in_transaction)
         → KeepsCrash (state S.Store conn.old) (state S.Store conn.new) }
 {
-    conn.execute(
-        "DELETE FROM rec WHERE tab = ?1 AND keyb = ?2",
-        params![tab, key],
-    )?;
+    conn.execute(texts::REMOVE, params![tab, key])?;
     Ok(())
 }
 
@@ -192,11 +184,7 @@ pub fn list_records<S: Alter>(
         → OnErr result (Rests (state S.Store conn.old) (state S.Store conn.new)) }
     ensures keeps_crash { KeepsCrash (state S.Store conn.old) (state S.Store conn.new) }
 {
-    let rows = query_rows(
-        conn,
-        "SELECT keyb, rowb FROM rec WHERE tab = ?1 ORDER BY keyb",
-        params![tab],
-    )?;
+    let rows = query_rows(conn, texts::LIST, params![tab])?;
     keyed_rows(alloc, rows.as_slice())
 }
 
@@ -235,11 +223,7 @@ pub fn all_records<S: Alter>(
         → OnErr result (Rests (state S.Store conn.old) (state S.Store conn.new)) }
     ensures keeps_crash { KeepsCrash (state S.Store conn.old) (state S.Store conn.new) }
 {
-    let rows = query_rows(
-        conn,
-        "SELECT tab, keyb, rowb FROM rec ORDER BY tab, keyb",
-        &[],
-    )?;
+    let rows = query_rows(conn, texts::LIST_ALL, &[])?;
     record_rows(alloc, rows.as_slice())
 }
 
@@ -271,39 +255,56 @@ fn are_rising(rows: &[Row]) -> Result<bool, RecordsError>
 
 /// Whether each row of the table has a number, and no two the same.
 pub fn has_row_numbers<S: Alter>(conn: &mut Connection<S>) -> Result<bool, RecordsError>
-    ensures numbered { HasCleanDisk (state S.Store conn.new) → (state S.Store conn.old).now.schema ≡ record_schema
+    ensures numbered { HasCleanDisk (state S.Store conn.new) → DeclaresRecords (state S.Store conn.old).now.schema
         → IsDatabase (state S.Store conn.old).now
-        → IfOk result (λ yes. IsTrue yes → AreNumbered ((state S.Store conn.old).now.trees 0)) }
-    ensures unnumbered { HasCleanDisk (state S.Store conn.new) → (state S.Store conn.old).now.schema ≡ record_schema
+        → IfOk result (λ yes. IsTrue yes → AreNumbered (record_rows (state S.Store conn.old).now)) }
+    ensures unnumbered { HasCleanDisk (state S.Store conn.new) → DeclaresRecords (state S.Store conn.old).now.schema
         → IsDatabase (state S.Store conn.old).now
-        → IfOk result (λ yes. yes ≡ false → ¬ AreNumbered ((state S.Store conn.old).now.trees 0)) }
+        → IfOk result (λ yes. yes ≡ false → ¬ AreNumbered (record_rows (state S.Store conn.old).now)) }
     ensures reads { HasCleanDisk (state S.Store conn.new)
         → OnOk result (IsUnchanged (state S.Store conn.old) (state S.Store conn.new)) }
     ensures rests { HasCleanDisk (state S.Store conn.new)
         → OnErr result (Rests (state S.Store conn.old) (state S.Store conn.new)) }
     ensures keeps_crash { KeepsCrash (state S.Store conn.old) (state S.Store conn.new) }
 {
-    let rows = query_rows(conn, "SELECT rowid FROM rec ORDER BY rowid", &[])?;
+    let rows = query_rows(conn, texts::NUMBERS, &[])?;
     are_rising(rows.as_slice())
 }
 
-/// Makes the table of records, inside a transaction, in a database that declares nothing.
-pub fn make_table<S: Alter>(conn: &mut Connection<S>) -> Result<(), RecordsError>
-    ensures made { HasCleanDisk (state S.Store conn.new) → (state S.Store conn.old).now.schema ≡ empty_schema
-        → OnOk result (HoldsRecords (state S.Store conn.new).now × ((state S.Store conn.new).now.trees 0 ≡ [])) }
-    ensures goes_on { HasCleanDisk (state S.Store conn.new) → (state S.Store conn.old).now.schema ≡ empty_schema
-        → IsTrue (state S.Store conn.old).in_transaction
+/// Executes the text that makes the table of records, if it does so under the schema of the database.
+fn create_table<S: Alter>(conn: &mut Connection<S>, alloc: Global) -> Result<(), RecordsError>
+    ensures makes { HasCleanDisk (state S.Store conn.new)
+        → OnOk result (Makes (state S.Store conn.old).now (state S.Store conn.new).now) }
+    ensures goes_on { HasCleanDisk (state S.Store conn.new) → IsTrue (state S.Store conn.old).in_transaction
         → OnOk result (GoesOn (state S.Store conn.old) (state S.Store conn.new)) }
-    ensures rests { HasCleanDisk (state S.Store conn.new)
-        → OnErr result (Rests (state S.Store conn.old) (state S.Store conn.new)) }
-    ensures was_clean { HasCleanDisk (state S.Store conn.new) → HasCleanDisk (state S.Store conn.old) }
-    ensures survives { (HasCleanDisk (state S.Store conn.old) → (state S.Store conn.old).now.schema ≡ empty_schema)
-        → (HasCleanDisk (state S.Store conn.old) → IsTrue (state S.Store conn.old).in_transaction)
+    ensures commit { HasCleanDisk (state S.Store conn.new)
+        → OnErr result (KeepsCommit (state S.Store conn.old) (state S.Store conn.new)) }
+    ensures survives { (HasCleanDisk (state S.Store conn.old) → IsTrue (state S.Store conn.old).in_transaction)
         → KeepsCrash (state S.Store conn.old) (state S.Store conn.new) }
 {
-    conn.execute(
-        "CREATE TABLE IF NOT EXISTS rec(tab TEXT NOT NULL, keyb BLOB NOT NULL, rowb BLOB NOT NULL, PRIMARY KEY(tab, keyb)) STRICT",
-        &[],
-    )?;
+    if !creates(alloc, conn.schema())? {
+        return Err(RecordsError::Database);
+    }
+    conn.execute(texts::CREATE, &[])?;
     Ok(())
+}
+
+/// Makes the table of records, inside a transaction, in a database where nothing has its name.
+pub fn make_table<S: Alter>(conn: &mut Connection<S>, alloc: Global) -> Result<(), RecordsError>
+    requires { HasCleanDisk (state S.Store conn.old) → IsTrue (state S.Store conn.old).in_transaction }
+    ensures made { HasCleanDisk (state S.Store conn.new) → LacksRecords (state S.Store conn.old).now.schema
+        → OnOk result (HoldsRecords (state S.Store conn.new).now × (record_rows (state S.Store conn.new).now ≡ [])) }
+    ensures others { HasCleanDisk (state S.Store conn.new)
+        → OnOk result (KeepsOthers (state S.Store conn.old).now (state S.Store conn.new).now) }
+    ensures goes_on { HasCleanDisk (state S.Store conn.new)
+        → OnOk result (GoesOn (state S.Store conn.old) (state S.Store conn.new)) }
+    ensures commit { HasCleanDisk (state S.Store conn.new)
+        → OnErr result (KeepsCommit (state S.Store conn.old) (state S.Store conn.new)) }
+    ensures survives { KeepsCrash (state S.Store conn.old) (state S.Store conn.new) }
+{
+    create_table(conn, alloc)?;
+    match declaration_of(alloc, conn.schema())? {
+        Declaration::Records => Ok(()),
+        _ => Err(RecordsError::Database),
+    }
 }

@@ -45,6 +45,11 @@ begun_state old begun keeps begun_as is_state clean =
 pub read_attached : {E : Type 0} (r : Result (List GroupData) E) (begun old : Database) → begun ≡ old → (notes : Notes) → OnOk r (HasTables (tables_in begun) notes) → OnOk r (HasTables (tables_in old) notes)
 read_attached r begun old same notes has = subst (λ (db : Database). OnOk r (HasTables (tables_in db) notes)) same has
 
+-- nor the changeset
+pub read_made : {E : Type 0} (r : Result (List GroupData) E) (begun old : Database) → begun ≡ old → (notes : Notes) → IfOk r (λ c. c ≡ recorded_changes notes (tables_in begun))
+    → IfOk r (λ c. c ≡ recorded_changes notes (tables_in old))
+read_made r begun old same notes made = subst (λ (db : Database). IfOk r (λ c. c ≡ recorded_changes notes (tables_in db))) same made
+
 leads_back : (state : State) (notes : Notes) → IsState state → IsNotes notes → HasTables state notes → LeadsBackTo notes state (recorded_changes notes state)
 leads_back state notes is_state are has =
     let each = recursion_from_All (HasAttached state) notes has in

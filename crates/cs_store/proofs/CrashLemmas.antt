@@ -9,11 +9,10 @@ use Rattle.sqlite.proofs.StateLemmas.{survives_then, survives_weaker}
 use Rattle.cs_value.specs.State as tables
 use Rattle.cs_rows.specs.declared.fault.StoreError.{StoreError}
 use Rattle.cs_records.specs.Records.{IsUndone, KeepsContent, KeepsCrash}
-use Rattle.cs_stored.specs.Stored.{state_of}
 use Rattle.cs_store.specs.Store.{HoldsState, HoldsTables, IsSound, IsInside, KeepsStore, Begins, Ends, tables_in}
 use Rattle.cs_store.specs.Crash.{MayLeave, LeavesOnly, LeavesTakenOver, CanBegin, IsAtomic}
 use Rattle.cs_store.specs.Laws.{was_clean, keeps_itself}
-use Rattle.cs_records.proofs.ContentLemmas.{crash_weaker, idle_survives}
+use Rattle.cs_records.proofs.ContentLemmas.{crash_weaker}
 use Rattle.cs_store.proofs.WriteLemmas.{shows_state}
 
 -- one call that commits nothing after another
@@ -28,7 +27,7 @@ may_leave s Holds trees holds shows same = subst (MayLeave Holds) (sym same) (re
 
 -- of those tables something else holds
 pub leaves_weaker : (P Q : tables.State → Type 0) → ((t : tables.State) → P t → Q t) → (trees : Trees) → MayLeave P trees → MayLeave Q trees
-leaves_weaker P Q f trees may = record { schema = may.schema; store = may.store; tables = f (state_of (trees 0)) may.tables }
+leaves_weaker P Q f trees may = record { schema = may.schema; store = may.store; tables = f (tables_in (record { schema = may.schema; trees = trees })) may.tables }
 
 -- a transaction of a sound store commits the tables that it shows
 pub commits_tables : (old new : State) → IsSound old → Survives old new (λ db. (db ≡ old.now.trees) × IsTrue old.in_transaction) → Survives old new (MayLeave (λ t. t ≡ tables_in old.now))

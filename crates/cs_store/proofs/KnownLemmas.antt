@@ -1,5 +1,5 @@
 -- What is known of a table, once its rows were written or read.
-use Rattle.std.proofs.Common.{◌≡◌, true, false, List, ℕ, Option, Some, None, option_map, refl, sym, ap, ◌∙◌, true≢false}
+use Rattle.std.proofs.Common.{◌≡◌, List, ℕ, Option, Some, None, option_map, refl, sym, ap, ◌∙◌, true≢false}
 use Rattle.std.specs.Prelude.{IsSome}
 use Rattle.std.specs.FinMap.{get}
 use Rattle.cs_value.specs.State.{TableData, RowMap, State, schema_at, row_at, with_rows}

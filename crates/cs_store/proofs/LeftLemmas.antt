@@ -13,11 +13,11 @@ use Rattle.cs_value.specs.State as tables
 use Rattle.cs_rows.specs.declared.fault.StoreError.{StoreError}
 use Rattle.cs_rows.specs.declared.fault.StoreError.TheVariants.{DamagedStore}
 use Rattle.cs_rows.specs.Faults.{IsResource}
-use Rattle.cs_records.specs.Records.{HoldsRecords, records_in, records_of}
+use Rattle.cs_records.specs.Records.{HoldsRecords, records_in}
 use Rattle.cs_stored.specs.Stored.{version, Stores}
-use Rattle.cs_store.specs.Store.{HoldsTables, Adopts, OpensFiles, tables_in}
+use Rattle.cs_store.specs.Store.{HoldsTables, IsDamaged, Adopts, OpensFiles, tables_in}
 use Rattle.cs_store.specs.Crash.{MayLeave, IsLeftOf}
-use Rattle.cs_store.proofs.AdoptionLemmas.{nothing_held, vacant_holds}
+use Rattle.cs_store.proofs.AdoptionLemmas.{nothing_held, vacant_holds, damaged_none}
 use Rattle.cs_stored.proofs.StateOf.{stored_once}
 
 -- trees list one schema
@@ -31,7 +31,8 @@ left_stored : (held : tables.State) (db : Database) → IsLeftOf held db → Hol
 left_stored held db is =
     let same = listed_once db.trees is.left.schema db.schema is.left.store.records.sound is.sound in (
       subst (λ (s : Schema). HoldsRecords (record { schema = s; trees = db.trees })) same is.left.store.records,
-      subst (Stores (records_of (db.trees 0))) is.left.tables is.left.store.stores,
+      subst (λ (s : Schema). Stores (records_in (record { schema = s; trees = db.trees })) held) same
+          (subst (Stores (records_in (record { schema = is.left.schema; trees = db.trees }))) is.left.tables is.left.store.stores),
     )
 
 left_holds : (held : tables.State) (db : Database) → IsLeftOf held db → HoldsTables db held
@@ -52,8 +53,8 @@ held_adopts held old new is adopts = holds_once old.now (tables_in new.now) held
 
 -- or refused for memory or by the database
 pub held_refused : (held : tables.State) (db : Database) (e : StoreError) → HoldsTables db held
-    → ((e ≡ DamagedStore) × ((other : tables.State) → HoldsTables db other → ⊥)) ⊎ IsResource e → IsResource e
-held_refused held db e is (inl damaged) = absurd (damaged.1 held is)
+    → ((e ≡ DamagedStore) × IsDamaged db) ⊎ IsResource e → IsResource e
+held_refused held db e is (inl damaged) = absurd (damaged_none db damaged.1 held is)
 held_refused held db e is (inr resource) = resource
 
 -- as what is left is
@@ -61,7 +62,7 @@ pub left_adopts : (held : tables.State) (old new : State) → IsLeftOf held old.
 left_adopts held old new is = held_adopts held old new (left_holds held old.now is)
 
 pub left_refused : (held : tables.State) (db : Database) (e : StoreError) → IsLeftOf held db
-    → ((e ≡ DamagedStore) × ((other : tables.State) → HoldsTables db other → ⊥)) ⊎ IsResource e → IsResource e
+    → ((e ≡ DamagedStore) × IsDamaged db) ⊎ IsResource e → IsResource e
 left_refused held db e is = held_refused held db e (left_holds held db is)
 
 -- and files that hold it are opened with them

@@ -12,7 +12,7 @@ use Rattle.sqlite.specs.State.{State, HasCleanDisk, IsUnchanged}
 use Rattle.cs_rows.specs.declared.fault.StoreError.{StoreError}
 use Rattle.cs_stored.specs.Declaration.{declaration_bytes}
 use Rattle.cs_rows.specs.Faults.{IsResource}
-use Rattle.cs_records.specs.Records.{KeepsCrash, records_in}
+use Rattle.cs_records.specs.Records.{KeepsCrash, record_rows, records_in}
 use Rattle.cs_store.specs.Store.{HoldsState, IsSound, Recovers, tables_in}
 use Rattle.cs_stored.specs.Stored.{state_of, table_in}
 use Rattle.cs_rows.specs.Rows.{Fits, IsRowIn}
@@ -37,7 +37,7 @@ recovers_err (Err e) stored h = h
 -- no table has the empty name
 pub unnamed : (db : Database) → tables.schema_at (tables_in db) [] ≡ None
 unfolding state_of
-unnamed db = ap (option_map (λ (t : tables.TableData). t.schema)) (get_unread (table_in (db.trees 0)) [] (db.trees 0) [] (λ v. refl))
+unnamed db = ap (option_map (λ (t : tables.TableData). t.schema)) (get_unread (table_in (record_rows db)) [] (record_rows db) [] (λ v. refl))
 
 -- the schemas of a state are schemas
 pub schema_is : (state : tables.State) (name : List ℕ) → tables.IsState state → IfSome (tables.schema_at state name) tables.IsSchema

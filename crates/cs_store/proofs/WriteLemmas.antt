@@ -8,7 +8,7 @@ use Rattle.cs_value.specs.Spelling.{row_bytes}
 use Rattle.cs_value.specs.State as tables
 use Rattle.sqlite.specs.Effect.{Database}
 use Rattle.sqlite.specs.State.{State, HasCleanDisk}
-use Rattle.cs_records.specs.Records.{HoldsRecords, Sets, GoesOn, Rests, KeepsCrash, records_in}
+use Rattle.cs_records.specs.Records.{HoldsRecords, Sets, KeepsOthers, GoesOn, Rests, KeepsCrash, record_rows, records_in}
 use Rattle.cs_rows.specs.Rows.{IsDeclared, Fits}
 use Rattle.cs_stored.specs.Stored.{Stores}
 use Rattle.cs_store.specs.Store.{HoldsState, IsSound, KeepsStore, tables_in}
@@ -20,7 +20,7 @@ use Rattle.cs_store.proofs.StoreLemmas.{rests_keeps, write_keeps}
 -- a database that was written so that it stores a state holds that state
 pub holds_next : (new : Database) (next : tables.State) → HoldsRecords new → Stores (records_in new) next → HoldsState new × (tables_in new ≡ next)
 holds_next new next records stores =
-    let is = state_is (new.trees 0) next stores in
+    let is = state_is (record_rows new) next stores in
     (record { records = records; stores = subst (Stores (records_in new)) (sym is) stores }, is)
 
 -- a name without a schema is that of no table
@@ -73,7 +73,7 @@ table_put old new name schema holds named is free set =
     holds_next new _ set.holds (stores_table (records_in new) (records_in old) (tables_in old) name schema holds.stores named is (no_table (tables_in old) name free) set.change)
 
 -- a write that succeeds leaves a state, and else the database rests
-write_kept : {X E : Type 0} (result : Result X E) (old new : State) → IsTrue old.in_transaction → KeepsCrash old new → (HasCleanDisk new → OnOk result (GoesOn old new × HoldsState new.now))
+write_kept : {X E : Type 0} (result : Result X E) (old new : State) → IsTrue old.in_transaction → KeepsCrash old new → (HasCleanDisk new → OnOk result (GoesOn old new × HoldsState new.now × KeepsOthers old.now new.now))
     → (HasCleanDisk new → OnErr result (Rests old new)) → KeepsStore old new
 write_kept (Ok x) old new inside crash wrote rests = write_keeps old new inside crash wrote
 write_kept (Err e) old new inside crash wrote rests = rests_keeps old new crash rests
@@ -95,4 +95,4 @@ module _ (old new : State) {X E : Type 0} (result : Result X E) (name key : List
   pub written_keeps : (HasCleanDisk new → HoldsRecords old.now → IsTrue old.in_transaction → OnOk result (GoesOn old new)) → (HasCleanDisk new → OnErr result (Rests old new)) → KeepsStore old new
   written_keeps goes_on rests =
       write_kept result old new inside crash
-      (λ clean. on_ok_both result _ _ _ (λ set on. (on, (means (was_clean old new crash clean) (shown clean) set).0)) (sets clean (shown clean).records) (goes_on clean (shown clean).records inside)) rests
+      (λ clean. on_ok_both result _ _ _ (λ set on. (on, (means (was_clean old new crash clean) (shown clean) set).0, set.others)) (sets clean (shown clean).records) (goes_on clean (shown clean).records inside)) rests

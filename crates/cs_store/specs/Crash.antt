@@ -6,15 +6,14 @@ use Rattle.sqlite.specs.Effect.{Database, IsDatabase}
 use Rattle.sqlite.specs.State.{State, HasCleanDisk, Survives}
 use Rattle.cs_value.specs.State as tables
 use Rattle.cs_records.specs.Records.{KeepsCrash}
-use Rattle.cs_stored.specs.Stored.{state_of}
 use Rattle.cs_store.specs.Store.{HoldsState, HoldsTables, tables_in}
 
--- with the schema of a store, which is that of its one table of records, the trees are those of a state: so they are taken
--- over as a store, with its tables, and of these tables this holds
+-- with the schema of a store, the trees are those of a state: so they are adopted as a store, with its tables, and of these
+-- tables this holds
 pub record MayLeave (Holds : tables.State → Type 0) (trees : Trees) : Type 0 where
   pub schema : Schema
   pub store : HoldsState (record { schema = schema; trees = trees })
-  pub tables : Holds (state_of (trees 0))
+  pub tables : Holds (tables_in (record { schema = schema; trees = trees }))
 
 -- a crash leaves a store with tables of which this holds, and nothing else, if the disk has returned what was written
 abbrev pub LeavesOnly : (tables.State → Type 0) → State → Type 0
@@ -33,7 +32,7 @@ pub record IsAtomic (Starts : State → Type 0) (Commits : tables.State → Type
   pub opened : IsTrue old.is_open → LeavesOnly (λ left. (left ≡ tables_in old.committed) ⊎ Commits left) new
   pub unstarted : ¬ Starts old → KeepsCrash old new
 
--- What a crash leaves of a database that is to be taken over as a store: of one that was open the last commit as it was, or
+-- What a crash leaves of a database that is to be adopted as a store: of one that was open the last commit as it was, or
 -- a store of this version with the tables that the database held, so the last commit alone where it held none. Where no
 -- transaction can begin, it is nothing that could not be left before.
 pub record LeavesTakenOver (old new : State) : Type 0 where

@@ -18,34 +18,40 @@ use Rattle.sqlite.specs.Files.{HoldsDatabase, AreFoundIn}
 use Rattle.sqlite.specs.State.{State, HasCleanDisk, Shows, KeepsCommit}
 use Rattle.cs_rows.specs.declared.fault.StoreError.{StoreError}
 use Rattle.cs_rows.specs.Faults.{IsResource}
-use Rattle.cs_records.specs.Records.{HoldsRecords, records_in, GoesOn, KeepsContent, KeepsCrash, empty_schema}
+use Rattle.cs_records.specs.Records.{HoldsRecords, DeclaresRecords, IsDeclaredOtherwise, LacksRecords, KeepsOthers, record_rows, records_in, GoesOn, KeepsContent, KeepsCrash}
 use Rattle.cs_stored.specs.Stored.{Stores, StoresInSome, state_of}
 use Rattle.cs_rows.specs.Rows.{IsRowIn}
 
 -- the state that the records of a database are of
 abbrev pub tables_in : Database → tables.State
-tables_in db = state_of (db.trees 0)
+tables_in db = state_of (record_rows db)
 
 -- the database has the table of records, and they are those of a state
 pub record HoldsState (db : Database) : Type 0 where
   pub records : HoldsRecords db
   pub stores : Stores (records_in db) (tables_in db)
 
--- no record is there yet: the database declares nothing, or its table of records is empty
+-- no record is there yet: nothing has the name of the table of records, or the table is empty
 abbrev pub IsVacant : Database → Type 0
-IsVacant db = (db.schema ≡ empty_schema) ⊎ (HoldsRecords db × (db.trees 0 ≡ []))
+IsVacant db = LacksRecords db.schema ⊎ (HoldsRecords db × (record_rows db ≡ []))
 
 -- the tables that a database holds: none where no record is there yet, else those that its records stand for, in this
 -- version or in the former one
 abbrev pub HoldsTables : Database → tables.State → Type 0
 HoldsTables db held = (IsVacant db × (held ≡ map.empty)) ⊎ (HoldsRecords db × StoresInSome (records_in db) held)
 
--- while the connection is open, it shows a state, and a state was committed last, which it shows outside a transaction
+-- the table of records is declared otherwise, or its records are those of no state
+abbrev pub IsDamaged : Database → Type 0
+IsDamaged db = IsDeclaredOtherwise db.schema ⊎ (DeclaresRecords db.schema × ((held : tables.State) → ¬ HoldsTables db held))
+
+-- while the connection is open, it shows a state, and a state was committed last, which it shows outside a transaction; all
+-- but the records is as it was committed
 pub record IsStore (s : State) : Type 0 where
   pub open_inside : IsTrue s.in_transaction → IsTrue s.is_open
   pub settled : s.in_transaction ≡ false → IsTrue s.is_open → s.now ≡ s.committed
   pub now : IsTrue s.is_open → HoldsState s.now
   pub committed : IsTrue s.is_open → HoldsState s.committed
+  pub others : IsTrue s.is_open → KeepsOthers s.committed s.now
 
 -- it is a store, if the disk has returned what was written
 abbrev pub IsSound : State → Type 0
@@ -108,7 +114,7 @@ pub record IsAtRest (s : State) : Type 0 where
   pub autocommit : s.in_transaction ≡ false
   pub committed : s.committed ≡ s.now
 
--- a store is adopted: no transaction was open, and the tables that the database held are committed
+-- a store is adopted: no transaction was open, and the tables that the database held are committed, and nothing else is changed
 pub record Adopts (old new : State) : Type 0 where
   pub was_clean : HasCleanDisk old
   pub outside : old.in_transaction ≡ false
@@ -116,13 +122,14 @@ pub record Adopts (old new : State) : Type 0 where
   pub at_rest : IsAtRest new
   pub holds : HoldsState new.now
   pub held : HoldsTables old.now (tables_in new.now)
+  pub others : KeepsOthers old.now new.now
 
 -- a transaction is open
 pub record IsInside (s : State) : Type 0 where
   pub is_open : IsTrue s.is_open
   pub inside : IsTrue s.in_transaction
 
--- files that are opened as a store: the database that they held, whose tables the store holds
+-- files that are opened as a store: the database that they held, whose tables the store holds, with all else as it was
 pub record OpensFiles (image : Image) (new : State) : Type 0 where
   pub db : Database
   pub sound : IsDatabase db
@@ -130,6 +137,7 @@ pub record OpensFiles (image : Image) (new : State) : Type 0 where
   pub reads : AreFoundIn image db.trees
   pub holds : HoldsState new.now
   pub held : HoldsTables db (tables_in new.now)
+  pub others : KeepsOthers db new.now
   pub at_rest : IsAtRest new
 
 -- inside a transaction, the tables that the database held are held as a store holds them
@@ -137,6 +145,7 @@ pub record SetsUp (old new : State) : Type 0 where
   pub on : GoesOn old new
   pub holds : HoldsState new.now
   pub held : HoldsTables old.now (tables_in new.now)
+  pub others : KeepsOthers old.now new.now
 
 -- the bytes are those of the rows in turn, each a row of a table of this schema
 pub record AreStored (schema : tables.SchemaData) (stored : List (List ℕ)) (rows : List (List OwnedValue)) : Type 0 where

@@ -6,18 +6,18 @@ ghost use Rattle.sqlite.specs.Effect.{IsDatabase};
 ghost use Rattle.sqlite.specs.Held.{state};
 ghost use Rattle.cs_rows.specs.declared.fault.StoreError.TheVariants.{DamagedStore as Damaged};
 ghost use Rattle.cs_rows.specs.Faults.{IsResource, IsReadRefusal};
-ghost use Rattle.cs_records.specs.Records.{HoldsRecords, ListsAll, KeepsContent, record_schema, empty_schema};
-ghost use Rattle.cs_records.specs.Records.{records_in, KeepsCrash};
+ghost use Rattle.cs_records.specs.Records.{HoldsRecords, DeclaresRecords, LacksRecords, ListsAll, KeepsContent};
+ghost use Rattle.cs_records.specs.Records.{record_rows, records_in, KeepsCrash};
 ghost use Rattle.cs_stored.specs.Valid.{AreValid};
 ghost use Rattle.cs_stored.specs.Versions.{bytes_of};
 ghost use Rattle.cs_store.specs.Crash.{CanBegin, MayLeave};
-ghost use Rattle.cs_store.specs.Store.{Adopts, HoldsTables, SetsUp, IsInside};
+ghost use Rattle.cs_store.specs.Store.{Adopts, HoldsTables, IsDamaged, SetsUp, IsInside};
 
 use crate::batch::commit;
 use crate::refusal::refused;
 use cs_records::{
-    Record, all_records, declares_nothing, declares_records, find_record, has_row_numbers,
-    make_table, misdeclares_records, put_record, transactions,
+    Declaration, Record, all_records, declaration_of, find_record, has_row_numbers, make_table,
+    put_record, transactions,
 };
 use cs_rows::StoreError;
 use cs_stored::{VERSION, Version, check_records, version_of};
@@ -30,7 +30,7 @@ pub(crate) fn adopt<S: Alter>(conn: &mut Connection<S>, alloc: Global) -> Result
     ensures adopted { HasCleanDisk (state S.Store conn.new)
         → OnOk result (Adopts (state S.Store conn.old) (state S.Store conn.new)) }
     ensures refused { HasCleanDisk (state S.Store conn.new) → IfErr result (λ e. ((e ≡ Damaged)
-        × ((held : tables.State) → ¬ HoldsTables (state S.Store conn.old).now held)) ⊎ IsResource e) }
+        × IsDamaged (state S.Store conn.old).now) ⊎ IsResource e) }
     ensures named { IfErr result IsReadRefusal }
     ensures kept { HasCleanDisk (state S.Store conn.new)
         → OnErr result (KeepsContent (state S.Store conn.old) (state S.Store conn.new)) }
@@ -58,28 +58,25 @@ fn set_up<S: Alter>(conn: &mut Connection<S>, alloc: Global) -> Result<(), Store
     ensures set_up { HasCleanDisk (state S.Store conn.new)
         → OnOk result (SetsUp (state S.Store conn.old) (state S.Store conn.new)) }
     ensures refused { HasCleanDisk (state S.Store conn.new) → IfErr result (λ e. ((e ≡ Damaged)
-        × ((held : tables.State) → ¬ HoldsTables (state S.Store conn.old).now held)) ⊎ IsResource e) }
+        × IsDamaged (state S.Store conn.old).now) ⊎ IsResource e) }
     ensures named { IfErr result IsReadRefusal }
     ensures commit { HasCleanDisk (state S.Store conn.new)
         → OnErr result (KeepsCommit (state S.Store conn.old) (state S.Store conn.new)) }
     ensures survives { KeepsCrash (state S.Store conn.old) (state S.Store conn.new) }
 {
-    let schema = conn.schema();
-    if declares_nothing(schema) {
-        make_store(conn)
-    } else if declares_records(schema) {
-        check_store(conn, alloc)
-    } else if misdeclares_records(schema) {
-        Err(StoreError::DamagedStore)
-    } else {
-        Err(StoreError::StoreFault)
+    match declaration_of(alloc, conn.schema()) {
+        Ok(Declaration::Missing) => make_store(conn, alloc),
+        Ok(Declaration::Records) => check_store(conn, alloc),
+        Ok(Declaration::Other) => Err(StoreError::DamagedStore),
+        Ok(Declaration::Unsupported) => Err(StoreError::StoreFault),
+        Err(error) => Err(refused(error)),
     }
 }
 
-/// Makes the table of records, in a database that declares nothing.
-fn make_store<S: Alter>(conn: &mut Connection<S>) -> Result<(), StoreError>
+/// Makes the table of records, where nothing has its name.
+fn make_store<S: Alter>(conn: &mut Connection<S>, alloc: Global) -> Result<(), StoreError>
     requires inside { HasCleanDisk (state S.Store conn.old) → IsInside (state S.Store conn.old) }
-    requires nothing { (state S.Store conn.old).now.schema ≡ empty_schema }
+    requires lacks { LacksRecords (state S.Store conn.old).now.schema }
     ensures set_up { HasCleanDisk (state S.Store conn.new)
         → OnOk result (SetsUp (state S.Store conn.old) (state S.Store conn.new)) }
     ensures refused { IfErr result IsResource }
@@ -87,7 +84,7 @@ fn make_store<S: Alter>(conn: &mut Connection<S>) -> Result<(), StoreError>
         → OnErr result (KeepsCommit (state S.Store conn.old) (state S.Store conn.new)) }
     ensures survives { KeepsCrash (state S.Store conn.old) (state S.Store conn.new) }
 {
-    match make_table(conn) {
+    match make_table(conn, alloc) {
         Ok(()) => write_version(conn),
         Err(error) => Err(refused(error)),
     }
@@ -97,7 +94,7 @@ fn make_store<S: Alter>(conn: &mut Connection<S>) -> Result<(), StoreError>
 fn write_version<S: Alter>(conn: &mut Connection<S>) -> Result<(), StoreError>
     requires inside { HasCleanDisk (state S.Store conn.old) → IsInside (state S.Store conn.old) }
     requires records { HasCleanDisk (state S.Store conn.old) → HoldsRecords (state S.Store conn.old).now
-        × (((state S.Store conn.old).now.trees 0 ≡ []) ⊎ AreValid (records_in (state S.Store conn.old).now)) }
+        × ((record_rows (state S.Store conn.old).now ≡ []) ⊎ AreValid (records_in (state S.Store conn.old).now)) }
     ensures set_up { HasCleanDisk (state S.Store conn.new)
         → OnOk result (SetsUp (state S.Store conn.old) (state S.Store conn.new)) }
     ensures refused { IfErr result IsResource }
@@ -108,10 +105,10 @@ fn write_version<S: Alter>(conn: &mut Connection<S>) -> Result<(), StoreError>
     put_record(conn, "", b"", VERSION, false).map_err(refused)
 }
 
-/// Checks the store of a database that declares the table of records, or makes one if that is empty.
+/// Checks the store of a database that has the table of records, or makes one if that is empty.
 fn check_store<S: Alter>(conn: &mut Connection<S>, alloc: Global) -> Result<(), StoreError>
     requires inside { HasCleanDisk (state S.Store conn.old) → IsInside (state S.Store conn.old) }
-    requires declared { (state S.Store conn.old).now.schema ≡ record_schema }
+    requires declared { DeclaresRecords (state S.Store conn.old).now.schema }
     requires sound { HasCleanDisk (state S.Store conn.old) → IsDatabase (state S.Store conn.old).now }
     ensures set_up { HasCleanDisk (state S.Store conn.new)
         → OnOk result (SetsUp (state S.Store conn.old) (state S.Store conn.new)) }

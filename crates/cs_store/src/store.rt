@@ -18,7 +18,7 @@ ghost use Rattle.sqlite.specs.Files.{HoldsDatabase, file_state};
 ghost use Rattle.sqlite.specs.Tree.{Trees};
 ghost use Rattle.sqlite.specs.Steps.{over_memory};
 ghost use Rattle.sqlite_wal.specs.Files.{image_at};
-ghost use Rattle.cs_store.specs.Store.{Adopts, Begins, HoldsTables, IsAtRest, KeepsStore, OpensFiles};
+ghost use Rattle.cs_store.specs.Store.{Adopts, Begins, HoldsTables, IsAtRest, IsDamaged, KeepsStore, OpensFiles};
 ghost use Rattle.cs_store.specs.Store.{RefusesShut, tables_in};
 
 use crate::batch::SqlBatch;
@@ -128,16 +128,18 @@ impl<S: Start> Store<FileStore<FileFrom<S>>> {
 impl<S: Alter> Store<S> {
     /// Adopts a database as a store, in one transaction.
     ///
-    /// If the database declares nothing, or its table of records is empty, a new store is made there. Else each record
-    /// is checked, and records of the former version get the current one, which keeps their tables. A crash leaves the
-    /// last commit, or the store with the tables that the database held. What a crash left of a store is adopted with
-    /// its tables, or refused because memory is out or by the database.
+    /// The database may have other tables, indexes, views and triggers, which stay as they are. If it has no table of
+    /// records, or an empty one, a new store is made there. Else each record is checked, and records of the former
+    /// version get the current one, which keeps their tables. A crash leaves the last commit, or the store with the
+    /// tables that the database held. What a crash left of a store is adopted with its tables, or refused because
+    /// memory is out or by the database.
     ///
     /// # Errors
     ///
     /// They come with the connection as it was. `DamagedStore` if the records are not those of tables, or a table of
-    /// the name `rec` is declared otherwise. `StoreFault` if the database has other tables, a transaction is open, or
-    /// the database refuses. `NoMemory` if out of memory.
+    /// the name `rec` is declared otherwise. `StoreFault` if a transaction is open, the database refuses, or the
+    /// table `rec` cannot be written: it has a trigger, for example, or another table refers to it. `NoMemory` if out
+    /// of memory.
     pub fn adopt(
         alloc: Global,
         mut conn: Connection<S>,
@@ -145,7 +147,7 @@ impl<S: Alter> Store<S> {
         ensures adopted { IfOk result (λ s. HasCleanDisk (state S.Store s)
             → Adopts (state S.Store conn) (state S.Store s)) }
         ensures refused { IfErr result (λ e. HasCleanDisk (state S.Store e.1) → ((e.0 ≡ Damaged)
-            × ((held : tables.State) → ¬ HoldsTables (state S.Store conn).now held)) ⊎ IsResource e.0) }
+            × IsDamaged (state S.Store conn).now) ⊎ IsResource e.0) }
         ensures found { (held : tables.State) → HoldsTables (state S.Store conn).now held → MatchResult result
             (λ s. HasCleanDisk (state S.Store s) → tables_in (state S.Store s).now ≡ held)
             (λ e. HasCleanDisk (state S.Store e.1) → IsResource e.0) }

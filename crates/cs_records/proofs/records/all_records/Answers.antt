@@ -3,12 +3,12 @@ use Rattle.std.proofs.Common.{map, sym, ap, subst, ◌∙◌}
 use Rattle.sqlite.specs.Held.{state}
 use Rattle.cs_records.specs.Records.{ListsAll, shown_record, records_in}
 use Rattle.cs_records.proofs.QueryLemmas.{if_ok}
-use Rattle.cs_records.proofs.QueryTexts.{all_text, all_query, all_asks, asks_query}
+use Rattle.cs_records.proofs.QueryTexts.{all_is_query}
 use Rattle.cs_records.proofs.ListedRows.{lists_all}
 use Rattle.cs_records.proofs.records.all_records.Goals as goal
 
 pub query_rows-requires : goal.query_rows-requires
-query_rows-requires g c = asks_query all_text all_query all_asks
+query_rows-requires g c = all_is_query
 
 pub returns-clause-listed : goal.returns-clause-listed
 returns-clause-listed g c clean holds =

@@ -1,11 +1,11 @@
 -- `records::find_record`: what `query_rows` asks for, the clause `found`.
 use Rattle.sqlite.specs.Held.{state}
 use Rattle.cs_records.proofs.FoundRows.{finds, first_found, none_found}
-use Rattle.cs_records.proofs.QueryTexts.{find_text, find_query, find_asks, asks_query}
+use Rattle.cs_records.proofs.QueryTexts.{find_is_query}
 use Rattle.cs_records.proofs.records.find_record.Goals as goal
 
 pub query_rows-requires : goal.query_rows-requires
-query_rows-requires g c = asks_query find_text find_query find_asks
+query_rows-requires g c = find_is_query
 
 pub returns-in-Some-clause-found : goal.returns-in-Some-clause-found
 returns-in-Some-clause-found g c clean holds =

@@ -3,12 +3,12 @@ use Rattle.std.proofs.Common.{sym, subst}
 use Rattle.sqlite.specs.Held.{state}
 use Rattle.cs_records.specs.Records.{AreRisingNumbers}
 use Rattle.cs_records.proofs.QueryLemmas.{if_ok}
-use Rattle.cs_records.proofs.QueryTexts.{number_text, number_query, number_asks, asks_query}
+use Rattle.cs_records.proofs.QueryTexts.{number_is_query}
 use Rattle.cs_records.proofs.NumberedRows.{numbered, rising_if_numbered}
 use Rattle.cs_records.proofs.records.has_row_numbers.Goals as goal
 
 pub query_rows-requires : goal.query_rows-requires
-query_rows-requires g c = asks_query number_text number_query number_asks
+query_rows-requires g c = number_is_query
 
 pub returns-clause-numbered : goal.returns-clause-numbered
 returns-clause-numbered g c clean has sound =

@@ -3,12 +3,12 @@ use Rattle.std.proofs.Common.{map, sym, ap, subst, ◌∙◌}
 use Rattle.sqlite.specs.Held.{state}
 use Rattle.cs_records.specs.Records.{ListsTable, shown_keyed, records_in}
 use Rattle.cs_records.proofs.QueryLemmas.{if_ok}
-use Rattle.cs_records.proofs.QueryTexts.{list_text, list_query, list_asks, asks_query}
+use Rattle.cs_records.proofs.QueryTexts.{list_is_query}
 use Rattle.cs_records.proofs.ListedRows.{lists_table}
 use Rattle.cs_records.proofs.records.list_records.Goals as goal
 
 pub query_rows-requires : goal.query_rows-requires
-query_rows-requires g c = asks_query list_text list_query list_asks
+query_rows-requires g c = list_is_query
 
 pub returns-clause-listed : goal.returns-clause-listed
 returns-clause-listed g c clean holds =

@@ -9,14 +9,14 @@ pub returns-in_err-execute-clause-rests : goal.returns-in_err-execute-clause-res
 returns-in_err-execute-clause-rests g c clean = on_err c.from_residual.result _ (refusal_rests _ _ _ _ _ (c.in_err-execute.ensures.runs clean))
 
 pub returns-in_err-execute-clause-survives : goal.returns-in_err-execute-clause-survives
-returns-in_err-execute-clause-survives g c has inside = put_keeps_crash c.args.is_new _ _ _ (λ clean. (has clean).schema) inside (rw c.put_text.ensures at c.execute.ensures.survives)
+returns-in_err-execute-clause-survives g c has inside = put_keeps_crash c.args.is_new _ _ _ (λ clean. (has clean).declares) inside (rw c.put_text.ensures at c.execute.ensures.survives)
 
 pub returns-clause-set : goal.returns-clause-set
 returns-clause-set g c clean has =
     puts c.args.is_new _ _ _ _ _ _ has (rw (c.put_text.ensures, c.params-to_sql.ensures, c.params-to_sql-2.ensures, c.params-to_sql-3.ensures) at (c.in_ok-execute.ensures.runs clean))
 
 pub returns-clause-goes_on : goal.returns-clause-goes_on
-returns-clause-goes_on g c clean has inside = put_goes_on c.args.is_new _ _ _ _ has.schema inside (rw c.put_text.ensures at (c.in_ok-execute.ensures.runs clean))
+returns-clause-goes_on g c clean has inside = put_goes_on c.args.is_new _ _ _ _ has.declares inside (rw c.put_text.ensures at (c.in_ok-execute.ensures.runs clean))
 
 pub returns-clause-survives : goal.returns-clause-survives
-returns-clause-survives g c has inside = put_keeps_crash c.args.is_new _ _ _ (λ clean. (has clean).schema) inside (rw c.put_text.ensures at c.execute.ensures.survives)
+returns-clause-survives g c has inside = put_keeps_crash c.args.is_new _ _ _ (λ clean. (has clean).declares) inside (rw c.put_text.ensures at c.execute.ensures.survives)

@@ -8,13 +8,13 @@ pub returns-in_err-execute-clause-rests : goal.returns-in_err-execute-clause-res
 returns-in_err-execute-clause-rests g c clean = on_err c.from_residual.result _ (refusal_rests _ _ _ _ _ (c.in_err-execute.ensures.runs clean))
 
 pub returns-in_err-execute-clause-survives : goal.returns-in_err-execute-clause-survives
-returns-in_err-execute-clause-survives g c has inside = remove_keeps_crash _ _ _ (λ clean. (has clean).schema) inside c.execute.ensures.survives
+returns-in_err-execute-clause-survives g c has inside = remove_keeps_crash _ _ _ (λ clean. (has clean).declares) inside c.execute.ensures.survives
 
 pub returns-clause-removed : goal.returns-clause-removed
 returns-clause-removed g c clean has = removes _ _ _ _ _ has (rw (c.params-to_sql.ensures, c.params-to_sql-2.ensures) at (c.in_ok-execute.ensures.runs clean))
 
 pub returns-clause-goes_on : goal.returns-clause-goes_on
-returns-clause-goes_on g c clean has inside = remove_goes_on _ _ _ _ has.schema inside (c.in_ok-execute.ensures.runs clean)
+returns-clause-goes_on g c clean has inside = remove_goes_on _ _ _ _ has.declares inside (c.in_ok-execute.ensures.runs clean)
 
 pub returns-clause-survives : goal.returns-clause-survives
-returns-clause-survives g c has inside = remove_keeps_crash _ _ _ (λ clean. (has clean).schema) inside c.execute.ensures.survives
+returns-clause-survives g c has inside = remove_keeps_crash _ _ _ (λ clean. (has clean).declares) inside c.execute.ensures.survives

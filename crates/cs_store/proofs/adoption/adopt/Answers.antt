@@ -2,6 +2,7 @@
 use Rattle.std.proofs.Common.{Err}
 use Rattle.sqlite.specs.Held.{state}
 use Rattle.cs_store.specs.Laws.{was_clean}
+use Rattle.cs_store.specs.Store.{IsDamaged}
 use Rattle.cs_store.proofs.AdoptionLemmas.{same_damage}
 use Rattle.cs_store.proofs.adoption.adopt.Goals as goal
 
@@ -10,4 +11,4 @@ returns-in-Err-set_up-clause-refused g c clean =
     let set_clean = was_clean (state g.S.Store c.set_up.new.conn) (state g.S.Store c.roll_back.new.conn) c.roll_back.ensures.survives clean in
     let begun_clean = was_clean (state g.S.Store c.begin.new.conn) (state g.S.Store c.set_up.new.conn) c.set_up.ensures.survives set_clean in
     let same = (c.in-Ok.ensures.begun begun_clean).1.now_is in
-    same_damage {X = Unit {0}} (Err c.in-Err-set_up.error) (state g.S.Store c.args.conn.now).now (state g.S.Store c.begin.new.conn).now same (c.in-Err-set_up.ensures.refused set_clean)
+    same_damage {X = Unit {0}} (Err c.in-Err-set_up.error) IsDamaged (state g.S.Store c.args.conn.now).now (state g.S.Store c.begin.new.conn).now same (c.in-Err-set_up.ensures.refused set_clean)

@@ -3,7 +3,7 @@ use Rattle.std.proofs.Common.{◌≡◌, ◌≢◌, ◌⊎◌, inl, ◌==◌, []
 use Rattle.sqlite.specs.Held.{state}
 use Rattle.sqlite.specs.Effect.{Database}
 use Rattle.cs_store.specs.Laws.{was_clean}
-use Rattle.cs_records.specs.Records.{HoldsRecords, records_in}
+use Rattle.cs_records.specs.Records.{HoldsRecords, record_rows, records_in}
 use Rattle.cs_stored.specs.Valid.{AreValid}
 use Rattle.cs_store.proofs.WriteLemmas.{on_ok_then}
 use Rattle.cs_store.proofs.ReadLemmas.{no_elements}
@@ -18,7 +18,7 @@ write_version-requires-clause-records g c clean =
     let same = (c.in-Ok.ensures.reads clean).0.now_is in
     let none : c.in-Ok.listed.items ≡ [] = no_elements c.in-Ok.listed.items (c.if-is_empty.ensures ∙ ap (λ n. n == 0) c.in-Ok.listed.ok.0) in
     let lists = rw none at (c.in-Ok.ensures.listed clean holds) in
-    subst (λ (db : Database). HoldsRecords db × ((db.trees 0 ≡ []) ⊎ AreValid (records_in db))) (sym same) (holds, inl (none_listed (old.now.trees 0) lists))
+    subst (λ (db : Database). HoldsRecords db × ((record_rows db ≡ []) ⊎ AreValid (records_in db))) (sym same) (holds, inl (none_listed (record_rows old.now) lists))
 
 pub returns-in-Ok-2-clause-set_up : goal.returns-in-Ok-2-clause-set_up
 returns-in-Ok-2-clause-set_up g c clean =

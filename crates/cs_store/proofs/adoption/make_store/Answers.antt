@@ -8,6 +8,7 @@ use Rattle.cs_store.proofs.adoption.make_store.Goals as goal
 pub returns-in-Ok-clause-set_up : goal.returns-in-Ok-clause-set_up
 returns-in-Ok-clause-set_up g c clean =
     let made_clean = was_clean (state g.S.Store c.make_table.new.conn) (state g.S.Store c.write_version.new.conn) c.write_version.ensures.survives clean in
-    let inside = (c.requires.inside (c.in-Ok.ensures.was_clean made_clean)).inside in
-    on_ok_then c.write_version.result _ _ (λ set. made_then _ _ _ c.requires.nothing (c.in-Ok.ensures.goes_on made_clean c.requires.nothing inside) (c.in-Ok.ensures.made made_clean c.requires.nothing).1 set)
+    let made = c.in-Ok.ensures.made made_clean c.requires.lacks in
+    on_ok_then c.write_version.result _ _ (λ set. made_then (state g.S.Store c.args.conn.now) (state g.S.Store c.make_table.new.conn) (state g.S.Store c.write_version.new.conn) c.requires.lacks
+    (c.in-Ok.ensures.goes_on made_clean) (c.in-Ok.ensures.others made_clean) made.0.sound made.1 set)
     (c.write_version.ensures.set_up clean)

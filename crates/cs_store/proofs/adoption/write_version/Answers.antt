@@ -10,5 +10,5 @@ returns-clause-set_up g c clean =
     let needs = c.requires.records before in
     mapped _ c.put_record.result c.map_err.result _ c.map_err.ensures.cases (on_ok_both c.put_record.result _ _ _ (λ set on.
     let held = writes_version (state g.S.Store c.args.conn.now).now (state g.S.Store c.put_record.new.conn).now needs.0 needs.1 set in
-    record { on = on; holds = held.0; held = held.1 })
+    record { on = on; holds = held.0; held = held.1; others = set.others })
     (c.put_record.ensures.set clean needs.0) (c.put_record.ensures.goes_on clean needs.0 (c.requires.inside before).inside))

@@ -1,4 +1,4 @@
--- `tables::find_schema`: the clauses `found` and `refused`.
+-- `tables::find_schema`: the clauses `found`, `refused` and `kept`.
 use Rattle.std.proofs.Common.{[], sym, ap, ◌∙◌}
 use Rattle.sqlite.specs.Held.{state}
 use Rattle.sqlite.specs.State.{HasCleanDisk}
@@ -6,6 +6,7 @@ use Rattle.cs_value.specs.State.{schema_at}
 use Rattle.cs_records.specs.Records.{records_in}
 use Rattle.cs_store.specs.Store.{IsSound, Recovers, tables_in}
 use Rattle.cs_store.proofs.ReadLemmas.{shows_read, recovers_ok, recovers_err, unnamed, no_elements, some_elements, schema_is, schema_stored}
+use Rattle.cs_store.proofs.StoreLemmas.{rests_keeps}
 use Rattle.cs_store.proofs.tables.find_schema.Goals as goal
 use Rattle.cs_store.proofs.tables.find_schema.Goals.{After-schema_in}
 
@@ -29,3 +30,6 @@ returns-else-is_empty-clause-found g c sound clean = recovers_ok c.schema_in.res
 
 pub returns-else-is_empty-clause-refused : goal.returns-else-is_empty-clause-refused
 returns-else-is_empty-clause-refused g c sound clean = recovers_err c.schema_in.result _ (recovered g c sound clean)
+
+pub returns-in-Err-clause-kept : goal.returns-in-Err-clause-kept
+returns-in-Err-clause-kept g c = rests_keeps (state g.S.Store c.args.conn.now) (state g.S.Store c.find_record.new.conn) c.find_record.ensures.keeps_crash c.in-Err.ensures.rests

@@ -1,10 +1,11 @@
--- `tables::list_tables`: the clauses `listed` and `refused`.
+-- `tables::list_tables`: the clauses `listed`, `refused` and `kept`.
 use Rattle.sqlite.specs.Held.{state}
 use Rattle.sqlite.specs.State.{HasCleanDisk}
 use Rattle.std.specs.FinMap as map
 use Rattle.cs_records.specs.Records.{records_in}
 use Rattle.cs_store.specs.Store.{IsSound, AreNamed, tables_in}
 use Rattle.cs_store.proofs.ReadLemmas.{shows_read}
+use Rattle.cs_store.proofs.StoreLemmas.{rests_keeps}
 use Rattle.cs_store.proofs.StoredLists.{names_listed, names_are, named_ok, named_err}
 use Rattle.cs_store.proofs.tables.list_tables.Goals as goal
 
@@ -23,3 +24,6 @@ returns-in-Ok-clause-listed g c sound clean = named_ok c.names_behind.result _ (
 
 pub returns-in-Ok-clause-refused : goal.returns-in-Ok-clause-refused
 returns-in-Ok-clause-refused g c sound clean = named_err c.names_behind.result _ (named g c sound clean)
+
+pub returns-in-Err-clause-kept : goal.returns-in-Err-clause-kept
+returns-in-Err-clause-kept g c = rests_keeps (state g.S.Store c.args.conn.now) (state g.S.Store c.list_records.new.conn) c.list_records.ensures.keeps_crash c.in-Err.ensures.rests

@@ -1,10 +1,21 @@
--- `session::Session::changeset`: the clauses `attached` and `leads`.
+-- `session::Session::changeset`: the clauses `made`, `attached` and `leads`.
 use Rattle.std.proofs.Common.{◌≡◌, map, rules}
 use Rattle.sqlite.specs.Held.{state}
 use Rattle.cs_store.specs.Laws.{was_clean}
 use Rattle.cs_session.specs.Views.{attached_of}
-use Rattle.cs_session.proofs.OutcomeLemmas.{begun_state, read_attached, read_leads}
+use Rattle.cs_session.proofs.OutcomeLemmas.{begun_state, read_made, read_attached, read_leads}
 use Rattle.cs_session.proofs.session.Session.changeset.Goals as goal
+
+pub returns-clause-made : goal.returns-clause-made
+returns-clause-made g c = λ clean.
+    let old = state g.S.Store c.args.store.now in
+    let begun = state g.S.Store c.in_ok-batch.batch.store.now in
+    let mid = state g.S.Store c.net_changeset.new.rows.store.now in
+    let last = state g.S.Store c.drop-batch.new.self.0 in
+    let same : c.drop-batch.new.self.0 ≡ c.store-2-1.given.0 = search rules in
+    let mid_clean = was_clean mid last c.drop-batch.ensures.survives (rw (same) clean) in
+    let shown = (c.in_ok-batch.ensures.begun (c.net_changeset.ensures.was_honest mid_clean)).shown in
+    rw (← c.self.view_is, ← c.as_slice.ensures) (read_made c.net_changeset.result begun.now old.now shown.now_is (map attached_of c.as_slice.result.now) (c.net_changeset.ensures.made mid_clean))
 
 pub returns-clause-attached : goal.returns-clause-attached
 returns-clause-attached g c = λ clean.

@@ -1,8 +1,12 @@
--- `store::Store::adopt`: the clauses `found`, `recovers` and `leaves`.
+-- `store::Store::adopt`: the invariant of the store, the clauses `found`, `recovers` and `leaves`.
 use Rattle.sqlite.specs.Held.{state}
 use Rattle.cs_store.proofs.CrashLemmas.{taken_over}
+use Rattle.cs_store.proofs.StoreLemmas.{adopted_sound}
 use Rattle.cs_store.proofs.LeftLemmas.{held_adopts, held_refused, left_adopts, left_refused}
 use Rattle.cs_store.proofs.store.Store.adopt.Goals as goal
+
+pub invariant_of-result : goal.invariant_of-result
+invariant_of-result g c = (adopted_sound (state g.S.Store c.args.conn) (state g.S.Store c.adopt.new.conn) c.in-Ok.ensures.adopted, λ clean. tt)
 
 pub returns-in-Ok-clause-found : goal.returns-in-Ok-clause-found
 returns-in-Ok-clause-found g c held is clean = held_adopts held (state g.S.Store c.args.conn) (state g.S.Store c.adopt.new.conn) is (c.in-Ok.ensures.adopted clean)

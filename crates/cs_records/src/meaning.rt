@@ -1,0 +1,307 @@
+//! What the texts of the statements on records are under the schema of a database.
+//!
+//! Each is compiled under that schema, and compared with the statement on the table of records that it is meant to be.
+//! So it reads and writes the rows of that table, whatever else the database declares.
+ghost use Rattle.std.specs.Prelude.{◌≡◌, [], true, false, IsTrue, IfOk, IfSome};
+ghost use Rattle.cs_records.specs.Meaning.{AreStatements, AreWrites, IsMeant};
+ghost use Rattle.cs_records.specs.Statements.{alone, expected_query, number_query, find_query, list_query, all_query};
+ghost use Rattle.cs_records.specs.Statements.{put_command, remove_command, source, clause, number_text, find_text};
+ghost use Rattle.cs_records.specs.Statements.{list_text, all_text};
+ghost use Rattle.cs_records.specs.Statements.{IsPlainStatement, IsStatement, IsSelectOf, IsSelect, Creates};
+
+use crate::expected::{Expected, Shape, are_expected, is_query};
+use crate::fault::RecordsError;
+use crate::texts;
+use sqlite_resolve::{CompileError, Compiled, compile};
+use sqlite_schema::command::{Command, Conflict, Source, Upsert};
+use sqlite_schema::program::Program;
+use sqlite_schema::schema::Schema;
+use std::alloc::Global;
+
+/// The statement of the text under the schema, if it has no RETURNING and does not read the time.
+fn plain_statement(
+    alloc: Global,
+    schema: &Schema,
+    sql: &str,
+) -> Result<Option<Compiled>, RecordsError>
+    ensures { IfOk result (λ found. IfSome found (IsPlainStatement schema.now sql.now)) }
+{
+    match compile(alloc, schema, sql.as_bytes()) {
+        Ok(it) if it.returning.is_none() && it.formats.is_empty() => Ok(Some(it)),
+        Err(CompileError::OutOfMemory) => Err(RecordsError::NoMemory),
+        _ => Ok(None),
+    }
+}
+
+/// Whether the program is the query of that shape on the table with this tree.
+fn is_program(
+    alloc: Global,
+    program: &Program,
+    tree: u32,
+    shape: &Shape<'_>,
+) -> Result<bool, RecordsError>
+    ensures { IfOk result (λ yes. IsTrue yes → program.now ≡ alone (expected_query tree shape.now)) }
+{
+    if !program.lets.is_empty() {
+        return Ok(false);
+    }
+    let loan = program.body.lend(alloc)?;
+    Ok(is_query(&loan.select(), tree, shape))
+}
+
+/// Whether the command is the query of that shape on the table with this tree.
+fn is_select(
+    alloc: Global,
+    command: &Command,
+    tree: u32,
+    shape: &Shape<'_>,
+) -> Result<bool, RecordsError>
+    ensures { IfOk result (λ yes. IsTrue yes → IsSelectOf command.now (alone (expected_query tree shape.now))) }
+{
+    match command {
+        Command::Select(program, _) => is_program(alloc, program, tree, shape),
+        _ => Ok(false),
+    }
+}
+
+/// Whether these are the rows of an INSERT of one record, whose number is chosen.
+fn is_source(alloc: Global, rows: &Source) -> Result<bool, RecordsError>
+    ensures { IfOk result (λ yes. IsTrue yes → rows.now ≡ source) }
+{
+    let Source::Values(terms, width) = rows else {
+        return Ok(false);
+    };
+    let lent = terms.lend(alloc)?;
+    let expected = [
+        Expected::Null,
+        Expected::Column(0, 0),
+        Expected::Column(0, 1),
+        Expected::Column(0, 2),
+    ];
+    Ok(*width == 4 && are_expected(lent.nodes.as_slice(), lent.roots, &expected))
+}
+
+/// Whether the command inserts a record.
+fn is_insert(alloc: Global, command: &Command, place: usize) -> Result<bool, RecordsError>
+    ensures { IfOk result (λ yes. IsTrue yes → command.now ≡ put_command place 0 true) }
+{
+    match command {
+        Command::Insert(at, rows) => Ok(*at == place && is_source(alloc, rows)?),
+        _ => Ok(false),
+    }
+}
+
+/// Whether the clause replaces the value of the record that is there.
+fn is_clause(alloc: Global, upsert: &Upsert, tree: u32) -> Result<bool, RecordsError>
+    ensures { IfOk result (λ yes. IsTrue yes → upsert.now ≡ clause tree) }
+{
+    let Some(target) = &upsert.target else {
+        return Ok(false);
+    };
+    let Some(program) = &upsert.update else {
+        return Ok(false);
+    };
+    let shape = Shape {
+        filter: &[Expected::Equal(0, 3)],
+        project: &[
+            Expected::Column(1, 0),
+            Expected::Column(1, 0),
+            Expected::Column(1, 1),
+            Expected::Column(1, 2),
+            Expected::Column(0, 2),
+        ],
+        order: &[],
+    };
+    Ok(target.as_slice() == [1, 2].as_slice() && is_program(alloc, program, tree, &shape)?)
+}
+
+/// Whether the command inserts a record, or replaces the value of the one that is there.
+fn is_put(alloc: Global, command: &Command, place: usize, tree: u32) -> Result<bool, RecordsError>
+    ensures { IfOk result (λ yes. IsTrue yes → command.now ≡ put_command place tree false) }
+{
+    let Command::InsertOr(at, Conflict::Abort, rows, clauses) = command else {
+        return Ok(false);
+    };
+    let [upsert] = clauses.as_slice() else {
+        return Ok(false);
+    };
+    Ok(*at == place && is_source(alloc, rows)? && is_clause(alloc, upsert, tree)?)
+}
+
+/// Whether the command removes the record with a name and a key.
+fn is_remove(
+    alloc: Global,
+    command: &Command,
+    place: usize,
+    tree: u32,
+) -> Result<bool, RecordsError>
+    ensures { IfOk result (λ yes. IsTrue yes → command.now ≡ remove_command place tree) }
+{
+    let shape = Shape {
+        filter: &[Expected::Equal(1, 0), Expected::Equal(2, 1)],
+        project: &[Expected::Column(1, 0)],
+        order: &[],
+    };
+    match command {
+        Command::Delete(at, program) => {
+            Ok(*at == place && is_program(alloc, program, tree, &shape)?)
+        }
+        _ => Ok(false),
+    }
+}
+
+/// What a statement on records is meant to be.
+#[derive(Clone, Copy, Debug)]
+enum Meant<'a> {
+    Select(&'a Shape<'a>),
+    Insert,
+    Put,
+    Remove,
+}
+
+/// Whether the command is that one, on the table with this place and this tree.
+fn is_meant(
+    alloc: Global,
+    command: &Command,
+    place: usize,
+    tree: u32,
+    meant: Meant<'_>,
+) -> Result<bool, RecordsError>
+    ensures { IfOk result (λ yes. IsTrue yes → IsMeant command.now place tree meant.entry) }
+{
+    match meant {
+        Meant::Select(shape) => is_select(alloc, command, tree, shape),
+        Meant::Insert => is_insert(alloc, command, place),
+        Meant::Put => is_put(alloc, command, place, tree),
+        Meant::Remove => is_remove(alloc, command, place, tree),
+    }
+}
+
+/// Whether the text is that statement under the schema.
+fn is_statement(
+    alloc: Global,
+    schema: &Schema,
+    sql: &str,
+    place: usize,
+    tree: u32,
+    meant: Meant<'_>,
+) -> Result<bool, RecordsError>
+    ensures { IfOk result (λ yes. IsTrue yes
+        → IsStatement schema.now sql.now (λ command. IsMeant command place tree meant.entry)) }
+{
+    let Some(it) = plain_statement(alloc, schema, sql)? else {
+        return Ok(false);
+    };
+    let is_it = is_meant(alloc, &it.command, place, tree, meant);
+    drop(it);
+    is_it
+}
+
+/// Whether the text that finds a record does so.
+fn finds(alloc: Global, schema: &Schema, tree: u32) -> Result<bool, RecordsError>
+    ensures { IfOk result (λ yes. IsTrue yes → IsSelect schema.now find_text (find_query tree)) }
+{
+    let shape = Shape {
+        filter: &[Expected::Equal(1, 0), Expected::Equal(2, 1)],
+        project: &[Expected::Column(1, 3)],
+        order: &[],
+    };
+    is_statement(alloc, schema, texts::FIND, 0, tree, Meant::Select(&shape))
+}
+
+/// Whether the text that lists the records under a name does so.
+fn lists(alloc: Global, schema: &Schema, tree: u32) -> Result<bool, RecordsError>
+    ensures { IfOk result (λ yes. IsTrue yes → IsSelect schema.now list_text (list_query tree)) }
+{
+    let shape = Shape {
+        filter: &[Expected::Equal(1, 0)],
+        project: &[Expected::Column(1, 2), Expected::Column(1, 3)],
+        order: &[2],
+    };
+    is_statement(alloc, schema, texts::LIST, 0, tree, Meant::Select(&shape))
+}
+
+/// Whether the text that lists all records does so.
+fn lists_all(alloc: Global, schema: &Schema, tree: u32) -> Result<bool, RecordsError>
+    ensures { IfOk result (λ yes. IsTrue yes → IsSelect schema.now all_text (all_query tree)) }
+{
+    let shape = Shape {
+        filter: &[],
+        project: &[
+            Expected::Column(1, 1),
+            Expected::Column(1, 2),
+            Expected::Column(1, 3),
+        ],
+        order: &[1, 2],
+    };
+    is_statement(
+        alloc,
+        schema,
+        texts::LIST_ALL,
+        0,
+        tree,
+        Meant::Select(&shape),
+    )
+}
+
+/// Whether the text that lists the numbers of the rows does so.
+fn numbers(alloc: Global, schema: &Schema, tree: u32) -> Result<bool, RecordsError>
+    ensures { IfOk result (λ yes. IsTrue yes → IsSelect schema.now number_text (number_query tree)) }
+{
+    let shape = Shape {
+        filter: &[],
+        project: &[Expected::Column(1, 0)],
+        order: &[0],
+    };
+    is_statement(
+        alloc,
+        schema,
+        texts::NUMBERS,
+        0,
+        tree,
+        Meant::Select(&shape),
+    )
+}
+
+/// Whether the texts that write records do so.
+fn are_writes(alloc: Global, schema: &Schema, place: usize, tree: u32) -> Result<bool, RecordsError>
+    ensures { IfOk result (λ yes. IsTrue yes → AreWrites schema.now place tree) }
+{
+    Ok(
+        is_statement(alloc, schema, texts::INSERT, place, tree, Meant::Insert)?
+            && is_statement(alloc, schema, texts::PUT, place, tree, Meant::Put)?
+            && is_statement(alloc, schema, texts::REMOVE, place, tree, Meant::Remove)?,
+    )
+}
+
+/// Whether each text is, under the schema, the statement that it is meant to be, on the table with this place and this
+/// tree.
+pub(crate) fn are_statements(
+    alloc: Global,
+    schema: &Schema,
+    place: usize,
+    tree: u32,
+) -> Result<bool, RecordsError>
+    ensures { IfOk result (λ yes. IsTrue yes → AreStatements schema.now place tree) }
+{
+    Ok(
+        finds(alloc, schema, tree)?
+            && lists(alloc, schema, tree)?
+            && lists_all(alloc, schema, tree)?
+            && numbers(alloc, schema, tree)?
+            && are_writes(alloc, schema, place, tree)?,
+    )
+}
+
+/// Whether the text that makes the table does so under the schema.
+pub(crate) fn creates(alloc: Global, schema: &Schema) -> Result<bool, RecordsError>
+    ensures { IfOk result (λ yes. IsTrue yes → Creates schema.now) }
+{
+    let Some(it) = plain_statement(alloc, schema, texts::CREATE)? else {
+        return Ok(false);
+    };
+    let is_whole = it.start == 0 && it.end == texts::CREATE.len();
+    let is_create = matches!(it.command, Command::CreateTable);
+    drop(it);
+    Ok(is_whole && is_create)
+}

@@ -1,0 +1,21 @@
+//! The texts of SQL that read and write records.
+
+pub(crate) const FIND: &str = "SELECT rowb FROM rec WHERE tab = ?1 AND keyb = ?2";
+
+pub(crate) const LIST: &str = "SELECT keyb, rowb FROM rec WHERE tab = ?1 ORDER BY keyb";
+
+pub(crate) const LIST_ALL: &str = "SELECT tab, keyb, rowb FROM rec ORDER BY tab, keyb";
+
+pub(crate) const NUMBERS: &str = "SELECT rowid FROM rec ORDER BY rowid";
+
+/// Refused where the record is there.
+pub(crate) const INSERT: &str = "INSERT INTO rec VALUES(?1, ?2, ?3)";
+
+/// Replaces the record that is there.
+pub(crate) const PUT: &str =
+    "INSERT INTO rec VALUES(?1, ?2, ?3) ON CONFLICT(tab, keyb) DO UPDATE SET rowb = ?3";
+
+pub(crate) const REMOVE: &str = "DELETE FROM rec WHERE tab = ?1 AND keyb = ?2";
+
+pub(crate) const CREATE: &str =
+    "CREATE TABLE IF NOT EXISTS rec(tab TEXT NOT NULL, keyb BLOB NOT NULL, rowb BLOB NOT NULL, PRIMARY KEY(tab, keyb)) STRICT";
