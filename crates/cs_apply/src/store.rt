@@ -5,7 +5,7 @@ ghost use Rattle.sqlite.specs.State.{HasCleanDisk};
 ghost use Rattle.sqlite.specs.Held.{state};
 ghost use Rattle.cs_value.specs.State.{State};
 ghost use Rattle.cs_store.specs.Crash.{CanBegin, IsAtomic, LeavesOnly};
-ghost use Rattle.cs_store.specs.Records.{KeepsContent};
+ghost use Rattle.cs_store.specs.Records.{KeepsContent, KeepsOthers};
 ghost use Rattle.cs_store.specs.Store.{IsAtRest, RefusesShut, tables_in};
 ghost use Rattle.cs_group.specs.declared.conflict.Choice.TheVariants.{Abort as AbortChoice};
 ghost use Rattle.cs_group.specs.declared.conflict.Noop.TheVariants.{Report as Reported};
@@ -47,6 +47,8 @@ pub fn apply<S: Alter, H: Fn(&Conflict) -> Choice>(
     ensures shut { HasCleanDisk (state S.Store store.new) → RefusesShut (state S.Store store.old) IsResource result }
     ensures named { IfErr result IsNamed }
     ensures at_rest { HasCleanDisk (state S.Store store.new) → OnOk result (IsAtRest (state S.Store store.new)) }
+    ensures others { HasCleanDisk (state S.Store store.new)
+        → OnOk result (KeepsOthers (state S.Store store.old).now (state S.Store store.new).now) }
     ensures kept { HasCleanDisk (state S.Store store.new)
         → OnErr result (KeepsContent (state S.Store store.old) (state S.Store store.new)) }
     ensures atomic { IsAtomic CanBegin (AppliesInto (FnReturnsAt H.Fn handler.now) noop file.now ForwardRun (tables_in (state S.Store store.old).now))
@@ -85,6 +87,8 @@ pub fn revert<S: Alter>(
     ensures shut { HasCleanDisk (state S.Store store.new) → RefusesShut (state S.Store store.old) IsResource result }
     ensures named { IfErr result IsNamed }
     ensures at_rest { HasCleanDisk (state S.Store store.new) → OnOk result (IsAtRest (state S.Store store.new)) }
+    ensures others { HasCleanDisk (state S.Store store.new)
+        → OnOk result (KeepsOthers (state S.Store store.old).now (state S.Store store.new).now) }
     ensures kept { HasCleanDisk (state S.Store store.new)
         → OnErr result (KeepsContent (state S.Store store.old) (state S.Store store.new)) }
     ensures atomic { IsAtomic CanBegin (AppliesInto AlwaysAborts Reported file.now InverseRun (tables_in (state S.Store store.old).now))
@@ -123,6 +127,8 @@ fn run<S: Alter, H: Fn(&Conflict) -> Choice>(
     ensures shut { HasCleanDisk (state S.Store store.new) → RefusesShut (state S.Store store.old) IsResource result }
     ensures named { IfErr result IsNamed }
     ensures at_rest { HasCleanDisk (state S.Store store.new) → OnOk result (IsAtRest (state S.Store store.new)) }
+    ensures others { HasCleanDisk (state S.Store store.new)
+        → OnOk result (KeepsOthers (state S.Store store.old).now (state S.Store store.new).now) }
     ensures kept { HasCleanDisk (state S.Store store.new)
         → OnErr result (KeepsContent (state S.Store store.old) (state S.Store store.new)) }
     ensures atomic { IsAtomic CanBegin (AppliesInto (FnReturnsAt H.Fn handler.now) noop file.now direction (tables_in (state S.Store store.old).now))

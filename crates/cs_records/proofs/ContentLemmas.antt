@@ -3,7 +3,7 @@ use Rattle.std.proofs.Common.{◌≡◌, Bool, true, false, not, IsTrue, inl, in
 use Rattle.sqlite_trees.specs.Tree.{Trees}
 use Rattle.sqlite.specs.Effect.{Database, IsDatabase}
 use Rattle.sqlite.specs.State.{State, KeepsCommit, Survives}
-use Rattle.sqlite.proofs.StateLemmas.{survives_weaker}
+use Rattle.sqlite.proofs.StateLemmas.{survives_weaker, survives_then}
 use Rattle.cs_records.specs.Records.{Rests, GoesOn, IsUndone, KeepsContent, KeepsCrash, KeepsOthers, by_one, by_each}
 
 -- ---- nothing is done
@@ -21,6 +21,10 @@ crash_itself {s} = record {
 
 pub crash_weaker : (old new : State) (May : Trees → Type 0) → KeepsCrash old new → Survives old new May
 crash_weaker old new May = survives_weaker old new _ May (λ clean db none. absurd none)
+
+-- one call that commits nothing after another
+pub crash_then : (a b c : State) → KeepsCrash a b → KeepsCrash b c → KeepsCrash a c
+crash_then a b c = survives_then a b c (λ _. ⊥) (λ _. ⊥) (λ _. ⊥) (λ clean db none. none) (λ clean db none. none)
 
 pub idle_survives : (s : State) (May : Trees → Type 0) → Survives s s May
 idle_survives s May = crash_weaker s s May (crash_itself {s = s})

@@ -4,13 +4,14 @@ pub mod ContentLemmas
 pub mod EditLemmas
 pub mod FoundRows
 pub mod ListedRows
-pub mod NumberedRows
 pub mod OrderLemmas
 pub mod PutLemmas
 pub mod QueryLemmas
 pub mod QueryTexts
 pub mod RemoveLemmas
 pub mod RowLemmas
+pub mod ScanLemmas
+pub mod ScannedRows
 pub mod SetLemmas
 pub mod StatementLemmas
 pub mod TableLemmas

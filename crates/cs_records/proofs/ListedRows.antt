@@ -1,30 +1,31 @@
--- What the queries for many records show: those under a name by their key, and all by their name and key.
-use Rattle.std.proofs.Common.{bytes_eq, ◌≡◌, ℕ, ◌&&◌, Bool, true, false, cond, List, [], ◌∷◌, map, filter, find, option_map, Option, Some, IsTrue, refl, sym, ap, subst, ◌∙◌}
+-- What the query for the records under a name shows: those of that name, by their key.
+use Rattle.std.proofs.Common.{bytes_eq, ◌≡◌, ℕ, ◌&&◌, Bool, true, false, cond, List, [], ◌∷◌, map, filter, find, option_map, Option, Some, IsTrue, inl, inr, refl, sym, ap, subst, ◌∙◌}
 use Rattle.std.specs.List.{AllByRecursion}
 use Rattle.std.specs.List.Sorted.{IsPermutation}
-use Rattle.std.specs.Cmp.{IsTotalOrder}
+use Rattle.std.specs.Cmp.{IsTotalOrder, tied_itself}
 use Rattle.std.specs.Cmp.Lexicographic.{slice_cmp, texts_ties}
-use Rattle.std.specs.Ordering.{nat_cmp, is_lt}
+use Rattle.std.specs.Ordering.{nat_cmp, is_lt, is_eq, ordering_reverse}
 use Rattle.std.specs.declared.cmp.Ordering.{Ordering}
-use Rattle.std.specs.declared.cmp.Ordering.TheVariants.{Less, Equal}
+use Rattle.std.specs.declared.cmp.Ordering.TheVariants.{Less, Equal, Greater}
 use Rattle.std.specs.FinMap.{is_sorted, find as find_entry}
 use Rattle.std.specs.FinMap.Entries.{below_all}
 use Rattle.std.proofs.Math.Bool.{and-true}
-use Rattle.std.proofs.lemmas.Bool.{and_from}
+use Rattle.std.proofs.lemmas.Bool.{and_from, and_parts, cases_Bool}
 use Rattle.std.proofs.lemmas.List.Sorted.{IsPermutation-sym}
-use Rattle.std.proofs.lemmas.Cmp.{nat_list_cmp_total, nat_list_eq_equiv, on_total, then_total}
+use Rattle.std.proofs.lemmas.Cmp.{nat_list_cmp_total, nat_list_eq_equiv, on_total}
 use Rattle.sqlite_value.specs.declared.value.Value.TheVariants.{Text}
 use Rattle.sqlite_value.specs.Order.{Row, column}
-use Rattle.sqlite_value.proofs.OrderLemmas.{value_cmp-Text, value_cmp-Blob, then-Equal}
+use Rattle.sqlite_value.proofs.OrderLemmas.{value_cmp-Blob, then-Equal}
 use Rattle.sqlite_trees.specs.Tree.{IsAscending}
-use Rattle.sqlite_trees.proofs.ListLemmas.{map-map, filter_all, filter_same, all_weaker, all_of, ascending-map}
+use Rattle.sqlite_trees.proofs.ListLemmas.{map-map, filter_same, all_weaker, ascending-map}
 use Rattle.sqlite_rules.specs.Lists.{Has}
 use Rattle.sqlite_rules.proofs.ListLemmas.{all_has, all_from, has_filtered}
+use Rattle.sqlite.specs.Effect.{Database}
 use Rattle.sqlite.specs.State.{State, Shown}
-use Rattle.cs_records.specs.Records.{records_tree, record_rows, RecordData, HoldsRecords, ListsTable, ListsAll, is_under, content, record_cmp, records_of, records_in, shown_keyed, shown_record}
-use Rattle.cs_records.proofs.RowLemmas.{IsRecordRow, AreRecords, HaveOneKey, same_is, are_records, records_filtered, records_permuted, records_of-permutation, records_of-filter, ascending_of_members, pairs_from_ascending, has_permuted}
-use Rattle.cs_records.proofs.OrderLemmas.{tied_bytes, both_tied, below_from, ascending_both}
-use Rattle.cs_records.specs.Statements.{list_text, list_query, all_text, all_query}
+use Rattle.cs_records.specs.Records.{records_tree, record_rows, record_of, Records, HoldsRecords, ListsTable, is_under, content, records_of, records_in, shown_keyed}
+use Rattle.cs_records.proofs.RowLemmas.{IsRecordRow, AreRecords, HaveOneKey, IsUnder, same_is, under_is, under_from, records_under, records_in_is, are_records, records_filtered, records_permuted, records_of-permutation, records_of-filter, ascending_of_members, has_permuted}
+use Rattle.cs_records.proofs.OrderLemmas.{tied_bytes, below_from, ascending_both}
+use Rattle.cs_records.specs.Statements.{list_text, list_query}
 use Rattle.cs_records.proofs.AnswerLemmas.{passes_where, sorts, shows_chosen}
 use Rattle.cs_records.proofs.FoundRows.{name_passes}
 
@@ -112,43 +113,65 @@ lists_table tab old new rows h shown =
       each = λ key. found_entry tab key s.chosen named ∙ records_of-permutation _ s.chosen tab key named_records same ∙ records_of-filter (has_name tab) all tab key (λ row has fails. rw fails);
     })
 
--- ---- all records
+-- ---- what is listed, and what is there
 
--- what a row shows, and the order by names and keys
-abbrev record_of : Row → RecordData
-record_of row = record { tab = content (column row 1); key = content (column row 2); value = content (column row 3) }
+-- the test for what is below
+less_is : (o : Ordering) → is_lt o ≡ true → o ≡ Less
+less_is Less h = refl
+less_is Equal h = absurd cc
+less_is Greater h = absurd cc
 
-abbrev by_record : Row → Row → Ordering
-by_record a b = record_cmp (record_of a) (record_of b)
+-- a key below others is below each of them
+below_each : {X : Type 0} (key : List ℕ) (entries : List (List ℕ × X)) (e : List ℕ × X) → IsTrue (below_all (slice_cmp nat_cmp) key entries) → Has entries e → slice_cmp nat_cmp key e.0 ≡ Less
+below_each key [] e below has = absurd has
+below_each key (x ∷ entries) e below has =
+    let parts = and_parts _ _ below in
+    elim has [ inl same ↦ ap (λ (f : List ℕ × _). slice_cmp nat_cmp key f.0) same ∙ less_is _ parts.0 | inr later ↦ below_each key entries e parts.1 later ]
 
--- on rows of records the query sorts by this order
-all_sorts : (tree : ℕ) (a b : Row) → IsRecordRow a → IsRecordRow b → sorts (all_query tree) [] a b ≡ by_record a b
-all_sorts tree a b x y = rw (then-Equal, x.is, y.is, value_cmp-Text, value_cmp-Blob)
+-- an entry is found by its key where the keys rise
+pub find_own : {X : Type 0} (entries : List (List ℕ × X)) (e : List ℕ × X) → IsTrue (is_sorted (slice_cmp nat_cmp) entries) → Has entries e → find_entry (slice_cmp nat_cmp) e.0 entries ≡ Some e.1
+find_own [] e rising has = absurd has
+find_own (x ∷ entries) e rising has =
+    let parts = and_parts _ _ rising in
+    elim has [
+      | inl same ↦ ap (λ (f : List ℕ × _). find_entry (slice_cmp nat_cmp) e.0 (f ∷ entries)) (sym same) ∙ ap (λ o. cond (is_eq o) (Some e.1) (find_entry (slice_cmp nat_cmp) e.0 entries)) (tied_itself nat_list_cmp_total e.0)
+      | inr later ↦
+          let above : slice_cmp nat_cmp e.0 x.0 ≡ Greater = nat_list_cmp_total.antisymm e.0 x.0 ∙ ap ordering_reverse (below_each x.0 entries e parts.0 later) in
+          ap (λ o. cond (is_eq o) (Some x.1) (find_entry (slice_cmp nat_cmp) e.0 entries)) above ∙ find_own entries e parts.1 later
+    ]
 
--- a name and a key find the record of the row
-found_record : (tab key : List ℕ) (rows : List Row) → option_map (λ r. r.value) (find (λ r. bytes_eq r.tab tab && bytes_eq r.key key) (map record_of rows)) ≡ records_of rows tab key
-unfolding records_of
-found_record tab key [] = refl
-found_record tab key (row ∷ rows) =
-    elim (is_under tab key row) as (λ b. option_map (λ (r : RecordData). r.value) (cond b (Some (record_of row)) (find (λ r. bytes_eq r.tab tab && bytes_eq r.key key) (map record_of rows)))
-    ≡ option_map (λ r. content (column r 3)) (cond b (Some row) (find (is_under tab key) rows)))
-    [ true ↦ refl | false ↦ found_record tab key rows ]
+-- and what is found is an entry
+found_has : {X : Type 0} (key : List ℕ) (entries : List (List ℕ × X)) (value : X) → find_entry (slice_cmp nat_cmp) key entries ≡ Some value → Has entries (key, value)
+found_has key [] value found = absurd cc
+found_has key (e ∷ entries) value found = elim (cases_Bool (is_eq (slice_cmp nat_cmp key e.0))) [
+  | inl tied ↦
+      let own : key ≡ e.0 = same_is key e.0 (texts_ties key e.0 ∙ tied) in
+      let same : e.1 ≡ value = (let it = ap (λ b. cond b (Some e.1) (find_entry (slice_cmp nat_cmp) key entries)) (sym tied) ∙ found in cc) in
+      inl (ap (λ (k : List ℕ). (k, value)) own ∙ ap (λ v. (e.0, v)) (sym same))
+  | inr apart ↦ inr (found_has key entries value (ap (λ b. cond b (Some e.1) (find_entry (slice_cmp nat_cmp) key entries)) (sym apart) ∙ found))
+]
 
--- the query lists all records
-pub lists_all : (old new : State) (rows : List Row) → HoldsRecords old.now → Shown all_text [] old new rows → ListsAll (records_in old.now) (map shown_record rows)
-lists_all old new rows h shown =
-    let all = record_rows old.now in
-    let tree = records_tree old.now.schema in
-    let records = are_records old.now h in
-    let s = shows_chosen all_text tree _ _ _ [] old new rows h.declares.statements.lists_all shown in
-    let same : IsPermutation all s.chosen = subst (λ l. IsPermutation l s.chosen) (filter_all (passes_where (all_query tree) []) all (all_of _ (λ row. refl) all)) s.same in
-    let chosen_records = records_permuted all s.chosen same records in
-    let listed : map shown_record rows ≡ map record_of s.chosen = ap (map shown_record) s.is ∙ map-map shown_record _ s.chosen in
-    let one : (a b : Row) → Has s.chosen a → Has s.chosen b → by_record a b ≡ Equal → HaveOneKey a b = λ a b p q tied.
-    (let parts = both_tied _ _ tied in record { tab = tied_bytes _ _ parts.0; key = tied_bytes _ _ parts.1 }) in
-    let total : IsTotalOrder by_record = then_total (on_total (λ r. content (column r 1)) nat_list_cmp_total) (on_total (λ r. content (column r 2)) nat_list_cmp_total) in
-    let up = rise (sorts (all_query tree) []) by_record total (all_sorts tree) s.chosen one chosen_records s.rising in
-    subst (ListsAll (records_in old.now)) (sym listed) (record {
-      rising = pairs_from_ascending (λ a b. record_cmp a b ≡ Less) (map record_of s.chosen) (ascending-map (λ a b. record_cmp a b ≡ Less) record_of s.chosen up);
-      each = λ tab key. found_record tab key s.chosen ∙ records_of-permutation all s.chosen tab key records same;
-    })
+module _ (records : Records) (tab : List ℕ) (listed : List (List ℕ × List ℕ)) (all : ListsTable records tab listed) where
+  -- what is listed under a name is there
+  pub entry_there : (e : List ℕ × List ℕ) → Has listed e → records tab e.0 ≡ Some e.1
+  entry_there e has = sym (all.each e.0) ∙ find_own listed e all.rising has
+
+  -- and what is there is listed
+  pub there_entry : (key value : List ℕ) → records tab key ≡ Some value → Has listed (key, value)
+  there_entry key value is = found_has key listed value (all.each key ∙ is)
+
+-- what is listed after an entry is above it
+pub entry_after : (records : Records) (tab : List ℕ) (first : List ℕ × List ℕ) (more : List (List ℕ × List ℕ)) → ListsTable records tab (first ∷ more) → (e : List ℕ × List ℕ) → Has more e
+    → slice_cmp nat_cmp first.0 e.0 ≡ Less
+entry_after records tab first more all e has = below_each first.0 more e (and_parts _ _ all.rising).0 has
+
+-- a row of the table has its record
+pub row_there : (db : Database) (row : Row) → HoldsRecords db → Has (record_rows db) row → records_in db (content (column row 1)) (content (column row 2)) ≡ Some (content (column row 3))
+row_there db row h has = records_in_is db _ _ _ h (row, has, under_from _ _ row refl refl, refl)
+
+-- and each record is that of a row
+pub there_row : (rows : List Row) (tab key value : List ℕ) → records_of rows tab key ≡ Some value → (row : Row) × Has rows row × (record_of row ≡ record { tab = tab; key = key; value = value })
+there_row rows tab key value is =
+    let under = subst (IsUnder rows tab key) is (records_under rows tab key) in
+    let own = under_is tab key under.0 under.2 in
+    (under.0, under.1, let tab_is = own.0 in let key_is = own.1 in let value_is = under.3 in cc)

@@ -14,7 +14,7 @@ use Rattle.sqlite_tied.specs.Compute.{everything}
 use Rattle.sqlite.specs.Listing.{understood, reads_listing, listing_schema, if_select, is_select}
 use Rattle.sqlite.proofs.Callers.{IsPlain, command_of}
 use Rattle.cs_records.specs.Records.{ShowsOnly, IsQuery}
-use Rattle.cs_records.specs.Statements.{find_text, list_text, all_text, number_text, IsPlainStatement, IsCommand}
+use Rattle.cs_records.specs.Statements.{find_text, list_text, scan_text, IsPlainStatement, IsCommand}
 
 -- ---- a SELECT writes nothing, whatever the schema is
 
@@ -67,13 +67,9 @@ pub list_is_query : IsQuery list_text
 unfolding first everything
 list_is_query = select_is_query list_text refl
 
-pub all_is_query : IsQuery all_text
+pub scan_is_query : IsQuery scan_text
 unfolding first everything
-all_is_query = select_is_query all_text refl
-
-pub number_is_query : IsQuery number_text
-unfolding first everything
-number_is_query = select_is_query number_text refl
+scan_is_query = select_is_query scan_text refl
 
 -- ---- a text that is compiled
 

@@ -4,7 +4,7 @@ use Rattle.sqlite_schema.specs.declared.schema.Schema.{Schema}
 use Rattle.sqlite_schema.specs.declared.command.Command.{Command}
 use Rattle.cs_records.specs.declared.meaning.Meant.{Meant}
 use Rattle.cs_records.specs.declared.meaning.Meant.TheVariants as meant
-use Rattle.cs_records.specs.Statements.{find_text, find_query, list_text, list_query, all_text, all_query, number_text, number_query, put_text, put_command, remove_text, remove_command, alone, expected_query, IsCommand, IsSelectOf, IsSelect}
+use Rattle.cs_records.specs.Statements.{find_text, find_query, list_text, list_query, scan_text, scan_query, put_text, put_command, remove_text, remove_command, alone, expected_query, IsCommand, IsSelectOf, IsSelect}
 
 -- the command is this one, on the table that has this place in the schema, and this tree
 abbrev pub IsMeant : Command → ℕ → ℕ → Meant → Type 0
@@ -23,6 +23,5 @@ pub record AreWrites (schema : Schema) (place tree : ℕ) : Type 0 where
 pub record AreStatements (schema : Schema) (place tree : ℕ) : Type 0 where
   pub finds : IsSelect schema find_text (find_query tree)
   pub lists : IsSelect schema list_text (list_query tree)
-  pub lists_all : IsSelect schema all_text (all_query tree)
-  pub numbers : IsSelect schema number_text (number_query tree)
+  pub scans : IsSelect schema scan_text (scan_query tree)
   pub writes : AreWrites schema place tree

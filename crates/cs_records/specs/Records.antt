@@ -1,20 +1,18 @@
 -- Records in one SQL table: a record has the name of a table, a key and a value, and no two records have both the name
 -- and the key.
-use Rattle.std.specs.Prelude.{bytes_eq, ◌⊎◌, ◌≡◌, ◌≢◌, ℕ, ℤ, Bool, true, false, ◌&&◌, if◌then◌else◌, List, [], ◌∷◌, codes}
-use Rattle.std.specs.Prelude.{Option, Some, None, option_map, option_and_then, unwrap_or, slice_get, Result, Ok, Err, ⊤, IsTrue, All, AllPairs}
+use Rattle.std.specs.Prelude.{bytes_eq, ◌⊎◌, ◌≡◌, ◌≢◌, ◌<ℤ◌, ℕ, ℤ, Bool, true, false, ◌&&◌, if◌then◌else◌, List, [], ◌∷◌, codes}
+use Rattle.std.specs.Prelude.{Option, Some, None, option_map, option_and_then, unwrap_or, slice_get, Result, Ok, Err, ⊤, IsTrue, IfSome, All, AllPairs}
 use Rattle.std.specs.List.{AllByRecursion, find}
 use Rattle.std.specs.Cmp.Lexicographic.{slice_cmp}
-use Rattle.std.specs.Ordering.{nat_cmp, ordering_then}
-use Rattle.std.specs.declared.cmp.Ordering.{Ordering}
-use Rattle.std.specs.declared.cmp.Ordering.TheVariants.{Less}
+use Rattle.std.specs.Ordering.{nat_cmp}
 use Rattle.std.specs.FinMap.{is_sorted, find as find_entry}
 use Rattle.sqlite.specs.State.{State, Shows, IsUnchanged, IsRolledBack, Survives}
 use Rattle.sqlite_value.specs.declared.value.Value.{Value}
 use Rattle.sqlite_value.specs.declared.value.Value.TheVariants.{Null, Int, Real, Text, Blob}
 use Rattle.sqlite_value.specs.declared.keys.Collation.TheVariants.{Binary}
-use Rattle.sqlite_value.specs.Order.{Row, column, value_cmp}
+use Rattle.sqlite_value.specs.Order.{Row, column}
 use Rattle.sqlite_value.specs.Keys.{plain}
-use Rattle.sqlite_trees.specs.Tree.{rowid, IsAscending}
+use Rattle.sqlite_trees.specs.Tree.{rowid}
 use Rattle.sqlite_schema.specs.declared.schema.Kind.{Kind}
 use Rattle.sqlite_schema.specs.declared.schema.Kind.TheVariants as kind
 use Rattle.sqlite_schema.specs.declared.schema.Column.{Column}
@@ -148,21 +146,20 @@ pub record HoldsRecords (db : Database) : Type 0 where
 abbrev pub records_in : Database → Records
 records_in db = records_of (record_rows db)
 
--- a record, as it is listed
+-- a record: the name of a table, a key and a value
 pub record RecordData : Type 0 where
   pub tab : List ℕ
   pub key : List ℕ
   pub value : List ℕ
 
--- what comes first: by the name, and then by the key
-abbrev pub record_cmp : RecordData → RecordData → Ordering
-record_cmp a b = ordering_then (slice_cmp nat_cmp a.tab b.tab) (slice_cmp nat_cmp a.key b.key)
+-- the record of a row, which its number precedes
+abbrev pub record_of : Row → RecordData
+record_of row = record { tab = content (column row 1); key = content (column row 2); value = content (column row 3) }
 
--- all records, each once and in their order
-pub record ListsAll (records : Records) (listed : List RecordData) : Type 0 where
-  pub rising : AllPairs (λ a b. record_cmp a b ≡ Less) listed
-  pub each : (tab key : List ℕ)
-      → option_map (λ r. r.value) (find (λ r. bytes_eq r.tab tab && bytes_eq r.key key) listed) ≡ records tab key
+-- each row has a number, no two the same, and each record passes the test
+pub record Pass (Passes : RecordData → Type 0) (rows : List Row) : Type 0 where
+  pub numbered : AreNumbered rows
+  pub each : AllByRecursion (λ row. Passes (record_of row)) rows
 
 -- the keys and values under a name, each once and by key
 pub record ListsTable (records : Records) (tab : List ℕ) (listed : List (List ℕ × List ℕ)) : Type 0 where
@@ -184,8 +181,8 @@ pub data IsSpared : Database → Database → Type 0 where
   by_one : (old new : Database) → SparesFrozen old new → IsSpared old new
   by_each : (old mid new : Database) → IsSpared old mid → IsDatabase mid → IsSpared mid new → IsSpared old new
 
--- each other table and each index is declared as it was, each other table has its rows, and so has what SQL does not
--- understand
+-- each other table, each index and each view is declared as it was, each other table has its rows, and so has what SQL
+-- does not understand
 pub record KeepsOthers (old new : Database) : Type 0 where
   pub tables : (table : Table) → Has old.schema.tables table → same_name table.name table_name ≡ false
       → Has new.schema.tables table × (new.trees table.tree ≡ old.trees table.tree)
@@ -244,14 +241,10 @@ ShowsOnly (Err e) = ⊤
 abbrev pub IsQuery : List ℕ → Type 0
 IsQuery sql = (schema : Schema) → ShowsOnly (understood schema sql)
 
--- a key and a value, and a record, in a row that a query shows
+-- a key and a value, in a row that a query shows
 abbrev pub shown_keyed : Row → List ℕ × List ℕ
 shown_keyed row = (content (column row 0), content (column row 1))
 
-abbrev pub shown_record : Row → RecordData
-shown_record row = record { tab = content (column row 0); key = content (column row 1); value = content (column row 2) }
-
--- each row shows a number first, and the numbers rise
-pub record AreRisingNumbers (rows : List Row) : Type 0 where
-  pub each : AllByRecursion (λ row. (n : ℤ) × (column row 0 ≡ Int n)) rows
-  pub rising : IsAscending (λ a b. value_cmp (column a 0) (column b 0) ≡ Less) rows
+-- the row shows this number first, and it is above the last one
+abbrev pub HasNumberAbove : Option ℤ → Row → ℤ → Type 0
+HasNumberAbove last row number = (column row 0 ≡ Int number) × IfSome last (λ before. before <ℤ number)

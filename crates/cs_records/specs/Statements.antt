@@ -32,13 +32,9 @@ find_text = codes "SELECT rowb FROM rec WHERE tab = ?1 AND keyb = ?2"
 abbrev pub list_text : List ℕ
 list_text = codes "SELECT keyb, rowb FROM rec WHERE tab = ?1 ORDER BY keyb"
 
--- all records
-abbrev pub all_text : List ℕ
-all_text = codes "SELECT tab, keyb, rowb FROM rec ORDER BY tab, keyb"
-
--- the numbers of the rows
-abbrev pub number_text : List ℕ
-number_text = codes "SELECT rowid FROM rec ORDER BY rowid"
+-- the number of each row and its record, by these numbers
+abbrev pub scan_text : List ℕ
+scan_text = codes "SELECT rowid, tab, keyb, rowb FROM rec ORDER BY rowid"
 
 -- what puts a record: a new one, which is refused where one is there, or one in place of that which is there
 abbrev pub put_text : Bool → List ℕ
@@ -102,11 +98,8 @@ find_query tree = plain_query tree at_key (col 1 3 ∷ []) []
 abbrev pub list_query : ℕ → Query
 list_query tree = plain_query tree (equals (col 1 1) (col 0 0) ∷ []) (col 1 2 ∷ col 1 3 ∷ []) ((col 1 2, up) ∷ [])
 
-abbrev pub all_query : ℕ → Query
-all_query tree = plain_query tree [] (col 1 1 ∷ col 1 2 ∷ col 1 3 ∷ []) ((col 1 1, up) ∷ (col 1 2, up) ∷ [])
-
-abbrev pub number_query : ℕ → Query
-number_query tree = plain_query tree [] (col 1 0 ∷ []) ((col 1 0, up) ∷ [])
+abbrev pub scan_query : ℕ → Query
+scan_query tree = plain_query tree [] (col 1 0 ∷ col 1 1 ∷ col 1 2 ∷ col 1 3 ∷ []) ((col 1 0, up) ∷ [])
 
 -- a program that is one query
 abbrev pub alone : Query → Program

@@ -12,10 +12,10 @@
 //! assert_eq!(rt; find_record(&mut conn, "t", b"key")?, Some(value));
 //! ```
 //!
-//! `records` has the statements that read and write records, and `texts` their texts. `layout` finds the table of
-//! records among what a database declares. `meaning` compiles each text under that schema, and `expected` compares what
-//! is compiled with the statement that it is meant to be. `transactions` has the statements that begin and end a
-//! transaction, and `fault` says why a call is refused.
+//! `records` has the statements that read and write records, `scan` the one that tests them all, and `texts` their
+//! texts. `layout` finds the table of records among what a database declares. `meaning` compiles each text under that
+//! schema, and `expected` compares what is compiled with the statement that it is meant to be. `transactions` has the
+//! statements that begin and end a transaction, and `fault` says why a call is refused.
 #![tactic(auto)]
 
 mod expected;
@@ -23,12 +23,11 @@ mod fault;
 mod layout;
 mod meaning;
 mod records;
+mod scan;
 mod texts;
 pub mod transactions;
 
 pub use fault::RecordsError;
 pub use layout::{Declaration, declaration_of};
-pub use records::{
-    Keyed, Record, all_records, find_record, has_row_numbers, list_records, make_table, put_record,
-    remove_record,
-};
+pub use records::{Keyed, find_record, list_records, make_table, put_record, remove_record};
+pub use scan::{RecordTest, all_pass};

@@ -4,9 +4,9 @@
 //! So it reads and writes the rows of that table, whatever else the database declares.
 ghost use Rattle.std.specs.Prelude.{◌≡◌, [], true, false, IsTrue, IfOk, IfSome};
 ghost use Rattle.cs_records.specs.Meaning.{AreStatements, AreWrites, IsMeant};
-ghost use Rattle.cs_records.specs.Statements.{alone, expected_query, number_query, find_query, list_query, all_query};
-ghost use Rattle.cs_records.specs.Statements.{put_command, remove_command, source, clause, number_text, find_text};
-ghost use Rattle.cs_records.specs.Statements.{list_text, all_text};
+ghost use Rattle.cs_records.specs.Statements.{alone, expected_query, find_query, list_query, scan_query};
+ghost use Rattle.cs_records.specs.Statements.{put_command, remove_command, source, clause};
+ghost use Rattle.cs_records.specs.Statements.{find_text, list_text, scan_text};
 ghost use Rattle.cs_records.specs.Statements.{IsPlainStatement, IsStatement, IsSelectOf, IsSelect, Creates};
 
 use crate::expected::{Expected, Shape, are_expected, is_query};
@@ -221,46 +221,21 @@ fn lists(alloc: Global, schema: &Schema, tree: u32) -> Result<bool, RecordsError
     is_statement(alloc, schema, texts::LIST, 0, tree, Meant::Select(&shape))
 }
 
-/// Whether the text that lists all records does so.
-fn lists_all(alloc: Global, schema: &Schema, tree: u32) -> Result<bool, RecordsError>
-    ensures { IfOk result (λ yes. IsTrue yes → IsSelect schema.now all_text (all_query tree)) }
+/// Whether the text that shows all records does so.
+fn scans(alloc: Global, schema: &Schema, tree: u32) -> Result<bool, RecordsError>
+    ensures { IfOk result (λ yes. IsTrue yes → IsSelect schema.now scan_text (scan_query tree)) }
 {
     let shape = Shape {
         filter: &[],
         project: &[
+            Expected::Column(1, 0),
             Expected::Column(1, 1),
             Expected::Column(1, 2),
             Expected::Column(1, 3),
         ],
-        order: &[1, 2],
-    };
-    is_statement(
-        alloc,
-        schema,
-        texts::LIST_ALL,
-        0,
-        tree,
-        Meant::Select(&shape),
-    )
-}
-
-/// Whether the text that lists the numbers of the rows does so.
-fn numbers(alloc: Global, schema: &Schema, tree: u32) -> Result<bool, RecordsError>
-    ensures { IfOk result (λ yes. IsTrue yes → IsSelect schema.now number_text (number_query tree)) }
-{
-    let shape = Shape {
-        filter: &[],
-        project: &[Expected::Column(1, 0)],
         order: &[0],
     };
-    is_statement(
-        alloc,
-        schema,
-        texts::NUMBERS,
-        0,
-        tree,
-        Meant::Select(&shape),
-    )
+    is_statement(alloc, schema, texts::SCAN, 0, tree, Meant::Select(&shape))
 }
 
 /// Whether the texts that write records do so.
@@ -287,8 +262,7 @@ pub(crate) fn are_statements(
     Ok(
         finds(alloc, schema, tree)?
             && lists(alloc, schema, tree)?
-            && lists_all(alloc, schema, tree)?
-            && numbers(alloc, schema, tree)?
+            && scans(alloc, schema, tree)?
             && are_writes(alloc, schema, place, tree)?,
     )
 }

@@ -1,15 +1,13 @@
 //! The table of records, one statement at a time: a record has the name of a table, a key and a
 //! value. A call that is refused leaves the database as it was, or takes it back to its last commit.
-ghost use Rattle.std.specs.Prelude.{◌≡◌, ◌↔◌, ◌<ℤ◌, [], false, Some, None, option_map, map};
-ghost use Rattle.std.specs.Prelude.{IsTrue, IfOk, IfErr, IfSome, OnOk, OnErr};
-ghost use Rattle.sqlite.specs.Effect.{IsDatabase};
+ghost use Rattle.std.specs.Prelude.{◌≡◌, [], Some, None, option_map, map, IsTrue, IfOk, OnOk, OnErr};
 ghost use Rattle.sqlite.specs.State.{HasCleanDisk, IsUnchanged, KeepsCommit, Shown, Survives};
 ghost use Rattle.sqlite.specs.Held.{state};
 ghost use Rattle.sqlite.specs.Values.{bound};
-ghost use Rattle.cs_records.specs.Records.{HoldsRecords, Sets, ListsAll, ListsTable};
+ghost use Rattle.cs_records.specs.Records.{HoldsRecords, Sets, ListsTable};
 ghost use Rattle.cs_records.specs.Records.{records_in, Makes, Rests, GoesOn, KeepsCrash};
-ghost use Rattle.cs_records.specs.Records.{IsQuery, shown_record, shown_keyed};
-ghost use Rattle.cs_records.specs.Records.{AreNumbered, AreRisingNumbers, DeclaresRecords, LacksRecords, KeepsOthers, record_rows};
+ghost use Rattle.cs_records.specs.Records.{IsQuery, shown_keyed};
+ghost use Rattle.cs_records.specs.Records.{LacksRecords, KeepsOthers, record_rows};
 ghost use Rattle.cs_records.specs.Statements.{put_text as text_that_puts};
 
 use crate::fault::RecordsError;
@@ -20,23 +18,6 @@ use sqlite::types::ValueRef;
 use sqlite::{Alter, Connection, Row, params};
 use std::alloc::Global;
 use std::marker::Model;
-
-/// A record: the name of a table, a key and a value.
-#[derive(Debug, Drop)]
-pub struct Record {
-    pub tab: String,
-    pub key: Vec<u8>,
-    pub value: Vec<u8>,
-}
-
-impl Model for Record {
-    ghost use Rattle.std.specs.Prelude.{string_bytes};
-    ghost use Rattle.cs_records.specs.Records.{RecordData};
-
-    ghost Value = { RecordData };
-
-    ghost view = { λ r. record { tab = string_bytes r.tab; key = r.key.items; value = r.value.items } };
-}
 
 /// A key and a value, of a record of a known table.
 #[derive(Debug, Drop)]
@@ -186,89 +167,6 @@ pub fn list_records<S: Alter>(
 {
     let rows = query_rows(conn, texts::LIST, params![tab])?;
     keyed_rows(alloc, rows.as_slice())
-}
-
-/// A record in a row that shows one.
-fn read_record(row: &Row) -> Result<Record, RecordsError>
-    ensures read { IfOk result (λ r. r ≡ shown_record row.now) }
-{
-    Ok(Record {
-        tab: row.get(0)?,
-        key: row.get(1)?,
-        value: row.get(2)?,
-    })
-}
-
-/// What the rows of a listing of all records hold.
-fn record_rows(alloc: Global, rows: &[Row]) -> Result<Vec<Record>, RecordsError>
-    ensures read { IfOk result (λ listed. listed.items ≡ map shown_record rows.now) }
-{
-    let mut listed = Vec::new(alloc);
-    for row in rows {
-        listed.push(read_record(row)?)?;
-    }
-    Ok(listed)
-}
-
-/// All records, by name and then by key.
-pub fn all_records<S: Alter>(
-    conn: &mut Connection<S>,
-    alloc: Global,
-) -> Result<Vec<Record>, RecordsError>
-    ensures listed { HasCleanDisk (state S.Store conn.new) → HoldsRecords (state S.Store conn.old).now
-        → IfOk result (λ listed. ListsAll (records_in (state S.Store conn.old).now) listed.items) }
-    ensures reads { HasCleanDisk (state S.Store conn.new)
-        → OnOk result (IsUnchanged (state S.Store conn.old) (state S.Store conn.new)) }
-    ensures rests { HasCleanDisk (state S.Store conn.new)
-        → OnErr result (Rests (state S.Store conn.old) (state S.Store conn.new)) }
-    ensures keeps_crash { KeepsCrash (state S.Store conn.old) (state S.Store conn.new) }
-{
-    let rows = query_rows(conn, texts::LIST_ALL, &[])?;
-    record_rows(alloc, rows.as_slice())
-}
-
-/// Whether the number is above the last, where there was one.
-fn is_above(last: Option<i64>, number: i64) -> bool
-    ensures { IsTrue result ↔ IfSome last (λ before. before <ℤ number) }
-{
-    match last {
-        Some(before) => before < number,
-        None => true,
-    }
-}
-
-/// Whether the rows show numbers that rise.
-fn are_rising(rows: &[Row]) -> Result<bool, RecordsError>
-    ensures rising { IfOk result (λ yes. IsTrue yes → AreRisingNumbers rows.now) }
-    ensures falls { IfOk result (λ yes. yes ≡ false → ¬ AreRisingNumbers rows.now) }
-{
-    let mut last: Option<i64> = None;
-    for row in rows {
-        let number: i64 = row.get(0)?;
-        if !is_above(last, number) {
-            return Ok(false);
-        }
-        last = Some(number);
-    }
-    Ok(true)
-}
-
-/// Whether each row of the table has a number, and no two the same.
-pub fn has_row_numbers<S: Alter>(conn: &mut Connection<S>) -> Result<bool, RecordsError>
-    ensures numbered { HasCleanDisk (state S.Store conn.new) → DeclaresRecords (state S.Store conn.old).now.schema
-        → IsDatabase (state S.Store conn.old).now
-        → IfOk result (λ yes. IsTrue yes → AreNumbered (record_rows (state S.Store conn.old).now)) }
-    ensures unnumbered { HasCleanDisk (state S.Store conn.new) → DeclaresRecords (state S.Store conn.old).now.schema
-        → IsDatabase (state S.Store conn.old).now
-        → IfOk result (λ yes. yes ≡ false → ¬ AreNumbered (record_rows (state S.Store conn.old).now)) }
-    ensures reads { HasCleanDisk (state S.Store conn.new)
-        → OnOk result (IsUnchanged (state S.Store conn.old) (state S.Store conn.new)) }
-    ensures rests { HasCleanDisk (state S.Store conn.new)
-        → OnErr result (Rests (state S.Store conn.old) (state S.Store conn.new)) }
-    ensures keeps_crash { KeepsCrash (state S.Store conn.old) (state S.Store conn.new) }
-{
-    let rows = query_rows(conn, texts::NUMBERS, &[])?;
-    are_rising(rows.as_slice())
 }
 
 /// Executes the text that makes the table of records, if it does so under the schema of the database.

@@ -4,9 +4,8 @@ pub(crate) const FIND: &str = "SELECT rowb FROM rec WHERE tab = ?1 AND keyb = ?2
 
 pub(crate) const LIST: &str = "SELECT keyb, rowb FROM rec WHERE tab = ?1 ORDER BY keyb";
 
-pub(crate) const LIST_ALL: &str = "SELECT tab, keyb, rowb FROM rec ORDER BY tab, keyb";
-
-pub(crate) const NUMBERS: &str = "SELECT rowid FROM rec ORDER BY rowid";
+/// All records, by the numbers of their rows.
+pub(crate) const SCAN: &str = "SELECT rowid, tab, keyb, rowb FROM rec ORDER BY rowid";
 
 /// Refused where the record is there.
 pub(crate) const INSERT: &str = "INSERT INTO rec VALUES(?1, ?2, ?3)";

@@ -6,7 +6,7 @@ ghost use Rattle.sqlite.specs.Held.{state};
 ghost use Rattle.cs_value.specs.State.{IsState};
 ghost use Rattle.cs_store.specs.Crash.{CanBegin, IsAtomic, LeavesOnly};
 ghost use Rattle.cs_store.specs.Editing.{EditsInto};
-ghost use Rattle.cs_store.specs.Records.{KeepsContent};
+ghost use Rattle.cs_store.specs.Records.{KeepsContent, KeepsOthers};
 ghost use Rattle.cs_store.specs.Store.{IsAtRest, RefusesShut, tables_in};
 ghost use Rattle.cs_session.specs.Changes.{IsResource};
 ghost use Rattle.cs_session.specs.FirstImages.{IsNotes};
@@ -40,6 +40,8 @@ pub(crate) fn edit_noted<S: Alter>(
     ensures shut { HasCleanDisk (state S.Store store.new) → RefusesShut (state S.Store store.old) IsResource result }
     ensures named { IfErr result IsEditRefusal }
     ensures at_rest { HasCleanDisk (state S.Store store.new) → OnOk result (IsAtRest (state S.Store store.new)) }
+    ensures others { HasCleanDisk (state S.Store store.new)
+        → OnOk result (KeepsOthers (state S.Store store.old).now (state S.Store store.new).now) }
     ensures kept { HasCleanDisk (state S.Store store.new)
         → OnErr result (KeepsContent (state S.Store store.old) (state S.Store store.new)) }
     ensures atomic { IsAtomic CanBegin (EditsInto (tables_in (state S.Store store.old).now) edit.now)
@@ -80,6 +82,8 @@ fn edit_batch<S: Alter>(
     ensures shut { HasCleanDisk (state S.Store store.new) → RefusesShut (state S.Store store.old) IsResource result }
     ensures named { IfErr result IsEditRefusal }
     ensures at_rest { HasCleanDisk (state S.Store store.new) → OnOk result (IsAtRest (state S.Store store.new)) }
+    ensures others { HasCleanDisk (state S.Store store.new)
+        → OnOk result (KeepsOthers (state S.Store store.old).now (state S.Store store.new).now) }
     ensures kept { HasCleanDisk (state S.Store store.new)
         → OnErr result (KeepsContent (state S.Store store.old) (state S.Store store.new)) }
     ensures atomic { IsAtomic CanBegin (EditsInto (tables_in (state S.Store store.old).now) edit.now)

@@ -5,7 +5,7 @@ ghost use Rattle.sqlite.specs.State.{HasCleanDisk};
 ghost use Rattle.sqlite.specs.Held.{state};
 ghost use Rattle.cs_store.specs.Crash.{CanBegin, IsAtomic, LeavesOnly};
 ghost use Rattle.cs_store.specs.Editing.{EditsInto};
-ghost use Rattle.cs_store.specs.Records.{KeepsContent, KeepsCrash};
+ghost use Rattle.cs_store.specs.Records.{KeepsContent, KeepsCrash, KeepsOthers};
 ghost use Rattle.cs_store.specs.Store.{IsAtRest, KeepsStore, RefusesShut, tables_in};
 ghost use Rattle.cs_value.specs.Table.{IsName};
 ghost use Rattle.cs_value.specs.State.{rows_at};
@@ -144,6 +144,8 @@ impl Session {
         ensures named { IfErr result IsEditRefusal }
         ensures same { OnErr result (self.new ≡ self.old) }
         ensures at_rest { HasCleanDisk (state S.Store store.new) → OnOk result (IsAtRest (state S.Store store.new)) }
+        ensures others { HasCleanDisk (state S.Store store.new)
+            → OnOk result (KeepsOthers (state S.Store store.old).now (state S.Store store.new).now) }
         ensures kept { HasCleanDisk (state S.Store store.new)
             → OnErr result (KeepsContent (state S.Store store.old) (state S.Store store.new)) }
         ensures atomic { IsAtomic CanBegin (EditsInto (tables_in (state S.Store store.old).now) edit.now)
@@ -188,6 +190,8 @@ impl Session {
         ensures named { IfErr result IsApplyRefusal }
         ensures same { OnErr result (self.new ≡ self.old) }
         ensures at_rest { HasCleanDisk (state S.Store store.new) → OnOk result (IsAtRest (state S.Store store.new)) }
+        ensures others { HasCleanDisk (state S.Store store.new)
+            → OnOk result (KeepsOthers (state S.Store store.old).now (state S.Store store.new).now) }
         ensures kept { HasCleanDisk (state S.Store store.new)
             → OnErr result (KeepsContent (state S.Store store.old) (state S.Store store.new)) }
         ensures atomic { IsAtomic CanBegin (AppliesInto (FnReturnsAt H.Fn handler.now) noop file.now ForwardRun (tables_in (state S.Store store.old).now))
@@ -252,6 +256,8 @@ impl Session {
             → RefusesShut (state S.Store store.old) IsResource result }
         ensures named { IfErr result IsUndoRefusal }
         ensures at_rest { HasCleanDisk (state S.Store store.new) → OnOk result (IsAtRest (state S.Store store.new)) }
+        ensures others { HasCleanDisk (state S.Store store.new)
+            → OnOk result (KeepsOthers (state S.Store store.old).now (state S.Store store.new).now) }
         ensures kept { HasCleanDisk (state S.Store store.new)
             → OnErr result (KeepsContent (state S.Store store.old) (state S.Store store.new)) }
         ensures atomic { IsAtomic CanBegin (UndoesInto self.now (tables_in (state S.Store store.old).now))

@@ -1,7 +1,7 @@
 -- What the steps of an adoption find and make.
-use Rattle.std.proofs.Common.{bytes_eq, ◌≡◌, ◌≢◌, ◌⊎◌, ℕ, List, [], ◌∷◌, Some, None, Result, Ok, Err, IfErr, IsTrue, true, ◌&&◌, cond, inl, inr, refl, sym, ap, subst, ◌∙◌}
+use Rattle.std.proofs.Common.{◌≡◌, ◌≢◌, ◌⊎◌, ℕ, List, [], ◌∷◌, Some, None, Result, IfErr, IsTrue, inl, inr, refl, sym, ap, subst, ◌∙◌}
 use Rattle.std.specs.FinMap as map
-use Rattle.sqlite_value.specs.Order.{Row, column}
+use Rattle.sqlite_value.specs.Order.{Row}
 use Rattle.sqlite_schema.specs.declared.schema.Schema.{Schema}
 use Rattle.cs_value.specs.State as tables
 use Rattle.sqlite.specs.Effect.{Database, IsDatabase}
@@ -11,21 +11,24 @@ use Rattle.sqlite.specs.Start.{FindsIn}
 use Rattle.sqlite.specs.Files.{AreFoundIn}
 use Rattle.sqlite_wal.specs.Recovery.{Image}
 use Rattle.cs_rows.specs.declared.fault.StoreError.{StoreError}
-use Rattle.cs_rows.specs.declared.fault.StoreError.TheVariants.{DamagedStore, NoMemory}
+use Rattle.cs_rows.specs.declared.fault.StoreError.TheVariants.{DamagedStore}
 use Rattle.cs_rows.specs.Faults.{IsResource}
-use Rattle.cs_records.specs.Records.{RecordData, HoldsRecords, ListsAll, Sets, GoesOn, KeepsCrash, changed, content, is_under, records_of, records_in, record_rows, DeclaresRecords, LacksRecords, KeepsOthers}
+use Rattle.cs_records.specs.Records.{RecordData, record_of, HoldsRecords, AreNumbered, Pass, ListsTable, Sets, GoesOn, KeepsCrash, changed, records_of, records_in, record_rows, DeclaresRecords, LacksRecords, KeepsOthers}
 use Rattle.cs_records.proofs.TableLemmas.{not_lacking, not_declared, otherwise_used}
-use Rattle.cs_records.proofs.ContentLemmas.{others_then, others_itself}
-use Rattle.cs_stored.specs.Stored.{version, stored_under, StoresIn, StoresInSome}
-use Rattle.cs_stored.specs.Valid.{AreValid}
+use Rattle.cs_records.proofs.ContentLemmas.{crash_then, others_then, others_itself}
+use Rattle.cs_stored.specs.Stored.{version, stored_under, StoresIn}
+use Rattle.cs_stored.specs.Valid.{AreValid, AreDeclared, IsGoodRow, Schemas}
 use Rattle.sqlite_trees.specs.View.{doubt}
-use Rattle.cs_store.specs.Store.{HoldsState, HoldsTables, IsDamaged, Adopts, OpensFiles, SetsUp, MemoryIsHonest, tables_in}
+use Rattle.cs_store.specs.Store.{HoldsState, HoldsNone, HoldsTables, IsDamaged, Adopts, OpensFiles, SetsUp, MemoryIsHonest, tables_in}
 use Rattle.cs_store.specs.Crash.{MayLeave}
 use Rattle.cs_store.specs.Laws.{was_clean}
-use Rattle.cs_stored.proofs.CheckLemmas.{listed_there}
-use Rattle.cs_store.proofs.CrashLemmas.{crash_then, may_leave}
-use Rattle.cs_records.proofs.RowLemmas.{same_itself}
-use Rattle.cs_stored.proofs.StateOf.{records_first}
+use Rattle.cs_stored.specs.declared.version.Version.{Version}
+use Rattle.cs_stored.specs.Versions.{bytes_of}
+use Rattle.cs_stored.proofs.CheckLemmas.{is_version, checked_valid, valid_row}
+use Rattle.cs_records.proofs.ListedRows.{entry_there, row_there, there_row}
+use Rattle.sqlite_rules.proofs.ListLemmas.{all_has, all_from}
+use Rattle.std.specs.List.{AllByRecursion}
+use Rattle.cs_store.proofs.CrashLemmas.{may_leave}
 use Rattle.cs_stored.proofs.StoredLemmas.{not_former, stores_nothing}
 use Rattle.cs_stored.proofs.ValidLemmas.{valid_stores, stores_valid}
 use Rattle.cs_store.proofs.WriteLemmas.{holds_next}
@@ -37,20 +40,19 @@ pub none_there : (rows : List Row) → rows ≡ [] → (tab key : List ℕ) → 
 unfolding records_of
 none_there rows none tab key = ap (λ (r : List Row). records_of r tab key) none
 
--- rows that list no record are none
-pub none_listed : (rows : List Row) → ListsAll (records_of rows) [] → rows ≡ []
-none_listed [] lists = refl
-none_listed (row ∷ rows) lists = absurd (
-    let tab = content (column row 1) in
-    let key = content (column row 2) in
-    let own : is_under tab key row ≡ true = ap (λ b. b && bytes_eq key key) (same_itself tab) ∙ same_itself key in
-    let some = records_first tab key row rows ∙ ap (λ b. cond b (Some (content (column row 3))) (records_of rows tab key)) own in
-    let e = lists.each tab key ∙ some in cc)
+-- rows that no test lets pass are none
+pub none_passes : (rows : List Row) → Pass (λ _. ⊥) rows → rows ≡ []
+none_passes [] pass = refl
+none_passes (row ∷ rows) pass = absurd pass.each.0
 
--- and no rows list none
-some_there : (rows : List Row) (listed : List RecordData) → ListsAll (records_of rows) listed → listed ≢ [] → rows ≢ []
+-- where there is no row, each test is passed
+pub all_pass_none : (Passes : RecordData → Type 0) (rows : List Row) → AreNumbered rows → rows ≡ [] → Pass Passes rows
+all_pass_none Passes rows numbered none = record { numbered = numbered; each = subst (AllByRecursion (λ row. Passes (record_of row))) (sym none) tt }
+
+-- no rows list no record
+some_there : (rows : List Row) (listed : List (List ℕ × List ℕ)) → ListsTable (records_of rows) [] listed → listed ≢ [] → rows ≢ []
 some_there rows [] lists some none = some refl
-some_there rows (r ∷ listed) lists some none = absurd (let e = sym (listed_there (records_of rows) (r ∷ listed) lists r (inl refl)) ∙ none_there rows none r.tab r.key in cc)
+some_there rows (e ∷ listed) lists some none = absurd (let here = sym (entry_there (records_of rows) [] (e ∷ listed) lists e (inl refl)) ∙ none_there rows none [] e.0 in cc)
 
 -- a database without records holds no tables
 pub vacant_holds : (db : Database) (held : tables.State) → record_rows db ≡ [] → HoldsTables db held → held ≡ map.empty
@@ -95,15 +97,6 @@ made_then old mid new lacks on others sound none set = record {
   others = others_then old.now mid.now new.now sound others set.others;
 }
 
--- a database that was read holds what it held
-pub read_then : (old mid new : State) → IsUnchanged old mid → SetsUp mid new → SetsUp old new
-read_then old mid new same set = record {
-  on = record { was_open = same.0.was_open; is_open = set.on.is_open; now_is = set.on.now_is; committed_is = set.on.committed_is ∙ same.0.committed_is; mode = set.on.mode };
-  holds = set.holds;
-  held = subst (λ db. HoldsTables db (tables_in new.now)) same.0.now_is set.held;
-  others = subst (λ db. KeepsOthers db new.now) same.0.now_is set.others;
-}
-
 -- valid records of the version of stores are those of a state
 pub valid_holds : (old new : State) → HoldsRecords old.now → AreValid (records_in old.now) → records_in old.now [] [] ≡ Some version → IsTrue old.in_transaction → IsUnchanged old new → SetsUp old new
 valid_holds old new holds valid current inside same =
@@ -119,28 +112,40 @@ valid_holds old new holds valid current inside same =
 
 -- ---- damage
 
--- tables that a database with records holds are stored there
-pub stored_there : (db : Database) (held : tables.State) → DeclaresRecords db.schema → record_rows db ≢ [] → HoldsTables db held → HoldsRecords db × StoresInSome (records_in db) held
-stored_there db held declared some (inl (inl lacks, e)) = absurd (not_lacking db.schema lacks declared)
-stored_there db held declared some (inl (inr vacant, e)) = absurd (some vacant.1)
-stored_there db held declared some (inr stored) = stored
+-- where records are listed that are not valid, no tables are held
+pub none_held : (db : Database) (listed : List (List ℕ × List ℕ)) → DeclaresRecords db.schema → (HoldsRecords db → ListsTable (records_in db) [] listed) → listed ≢ [] → (HoldsRecords db → AreValid (records_in db) → ⊥) → HoldsNone db
+none_held db listed declared lists some invalid held (inl (inl lacks, e)) = not_lacking db.schema lacks declared
+none_held db listed declared lists some invalid held (inl (inr vacant, e)) = some_there (record_rows db) listed (lists vacant.0) some vacant.1
+none_held db listed declared lists some invalid held (inr stored) = invalid stored.0 (stores_valid (records_in db) held stored.1)
 
--- where the records are not valid, no tables are held
-pub none_held : (db : Database) (listed : List RecordData) → HoldsRecords db → ListsAll (records_in db) listed → listed ≢ [] → (AreValid (records_in db) → ⊥) → (held : tables.State) → HoldsTables db held → ⊥
-none_held db listed holds lists some invalid held is =
-    invalid (stores_valid (records_in db) held (stored_there db held holds.declares (some_there (record_rows db) listed lists some) is).1)
+-- where none is listed, and there are some, no tables are held
+pub unnamed_held : (db : Database) → DeclaresRecords db.schema → (HoldsRecords db → ListsTable (records_in db) [] []) → (Pass (λ _. ⊥) (record_rows db) → ⊥) → HoldsNone db
+unnamed_held db declared lists some held (inl (inl lacks, e)) = not_lacking db.schema lacks declared
+unnamed_held db declared lists some held (inl (inr vacant, e)) = some (all_pass_none (λ _. ⊥) (record_rows db) vacant.0.numbered vacant.1)
+unnamed_held db declared lists some held (inr stored) = absurd (let first = (lists stored.0).each [] ∙ stored.1.2.each [] [] in cc)
 
--- a refusal for damage, by another reason
-pub damaged_by : {X : Type 0} (result : Result X StoreError) (P Q : Type 0) → (P → Q) → IfErr result (λ e. ((e ≡ DamagedStore) × P) ⊎ IsResource e) → IfErr result (λ e. ((e ≡ DamagedStore) × Q) ⊎ IsResource e)
-damaged_by (Ok x) P Q by h = tt
-damaged_by (Err e) P Q by (inl damaged) = inl (damaged.0, by damaged.1)
-damaged_by (Err e) P Q by (inr resource) = inr resource
+-- ---- a scan of all records
 
--- a refusal for damage or because memory is out
-pub refused_memory : {X : Type 0} (result : Result X StoreError) (P Q : Type 0) → (P → Q) → IfErr result (λ e. ((e ≡ DamagedStore) × P) ⊎ (e ≡ NoMemory)) → IfErr result (λ e. ((e ≡ DamagedStore) × Q) ⊎ IsResource e)
-refused_memory (Ok x) P Q by h = tt
-refused_memory (Err e) P Q by (inl damaged) = inl (damaged.0, by damaged.1)
-refused_memory (Err e) P Q by (inr memory) = inr (inl memory)
+-- rows that pass are numbered, so the database holds records
+pub scanned_holds : (db : Database) (Passes : RecordData → Type 0) → DeclaresRecords db.schema → IsDatabase db → Pass Passes (record_rows db) → HoldsRecords db
+scanned_holds db Passes declares sound pass = record { declares = declares; sound = sound; numbered = pass.numbered }
+
+module _ (db : Database) (version : Version) (listed : List (List ℕ × List ℕ)) (schemas : Schemas) (declared : AreDeclared (bytes_of version) listed schemas) (holds : HoldsRecords db)
+    (lists : ListsTable (records_in db) [] listed) where
+  -- where each is good, the records are valid
+  pub scanned_valid : Pass (IsGoodRow schemas) (record_rows db) → records_in db [] [] ≡ Some (bytes_of version) → AreValid (records_in db)
+  scanned_valid pass first =
+      let rows = record_rows db in
+      checked_valid (records_in db) listed lists (bytes_of version) schemas declared (λ name key value is.
+      let row = there_row rows name key value is in
+      subst (IsGoodRow schemas) row.2 (all_has (λ r. IsGoodRow schemas (record_of r)) rows row.0 pass.each row.1)) (is_version version) first
+
+  -- and where the records are valid, each is good
+  pub valid_passes : AreValid (records_in db) → Pass (IsGoodRow schemas) (record_rows db)
+  valid_passes valid = record {
+    numbered = holds.numbered;
+    each = all_from (λ r. IsGoodRow schemas (record_of r)) (record_rows db) (λ row has. valid_row (records_in db) listed lists (bytes_of version) schemas declared valid (record_of row) (row_there db row holds has));
+  }
 
 -- a database that is as it was is damaged where it was
 pub same_damage : {X : Type 0} (result : Result X StoreError) (Damaged : Database → Type 0) (old new : Database) → new ≡ old
@@ -148,9 +153,6 @@ pub same_damage : {X : Type 0} (result : Result X StoreError) (Damaged : Databas
 same_damage result Damaged old new same h = subst (λ db. IfErr result (λ e. ((e ≡ DamagedStore) × Damaged db) ⊎ IsResource e)) same h
 
 -- it holds no tables then
-abbrev pub HoldsNone : Database → Type 0
-HoldsNone db = (held : tables.State) → HoldsTables db held → ⊥
-
 pub damaged_none : (db : Database) → IsDamaged db → HoldsNone db
 damaged_none db (inl otherwise) held (inl (inl lacks, e)) = otherwise_used db.schema otherwise lacks
 damaged_none db (inl otherwise) held (inl (inr vacant, e)) = not_declared db.schema otherwise vacant.0.declares

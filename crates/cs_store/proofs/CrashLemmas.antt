@@ -8,16 +8,12 @@ use Rattle.sqlite.specs.State.{State, HasCleanDisk, KeepsCommit, Shows, Survives
 use Rattle.sqlite.proofs.StateLemmas.{survives_then, survives_weaker}
 use Rattle.cs_value.specs.State as tables
 use Rattle.cs_rows.specs.declared.fault.StoreError.{StoreError}
-use Rattle.cs_records.specs.Records.{IsUndone, KeepsContent, KeepsCrash}
-use Rattle.cs_store.specs.Store.{HoldsState, HoldsTables, IsSound, IsInside, KeepsStore, Begins, Ends, tables_in}
+use Rattle.cs_records.specs.Records.{IsUndone, KeepsContent, KeepsCrash, KeepsOthers}
+use Rattle.cs_store.specs.Store.{HoldsState, HoldsTables, IsStore, IsSound, IsInside, KeepsStore, Begins, Ends, tables_in}
 use Rattle.cs_store.specs.Crash.{MayLeave, LeavesOnly, LeavesTakenOver, CanBegin, IsAtomic}
 use Rattle.cs_store.specs.Laws.{was_clean, keeps_itself}
-use Rattle.cs_records.proofs.ContentLemmas.{crash_weaker}
+use Rattle.cs_records.proofs.ContentLemmas.{crash_then, crash_weaker}
 use Rattle.cs_store.proofs.WriteLemmas.{shows_state}
-
--- one call that commits nothing after another
-pub crash_then : (a b c : State) → KeepsCrash a b → KeepsCrash b c → KeepsCrash a c
-crash_then a b c = survives_then a b c (λ _. ⊥) (λ _. ⊥) (λ _. ⊥) (λ clean db none. none) (λ clean db none. none)
 
 -- ---- what is committed
 
@@ -40,6 +36,18 @@ commits_tables old new sound commits =
 -- it begins with the tables that the store held
 pub begun_tables : (old begun mid : State) → (HasCleanDisk begun → Begins old begun) → KeepsStore begun mid → HasCleanDisk mid → tables_in begun.now ≡ tables_in old.now
 begun_tables old begun mid begins keeps clean = ap (λ (db : Database). tables_in db) (begins (was_clean begun mid keeps.crash clean)).shown.now_is
+
+-- and commits all else as it was
+pub made_others : (old begun mid new : State) {May : Trees → Type 0} → (HasCleanDisk begun → Begins old begun) → KeepsStore begun mid → Survives mid new May → HasCleanDisk new → Ends mid new → KeepsOthers mid.committed new.now
+    → KeepsOthers old.now new.now
+made_others old begun mid new begins keeps survives clean ends others =
+    let mid_clean = was_clean mid new survives clean in
+    let began = begins (was_clean begun mid keeps.crash mid_clean) in
+    subst (λ db. KeepsOthers db new.now) ((keeps.commit mid_clean).committed ends.shown.was_open ∙ began.shown.committed_is ∙ sym began.settled) others
+
+pub ended_others : {X : Type 0} (result : Result X StoreError) (old new : State) → IsStore old → OnOk result (IsTrue old.in_transaction × Shows old new old.now old.now false) → OnOk result (KeepsOthers old.committed new.now)
+ended_others (Ok x) old new store ends = subst (KeepsOthers old.committed) (sym ends.1.now_is) (store.others ends.1.was_open)
+ended_others (Err e) old new store ends = tt
 
 module _ (old begun mid new : State) (begins : KeepsCrash old begun) (keeps : KeepsStore begun mid) where
   -- while it lasts it commits nothing

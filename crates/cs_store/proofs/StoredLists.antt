@@ -1,14 +1,11 @@
 -- The lists of records under a name are those of the state that is stored.
 use Rattle.std.proofs.Common.{◌≡◌, ◌≢◌, ◌⊎◌, ◌&&◌, Result, Ok, Err, IfOk, IfErr, Vec, Global, String, string_bytes, ◌++◌, ◌<◌, get_or, zero, suc, ℕ, List, [], ◌∷◌, length, map, inl, inr, Option, Some, None, Bool, true, false, cond, T, option_map, refl, sym, ap, ◌∙◌, subst, arith}
 use Rattle.std.specs.List.{AllByRecursion}
-use Rattle.std.specs.Ordering.{nat_cmp, eq_by_cmp, is_eq, is_lt}
-use Rattle.std.specs.declared.cmp.Ordering.{Ordering}
-use Rattle.std.specs.declared.cmp.Ordering.TheVariants.{Less, Equal, Greater}
-use Rattle.std.specs.Cmp.{tied_itself}
+use Rattle.std.specs.Ordering.{nat_cmp, eq_by_cmp, is_lt}
 use Rattle.std.specs.Cmp.Lexicographic.{slice_cmp, nat_list_cmp_total}
 use Rattle.std.specs.FinMap.{get, entries, entries_sorted, get-entries, keys, values, is_sorted, find, slice_cmp-IsAntisymmetric, nat_cmp-IsAntisymmetric}
 use Rattle.std.specs.FinMap.Entries.{below_all, same_entries}
-use Rattle.std.proofs.lemmas.Bool.{cases_Bool, and_parts, and_from}
+use Rattle.std.proofs.lemmas.Bool.{and_from}
 use Rattle.sqlite_trees.proofs.ListLemmas.{map-map, all-map}
 use Rattle.cs_value.specs.declared.value.OwnedValue.{OwnedValue}
 use Rattle.cs_value.specs.Value.{IsRow}
@@ -16,10 +13,11 @@ use Rattle.cs_value.specs.Table.{IsName}
 use Rattle.cs_value.specs.Spelling.{row_bytes}
 use Rattle.cs_value.specs.Maps.{ByBytes}
 use Rattle.cs_value.specs.State.{SchemaData, RowMap, TableData, State, IsState, schema_at, rows_at}
-use Rattle.cs_value.proofs.ByteMaps.{tied_bytes}
 use Rattle.cs_value.proofs.KeyedRows.{length-IsKeyedRow}
 use Rattle.cs_value.proofs.Spellings.{row_bytes_same}
+use Rattle.sqlite_rules.proofs.ListLemmas.{all_from}
 use Rattle.cs_records.specs.Records.{Records, ListsTable}
+use Rattle.cs_records.proofs.ListedRows.{find_own}
 use Rattle.cs_stored.specs.Declaration.{declaration_bytes}
 use Rattle.cs_stored.specs.Stored.{version, Stores}
 use Rattle.cs_rows.specs.declared.fault.StoreError.{StoreError}
@@ -51,33 +49,11 @@ true_of false h = absurd h
 of_true : (b : Bool) → b ≡ true → T b
 of_true b e = subst T (sym e) tt
 
--- what is less is not found first
-above : {X : Type 0} (o : Ordering) (x : X) (rest : Option X) → is_lt o ≡ true → cond (is_eq o) (Some x) rest ≡ rest
-above Less x rest e = refl
-above Equal x rest e = absurd cc
-above Greater x rest e = refl
-
 -- ---- the entries of a map
-
--- a key below all others is not among them
-find_below : {X : Type 0} (k : List ℕ) (es : Entries X) → T (below_all (slice_cmp nat_cmp) k es) → find (slice_cmp nat_cmp) k es ≡ None
-find_below k [] below = refl
-find_below k (e ∷ es) below =
-    let parts = and_parts (is_lt (slice_cmp nat_cmp k e.0)) (below_all (slice_cmp nat_cmp) k es) (true_of _ below) in
-    above (slice_cmp nat_cmp k e.0) e.1 (find (slice_cmp nat_cmp) k es) parts.0 ∙ find_below k es (of_true _ parts.1)
 
 -- what holds of what is found at each key holds of each entry
 each_entry : {X : Type 0} (P : List ℕ → X → Type 0) (es : Entries X) → sorted es → ((q : List ℕ) (x : X) → find (slice_cmp nat_cmp) q es ≡ Some x → P q x) → AllByRecursion (λ e. P e.0 e.1) es
-each_entry P [] rising each = tt
-each_entry {X} P (e ∷ es) rising each =
-    let parts = and_parts (below_all (slice_cmp nat_cmp) e.0 es) (is_sorted (slice_cmp nat_cmp) es) (true_of _ rising) in
-    (each e.0 e.1 (ap (λ r. cond (is_eq r) (Some e.1) (find (slice_cmp nat_cmp) e.0 es)) (tied_itself nat_list_cmp_total e.0)), each_entry P es (of_true _ parts.1) (λ q x found. each q x (later q x (find_below e.0 es (of_true _ parts.0)) found)))
-  where
-    later : (q : List ℕ) (x : X) → find (slice_cmp nat_cmp) e.0 es ≡ None → find (slice_cmp nat_cmp) q es ≡ Some x → find (slice_cmp nat_cmp) q (e ∷ es) ≡ Some x
-    later q x none found = elim (cases_Bool (eq_by_cmp (slice_cmp nat_cmp) q e.0)) [
-      | inl tied ↦ absurd (let other = sym none ∙ ap (λ k. find (slice_cmp nat_cmp) k es) (sym (tied_bytes q e.0 tied)) ∙ found in cc)
-      | inr apart ↦ ap (λ b. cond b (Some e.1) (find (slice_cmp nat_cmp) q es)) apart ∙ found
-    ]
+each_entry P es rising each = all_from (λ e. P e.0 e.1) es (λ e has. each e.0 e.1 (find_own es e (true_of _ rising) has))
 
 -- ---- entries whose values are spelled
 

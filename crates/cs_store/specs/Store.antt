@@ -40,9 +40,13 @@ IsVacant db = LacksRecords db.schema ⊎ (HoldsRecords db × (record_rows db ≡
 abbrev pub HoldsTables : Database → tables.State → Type 0
 HoldsTables db held = (IsVacant db × (held ≡ map.empty)) ⊎ (HoldsRecords db × StoresInSome (records_in db) held)
 
+-- the database holds no state, not even the empty one
+abbrev pub HoldsNone : Database → Type 0
+HoldsNone db = (held : tables.State) → ¬ HoldsTables db held
+
 -- the table of records is declared otherwise, or its records are those of no state
 abbrev pub IsDamaged : Database → Type 0
-IsDamaged db = IsDeclaredOtherwise db.schema ⊎ (DeclaresRecords db.schema × ((held : tables.State) → ¬ HoldsTables db held))
+IsDamaged db = IsDeclaredOtherwise db.schema ⊎ (DeclaresRecords db.schema × HoldsNone db)
 
 -- while the connection is open, it shows a state, and a state was committed last, which it shows outside a transaction; all
 -- but the records is as it was committed

@@ -1,28 +1,27 @@
 //! How a database is adopted as a store.
-ghost use Rattle.std.specs.Prelude.{◌≡◌, ◌⊎◌, [], Some, IfOk, IfErr, OnOk, OnErr};
-ghost use Rattle.cs_value.specs.State as tables;
-ghost use Rattle.sqlite.specs.State.{HasCleanDisk, KeepsCommit, IsUnchanged, Survives};
+ghost use Rattle.std.specs.Prelude.{◌≡◌, ◌≢◌, ◌⊎◌, [], Some, IfErr, OnOk, OnErr};
+ghost use Rattle.sqlite.specs.State.{HasCleanDisk, KeepsCommit, Survives};
 ghost use Rattle.sqlite.specs.Effect.{IsDatabase};
 ghost use Rattle.sqlite.specs.Held.{state};
 ghost use Rattle.cs_rows.specs.declared.fault.StoreError.TheVariants.{DamagedStore as Damaged};
 ghost use Rattle.cs_rows.specs.Faults.{IsResource, IsReadRefusal};
-ghost use Rattle.cs_records.specs.Records.{HoldsRecords, DeclaresRecords, LacksRecords, ListsAll, KeepsContent};
+ghost use Rattle.cs_records.specs.Records.{HoldsRecords, DeclaresRecords, LacksRecords, ListsTable, KeepsContent};
 ghost use Rattle.cs_records.specs.Records.{record_rows, records_in, KeepsCrash};
 ghost use Rattle.cs_stored.specs.Valid.{AreValid};
 ghost use Rattle.cs_stored.specs.Versions.{bytes_of};
 ghost use Rattle.cs_store.specs.Crash.{CanBegin, MayLeave};
-ghost use Rattle.cs_store.specs.Store.{Adopts, HoldsTables, IsDamaged, SetsUp, IsInside};
+ghost use Rattle.cs_store.specs.Store.{Adopts, HoldsNone, HoldsTables, IsDamaged, SetsUp, IsInside};
 
 use crate::batch::commit;
 use crate::refusal::refused;
 use cs_records::{
-    Declaration, Record, all_records, declaration_of, find_record, has_row_numbers, make_table,
-    put_record, transactions,
+    Declaration, Keyed, RecordTest, all_pass, declaration_of, list_records, make_table, put_record,
+    transactions,
 };
 use cs_rows::StoreError;
-use cs_stored::{VERSION, Version, check_records, version_of};
+use cs_stored::{VERSION, Version, read_schemas, read_version};
 use sqlite::{Alter, Connection};
-use std::alloc::Global;
+use std::alloc::{AllocError, Global};
 
 /// Makes a store if the database holds none yet, and else checks the one there, in one transaction. A refusal leaves
 /// the database as it was.
@@ -108,111 +107,138 @@ fn write_version<S: Alter>(conn: &mut Connection<S>) -> Result<(), StoreError>
 /// Checks the store of a database that has the table of records, or makes one if that is empty.
 fn check_store<S: Alter>(conn: &mut Connection<S>, alloc: Global) -> Result<(), StoreError>
     requires inside { HasCleanDisk (state S.Store conn.old) → IsInside (state S.Store conn.old) }
-    requires declared { DeclaresRecords (state S.Store conn.old).now.schema }
-    requires sound { HasCleanDisk (state S.Store conn.old) → IsDatabase (state S.Store conn.old).now }
+    requires declared { HasCleanDisk (state S.Store conn.old) → DeclaresRecords (state S.Store conn.old).now.schema
+        × IsDatabase (state S.Store conn.old).now }
     ensures set_up { HasCleanDisk (state S.Store conn.new)
         → OnOk result (SetsUp (state S.Store conn.old) (state S.Store conn.new)) }
     ensures refused { HasCleanDisk (state S.Store conn.new) → IfErr result (λ e. ((e ≡ Damaged)
-        × ((held : tables.State) → ¬ HoldsTables (state S.Store conn.old).now held)) ⊎ IsResource e) }
+        × HoldsNone (state S.Store conn.old).now) ⊎ IsResource e) }
     ensures named { IfErr result IsReadRefusal }
     ensures commit { HasCleanDisk (state S.Store conn.new)
         → OnErr result (KeepsCommit (state S.Store conn.old) (state S.Store conn.new)) }
     ensures survives { KeepsCrash (state S.Store conn.old) (state S.Store conn.new) }
 {
-    match has_row_numbers(conn) {
-        Ok(true) => check_numbered(conn, alloc),
+    match list_records(conn, alloc, "") {
+        Ok(listed) => check_listed(conn, alloc, &listed),
+        Err(error) => Err(refused(error)),
+    }
+}
+
+/// Checks the store whose version and declarations these are, or makes one if there is no record.
+fn check_listed<S: Alter>(
+    conn: &mut Connection<S>,
+    alloc: Global,
+    listed: &[Keyed],
+) -> Result<(), StoreError>
+    requires inside { HasCleanDisk (state S.Store conn.old) → IsInside (state S.Store conn.old) }
+    requires declared { HasCleanDisk (state S.Store conn.old) → DeclaresRecords (state S.Store conn.old).now.schema
+        × IsDatabase (state S.Store conn.old).now }
+    requires listed { HasCleanDisk (state S.Store conn.old) → HoldsRecords (state S.Store conn.old).now
+        → ListsTable (records_in (state S.Store conn.old).now) [] listed.now }
+    ensures set_up { HasCleanDisk (state S.Store conn.new)
+        → OnOk result (SetsUp (state S.Store conn.old) (state S.Store conn.new)) }
+    ensures refused { HasCleanDisk (state S.Store conn.new) → IfErr result (λ e. ((e ≡ Damaged)
+        × HoldsNone (state S.Store conn.old).now) ⊎ IsResource e) }
+    ensures named { IfErr result IsReadRefusal }
+    ensures commit { HasCleanDisk (state S.Store conn.new)
+        → OnErr result (KeepsCommit (state S.Store conn.old) (state S.Store conn.new)) }
+    ensures survives { KeepsCrash (state S.Store conn.old) (state S.Store conn.new) }
+{
+    match read_version(listed) {
+        Ok(None) => check_empty(conn, alloc),
+        Ok(Some(version)) => check_tables(conn, alloc, version, listed),
+        Err(error) => Err(error),
+    }
+}
+
+/// A test that no record passes.
+struct Nothing;
+
+impl RecordTest for Nothing {
+    ghost passes = { λ _ _. ⊥ };
+
+    fn is_passed_by(
+        &self,
+        _alloc: Global,
+        _tab: &[u8],
+        _key: &[u8],
+        _value: &[u8],
+    ) -> Result<bool, AllocError> {
+        Ok(false)
+    }
+}
+
+/// Makes a store if the table is empty. No record has the empty name.
+fn check_empty<S: Alter>(conn: &mut Connection<S>, alloc: Global) -> Result<(), StoreError>
+    requires inside { HasCleanDisk (state S.Store conn.old) → IsInside (state S.Store conn.old) }
+    requires declared { HasCleanDisk (state S.Store conn.old) → DeclaresRecords (state S.Store conn.old).now.schema
+        × IsDatabase (state S.Store conn.old).now }
+    requires unnamed { HasCleanDisk (state S.Store conn.old) → HoldsRecords (state S.Store conn.old).now
+        → ListsTable (records_in (state S.Store conn.old).now) [] [] }
+    ensures set_up { HasCleanDisk (state S.Store conn.new)
+        → OnOk result (SetsUp (state S.Store conn.old) (state S.Store conn.new)) }
+    ensures refused { HasCleanDisk (state S.Store conn.new) → IfErr result (λ e. ((e ≡ Damaged)
+        × HoldsNone (state S.Store conn.old).now) ⊎ IsResource e) }
+    ensures named { IfErr result IsReadRefusal }
+    ensures commit { HasCleanDisk (state S.Store conn.new)
+        → OnErr result (KeepsCommit (state S.Store conn.old) (state S.Store conn.new)) }
+    ensures survives { KeepsCrash (state S.Store conn.old) (state S.Store conn.new) }
+{
+    match all_pass(conn, alloc, &Nothing) {
+        Ok(true) => write_version(conn),
         Ok(false) => Err(StoreError::DamagedStore),
         Err(error) => Err(refused(error)),
     }
 }
 
-/// Checks the records, or makes a store if there is none.
-fn check_numbered<S: Alter>(conn: &mut Connection<S>, alloc: Global) -> Result<(), StoreError>
-    requires inside { HasCleanDisk (state S.Store conn.old) → IsInside (state S.Store conn.old) }
-    requires records { HasCleanDisk (state S.Store conn.old) → HoldsRecords (state S.Store conn.old).now }
-    ensures set_up { HasCleanDisk (state S.Store conn.new)
-        → OnOk result (SetsUp (state S.Store conn.old) (state S.Store conn.new)) }
-    ensures refused { HasCleanDisk (state S.Store conn.new) → IfErr result (λ e. ((e ≡ Damaged)
-        × ((held : tables.State) → ¬ HoldsTables (state S.Store conn.old).now held)) ⊎ IsResource e) }
-    ensures named { IfErr result IsReadRefusal }
-    ensures commit { HasCleanDisk (state S.Store conn.new)
-        → OnErr result (KeepsCommit (state S.Store conn.old) (state S.Store conn.new)) }
-    ensures survives { KeepsCrash (state S.Store conn.old) (state S.Store conn.new) }
-{
-    match all_records(conn, alloc) {
-        Ok(listed) if listed.is_empty() => write_version(conn),
-        Ok(listed) => take_over(conn, alloc, &listed),
-        Err(error) => Err(refused(error)),
-    }
-}
-
-/// Checks these records, which are all of the database, and writes the version of stores if they have the former one.
-fn take_over<S: Alter>(
+/// Checks a store of this version: its declarations, and that each other record is a row of a table. Then the version of
+/// stores replaces the former one.
+fn check_tables<S: Alter>(
     conn: &mut Connection<S>,
     alloc: Global,
-    listed: &[Record],
+    version: Version,
+    listed: &[Keyed],
 ) -> Result<(), StoreError>
     requires inside { HasCleanDisk (state S.Store conn.old) → IsInside (state S.Store conn.old) }
-    requires records { HasCleanDisk (state S.Store conn.old) → HoldsRecords (state S.Store conn.old).now
-        × ListsAll (records_in (state S.Store conn.old).now) listed.now }
+    requires declared { HasCleanDisk (state S.Store conn.old) → DeclaresRecords (state S.Store conn.old).now.schema
+        × IsDatabase (state S.Store conn.old).now }
+    requires listed { HasCleanDisk (state S.Store conn.old) → HoldsRecords (state S.Store conn.old).now
+        → ListsTable (records_in (state S.Store conn.old).now) [] listed.now }
+    requires some { listed.now ≢ [] }
+    requires version { HasCleanDisk (state S.Store conn.old) → HoldsRecords (state S.Store conn.old).now
+        → records_in (state S.Store conn.old).now [] [] ≡ Some (bytes_of version) }
     ensures set_up { HasCleanDisk (state S.Store conn.new)
         → OnOk result (SetsUp (state S.Store conn.old) (state S.Store conn.new)) }
     ensures refused { HasCleanDisk (state S.Store conn.new) → IfErr result (λ e. ((e ≡ Damaged)
-        × (¬ AreValid (records_in (state S.Store conn.old).now))) ⊎ IsResource e) }
+        × HoldsNone (state S.Store conn.old).now) ⊎ IsResource e) }
     ensures named { IfErr result IsReadRefusal }
     ensures commit { HasCleanDisk (state S.Store conn.new)
         → OnErr result (KeepsCommit (state S.Store conn.old) (state S.Store conn.new)) }
     ensures survives { KeepsCrash (state S.Store conn.old) (state S.Store conn.new) }
 {
-    match check_listed(conn, alloc, listed) {
-        Ok(Version::Current) => Ok(()),
-        Ok(Version::Former) => write_version(conn),
-        Err(error) => Err(error),
+    let schemas = read_schemas(alloc, version, listed)?;
+    match all_pass(conn, alloc, &schemas) {
+        Ok(true) => renew_version(conn, version),
+        Ok(false) => Err(StoreError::DamagedStore),
+        Err(error) => Err(refused(error)),
     }
 }
 
-/// Checks these records, which are all of the database, and returns their version.
-fn check_listed<S: Alter>(
-    conn: &mut Connection<S>,
-    alloc: Global,
-    listed: &[Record],
-) -> Result<Version, StoreError>
+/// Writes the version of stores, if the records, which are valid, have the former one.
+fn renew_version<S: Alter>(conn: &mut Connection<S>, version: Version) -> Result<(), StoreError>
+    requires inside { HasCleanDisk (state S.Store conn.old) → IsInside (state S.Store conn.old) }
     requires records { HasCleanDisk (state S.Store conn.old) → HoldsRecords (state S.Store conn.old).now
-        × ListsAll (records_in (state S.Store conn.old).now) listed.now }
-    ensures valid { HasCleanDisk (state S.Store conn.new) → IfOk result (λ v.
-        AreValid (records_in (state S.Store conn.old).now)
-        × (records_in (state S.Store conn.old).now [] [] ≡ Some (bytes_of v))) }
-    ensures refused { HasCleanDisk (state S.Store conn.new) → IfErr result (λ e. ((e ≡ Damaged)
-        × (¬ AreValid (records_in (state S.Store conn.old).now))) ⊎ IsResource e) }
-    ensures named { IfErr result IsReadRefusal }
-    ensures reads { HasCleanDisk (state S.Store conn.new)
-        → OnOk result (IsUnchanged (state S.Store conn.old) (state S.Store conn.new)) }
+        × AreValid (records_in (state S.Store conn.old).now)
+        × (records_in (state S.Store conn.old).now [] [] ≡ Some (bytes_of version)) }
+    ensures set_up { HasCleanDisk (state S.Store conn.new)
+        → OnOk result (SetsUp (state S.Store conn.old) (state S.Store conn.new)) }
+    ensures refused { IfErr result IsResource }
     ensures commit { HasCleanDisk (state S.Store conn.new)
         → OnErr result (KeepsCommit (state S.Store conn.old) (state S.Store conn.new)) }
     ensures survives { KeepsCrash (state S.Store conn.old) (state S.Store conn.new) }
 {
-    let version = read_version(conn)?;
-    check_records(alloc, version, listed)?;
-    Ok(version)
-}
-
-/// Returns the version of the records.
-fn read_version<S: Alter>(conn: &mut Connection<S>) -> Result<Version, StoreError>
-    requires { HasCleanDisk (state S.Store conn.old) → HoldsRecords (state S.Store conn.old).now }
-    ensures read { HasCleanDisk (state S.Store conn.new) → IfOk result (λ v.
-        records_in (state S.Store conn.old).now [] [] ≡ Some (bytes_of v)) }
-    ensures refused { HasCleanDisk (state S.Store conn.new) → IfErr result (λ e. ((e ≡ Damaged)
-        × (¬ AreValid (records_in (state S.Store conn.old).now))) ⊎ IsResource e) }
-    ensures named { IfErr result IsReadRefusal }
-    ensures reads { HasCleanDisk (state S.Store conn.new)
-        → OnOk result (IsUnchanged (state S.Store conn.old) (state S.Store conn.new)) }
-    ensures commit { HasCleanDisk (state S.Store conn.new)
-        → OnErr result (KeepsCommit (state S.Store conn.old) (state S.Store conn.new)) }
-    ensures survives { KeepsCrash (state S.Store conn.old) (state S.Store conn.new) }
-{
-    match find_record(conn, "", b"") {
-        Ok(Some(bytes)) => version_of(bytes.as_slice()).ok_or(StoreError::DamagedStore),
-        Ok(None) => Err(StoreError::DamagedStore),
-        Err(error) => Err(refused(error)),
+    match version {
+        Version::Current => Ok(()),
+        Version::Former => write_version(conn),
     }
 }

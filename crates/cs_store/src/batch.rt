@@ -6,7 +6,7 @@ ghost use Rattle.cs_value.specs.Table.{IsName};
 ghost use Rattle.cs_rows.specs.declared.fault.StoreError.TheVariants.{TableExists as TakenName};
 ghost use Rattle.cs_rows.specs.Faults.{IsResource, IsReadRefusal};
 ghost use Rattle.cs_rows.specs.Rows.{IsDeclared};
-ghost use Rattle.cs_records.specs.Records.{IsUndone, KeepsCrash};
+ghost use Rattle.cs_records.specs.Records.{IsUndone, KeepsCrash, KeepsOthers};
 ghost use Rattle.cs_store.specs.Crash.{IsAtomic, LeavesOnly};
 ghost use Rattle.cs_store.specs.Store.{AddsTable, Ends, IsInside, KeepsStore, tables_in};
 
@@ -57,6 +57,8 @@ impl<S: Alter> SqlBatch<'_, S> {
     pub fn commit(self) -> Result<(), StoreError>
         ensures committed { HasCleanDisk (state S.Store self.exit.0.now)
             → OnOk result (Ends (state S.Store self.entry.store.now) (state S.Store self.exit.0.now)) }
+        ensures others { HasCleanDisk (state S.Store self.exit.0.now) → OnOk result
+            (KeepsOthers (state S.Store self.entry.store.now).committed (state S.Store self.exit.0.now).now) }
         ensures undone { HasCleanDisk (state S.Store self.exit.0.now)
             → OnErr result (IsUndone (state S.Store self.entry.store.now) (state S.Store self.exit.0.now)) }
         ensures refused { IfErr result IsResource }

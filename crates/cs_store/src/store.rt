@@ -9,7 +9,7 @@ ghost use Rattle.cs_rows.specs.declared.fault.StoreError.TheVariants.{BadSchema 
 ghost use Rattle.cs_rows.specs.Faults.{IsResource, IsReadRefusal, IsEditRefusal};
 ghost use Rattle.cs_rows.specs.Editing.{Declares, EditsInto, schema_of, edited, written_of};
 ghost use Rattle.cs_store.specs.Crash.{CanBegin, IsAtomic, IsLeftOf, LeavesOnly, LeavesTakenOver, MayLeave};
-ghost use Rattle.cs_records.specs.Records.{KeepsContent, KeepsCrash};
+ghost use Rattle.cs_records.specs.Records.{KeepsContent, KeepsCrash, KeepsOthers};
 ghost use Rattle.cs_rows.specs.Rows.{IsDeclared, Fits};
 ghost use Rattle.sqlite.specs.Effect.{IsDatabase};
 ghost use Rattle.sqlite.specs.State.{HasCleanDisk, Survives};
@@ -271,6 +271,8 @@ impl<S: Alter> Store<S> {
             ⊎ IsResource e) result }
         ensures named { IfErr result (λ e. (e ≡ NoSchema) ⊎ (e ≡ TakenName) ⊎ IsReadRefusal e) }
         ensures at_rest { HasCleanDisk (state S.Store self.new) → OnOk result (IsAtRest (state S.Store self.new)) }
+        ensures others { HasCleanDisk (state S.Store self.new)
+            → OnOk result (KeepsOthers (state S.Store self.old).now (state S.Store self.new).now) }
         ensures kept { HasCleanDisk (state S.Store self.new)
             → OnErr result (KeepsContent (state S.Store self.old) (state S.Store self.new)) }
         ensures atomic { IsAtomic CanBegin (λ left. Declares (tables_in (state S.Store self.old).now) name.now
@@ -403,6 +405,8 @@ impl<S: Alter> Store<S> {
             → RefusesShut (state S.Store self.old) IsResource result }
         ensures named { IfErr result IsEditRefusal }
         ensures at_rest { HasCleanDisk (state S.Store self.new) → OnOk result (IsAtRest (state S.Store self.new)) }
+        ensures others { HasCleanDisk (state S.Store self.new)
+            → OnOk result (KeepsOthers (state S.Store self.old).now (state S.Store self.new).now) }
         ensures kept { HasCleanDisk (state S.Store self.new)
             → OnErr result (KeepsContent (state S.Store self.old) (state S.Store self.new)) }
         ensures atomic { IsAtomic CanBegin (EditsInto (tables_in (state S.Store self.old).now) edit.now)

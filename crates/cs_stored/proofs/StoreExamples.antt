@@ -5,25 +5,21 @@ use Rattle.std.specs.Str.{chars, is_utf8}
 use Rattle.std.specs.Option.{option_map}
 use Rattle.std.specs.Ordering.{nat_cmp}
 use Rattle.std.specs.Cmp.Lexicographic.{slice_cmp}
-use Rattle.std.specs.FinMap.{get, insert, empty, get-empty}
+use Rattle.std.specs.FinMap.{get, empty, get-empty}
 use Rattle.std.proofs.lemmas.Cmp.{nat_list_eq_equiv}
-use Rattle.std.proofs.lemmas.Str.{IsUtf8-from_is_utf8}
 use Rattle.sqlite_value.specs.declared.value.Value.TheVariants as sql
 use Rattle.sqlite_value.specs.Order.{Row}
 use Rattle.cs_value.specs.declared.value.OwnedValue.{OwnedValue}
 use Rattle.cs_value.specs.declared.value.OwnedValue.TheVariants.{Int, Text, Null}
-use Rattle.cs_value.specs.Value.{IsRow}
 use Rattle.cs_value.specs.Varint.{leading_digits, varint}
 use Rattle.cs_value.specs.Spelling.{counted, value_bytes, row_bytes}
-use Rattle.cs_value.specs.Table.{IsName}
 use Rattle.cs_value.specs.Reading.{number_from, number_at, integer_at, counted_at, text_at, blob_at, field_at}
-use Rattle.cs_value.specs.State.{SchemaData, IsColumnName, IsSchema, TableData, RowMap, IsRowAt, IsTable, State, IsState, rows_at}
-use Rattle.cs_value.proofs.StateLemmas.{empty_table, table_insert, empty_state, state_insert}
+use Rattle.cs_value.specs.State.{SchemaData, TableData, RowMap, IsRowAt, State}
 use Rattle.cs_records.specs.Records.{Records, records_of}
 use Rattle.cs_stored.specs.Declaration.{IsFormer, declaration_bytes}
 use Rattle.cs_stored.specs.Stored.{version, former_version, stored_under, StoresIn, StoresInSome, Stores, values_at, columns_at, schema_in, state_of}
 use Rattle.cs_stored.specs.Valid.{AreValid}
-use Rattle.cs_rows.proofs.Examples.{two_columns, refusing_columns, one_column, table_t, table_u, tables, row, key, held, state, state_is_state, tables_at, rows_of_tables}
+use Rattle.cs_rows.proofs.Examples.{two_columns, refusing_columns, table_t, table_u, row, key, held, state, state_is_state, tables_at, rows_of_tables}
 use Rattle.cs_stored.proofs.StateOf.{records_first, fitting_read, state_is}
 use Rattle.cs_rows.proofs.MapLemmas.{get_put}
 use Rattle.cs_stored.proofs.StoredReading.{schema_again}

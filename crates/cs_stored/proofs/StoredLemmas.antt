@@ -1,13 +1,12 @@
 -- What a change of the records does to the state that they store.
-use Rattle.std.proofs.Common.{bytes_eq, ◌≡◌, ◌≢◌, ℕ, ◌&&◌, List, [], ◌∷◌, Option, Some, None, Bool, true, false, cond, get_or, refl, sym, ap, ◌∙◌, subst, unwrap_or, arith}
+use Rattle.std.proofs.Common.{bytes_eq, ◌≡◌, ◌≢◌, ℕ, ◌&&◌, List, [], ◌∷◌, Option, Some, None, Bool, true, false, cond, get_or, refl, sym, ap, ◌∙◌, subst, arith}
 use Rattle.std.specs.Option.{option_map, IsSome}
 use Rattle.std.specs.Ordering.{nat_cmp}
-use Rattle.std.specs.Cmp.Lexicographic.{slice_cmp, nat_list_cmp_total, texts_ties}
-use Rattle.std.specs.FinMap.{get, insert, remove, empty, get-insert, get-remove, get-empty}
+use Rattle.std.specs.Cmp.Lexicographic.{slice_cmp}
+use Rattle.std.specs.FinMap.{get, insert, remove, empty, get-empty}
 use Rattle.cs_value.specs.declared.value.OwnedValue.{OwnedValue}
 use Rattle.cs_value.specs.Table.{IsName}
 use Rattle.cs_value.specs.Spelling.{row_bytes}
-use Rattle.cs_value.specs.Maps.{ByBytes}
 use Rattle.cs_value.specs.State.{SchemaData, IsSchema, RowMap, TableData, IsTable, State, IsState, rows_at, row_at, with_table, with_rows, with_row, without_row}
 use Rattle.cs_value.proofs.StateLemmas.{empty_table, table_insert, table_remove, empty_state, state_insert}
 use Rattle.cs_rows.specs.Rows.{IsDeclared, Fits}

@@ -35,34 +35,30 @@ pub record AreValid (records : Records) : Type 0 where
       → IsName name × IsDeclarationIn written bytes
   pub rows : (name key value : List ℕ) → name ≢ [] → records name key ≡ Some value → IsStoredRow records name key value
 
--- ---- what the private readers of a whole store look for
+-- ---- what the readers of a whole store look for
 
--- the record is a declaration
-abbrev pub IsTableRecord : RecordData → Type 0
-IsTableRecord r = (r.tab ≡ []) × (r.key ≢ [])
-
--- of the table of this name and schema, in this version
-pub record DeclaresTable (written : List ℕ) (r : RecordData) (name : List ℕ) (schema : SchemaData) : Type 0 where
-  pub is_table : IsTableRecord r
-  pub own : r.key ≡ name
+-- a key and a value under the empty name declare the table of this name and schema, in this version
+pub record DeclaresTable (written : List ℕ) (r : List ℕ × List ℕ) (name : List ℕ) (schema : SchemaData) : Type 0 where
+  pub is_table : r.0 ≢ []
+  pub own : r.0 ≡ name
   pub named : IsName name
   pub is_schema : IsSchema schema
   pub former : written ≡ former_version → IsFormer schema
-  pub spelled : r.value ≡ declaration_bytes schema
+  pub spelled : r.1 ≡ declaration_bytes schema
 
 -- a declaration is of a table
-abbrev pub IsGoodTable : List ℕ → RecordData → Type 0
-IsGoodTable written r = IsTableRecord r → IsName r.key × IsDeclarationIn written r.value
+abbrev pub IsGoodTable : List ℕ → List ℕ × List ℕ → Type 0
+IsGoodTable written r = r.0 ≢ [] → IsName r.0 × IsDeclarationIn written r.1
 
 -- tables by name, and their schemas
 abbrev pub Schemas : Type 0
 Schemas = ByBytes SchemaData
 
--- they are those of the declarations among the records
-pub record AreDeclared (written : List ℕ) (listed : List RecordData) (schemas : Schemas) : Type 0 where
+-- they are those of the declarations among the keys and values
+pub record AreDeclared (written : List ℕ) (listed : List (List ℕ × List ℕ)) (schemas : Schemas) : Type 0 where
   pub found : (name : List ℕ) (schema : SchemaData) → map.get schemas name ≡ Some schema
-      → (r : RecordData) × Has listed r × DeclaresTable written r name schema
-  pub each : (r : RecordData) → Has listed r → IsTableRecord r → IsSome (map.get schemas r.key)
+      → (r : List ℕ × List ℕ) × Has listed r × DeclaresTable written r name schema
+  pub each : (r : List ℕ × List ℕ) → Has listed r → r.0 ≢ [] → IsSome (map.get schemas r.0)
 
 -- the value is that of a row of a table of the schema, and the key is its own
 pub record IsRowOf (schema : SchemaData) (key value : List ℕ) : Type 0 where

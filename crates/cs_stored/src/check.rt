@@ -1,39 +1,40 @@
 //! Whether records are those of tables.
-ghost use Rattle.std.specs.Prelude.{◌≡◌, ◌↔◌, ◌⊎◌, Some, IsTrue, IfOk, IfErr, OnOk, MatchOption};
-ghost use Rattle.std.specs.Prelude.{List, [], ◌∷◌, ◌++◌, string_bytes};
+ghost use Rattle.std.specs.Prelude.{◌≡◌, ◌≢◌, ◌↔◌, ◌⊎◌, false, Some, IsTrue, IsSome, IfOk, IfErr, OnOk, MatchOption};
+ghost use Rattle.std.specs.Prelude.{List, ℕ, [], ◌∷◌, ◌++◌, string_bytes};
 ghost use Rattle.std.specs.Option.{option_copied};
 ghost use Rattle.std.specs.List.{AllByRecursion};
 ghost use Rattle.std.specs.FinMap as map;
 ghost use Rattle.cs_rows.specs.declared.fault.StoreError.TheVariants.{DamagedStore as Damaged};
 ghost use Rattle.cs_rows.specs.declared.fault.StoreError.TheVariants.{NoMemory as OutOfMemory};
-ghost use Rattle.cs_records.specs.Records.{Records, RecordData, ListsAll};
+ghost use Rattle.cs_records.specs.Records.{Records, ListsTable};
 ghost use Rattle.cs_stored.specs.Declaration.{declaration_bytes, IsFormer};
 ghost use Rattle.cs_stored.specs.Stored.{former_version};
 ghost use Rattle.cs_stored.specs.Versions.{bytes_of};
-ghost use Rattle.cs_stored.specs.Valid.{AreValid, AreDeclared, IsTableRecord, DeclaresTable};
-ghost use Rattle.cs_stored.specs.Valid.{IsDeclarationIn, IsGoodTable, IsGoodRow, IsRowOf};
+ghost use Rattle.cs_stored.specs.Valid.{AreDeclared, AreValid, DeclaresTable, IsDeclarationIn};
+ghost use Rattle.cs_stored.specs.Valid.{IsGoodTable, IsRowOf};
 ghost use Rattle.cs_value.specs.Table.{IsName};
 ghost use Rattle.cs_value.specs.State.{IsSchema, is_marked as is_marked_by};
 
 use crate::declaration::read_declaration;
 use crate::stored_row::read_row;
-use crate::version::Version;
-use cs_records::Record;
+use crate::version::{Version, version_of};
+use cs_records::{Keyed, RecordTest};
 use cs_rows::{Schema, StoreError};
 use cs_value::{Key, NoMemory, is_table_name};
-use std::alloc::Global;
+use std::alloc::{AllocError, Global};
 use std::collections::BTreeMap;
 use std::marker::Model;
 use std::str;
 
-/// The schemas of tables, by name.
+/// The schemas of tables, by name. As a test of a record they ask that it is a row of one of these tables, or is under
+/// the empty name.
 #[derive(Debug, Drop)]
-struct Schemas {
-    by_name: BTreeMap<String, Schema>,
+pub struct Schemas {
+    by_name: BTreeMap<Vec<u8>, Schema>,
 }
 
 impl Model for Schemas {
-    ghost use Rattle.std.specs.Prelude.{map as map_list, string_bytes};
+    ghost use Rattle.std.specs.Prelude.{map as map_list};
     ghost use Rattle.std.specs.Coded.{coded_list, coded_ℕ};
     ghost use Rattle.std.specs.FinMap as map;
     ghost use Rattle.cs_value.specs.Maps.{ByBytes};
@@ -43,7 +44,7 @@ impl Model for Schemas {
 
     ghost coded = { map.code (coded_list coded_ℕ) schema_code };
 
-    ghost view = { λ s. map.from_entries (map_list (λ e. (string_bytes e.0, e.1)) s.by_name.entries) };
+    ghost view = { λ s. map.from_entries (map_list (λ e. (e.0.items, e.1)) s.by_name.entries) };
 }
 
 impl Schemas {
@@ -55,37 +56,48 @@ impl Schemas {
         }
     }
 
-    fn get(&self, name: &str) -> Option<&Schema>
+    fn get(&self, name: &[u8]) -> Option<&Schema>
         ensures { option_copied result ≡ map.get self.now name.now }
     {
         self.by_name.get(name)
     }
 
-    fn insert(&mut self, name: String, schema: Schema) -> Result<(), NoMemory>
-        ensures { OnOk result (self.new ≡ map.insert self.old (string_bytes name) schema) }
+    fn insert(&mut self, name: Vec<u8>, schema: Schema) -> Result<(), NoMemory>
+        ensures { OnOk result (self.new ≡ map.insert self.old name.items schema) }
     {
         self.by_name.insert(name, schema)?;
         Ok(())
     }
 }
 
-/// Checks that records are those of tables, in this version: a declaration under each name, and rows of
-/// declared tables. The version's own record is not looked at.
-pub fn check_records(alloc: Global, version: Version, listed: &[Record]) -> Result<(), StoreError>
-    ensures valid { OnOk result ((records : Records) → ListsAll records listed.now
-        → records [] [] ≡ Some (bytes_of version) → AreValid records) }
-    ensures refused { IfErr result (λ e. ((e ≡ Damaged)
-        × ((records : Records) → ListsAll records listed.now
-        → records [] [] ≡ Some (bytes_of version) → ¬ AreValid records)) ⊎ (e ≡ OutOfMemory)) }
+/// The version of a store whose records under the empty name are these, by key; None if there is none of them. Fails if
+/// the first is not the record of a version that is read.
+pub fn read_version(listed: &[Keyed]) -> Result<Option<Version>, StoreError>
+    ensures read { IfOk result (λ o. MatchOption o (listed.now ≡ []) (λ v. (records : Records)
+        → ListsTable records [] listed.now → records [] [] ≡ Some (bytes_of v))) }
+    ensures some { IfOk result (λ o. IsSome o → listed.now ≢ []) }
+    ensures refused { IfErr result (λ e. (e ≡ Damaged) × (listed.now ≢ [])
+        × ((records : Records) → ListsTable records [] listed.now → ¬ AreValid records)) }
 {
-    match read_schemas(alloc, version, listed) {
-        Ok(schemas) => check_rows(alloc, &schemas, listed),
-        Err(error) => Err(error),
+    let [first, ..] = listed else {
+        return Ok(None);
+    };
+    if !first.key.is_empty() {
+        return Err(StoreError::DamagedStore);
+    }
+    match version_of(&first.value) {
+        Some(version) => Ok(Some(version)),
+        None => Err(StoreError::DamagedStore),
     }
 }
 
-/// The schemas of the tables that the records declare, in this version.
-fn read_schemas(alloc: Global, version: Version, listed: &[Record]) -> Result<Schemas, StoreError>
+/// The schemas of the tables that these records declare, in this version. The key of each is the name of a table, and its
+/// value a declaration. The version's own record, whose key is empty, is not looked at.
+pub fn read_schemas(
+    alloc: Global,
+    version: Version,
+    listed: &[Keyed],
+) -> Result<Schemas, StoreError>
     ensures read { IfOk result (AreDeclared (bytes_of version) listed.now) }
     ensures refused { IfErr result (λ e. ((e ≡ Damaged)
         × (¬ AllByRecursion (IsGoodTable (bytes_of version)) listed.now)) ⊎ (e ≡ OutOfMemory)) }
@@ -102,9 +114,9 @@ fn add_table(
     alloc: Global,
     version: Version,
     schemas: &mut Schemas,
-    stored: &Record,
+    stored: &Keyed,
 ) -> Result<(), StoreError>
-    ensures added { OnOk result ((before : List RecordData) → AreDeclared (bytes_of version) before schemas.old
+    ensures added { OnOk result ((before : List (List ℕ × List ℕ)) → AreDeclared (bytes_of version) before schemas.old
         → AreDeclared (bytes_of version) (before ++ stored.now ∷ []) schemas.new) }
     ensures refused { IfErr result (λ e. ((e ≡ Damaged) × (¬ IsGoodTable (bytes_of version) stored.now))
         ⊎ (e ≡ OutOfMemory)) }
@@ -120,17 +132,17 @@ fn add_table(
 fn read_table(
     alloc: Global,
     version: Version,
-    stored: &Record,
-) -> Result<Option<(String, Schema)>, StoreError>
-    ensures read { IfOk result (λ o. MatchOption o (¬ IsTableRecord stored.now)
-        (λ t. DeclaresTable (bytes_of version) stored.now (string_bytes t.0) t.1)) }
+    stored: &Keyed,
+) -> Result<Option<(Vec<u8>, Schema)>, StoreError>
+    ensures read { IfOk result (λ o. MatchOption o (stored.now.0 ≡ [])
+        (λ t. DeclaresTable (bytes_of version) stored.now t.0.items t.1)) }
     ensures refused { IfErr result (λ e. ((e ≡ Damaged) × (¬ IsGoodTable (bytes_of version) stored.now))
         ⊎ (e ≡ OutOfMemory)) }
 {
-    if !stored.tab.is_empty() || stored.key.is_empty() {
+    if stored.key.is_empty() {
         return Ok(None);
     }
-    let name = read_name(alloc, &stored.key)?;
+    let name = read_name(alloc, &stored.key)?.into_bytes();
     let schema = read_declaration_in(alloc, version, &stored.value)?;
     Ok(Some((name, schema)))
 }
@@ -178,33 +190,6 @@ pub fn read_name(alloc: Global, bytes: &[u8]) -> Result<String, StoreError>
     }
 }
 
-/// Checks that the records under the names of tables are rows of these.
-fn check_rows(alloc: Global, schemas: &Schemas, listed: &[Record]) -> Result<(), StoreError>
-    ensures rows { OnOk result (AllByRecursion (IsGoodRow schemas.now) listed.now) }
-    ensures refused { IfErr result (λ e. ((e ≡ Damaged) × (¬ AllByRecursion (IsGoodRow schemas.now) listed.now))
-        ⊎ (e ≡ OutOfMemory)) }
-{
-    for record in listed {
-        check_row(alloc, schemas, record)?;
-    }
-    Ok(())
-}
-
-/// Checks that a record, if it is under the name of a table, is a row of it.
-fn check_row(alloc: Global, schemas: &Schemas, stored: &Record) -> Result<(), StoreError>
-    ensures row { OnOk result (IsGoodRow schemas.now stored.now) }
-    ensures refused { IfErr result (λ e. ((e ≡ Damaged) × (¬ IsGoodRow schemas.now stored.now))
-        ⊎ (e ≡ OutOfMemory)) }
-{
-    if stored.tab.is_empty() {
-        return Ok(());
-    }
-    match schemas.get(stored.tab.as_str()) {
-        Some(schema) => check_row_of(alloc, schema, &stored.key, &stored.value),
-        None => Err(StoreError::DamagedStore),
-    }
-}
-
 /// Checks that this is a row of a table, under its own key.
 fn check_row_of(alloc: Global, schema: &Schema, key: &[u8], value: &[u8]) -> Result<(), StoreError>
     ensures row { OnOk result (IsRowOf schema.now key.now value.now) }
@@ -217,5 +202,39 @@ fn check_row_of(alloc: Global, schema: &Schema, key: &[u8], value: &[u8]) -> Res
         Ok(())
     } else {
         Err(StoreError::DamagedStore)
+    }
+}
+
+/// Whether this is a row of a table, under its own key.
+fn is_row_of(alloc: Global, schema: &Schema, key: &[u8], value: &[u8]) -> Result<bool, AllocError>
+    ensures is_row { IfOk result (λ yes. IsTrue yes → IsRowOf schema.now key.now value.now) }
+    ensures no_row { IfOk result (λ yes. yes ≡ false → ¬ IsRowOf schema.now key.now value.now) }
+{
+    match check_row_of(alloc, schema, key, value) {
+        Ok(()) => Ok(true),
+        Err(StoreError::DamagedStore) => Ok(false),
+        Err(_) => Err(AllocError),
+    }
+}
+
+impl RecordTest for Schemas {
+    ghost use Rattle.cs_stored.specs.Valid.{IsGoodRow};
+
+    ghost passes = { IsGoodRow };
+
+    fn is_passed_by(
+        &self,
+        alloc: Global,
+        tab: &[u8],
+        key: &[u8],
+        value: &[u8],
+    ) -> Result<bool, AllocError> {
+        if tab.is_empty() {
+            return Ok(true);
+        }
+        match self.get(tab) {
+            Some(schema) => is_row_of(alloc, schema, key, value),
+            None => Ok(false),
+        }
     }
 }

@@ -6,7 +6,7 @@
 //! ```
 //!
 //! `declaration` has the bytes of schemas and `stored_row` those of rows. `version` has the versions of the records
-//! that are read, and `check` decides whether listed records are those of tables.
+//! that are read, and `check` reads the declarations of a store and tests whether each record is a row of a table.
 #![tactic(auto)]
 
 mod check;
@@ -14,7 +14,7 @@ mod declaration;
 mod stored_row;
 mod version;
 
-pub use check::{check_records, read_name};
+pub use check::{Schemas, read_name, read_schemas, read_version};
 pub use declaration::{read_declaration, write_declaration};
 pub use stored_row::read_row;
-pub use version::{VERSION, Version, version_of};
+pub use version::{VERSION, Version};

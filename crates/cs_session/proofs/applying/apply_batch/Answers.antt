@@ -1,13 +1,14 @@
--- `applying::apply_batch`: what `apply_rows` asks for, the clauses `atomic`, `left` and `stands`.
+-- `applying::apply_batch`: what `apply_rows` asks for, the clauses `others`, `atomic`, `left` and `stands`.
 use Rattle.std.proofs.Common.{◌≡◌, OnErr, rules}
 use Rattle.std.specs.Fn.{FnReturnsAt}
 use Rattle.sqlite.specs.Held.{state}
 use Rattle.sqlite.specs.State.{HasCleanDisk}
 use Rattle.cs_run.specs.declared.running.Direction.TheVariants.{Forward}
+use Rattle.cs_store.specs.Laws.{was_clean}
 use Rattle.cs_store.specs.Crash.{CanBegin}
 use Rattle.cs_store.specs.Records.{KeepsContent, KeepsCrash}
 use Rattle.cs_store.specs.Store.{tables_in}
-use Rattle.cs_store.proofs.CrashLemmas.{idle_atomic, dropped_atomic, made_atomic, left_new, refused_stands}
+use Rattle.cs_store.proofs.CrashLemmas.{idle_atomic, dropped_atomic, made_atomic, made_others, left_new, refused_stands}
 use Rattle.cs_apply.specs.Crash.{AppliesInto}
 use Rattle.cs_session.proofs.OutcomeLemmas.{begun_state}
 use Rattle.cs_session.proofs.applying.apply_batch.Goals as goal
@@ -51,6 +52,12 @@ returns-clause-atomic g c =
     let same : c.commit.new.self.0 ≡ c.store-2-1.given.0 = search rules in
     rw (← same) (made_atomic old begun mid last c.crash_law.ensures c.in_ok-batch.ensures.survives c.apply_rows.ensures.kept.1 (AppliesInto (FnReturnsAt g.H.Fn c.args.handler.now) c.args.noop c.args.file.now Forward)
     c.in_ok-batch.ensures.begun (λ clean. (c.in_ok-report.report, (c.in_ok-report.ensures.recorded clean).applied)) c.commit.ensures.atomic.survives)
+
+pub returns-clause-others : goal.returns-clause-others
+returns-clause-others g c clean =
+    let same : c.commit.new.self.0 ≡ c.store-2-1.given.0 = search rules in
+    let last : HasCleanDisk (state g.S.Store c.commit.new.self.0) = rw same clean in
+    rw (← same) (made_others _ _ _ _ c.in_ok-batch.ensures.begun c.apply_rows.ensures.kept.1 c.commit.ensures.atomic.survives last (c.in_ok-commit.ensures.committed last) (c.in_ok-commit.ensures.others last))
 
 pub returns-clause-left : goal.returns-clause-left
 returns-clause-left g c =

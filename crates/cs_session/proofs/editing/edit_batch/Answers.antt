@@ -1,13 +1,14 @@
--- `editing::edit_batch`: what `edit_rows` asks for, the clauses `atomic`, `left` and `stands`.
+-- `editing::edit_batch`: what `edit_rows` asks for, the clauses `others`, `atomic`, `left` and `stands`.
 use Rattle.std.proofs.Common.{◌≡◌, OnErr, rules}
 use Rattle.std.proofs.lemmas.Result.{err_from_is_err_and}
 use Rattle.sqlite.specs.Held.{state}
 use Rattle.sqlite.specs.State.{HasCleanDisk}
 use Rattle.cs_store.specs.Editing.{EditsInto}
+use Rattle.cs_store.specs.Laws.{was_clean}
 use Rattle.cs_store.specs.Crash.{CanBegin}
 use Rattle.cs_store.specs.Records.{KeepsContent, KeepsCrash}
 use Rattle.cs_store.specs.Store.{tables_in}
-use Rattle.cs_store.proofs.CrashLemmas.{idle_atomic, dropped_atomic, made_atomic, left_new, refused_stands}
+use Rattle.cs_store.proofs.CrashLemmas.{idle_atomic, dropped_atomic, made_atomic, made_others, left_new, refused_stands}
 use Rattle.cs_session.proofs.OutcomeLemmas.{begun_state}
 use Rattle.cs_session.proofs.editing.edit_batch.Goals as goal
 
@@ -55,6 +56,12 @@ pub returns-in_err-edit_rows-clause-kept : goal.returns-in_err-edit_rows-clause-
 returns-in_err-edit_rows-clause-kept g c = λ clean.
     let p = err_from_is_err_and c.from_residual-in_err-edit_rows.result c.from_residual-in_err-edit_rows.ensures.1 in
     rw p.1 (search rules)
+
+pub returns-clause-others : goal.returns-clause-others
+returns-clause-others g c clean =
+    let same : c.commit.new.self.0 ≡ c.store-2-1.given.0 = search rules in
+    let last : HasCleanDisk (state g.S.Store c.commit.new.self.0) = rw same clean in
+    rw (← same) (made_others _ _ _ _ c.in_ok-batch.ensures.begun c.edit_rows.ensures.kept.1 c.commit.ensures.atomic.survives last (c.in_ok-commit.ensures.committed last) (c.in_ok-commit.ensures.others last))
 
 pub returns-clause-left : goal.returns-clause-left
 returns-clause-left g c =

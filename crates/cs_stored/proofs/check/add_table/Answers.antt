@@ -1,5 +1,4 @@
 -- `check::add_table`: the clause `added`.
-use Rattle.std.specs.String.{string_bytes}
 use Rattle.cs_stored.proofs.CheckLemmas.{declared_other, declared_table}
 use Rattle.cs_stored.proofs.check.add_table.Goals as goal
 
@@ -9,4 +8,4 @@ returns-in-Ok-None-clause-added c = λ before so. declared_other _ before c.args
 pub returns-in_ok-insert-in-Ok-Some-clause-added : goal.returns-in_ok-insert-in-Ok-Some-clause-added
 returns-in_ok-insert-in-Ok-Some-clause-added c = λ before so.
     let here = rw c.in-Ok-Some.field-0-is at c.in-Ok-Some.ensures.read in
-    rw c.in_ok-insert-in-Ok-Some.ensures (declared_table _ before c.args.stored.now c.args.schemas.now (string_bytes c.in-Ok-Some.name) c.in-Ok-Some.schema so here)
+    rw c.in_ok-insert-in-Ok-Some.ensures (declared_table _ before c.args.stored.now c.args.schemas.now c.in-Ok-Some.name.items c.in-Ok-Some.schema so here)

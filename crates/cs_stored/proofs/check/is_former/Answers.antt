@@ -1,5 +1,5 @@
 -- `check::is_former`: what it ensures.
-use Rattle.std.proofs.Common.{◌≡◌, ◌<◌, List, ℕ, Bool, false, length, get_or, sym, ap, ◌∙◌, arith}
+use Rattle.std.proofs.Common.{◌≡◌, ◌<◌, List, ℕ, false, length, get_or, sym, ap, ◌∙◌, arith}
 use Rattle.cs_value.specs.State.{is_marked}
 use Rattle.cs_rows.proofs.RuleLemmas.{rules_length, former_at, former_of_columns}
 use Rattle.cs_stored.proofs.check.is_former.Goals as goal

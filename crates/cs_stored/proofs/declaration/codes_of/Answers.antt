@@ -1,5 +1,5 @@
 -- `declaration::codes_of`: the invariant of the loop at `column`, what it ensures.
-use Rattle.std.proofs.Common.{◌≡◌, ◌<◌, ◌++◌, ◌∷◌, [], List, ℕ, Bool, length, false, get_or, sym, ap, ◌∙◌, arith}
+use Rattle.std.proofs.Common.{◌≡◌, ◌<◌, ◌++◌, ◌∷◌, [], List, ℕ, length, false, get_or, sym, ap, ◌∙◌, arith}
 use Rattle.std.proofs.lemmas.List.{take_more, take_all}
 use Rattle.cs_stored.specs.Declaration.{column_code, column_codes}
 use Rattle.cs_stored.proofs.CodeLemmas.{codes_length, codes_at}

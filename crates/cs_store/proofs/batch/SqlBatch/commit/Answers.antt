@@ -1,8 +1,8 @@
--- `batch::SqlBatch::commit`: the invariant of `store`, the clauses `atomic`, `left` and `stands`.
+-- `batch::SqlBatch::commit`: the invariant of `store`, the clauses `others`, `atomic`, `left` and `stands`.
 use Rattle.sqlite.specs.Held.{state}
 use Rattle.cs_store.specs.Laws.{was_clean}
 use Rattle.cs_store.proofs.StoreLemmas.{ended_store}
-use Rattle.cs_store.proofs.CrashLemmas.{ended_atomic, ended_left, leaves_commit, undone_stands}
+use Rattle.cs_store.proofs.CrashLemmas.{ended_atomic, ended_left, ended_others, leaves_commit, undone_stands}
 use Rattle.cs_store.proofs.batch.SqlBatch.commit.Goals as goal
 
 pub invariant_of-store : goal.invariant_of-store
@@ -13,6 +13,12 @@ invariant_of-store g c = (
       ended_store c.commit.result old new (c.commit.ensures.committed clean) (c.commit.ensures.undone clean) (c.store.invariant.0 (was_clean old new c.commit.ensures.survives clean)),
   λ clean. tt,
 )
+
+pub returns-clause-others : goal.returns-clause-others
+returns-clause-others g c clean =
+    let old = state g.S.Store c.store.inside.conn in
+    let new = state g.S.Store c.commit.new.conn in
+    rw (← c.store.view_is) (ended_others c.commit.result old new (c.store.invariant.0 (was_clean old new c.commit.ensures.survives clean)) (c.commit.ensures.committed clean))
 
 pub returns-clause-atomic : goal.returns-clause-atomic
 returns-clause-atomic g c =

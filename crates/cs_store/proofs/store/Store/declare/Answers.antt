@@ -1,13 +1,13 @@
--- `store::Store::declare`: the clauses `refused`, `kept`, `declared`, `atomic`, `left` and `stands`.
+-- `store::Store::declare`: the clauses `refused`, `kept`, `declared`, `others`, `atomic`, `left` and `stands`.
 use Rattle.std.proofs.Common.{◌≡◌, Ok, OnErr, subst, ◌∙◌, rules}
 use Rattle.std.proofs.lemmas.Result.{err_from_is_err_and}
 use Rattle.cs_value.specs.Table.{IsName}
 use Rattle.cs_value.specs.State.{SchemaData, IsSchema}
 use Rattle.cs_rows.specs.Editing.{Declares, schema_of}
 use Rattle.cs_store.specs.Store.{AddsTable, tables_in}
-use Rattle.cs_store.proofs.CrashLemmas.{unmoved_atomic, idle_atomic, dropped_atomic, made_atomic, commit_left, refused_stands}
+use Rattle.cs_store.proofs.CrashLemmas.{unmoved_atomic, idle_atomic, dropped_atomic, made_atomic, made_others, commit_left, refused_stands}
 use Rattle.cs_store.proofs.DeclareLemmas.{added_declares, committed_declares, taken_declares}
-use Rattle.cs_store.proofs.WriteLemmas.{on_err_then}
+use Rattle.cs_store.proofs.WriteLemmas.{on_err_then, on_ok_both}
 use Rattle.sqlite.specs.Held.{state}
 use Rattle.sqlite.specs.State.{HasCleanDisk}
 use Rattle.cs_store.specs.Laws.{was_clean}
@@ -109,6 +109,12 @@ returns-clause-atomic g c =
     rw (← same) (made_atomic old begun mid last c.crash_law.ensures c.in_ok-batch.ensures.survives c.declare.ensures.kept (λ before left. Declares before c.args.name.now schema (Ok left)) c.in_ok-batch.ensures.begun
     (λ clean. added_declares (tables_in begun.now) (tables_in mid.now) c.args.name.now schema (named, is)
     (subst (λ (s : SchemaData). AddsTable (tables_in begun.now) c.args.name.now s (tables_in mid.now)) made (c.in_ok-declare.ensures.declared clean))) c.commit.ensures.atomic.survives)
+
+pub returns-clause-others : goal.returns-clause-others
+returns-clause-others g c clean =
+    let same : c.commit.new.self.0 ≡ c.self-2-1.given.0 = search rules in
+    let last : HasCleanDisk (state g.S.Store c.commit.new.self.0) = rw same clean in
+    rw (← same) (on_ok_both c.commit.result _ _ _ (made_others _ _ _ _ c.in_ok-batch.ensures.begun c.declare.ensures.kept c.commit.ensures.atomic.survives last) (c.commit.ensures.committed last) (c.commit.ensures.others last))
 
 pub returns-clause-left : goal.returns-clause-left
 returns-clause-left g c =

@@ -1,4 +1,4 @@
--- `store::Store::edit`: the clauses `kept`, `atomic`, `left` and `stands`.
+-- `store::Store::edit`: the clauses `kept`, `others`, `atomic`, `left` and `stands`.
 use Rattle.std.proofs.Common.{◌≡◌, rules}
 use Rattle.std.specs.Prelude.{map, OnErr}
 use Rattle.sqlite.specs.Held.{state}
@@ -8,7 +8,7 @@ use Rattle.cs_store.specs.Laws.{was_clean}
 use Rattle.cs_records.specs.Records.{KeepsContent, KeepsCrash}
 use Rattle.cs_store.specs.Crash.{CanBegin}
 use Rattle.cs_store.specs.Store.{tables_in}
-use Rattle.cs_store.proofs.CrashLemmas.{idle_atomic, dropped_atomic, made_atomic, left_new, refused_stands}
+use Rattle.cs_store.proofs.CrashLemmas.{idle_atomic, dropped_atomic, made_atomic, made_others, left_new, refused_stands}
 use Rattle.cs_store.proofs.StoreLemmas.{undone_batch}
 use Rattle.cs_records.proofs.QueryLemmas.{on_err}
 use Rattle.cs_store.proofs.store.Store.edit.Goals as goal
@@ -70,6 +70,12 @@ returns-clause-atomic g c =
     let same : c.commit.new.self.0 ≡ c.self-2-1.given.0 = search rules in
     rw (← same) (made_atomic old begun mid last c.crash_law.ensures c.in_ok-batch.ensures.survives c.edit_in.ensures.kept.1 (λ before. EditsInto before c.args.edit.now) c.in_ok-batch.ensures.begun
     (λ clean. (map written_of c.in_ok-written.written.items, c.in_ok-written.ensures.edited clean)) c.commit.ensures.atomic.survives)
+
+pub returns-clause-others : goal.returns-clause-others
+returns-clause-others g c clean =
+    let same : c.commit.new.self.0 ≡ c.self-2-1.given.0 = search rules in
+    let last : HasCleanDisk (state g.S.Store c.commit.new.self.0) = rw same clean in
+    rw (← same) (made_others _ _ _ _ c.in_ok-batch.ensures.begun c.edit_in.ensures.kept.1 c.commit.ensures.atomic.survives last (c.in_ok-commit.ensures.committed last) (c.in_ok-commit.ensures.others last))
 
 pub returns-clause-left : goal.returns-clause-left
 returns-clause-left g c =

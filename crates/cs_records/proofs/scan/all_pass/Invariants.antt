@@ -1,0 +1,8 @@
+use Rattle.std.proofs.Common.{◌≡◌}
+use Rattle.sqlite.specs.Held.{state}
+use Rattle.cs_records.proofs.ScanLemmas.{Scans}
+use Rattle.cs_records.proofs.scan.all_pass.Given as goal
+
+-- the rows that were shown so far passed
+abbrev pub invariant-rows : goal.invariant-rows
+invariant-rows g l = (l.rows.conn.ghost_name ≡ l.initial.rows.conn.ghost_name) × Scans g.S.Store (g.T.RecordTest.passes l.test) (state g.S.Store l.fn.conn) l.rows.conn.now l.last
