@@ -532,6 +532,7 @@ DAMAGED = (
         for version in (b"", b"\0", b"\3", b"\1\0", b"\2\0", b"\2\1")
     ),
     ("no version", [TABLE]),
+    ("a row and nothing else", [ROW]),
     ("a byte too many behind a declaration", [VERSION, ("", b"t", b"\x02\x01\x01a\x00\x01b\x00")]),
     ("a byte too few of a declaration", [VERSION, ("", b"t", b"\x02\x01\x01a\x00\x01")]),
     ("a long count of columns", [VERSION, ("", b"t", b"\x80\x02\x01\x01a\x00\x01b")]),
