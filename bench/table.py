@@ -24,7 +24,7 @@ from typing import NamedTuple
 
 BENCH = pathlib.Path(__file__).resolve().parent
 
-SCRIPTS = ("calls", "stores", "read_write", "apply", "scripts", "collisions")
+SCRIPTS = ("calls", "opening", "stores", "read_write", "apply", "scripts", "collisions")
 
 # Scripts of lines that the table leaves out.
 LEFT_OUT = re.compile("hundred tables|one row|DELETE|^[.]")
@@ -83,6 +83,13 @@ def of_calls(data: str, entry: dict[str, str]) -> Iterator[Row]:
     )
 
 
+def of_opening(data: str, entry: dict[str, str]) -> Iterator[Row]:
+    """A store that is opened."""
+    count, seconds = int(entry["rows"]), entry["seconds"]
+    each = f"{float(seconds) * 1e6 / count:.3f}"
+    yield Row(entry["times"], "opening a store", data, count, seconds, each, entry["peak MiB"], "opening")
+
+
 def of_stores(fields: list[str]) -> Iterator[Row]:
     """The calls of a store from Python."""
     count, insert, their_insert, in_session, rows, their_rows = fields
@@ -102,10 +109,9 @@ def of_commands(data: str, entry: dict[str, str]) -> Iterator[Row]:
 
 
 def of_apply(data: str, entry: dict[str, str]) -> Iterator[Row]:
-    """Opening a store, an apply to it and the apply of the inverse."""
+    """An apply to a store and the apply of the inverse."""
     count = int(entry["entries"])
     for what, column, peak in (
-        ("opening a store", "opened", ""),
         ("`changeset apply`", "applied", entry["peak MiB"]),
         ("`changeset apply` of the inverse", "reverted", ""),
     ):
@@ -142,6 +148,8 @@ def rows(text: str) -> Iterator[Row]:
         match script:
             case "calls":
                 yield from of_calls(data, entry)
+            case "opening":
+                yield from of_opening(data, entry)
             case "stores":
                 yield from of_stores(fields)
             case "read_write":

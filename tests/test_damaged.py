@@ -1,15 +1,16 @@
 #!/usr/bin/env python3
 """Damaged files: each file cut at each byte, and each byte set to each other value.
 
-A reader that shares no code with the program (`support/reader.py`) says what is right: the inverse,
-or the fault with its offset. After a fault the slot and the store are unchanged. Files that claim
+A reader that shares no code with the program (`support/reader.py`) says what is right: the inverse
+and the concatenations with a whole file (`support/model.py`), or the fault with its offset. After a
+fault the slot and the store are unchanged. Files that claim
 more than they have take no more memory than others of their length. The program has to be built
 first.
 """
 import subprocess
 import unittest
 
-from support import reader
+from support import model, reader
 from support.program import PROGRAM, main
 from support.samples import INSERT, T
 from support.stores import UNDEFINED, delete, header, insert, update
@@ -34,6 +35,10 @@ FILES = {
         T + insert(1, "x") + delete(2, "q") + b"\x17\x00\x01" + bytes(7) + b"\x03\x03\x01x\x00\x03\x01y"
     ),
 }
+
+
+# What each is concatenated with.
+WHOLE = T + update((1, "x"), (UNDEFINED, "w")) + insert(3, "v") + header("u", 1) + b"\x12\x00" + K1
 
 
 def damaged(file):
@@ -74,6 +79,37 @@ def scripts(datas):
     yield "".join(lines), "".join(printed)
 
 
+def joined(first, second):
+    """The concatenation of two files, or why they are refused: the faults of the first come first."""
+    try:
+        groups = [reader.Reader(data).groups() for data in (first, second)]
+        return reader.write(model.concatenated(*groups)), ""
+    except reader.Fault as fault:
+        return None, f"{fault}\n"
+    except model.Refusal as refusal:
+        return None, refusal.line.decode() + "\n"
+
+
+def concatenating(datas):
+    """Scripts that concatenate each of these bytes with a whole file, in both orders, into one slot;
+    and what they print.
+    """
+    begin = f".load w {WHOLE.hex()}\n.load y\n"
+    lines, printed, size, slot = [begin], [], len(begin), b""
+    for data in datas:
+        lines.append(f".load x {data.hex()}\n")
+        for words, files in (("x w", (data, WHOLE)), ("w x", (WHOLE, data))):
+            made, said = joined(*files)
+            slot = slot if made is None else made
+            lines.append(f".concat {words} y\n.hex y\n")
+            printed.append(said + slot.hex() + "\n")
+        size += sum(map(len, lines[-3:]))
+        if size > LONGEST:
+            yield "".join(lines), "".join(printed)
+            lines, printed, size, slot = [begin], [], len(begin), b""
+    yield "".join(lines), "".join(printed)
+
+
 def run(script, limit=None):
     """What the program prints for a script, with this many bytes of memory."""
     words = [PROGRAM] if limit is None else ["sh", "-c", f"ulimit -v {limit >> 10}; exec \"$0\"", PROGRAM]
@@ -96,6 +132,13 @@ class DamageTest(unittest.TestCase):
         for what, file in FILES.items():
             with self.subTest(what):
                 self.expect_each(damaged(file))
+
+    def test_each_byte_in_concatenations(self):
+        """The same files, concatenated with a whole one."""
+        for what, file in FILES.items():
+            with self.subTest(what):
+                for script, printed in concatenating(damaged(file)):
+                    self.assertEqual(run(script), printed)
 
     def test_claims(self):
         """Files that claim more than they have are refused in the memory of short ones."""
