@@ -4,21 +4,21 @@ ghost use Rattle.std.specs.Prelude.{◌≡◌, IfOk};
 use cs_value::{Image, NoMemory, Row};
 use std::alloc::Global;
 
-/// What a change does to a row.
+/// A change of one row.
 #[derive(Debug, PartialEq, Eq, Drop)]
 pub enum Change {
     /// The row is inserted.
     Insert(Row),
     /// The row is deleted.
     Delete(Row),
-    /// The row is changed. The old record has the values of the key columns and of the modified
-    /// columns as they were, the new one those of the modified columns as they become. Every other
+    /// The row is changed. The old record has the values of the key columns, and the previous values of
+    /// the modified columns. The new record has the new values of the modified columns. Every other
     /// field is undefined.
     Update { old: Image, new: Image },
 }
 
 impl Change {
-    /// A copy of the change, in memory of its own.
+    /// Returns a copy of the change.
     pub fn copy(&self, alloc: Global) -> Result<Change, NoMemory>
         ensures { IfOk result (λ c. c ≡ self.now) }
     {
@@ -33,7 +33,7 @@ impl Change {
     }
 }
 
-/// An entry: a change, and whether it was made indirectly, by a trigger or a foreign key.
+/// A change, and whether a trigger or a foreign key made it.
 #[derive(Debug, PartialEq, Eq, Drop)]
 pub struct Entry {
     pub indirect: bool,
@@ -41,7 +41,7 @@ pub struct Entry {
 }
 
 impl Entry {
-    /// A copy of the entry, in memory of its own.
+    /// Returns a copy of the entry.
     pub fn copy(&self, alloc: Global) -> Result<Entry, NoMemory>
         ensures { IfOk result (λ e. e ≡ self.now) }
     {
@@ -63,7 +63,7 @@ pub(crate) enum Operation {
 impl Operation {
     ghost use Rattle.cs_entries.specs.Views.{inverse_operation};
 
-    /// What undoes it.
+    /// Returns the operation that undoes this one.
     pub(crate) fn inverse(self) -> Operation
         ensures { result ≡ inverse_operation self }
     {

@@ -1,4 +1,4 @@
-//! Entries where they lie, in a file or owned.
+//! Borrowed entries, of a file or of an owned changeset.
 ghost use Rattle.std.specs.Prelude.{◌≡◌, ◌<◌, ◌++◌, IfOk, IfSome, OnErr, OnOk, length, map, option_map, take};
 ghost use Rattle.std.specs.Cow.{cow_slice_items};
 ghost use Rattle.cs_value.specs.Spelling.{record_bytes};
@@ -16,8 +16,8 @@ use std::alloc::Global;
 use std::borrow::CowSlice;
 use std::marker::Model;
 
-/// An entry where it lies, in a file or owned, or the one that undoes it: what is seen of it borrows from there,
-/// and takes no memory. Contracts see the entry, and the flags of its table.
+/// A borrowed entry, of a file or of an owned changeset, or the inverse of one. It allocates nothing. Contracts see the
+/// entry, and the flags of its table.
 #[derive(Debug, Drop)]
 pub struct EntryRef<'a> {
     flags: &'a [u8],
@@ -53,7 +53,7 @@ impl<'a> EntryRef<'a> {
     ghost use Rattle.cs_value.specs.Value.{FieldFits, field_of};
     ghost use Rattle.cs_entries.specs.Items.{IsSpelled, entry_in, new_record, new_field as field_after, old_field as field_before};
 
-    /// The entry of a table with these flags whose records are these bytes.
+    /// Returns the entry of a table with these flags whose records are these bytes.
     pub(crate) fn from_bytes(
         flags: &'a [u8],
         operation: Operation,
@@ -74,7 +74,7 @@ impl<'a> EntryRef<'a> {
         }
     }
 
-    /// An entry that is owned, and fits these flags (`Header::admits` of `cs_wire`).
+    /// Borrows an owned entry that fits these flags (`Header::admits` of `cs_wire`).
     pub fn from_entry(flags: &'a [u8], entry: &'a Entry) -> EntryRef<'a>
         requires { IsEntry flags.now entry.now }
         ensures { result ≡ record { flags = flags.now; entry = entry.now } }
@@ -93,7 +93,7 @@ impl<'a> EntryRef<'a> {
         }
     }
 
-    /// The insert or the delete of a row that is owned.
+    /// Borrows the insert or the delete of an owned row.
     fn from_row(
         flags: &'a [u8],
         operation: Operation,
@@ -114,7 +114,7 @@ impl<'a> EntryRef<'a> {
         }
     }
 
-    /// The update that has these records, which are owned.
+    /// Borrows the update of two owned records.
     fn from_images(
         flags: &'a [u8],
         indirect: bool,
@@ -134,7 +134,7 @@ impl<'a> EntryRef<'a> {
         }
     }
 
-    /// The flags of its table, one for each column.
+    /// Returns the flags of its table, one for each column.
     pub fn flags(&self) -> &'a [u8]
         ensures flags { result.now ≡ self.now.flags }
         ensures well_formed { IsEntry self.now.flags self.now.entry }
@@ -142,7 +142,7 @@ impl<'a> EntryRef<'a> {
         self.flags
     }
 
-    /// How many columns its table has.
+    /// Returns the number of columns of its table.
     pub fn column_count(&self) -> usize
         ensures count { result ≡ length self.now.flags }
         ensures well_formed { IsEntry self.now.flags self.now.entry }
@@ -150,8 +150,8 @@ impl<'a> EntryRef<'a> {
         self.flags.len()
     }
 
-    /// The byte that says what the entry does: 0x12 an insert, 0x09 a delete, 0x17 an update.
-    pub fn operation(&self) -> u8
+    /// Returns the operation byte: 0x12 for an insert, 0x09 for a delete, 0x17 for an update.
+    pub fn op(&self) -> u8
         ensures { result ≡ operation self.now.entry.change }
     {
         match self.operation {
@@ -161,16 +161,16 @@ impl<'a> EntryRef<'a> {
         }
     }
 
-    /// Whether the change was made indirectly, by a trigger or a foreign key.
-    pub fn is_indirect(&self) -> bool
+    /// Returns whether a trigger or a foreign key made the change.
+    pub fn indirect(&self) -> bool
         ensures indirect { result ≡ self.now.entry.indirect }
         ensures well_formed { IsEntry self.now.flags self.now.entry }
     {
         self.indirect
     }
 
-    /// What stood in the columns before the change: None for an insert. Of an update the fields of the columns that
-    /// are neither of the key nor modified are undefined.
+    /// Returns the old record, or None for an insert. In an update, columns that are neither modified nor of the key are
+    /// undefined.
     pub fn old_fields(&self) -> Option<Fields<'a>>
         ensures fields { result ≡ before_image self.now.entry.change }
         ensures width { IfSome result (λ fields. length fields ≡ length self.now.flags) }
@@ -187,8 +187,8 @@ impl<'a> EntryRef<'a> {
         }
     }
 
-    /// What stands in the columns after the change: None for a delete. Of an update the fields of the columns that
-    /// are of the key, or not modified, are undefined.
+    /// Returns the new record, or None for a delete. In an update, columns that are not modified or are of the key are
+    /// undefined.
     pub fn new_fields(&self) -> Option<Fields<'a>>
         ensures fields { result ≡ new_record self.now.entry.change }
         ensures width { IfSome result (λ fields. length fields ≡ length self.now.flags) }
@@ -203,8 +203,8 @@ impl<'a> EntryRef<'a> {
         }
     }
 
-    /// What is known of the row after the change: None for a delete. Of an update the fields of the columns that are
-    /// neither of the key nor modified are undefined.
+    /// Returns the new record with the key, or None for a delete. In an update, columns that are neither modified nor of
+    /// the key are undefined.
     pub fn fields_after(&self) -> Option<Fields<'a>>
         ensures fields { result ≡ after_image self.now.flags self.now.entry.change }
         ensures width { IfSome result (λ fields. length fields ≡ length self.now.flags) }
@@ -219,9 +219,9 @@ impl<'a> EntryRef<'a> {
         }
     }
 
-    /// What stood in a column, from 0 and below [`EntryRef::column_count`], before the change, as
-    /// [`EntryRef::old_fields`] has it. It takes time in proportion to the bytes of the entry's records up to that column.
-    pub fn old_field(&self, column: usize) -> Option<Field<'a>>
+    /// Returns the field of a column in the old record, or None for an insert. `column` is zero-based and below
+    /// [`EntryRef::column_count`]. It takes time in proportion to the bytes of the records up to that column.
+    pub fn old(&self, column: usize) -> Option<Field<'a>>
         requires { column < length self.now.flags }
         ensures field { option_map field_of result ≡ field_before self.now.entry.change column }
         ensures fits { IfSome result FieldFits }
@@ -232,9 +232,8 @@ impl<'a> EntryRef<'a> {
         }
     }
 
-    /// What stands in a column, from 0 and below [`EntryRef::column_count`], after the change, as
-    /// [`EntryRef::new_fields`] has it. It takes time as [`EntryRef::old_field`] does.
-    pub fn new_field(&self, column: usize) -> Option<Field<'a>>
+    /// Returns the field of a column in the new record, or None for a delete, as [`EntryRef::old`] does for the old one.
+    pub fn new(&self, column: usize) -> Option<Field<'a>>
         requires { column < length self.now.flags }
         ensures field { option_map field_of result ≡ field_after self.now.entry.change column }
         ensures fits { IfSome result FieldFits }
@@ -245,14 +244,14 @@ impl<'a> EntryRef<'a> {
         }
     }
 
-    /// The key of the entry.
+    /// Returns the key of the entry.
     pub fn key(&self, alloc: Global) -> Result<Key, NoMemory>
         ensures { IfOk result (λ key. key ≡ key_of self.now.flags self.now.entry.change) }
     {
         Ok(Key::from_bytes(self.key_bytes(alloc)?))
     }
 
-    /// The bytes of the entry's key: where they lie, if they do side by side, and else a copy.
+    /// Returns the bytes of the key. They are borrowed if they are contiguous in the file, and else copied.
     pub fn key_slice(&self, alloc: Global) -> Result<CowSlice<'a, u8, Global>, NoMemory>
         ensures { IfOk result (λ key. cow_slice_items key ≡ key_of self.now.flags self.now.entry.change) }
     {
@@ -264,7 +263,7 @@ impl<'a> EntryRef<'a> {
         Ok(CowSlice::Owned(self.key_bytes(alloc)?))
     }
 
-    /// The bytes of the entry's key.
+    /// Returns the bytes of the key.
     fn key_bytes(&self, alloc: Global) -> Result<Vec<u8>, NoMemory>
         ensures { IfOk result (λ key. key.items ≡ key_of self.now.flags self.now.entry.change) }
     {
@@ -272,8 +271,8 @@ impl<'a> EntryRef<'a> {
         key_of_fields(alloc, self.flags, fields)
     }
 
-    /// The entry that undoes this one: the delete of the row that it inserts, the insert of the row that it
-    /// deletes, or an update with the two values of each modified column exchanged. It takes no memory.
+    /// Returns the inverse: a delete for an insert, an insert for a delete, and an update with the two values of each
+    /// modified column exchanged. It allocates nothing.
     pub fn inverted(self) -> EntryRef<'a>
         ensures flags { result.flags ≡ self.entry.flags }
         ensures inverse { IsInverseEntry self.entry.flags self.entry.entry result.entry }
@@ -297,7 +296,7 @@ impl<'a> EntryRef<'a> {
         }
     }
 
-    /// Appends the entry's bytes. [`NoMemory`] leaves `out` as it was.
+    /// Appends the bytes of the entry. [`NoMemory`] leaves `out` unchanged.
     pub fn write_to(&self, out: &mut Vec<u8>) -> Result<(), NoMemory>
         ensures ok { OnOk result (out.new.items ≡ out.old.items ++ entry_bytes self.now.entry) }
         ensures err { OnErr result (out.new.items ≡ out.old.items) }
@@ -307,12 +306,12 @@ impl<'a> EntryRef<'a> {
         undo_refused(out, start, written)
     }
 
-    /// Appends the entry's bytes, or some of them.
+    /// Appends the bytes of the entry, or some of them.
     fn append_to(&self, out: &mut Vec<u8>) -> Result<(), NoMemory>
         ensures ok { OnOk result (out.new.items ≡ out.old.items ++ entry_bytes self.now.entry) }
         ensures err { OnErr result (take (length out.old.items) out.new.items ≡ out.old.items) }
     {
-        write_operation(out, self.operation(), self.indirect)?;
+        write_operation(out, self.op(), self.indirect)?;
         match self.operation {
             Operation::Insert | Operation::Delete => {
                 write_record(out, self.flags, self.first, self.first, false)
@@ -325,7 +324,7 @@ impl<'a> EntryRef<'a> {
         }
     }
 
-    /// A copy of the entry, in memory of its own.
+    /// Returns an owned copy of the entry.
     pub fn to_entry(&self, alloc: Global) -> Result<Entry, NoMemory>
         ensures same { IfOk result (λ e. e ≡ self.now.entry) }
         ensures well_formed { IsEntry self.now.flags self.now.entry }
@@ -345,7 +344,7 @@ impl<'a> EntryRef<'a> {
     }
 }
 
-/// Appends a record as it is shown: as it lies, or with the fields of another outside the key.
+/// Appends a record, or the record with the fields of another outside the key.
 fn write_record(
     out: &mut Vec<u8>,
     flags: &[u8],
@@ -365,7 +364,7 @@ fn write_record(
     }
 }
 
-/// A copy of a row.
+/// Returns a copy of a row.
 fn copy_row(alloc: Global, flags: &[u8], row: RecordRef<'_>) -> Result<Row, NoMemory>
     requires { HasWidth (length flags.now) row }
     ensures { IfOk result (λ r. r ≡ map value_in (fields_at (length flags.now) row.entry)) }
@@ -373,7 +372,7 @@ fn copy_row(alloc: Global, flags: &[u8], row: RecordRef<'_>) -> Result<Row, NoMe
     Ok(Row::new(copy_cells(alloc, Fields::new(flags, row, row, false))?))
 }
 
-/// A copy of a record as it is shown: as it lies, or with the fields of another outside the key.
+/// Returns a copy of a record, or of the record with the fields of another outside the key.
 fn copy_image(
     alloc: Global,
     flags: &[u8],

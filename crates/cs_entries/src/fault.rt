@@ -6,7 +6,7 @@ ghost use Rattle.cs_entries.specs.ReadFaults.{code_of, name_of, kind_of};
 use cs_value::{Fault, FieldFault, FieldFaultKind, OrNoMemory};
 use thiserror::Error;
 
-/// What is wrong with bytes that are no changeset's file.
+/// What is wrong with bytes that are not a changeset.
 #[derive(Clone, Copy, Debug, PartialEq, Eq, Error)]
 pub enum ReadFaultKind {
     #[error("the file ends inside a part")]
@@ -48,7 +48,7 @@ pub enum ReadFaultKind {
 }
 
 impl ReadFaultKind {
-    /// The number of this fault among the faults of the product, 1 to 18.
+    /// Returns the number of the fault, 1 to 18.
     pub fn code(self) -> u8
         ensures code { result ≡ code_of self }
         ensures range { (1 ≤ result) × (result ≤ 18) }
@@ -75,7 +75,7 @@ impl ReadFaultKind {
         }
     }
 
-    /// The name that error lines print.
+    /// Returns the name, as in error lines.
     pub fn name(self) -> &'static str
         ensures { result.now ≡ name_of self }
     {
@@ -102,7 +102,7 @@ impl ReadFaultKind {
     }
 }
 
-/// A fault, and its place: a count of bytes from the start of the file.
+/// A fault, and its byte offset in the file, zero-based.
 #[derive(Clone, Copy, Debug, PartialEq, Eq, Error)]
 #[error("{kind} at byte {place}")]
 pub struct ReadFault {
@@ -130,7 +130,7 @@ impl Fault for ReadFault {
     }
 }
 
-/// Why a file is not read: it is no changeset's, or memory was refused.
+/// Why a file is not read: it is not a changeset, or memory ran out.
 pub type ReadError = OrNoMemory<ReadFault>;
 
 impl From<ReadFault> for ReadError {
@@ -141,14 +141,14 @@ impl From<ReadFault> for ReadError {
     }
 }
 
-/// A fault at a place of the file.
+/// Returns the error of a fault at a byte offset.
 pub fn fault_at(kind: ReadFaultKind, place: usize) -> ReadFault
     ensures { result ≡ record { kind = kind; place = place } }
 {
     ReadFault { kind, place }
 }
 
-/// The fault of a field or a varint that was read from `start` on.
+/// Returns the error of a field or a varint that was read from the byte offset `start` on.
 pub fn fault_behind(start: usize, fault: FieldFault) -> ReadFault
     requires { start + fault.place < 2 ^ 64 }
     ensures { result ≡ record { kind = kind_of fault.kind; place = start + fault.place } }

@@ -1,4 +1,4 @@
-//! The fields of a record, one after another.
+//! The fields of a record, in column order.
 ghost use Rattle.std.specs.Prelude.{◌≡◌, ◌<◌, ◌++◌, IfOk, OnErr, OnOk, true, length, map, slice_index_or, take};
 ghost use Rattle.cs_value.specs.declared.value.OwnedField.{OwnedField};
 ghost use Rattle.cs_value.specs.declared.value.OwnedField.TheVariants.{Undefined};
@@ -13,7 +13,7 @@ use cs_value::{Field, NoMemory, OwnedField, OwnedValue, field_write};
 use std::alloc::Global;
 use std::marker::Model;
 
-/// The fields of a record, one after another, where they lie. Contracts see those that are left. It takes no memory.
+/// An iterator over the borrowed fields of a record. Contracts see the remaining fields. It allocates nothing.
 #[derive(Debug, Drop)]
 pub struct Fields<'a> {
     // The flags of the columns that are left.
@@ -63,7 +63,7 @@ impl<'a> Iterator for Fields<'a> {
 }
 
 impl<'a> Fields<'a> {
-    /// The fields of a record as they are shown: as they are, or with those of another outside the key.
+    /// Returns the fields of a record, or of the record with the fields of another outside the key.
     pub(crate) fn new(
         flags: &'a [u8],
         own: RecordRef<'a>,
@@ -81,7 +81,7 @@ impl<'a> Fields<'a> {
         }
     }
 
-    /// The field of a column, from 0.
+    /// Returns the field of a column, zero-based.
     pub(crate) fn at(mut self, column: usize) -> Field<'a>
         requires { column < length self }
         ensures field { field_of result ≡ slice_index_or self.entry column Undefined }
@@ -97,11 +97,11 @@ impl<'a> Fields<'a> {
     }
 }
 
-/// What a record keeps of a column: a value, or a field.
+/// What an owned record has for a column: a value, or a field.
 pub(crate) trait Cell: Drop {
     ghost cell_of: { OwnedField → Self };
 
-    /// A copy of the field, in memory of its own.
+    /// Returns an owned copy of the field.
     fn of_field(alloc: Global, field: Field) -> Result<Self, NoMemory>
         requires { FieldFits field }
         ensures { IfOk result (λ cell. cell ≡ cell_of (field_of field.entry)) };
@@ -126,7 +126,7 @@ impl Cell for OwnedField {
     }
 }
 
-/// Copies of fields.
+/// Returns owned copies of fields.
 pub(crate) fn copy_cells<C: Cell>(alloc: Global, fields: Fields<'_>) -> Result<Vec<C>, NoMemory>
     ensures { IfOk result (λ cells. cells.items ≡ map C.cell_of fields.entry) }
 {
@@ -150,7 +150,7 @@ pub(crate) fn write_fields(out: &mut Vec<u8>, fields: Fields<'_>) -> Result<(), 
     Ok(())
 }
 
-/// Appends a field, where its column has this flag and is one of the key.
+/// Appends a field if the flag of its column marks the key.
 fn add_key_field(key: &mut Vec<u8>, flag: u8, field: &Field) -> Result<(), NoMemory>
     requires { FieldFits field.now }
     ensures key { 0 < flag → OnOk result (key.new.items ≡ key.old.items ++ field_bytes (field_of field.now)) }
@@ -162,7 +162,7 @@ fn add_key_field(key: &mut Vec<u8>, flag: u8, field: &Field) -> Result<(), NoMem
     Ok(())
 }
 
-/// The bytes of the fields in the key columns, in column order.
+/// Returns the bytes of the fields in the key columns, in column order.
 pub(crate) fn key_of_fields(
     alloc: Global,
     flags: &[u8],

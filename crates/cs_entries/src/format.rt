@@ -1,9 +1,9 @@
-//! The bytes that tell the parts of a file apart.
+//! The bytes that begin the parts of a file.
 
 /// Begins the header of a table.
 pub const TABLE: u8 = 0x54;
 
-/// Begins the header of a table of a patchset, which is no changeset.
+/// Begins the header of a table of a patchset.
 pub const PATCHSET: u8 = 0x50;
 
 /// Begins an entry that inserts a row.

@@ -1,4 +1,4 @@
-//! Undoing entries, in the memory that they have.
+//! Inverting entries in place.
 ghost use Rattle.std.specs.Prelude.{◌≡◌, length, map};
 ghost use Rattle.std.specs.List.{AllByRecursion};
 ghost use Rattle.cs_entries.specs.Entry.{IsChange, IsEntry, with_key};
@@ -9,7 +9,7 @@ use cs_value::{Image, OwnedField, Row};
 use std::alloc::Global;
 use std::mem;
 
-/// Makes of each entry the one that undoes it.
+/// Replaces each entry by its inverse.
 pub fn invert_entries(alloc: Global, flags: &[u8], entries: &mut [Entry])
     requires { AllByRecursion (IsEntry flags.now) entries.old }
     ensures { entries.new ≡ map (inverse_entry_of flags.now) entries.old }
@@ -19,7 +19,7 @@ pub fn invert_entries(alloc: Global, flags: &[u8], entries: &mut [Entry])
     }
 }
 
-/// Makes of an entry the one that undoes it.
+/// Replaces an entry by its inverse.
 fn invert_entry(alloc: Global, flags: &[u8], entry: &mut Entry)
     requires { IsEntry flags.now entry.old }
     ensures { entry.new ≡ inverse_entry_of flags.now entry.old }
@@ -29,7 +29,7 @@ fn invert_entry(alloc: Global, flags: &[u8], entry: &mut Entry)
     entry.change = inverse_change(flags, change);
 }
 
-/// The change that undoes this one.
+/// Returns the inverse of a change.
 fn inverse_change(flags: &[u8], change: Change) -> Change
     requires { IsChange flags.now change }
     ensures { result ≡ inverse_change_of flags.now change }
@@ -44,7 +44,7 @@ fn inverse_change(flags: &[u8], change: Change) -> Change
     }
 }
 
-/// The two images of an update with their fields exchanged but those of the key.
+/// Returns the two records of an update with the fields outside the key exchanged.
 fn exchange(flags: &[u8], old: Image, new: Image) -> (Image, Image)
     requires old { length flags.now ≡ length old }
     requires new { length flags.now ≡ length new }
@@ -57,7 +57,7 @@ fn exchange(flags: &[u8], old: Image, new: Image) -> (Image, Image)
     (Image::new(old), Image::new(new))
 }
 
-/// Exchanges the fields of two records but those of the key.
+/// Exchanges the fields of two records outside the key.
 fn exchange_fields(flags: &[u8], old: &mut [OwnedField], new: &mut [OwnedField])
     requires old { length flags.now ≡ length old.old }
     requires new { length flags.now ≡ length new.old }

@@ -57,7 +57,7 @@ pub fn read_entry<'a>(
     ))
 }
 
-/// The operation of an entry.
+/// Returns the operation of an entry.
 fn read_operation(file: &[u8], at: usize) -> Result<(Operation, usize), ReadFault>
     requires { at < length file.now }
     ensures found { IfOk result (λ r. Stands file.now at (byte_of r.0 ∷ []) r.1) }
@@ -73,7 +73,7 @@ fn read_operation(file: &[u8], at: usize) -> Result<(Operation, usize), ReadFaul
     }
 }
 
-/// The indirect flag of an entry.
+/// Returns the indirect flag of an entry.
 fn read_indirect(file: &[u8], at: usize) -> Result<(bool, usize), ReadFault>
     requires { at ≤ length file.now }
     ensures found { IfOk result (λ r. Stands file.now at ((if r.0 then 1 else 0) ∷ []) r.1) }
@@ -89,8 +89,8 @@ fn read_indirect(file: &[u8], at: usize) -> Result<(bool, usize), ReadFault>
     }
 }
 
-/// The records of a change with this operation: the bytes of the row, or of an update's old record; those of its new
-/// record; and the offset after them.
+/// Returns the records of a change with this operation: the bytes of the row or of the old record, those of the new
+/// record, and the offset after them.
 fn read_records<'a>(
     file: &'a [u8],
     at: usize,
@@ -120,7 +120,7 @@ fn read_records<'a>(
     }
 }
 
-/// The rest of the file from an offset on.
+/// Returns the rest of the file from an offset on.
 pub fn rest_from(file: &[u8], at: usize) -> &[u8]
     requires { at ≤ length file.now }
     ensures { result.now ≡ drop at file.now }

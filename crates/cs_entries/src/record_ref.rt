@@ -1,4 +1,4 @@
-//! Records where they lie.
+//! Borrowed records.
 ghost use Rattle.std.specs.Prelude.{◌≡◌, ◌∷◌, ℕ, suc};
 ghost use Rattle.cs_value.specs.Value.{FieldFits, field_of};
 ghost use Rattle.cs_entries.specs.Records.{HasWidth, fields_at};
@@ -6,10 +6,10 @@ ghost use Rattle.cs_entries.specs.Records.{HasWidth, fields_at};
 use crate::spelled::front_field;
 use cs_value::{Field, OwnedField, OwnedValue};
 
-/// A record where it lies: in a file, or owned.
+/// A borrowed record, of a file or owned.
 #[derive(Clone, Copy, Debug)]
 pub(crate) enum RecordRef<'a> {
-    /// The bytes of its fields, one behind the other.
+    /// The bytes of its fields, in column order.
     Spelled(&'a [u8]),
     /// The values of a row.
     Values(&'a [OwnedValue]),
@@ -18,7 +18,7 @@ pub(crate) enum RecordRef<'a> {
 }
 
 impl<'a> RecordRef<'a> {
-    /// The first field, and the record of those behind it. Where there is none, it is an undefined one.
+    /// Returns the first field, and the record of the later ones. If there is none, the field is undefined.
     pub(crate) fn split_first(self) -> (Field<'a>, RecordRef<'a>)
         ensures split { (left : ℕ) → HasWidth (suc left) self.entry
             → (fields_at (suc left) self.entry ≡ field_of result.0 ∷ fields_at left result.1) }

@@ -1,4 +1,4 @@
-//! Records where they stand in a file: fields one behind the other.
+//! Records in a file: the bytes of their fields, in column order.
 ghost use Rattle.std.specs.Prelude.{◌≡◌, ◌≤◌, ◌+◌, IfSome, List, length, take, drop};
 ghost use Rattle.std.specs.List.{AllByRecursion};
 ghost use Rattle.cs_value.specs.declared.value.OwnedField.{OwnedField};
@@ -11,7 +11,7 @@ ghost use Rattle.cs_entries.specs.Items.{front_of, fields_in};
 use crate::reader::rest_from;
 use cs_value::{Field, field_read};
 
-/// The field at the front, and the bytes behind it. Where none stands there, it is an undefined one, of no byte.
+/// Returns the first field, and the bytes after it. If there is none, the field is undefined, and takes no byte.
 pub(crate) fn front_field(bytes: &[u8]) -> (Field<'_>, &[u8])
     ensures field { field_of result.0 ≡ (front_of bytes.now).0 }
     ensures rest { result.1.now ≡ drop (front_of bytes.now).1 bytes.now }
@@ -23,7 +23,7 @@ pub(crate) fn front_field(bytes: &[u8]) -> (Field<'_>, &[u8])
     }
 }
 
-/// How many flags at the front are those of key columns, or of others.
+/// Returns how many of the first flags mark key columns, or how many mark others.
 fn run_len(flags: &[u8], of_key: bool) -> usize
     ensures within { result ≤ length flags.now }
     ensures run { AllByRecursion (λ flag. is_key_flag flag ≡ of_key) (take result flags.now) }
@@ -35,7 +35,7 @@ fn run_len(flags: &[u8], of_key: bool) -> usize
     len
 }
 
-/// The bytes behind so many fields.
+/// Returns the bytes after this many fields.
 fn skip_fields(bytes: &[u8], count: usize) -> &[u8]
     ensures { (fields : List OwnedField) → IsRecord fields → count ≤ length fields → bytes.now ≡ record_bytes fields
         → result.now ≡ record_bytes (drop count fields) }
@@ -47,7 +47,7 @@ fn skip_fields(bytes: &[u8], count: usize) -> &[u8]
     rest
 }
 
-/// The bytes of so many fields, behind the first ones.
+/// Returns the bytes of this many fields, after the first ones.
 fn columns_in(bytes: &[u8], first: usize, count: usize) -> &[u8]
     ensures { (fields : List OwnedField) → IsRecord fields → first + count ≤ length fields → bytes.now ≡ record_bytes fields
         → result.now ≡ record_bytes (take count (drop first fields)) }
@@ -57,7 +57,7 @@ fn columns_in(bytes: &[u8], first: usize, count: usize) -> &[u8]
     &behind[..behind.len().saturating_sub(rest.len())]
 }
 
-/// The bytes of what stands in the key columns, in column order, where these columns stand side by side.
+/// Returns the bytes of the fields in the key columns, if these columns are contiguous.
 pub(crate) fn key_slice<'a>(flags: &[u8], bytes: &'a [u8]) -> Option<&'a [u8]>
     requires fields { IsRecord (fields_in (length flags.now) bytes.now) }
     requires spelled { bytes.now ≡ record_bytes (fields_in (length flags.now) bytes.now) }

@@ -17,7 +17,7 @@ pub(crate) fn write_operation(
     Ok(())
 }
 
-/// Takes back what a write has left that was refused: the bytes from this place on.
+/// Cuts off what a failed write has left: the bytes from this offset on.
 pub fn undo_refused(
     out: &mut Vec<u8>,
     start: usize,

@@ -49,6 +49,10 @@ or_false : (b c : Bool) → (b || c) ≡ false → (b ≡ false) × (c ≡ false
 or_false true c e = absurd (true≢false e)
 or_false false c e = (refl, e)
 
+or_true : (b : Bool) → (b || true) ≡ true
+or_true true = refl
+or_true false = refl
+
 -- where there is no NULL, neither is there one in the first column nor behind it
 null_parts : (mark : Bool) (refuses : List Bool) (field : OwnedField) (fields : List OwnedField) → has_null (mark ∷ refuses) (field ∷ fields) ≡ false
     → ((mark && has_null (true ∷ []) (field ∷ [])) ≡ false) × (has_null refuses fields ≡ false)
@@ -85,6 +89,29 @@ filled_obeys (mark ∷ refuses) (Defined w ∷ image) (v ∷ row) wide kept obey
     let said = null_parts mark refuses (Defined w) image kept in
     null_more mark refuses (Defined w) (map Defined (filled image row)) said.0
     (filled_obeys refuses image row (omega arith) said.1 (null_parts mark refuses (Defined v) (map Defined row) obeys).1)
+
+-- one of two tests holds where it did, if the second still holds where it did
+or_more : (a x y : Bool) → (x ≡ true → y ≡ true) → (a || x) ≡ true → (a || y) ≡ true
+or_more true x y more e = refl
+or_more false x y more e = more e
+
+-- NULL that is not in the first column is in a later one
+null_later : (mark : Bool) (refuses : List Bool) (fields : List OwnedField) → has_null (mark ∷ refuses) (Undefined ∷ fields) ≡ true → has_null refuses fields ≡ true
+null_later false refuses fields e = e
+null_later true refuses fields e = e
+
+-- what is filled from a row by an image that breaks the rules breaks them
+filled_breaks : (refuses : List Bool) (image : List OwnedField) (row : List OwnedValue) → length image ≡ length row → has_null refuses image ≡ true
+    → has_null refuses (map Defined (filled image row)) ≡ true
+filled_breaks [] image row wide broken = absurd (true≢false (sym broken))
+filled_breaks (mark ∷ refuses) [] row wide broken = absurd (true≢false (sym broken))
+filled_breaks (mark ∷ refuses) (field ∷ image) [] wide broken = absurd (omega arith)
+filled_breaks (mark ∷ refuses) (Undefined ∷ image) (v ∷ row) wide broken =
+    let later = filled_breaks refuses image row (omega arith) (null_later mark refuses image broken) in
+    has_null_first mark refuses (Defined v) (map Defined (filled image row)) ∙ rw later (or_true _)
+filled_breaks (mark ∷ refuses) (Defined w ∷ image) (v ∷ row) wide broken =
+    has_null_first mark refuses (Defined w) (map Defined (filled image row))
+    ∙ or_more (mark && has_null (true ∷ []) (Defined w ∷ [])) (has_null refuses image) _ (filled_breaks refuses image row (omega arith)) (sym (has_null_first mark refuses (Defined w) image) ∙ broken)
 
 -- ---- a change
 
@@ -126,6 +153,21 @@ left_obeys refuses flags (Update old new) None fits found kept stood = absurd (f
 left_obeys refuses flags (Update old new) (Some row) fits found kept stood =
     let widths = length-IsKeyedUpdate flags old new fits.2 in
     filled_obeys refuses (with_key flags old new) row (length-with_key flags old new widths.0 widths.1 ∙ stood.0) kept stood.1
+
+-- what a change leaves that is refused, of a row with a value for each flag, or of none, does not obey the rules
+pub left_disobeys : (refuses : List Bool) (flags : List ℕ) (change : Change) (row : Option (List OwnedValue)) → IsChange flags change → kind_between (before_image change) row ≢ Some NotFound
+    → is_refused refuses flags change ≡ true → IfSome row (λ r. length flags ≡ length r) → IfSome (row_after flags change row) (λ r. ¬ Obeys refuses r)
+left_disobeys refuses flags (Insert new) row fits found broken stood = rw (filled_row new (unwrap_or row [])) (λ obeys. true≢false (sym broken ∙ obeys))
+left_disobeys refuses flags (Delete old) row fits found broken stood = tt
+left_disobeys refuses flags (Update old new) None fits found broken stood = absurd (found refl)
+left_disobeys refuses flags (Update old new) (Some row) fits found broken stood =
+    let widths = length-IsKeyedUpdate flags old new fits.2 in
+    λ obeys. true≢false (sym (filled_breaks refuses (with_key flags old new) row (length-with_key flags old new widths.0 widths.1 ∙ stood) broken) ∙ obeys)
+
+-- and a row behind a reference has a value for each flag
+pub keyed_wide : (flags : List ℕ) (row : Option (Bor (List OwnedValue))) → IfSome row (λ r. IsKeyedRow flags r.now) → IfSome (option_map (λ r. r.now) row) (λ r. length flags ≡ length r)
+keyed_wide flags None keyed = tt
+keyed_wide flags (Some row) keyed = length-IsKeyedRow flags row.now keyed
 
 -- ---- a state
 

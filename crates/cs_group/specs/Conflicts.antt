@@ -15,6 +15,20 @@ use Rattle.cs_group.specs.declared.conflict.Choice.{Choice}
 use Rattle.cs_group.specs.declared.conflict.Choice.TheVariants.{Omit, Replace, Abort}
 use Rattle.cs_group.specs.Net.{is_same}
 
+-- SQLite's numbers: SQLITE_CHANGESET_DATA, SQLITE_CHANGESET_NOTFOUND, SQLITE_CHANGESET_CONFLICT and
+-- SQLITE_CHANGESET_CONSTRAINT
+abbrev pub kind_number : Kind → ℕ
+kind_number Data = 1
+kind_number NotFound = 2
+kind_number Conflict = 3
+kind_number Constraint = 4
+
+-- SQLITE_CHANGESET_OMIT, SQLITE_CHANGESET_REPLACE and SQLITE_CHANGESET_ABORT
+abbrev pub choice_number : Choice → ℕ
+choice_number Omit = 0
+choice_number Replace = 1
+choice_number Abort = 2
+
 -- the row has the image's values in its defined columns
 abbrev pub has_values : List OwnedValue → List OwnedField → Bool
 has_values [] [] = true

@@ -6,7 +6,7 @@ ghost use Rattle.cs_group.specs.Joining.{table_name, with_text, key_places, Agre
 
 use cs_wire::{Changeset, Group};
 
-/// The place of the first group of the second changeset that does not agree with the first one.
+/// Returns the index of the first group of the second changeset that does not agree with the first changeset.
 pub(crate) fn first_clash(first: &Changeset, second: &Changeset) -> Option<usize>
     ensures clash { IfSome result (FirstClash first.now second.now) }
     ensures none { IfNone result (AreJoinable first.now second.now) }
@@ -19,7 +19,7 @@ pub(crate) fn first_clash(first: &Changeset, second: &Changeset) -> Option<usize
     None
 }
 
-/// Whether a group has the columns that the first changeset knows of its table.
+/// Returns whether a group has the columns that the first changeset has for its table.
 fn agrees(first: &Changeset, group: &Group) -> bool
     ensures { IsTrue result ↔ AgreesWith first.now group.now }
 {
@@ -29,7 +29,7 @@ fn agrees(first: &Changeset, group: &Group) -> bool
     }
 }
 
-/// Whether two tables with these flags have as many columns, and the same of them in the key. It takes no memory.
+/// Returns whether two tables with these flags have the same number of columns and the same key. It allocates nothing.
 pub fn have_same_columns(flags: &[u8], other: &[u8]) -> bool
     ensures { IsTrue result ↔ (key_places flags.now ≡ key_places other.now) }
 {
@@ -44,14 +44,14 @@ pub fn have_same_columns(flags: &[u8], other: &[u8]) -> bool
     true
 }
 
-/// Whether a column with this flag is one of the key.
+/// Returns whether a flag marks a column of the key.
 pub(crate) fn is_of_key(flag: u8) -> bool
     ensures { result ≡ by_flag flag false true }
 {
     flag != 0
 }
 
-/// The group of a table.
+/// Returns the group of a table.
 pub(crate) fn group_with<'a>(changeset: &'a Changeset, name: &str) -> Option<&'a Group>
     ensures found { option_map (λ g. g.now) result ≡ with_text table_name changeset.now name.now }
     ensures well_formed { IsChangeset changeset.now }

@@ -1,4 +1,4 @@
-//! What an entry meets at the row with its key, and what it leaves there.
+//! The conflict of an entry with the current row of its key, and the row that the entry leaves.
 ghost use Rattle.std.specs.Prelude.{◌≡◌, ◌≢◌, Bool, true, false, List, [], ◌∷◌, if◌then◌else◌, Some, None, IfOk, IfSome, option_map};
 ghost use Rattle.cs_value.specs.Value.{field_of, FieldFits};
 ghost use Rattle.cs_value.specs.Table.{IsKeyedRow};
@@ -9,59 +9,86 @@ ghost use Rattle.cs_group.specs.declared.conflict.Kind.TheVariants.{Data as Data
 ghost use Rattle.cs_group.specs.Conflicts.{is_refused as breaks_rule, kind_between, conflict_kind as kind_of};
 ghost use Rattle.cs_group.specs.Conflicts.{row_after as row_of_change};
 ghost use Rattle.cs_group.specs.Conflicts.{has_values as values_of_image, agrees as agrees_with};
+ghost use Rattle.cs_group.specs.Conflicts.{kind_number, choice_number};
 ghost use Rattle.cs_group.specs.Conflicts.{filled, value_in as value_of_field};
 
 use cs_value::{Field, NoMemory, OwnedValue, Row, Value};
 use cs_wire::{EntryRef, Fields};
 use std::alloc::Global;
 
-/// What kind of conflict a change meets at the row with its key.
+/// The kind of a conflict with the current row of the key.
 #[derive(Clone, Copy, Debug, PartialEq, Eq)]
 pub enum Kind {
-    /// The row is there, and differs from what an update or a delete says of it: SQLite's
-    /// `SQLITE_CHANGESET_DATA`.
+    /// The row differs from the old record of an update or a delete: SQLite's `SQLITE_CHANGESET_DATA`.
     Data,
-    /// An update or a delete finds no row: `SQLITE_CHANGESET_NOTFOUND`.
+    /// There is no row to update or delete: `SQLITE_CHANGESET_NOTFOUND`.
     NotFound,
-    /// An insert finds a row: `SQLITE_CHANGESET_CONFLICT`.
+    /// There is a row with the key of an insert: `SQLITE_CHANGESET_CONFLICT`.
     Conflict,
-    /// An insert or an update leaves NULL in a column that refuses it: `SQLITE_CHANGESET_CONSTRAINT`.
+    /// The new row has NULL in a column that refuses it: `SQLITE_CHANGESET_CONSTRAINT`.
     Constraint,
 }
 
-/// What is done about a conflict.
+impl Kind {
+    /// Returns SQLite's number of the kind.
+    pub fn number(self) -> u8
+        ensures { result ≡ kind_number self }
+    {
+        match self {
+            Kind::Data => 1,
+            Kind::NotFound => 2,
+            Kind::Conflict => 3,
+            Kind::Constraint => 4,
+        }
+    }
+}
+
+/// How a conflict is resolved.
 #[derive(Clone, Copy, Debug, PartialEq, Eq)]
 pub enum Choice {
-    /// The change is passed over: SQLite's `SQLITE_CHANGESET_OMIT`.
+    /// The entry is skipped: SQLite's `SQLITE_CHANGESET_OMIT`.
     Omit,
-    /// The change is carried out in place of what stands there: `SQLITE_CHANGESET_REPLACE`.
+    /// The entry replaces the current row: `SQLITE_CHANGESET_REPLACE`.
     Replace,
-    /// The call ends, and nothing is changed: `SQLITE_CHANGESET_ABORT`.
+    /// The call fails, and changes nothing: `SQLITE_CHANGESET_ABORT`.
     Abort,
 }
 
-/// What is done about a change that meets a conflict where what stands at its key, a row or none, is already what the
-/// change would leave.
+impl Choice {
+    /// Returns SQLite's number of the choice.
+    pub fn number(self) -> u8
+        ensures { result ≡ choice_number self }
+    {
+        match self {
+            Choice::Omit => 0,
+            Choice::Replace => 1,
+            Choice::Abort => 2,
+        }
+    }
+}
+
+/// What happens to a no-op: an entry that has a conflict, and whose new row is already the current one.
 #[derive(Clone, Copy, Debug, PartialEq, Eq)]
 pub enum Noop {
     /// It is a conflict like any other.
     Report,
-    /// It is passed over, and no choice is asked for: SQLite's `SQLITE_CHANGESETAPPLY_IGNORENOOP`.
+    /// It is ignored, and the handler is not asked: SQLite's `SQLITE_CHANGESETAPPLY_IGNORENOOP`.
     Ignore,
 }
 
-/// The conflict that an entry, which is refused or not, meets first at the row with its key, or None where there is none. It
-/// takes no memory.
-pub fn conflict_kind(entry: &EntryRef<'_>, row: Option<&Row>, is_refused: bool) -> Option<Kind>
-    ensures { result ≡ kind_of is_refused entry.now.entry.change (option_map (λ r. r.now) row.entry) }
+/// Returns the first conflict of an entry with the current row of its key, or None if it has no conflict. The marked
+/// columns of its table refuse NULL. It allocates nothing.
+pub fn conflict_kind(entry: &EntryRef<'_>, row: Option<&Row>, refuses: &[bool]) -> Option<Kind>
+    ensures { result ≡ kind_of (breaks_rule refuses.now entry.now.flags entry.now.entry.change)
+        entry.now.entry.change (option_map (λ r. r.now) row.entry) }
 {
     match row_conflict(entry, row) {
-        None if is_refused => Some(Kind::Constraint),
+        None if is_refused(entry, refuses) => Some(Kind::Constraint),
         kind => kind,
     }
 }
 
-/// The conflict that an entry meets with what stands at its key, a row or none.
+/// Returns the conflict of an entry with the current row of its key, whatever refuses NULL.
 fn row_conflict(entry: &EntryRef<'_>, row: Option<&Row>) -> Option<Kind>
     ensures { result ≡ kind_between (before_image entry.now.entry.change) (option_map (λ r. r.now) row.entry) }
 {
@@ -73,15 +100,14 @@ fn row_conflict(entry: &EntryRef<'_>, row: Option<&Row>) -> Option<Kind>
     }
 }
 
-/// The kind of a change that finds its row, which may be as the change says.
+/// Returns the conflict of an entry whose row exists, and may be the one of its old record.
 fn data_unless(is_same: bool) -> Option<Kind>
     ensures { result ≡ (if is_same then None else Some DataKind) }
 {
     if is_same { None } else { Some(Kind::Data) }
 }
 
-/// Whether an entry leaves NULL in a column that refuses it, of columns with these marks: such an entry is refused. It
-/// takes no memory.
+/// Returns whether the new row of an entry would have NULL in a marked column. It allocates nothing.
 pub fn is_refused(entry: &EntryRef<'_>, refuses: &[bool]) -> bool
     ensures { result ≡ breaks_rule refuses.now entry.now.flags entry.now.entry.change }
 {
@@ -91,7 +117,7 @@ pub fn is_refused(entry: &EntryRef<'_>, refuses: &[bool]) -> bool
     }
 }
 
-/// Whether a field is NULL in a column that refuses it.
+/// Returns whether a field is NULL in a marked column.
 fn has_null(fields: Fields<'_>, refuses: &[bool]) -> bool
     ensures { result ≡ null_in refuses.now fields.entry }
 {
@@ -106,15 +132,15 @@ fn has_null(fields: Fields<'_>, refuses: &[bool]) -> bool
     false
 }
 
-/// Whether a field is NULL.
+/// Returns whether a field is NULL.
 fn is_null(field: Field<'_>) -> bool
     ensures { result ≡ null_in (true ∷ []) (field_of field.entry ∷ []) }
 {
     matches!(field, Field::Defined(Value::Null))
 }
 
-/// Whether what stands at the key of an entry, a row or none, is already what the entry leaves there. An entry of
-/// which that is so, and which meets a conflict, is idle. It takes no memory.
+/// Returns whether the current row of the key is already the new row of the entry. If such an entry has a conflict, it is
+/// a no-op. It allocates nothing.
 pub fn agrees(entry: &EntryRef<'_>, row: Option<&Row>) -> bool
     ensures { result ≡ agrees_with (after_image entry.now.flags entry.now.entry.change) (option_map (λ r. r.now) row.entry) }
 {
@@ -125,7 +151,7 @@ pub fn agrees(entry: &EntryRef<'_>, row: Option<&Row>) -> bool
     }
 }
 
-/// Whether a row has the values of the fields that are defined.
+/// Returns whether a row has the values of the defined fields.
 fn has_values(row: &Row, fields: Fields<'_>) -> bool
     ensures { result ≡ values_of_image row.now fields.entry }
 {
@@ -139,7 +165,7 @@ fn has_values(row: &Row, fields: Fields<'_>) -> bool
     left.next().is_none()
 }
 
-/// Whether a value is that of a field, if the field is defined.
+/// Returns whether a value is that of a field, or the field is undefined.
 fn has_value(value: &OwnedValue, field: Field<'_>) -> bool
     requires { FieldFits field }
     ensures { result ≡ values_of_image (value.now ∷ []) (field_of field.entry ∷ []) }
@@ -150,9 +176,8 @@ fn has_value(value: &OwnedValue, field: Field<'_>) -> bool
     }
 }
 
-/// The row that an entry leaves where it is carried out, or None where it leaves none: what it says, and
-/// in the other columns what stood there. Of an update that finds no row, which is a conflict, it is what the
-/// entry says alone. [`NoMemory`] where memory is refused.
+/// Returns the new row of an entry that is carried out, or None for a delete. Columns that the entry leaves undefined keep
+/// their current values. For an update without a row, which is a conflict, the result has the defined columns only.
 pub fn row_after(
     alloc: Global,
     entry: &EntryRef<'_>,
@@ -168,6 +193,10 @@ pub fn row_after(
         → IfSome row.entry (λ stood. IsKeyedRow entry.now.flags stood.now × Obeys refuses stood.now)
         → kind_between (before_image entry.now.entry.change) (option_map (λ r. r.now) row.entry) ≢ Some NotFoundKind
         → breaks_rule refuses entry.now.flags entry.now.entry.change ≡ false → Obeys refuses r)) }
+    ensures disobeys { IfOk result (λ o. IfSome o (λ r. (refuses : List Bool)
+        → IfSome row.entry (λ stood. IsKeyedRow entry.now.flags stood.now)
+        → kind_between (before_image entry.now.entry.change) (option_map (λ r. r.now) row.entry) ≢ Some NotFoundKind
+        → breaks_rule refuses entry.now.flags entry.now.entry.change ≡ true → ¬ Obeys refuses r)) }
 {
     let stood = match row {
         None => &[],
@@ -179,7 +208,7 @@ pub fn row_after(
     }
 }
 
-/// The row of some fields, with those that are undefined filled from another. It has room for so many columns.
+/// Returns the row of some fields, with undefined ones filled from another row.
 fn fill(
     alloc: Global,
     columns: usize,
@@ -199,7 +228,7 @@ fn fill(
     Ok(Row::new(values))
 }
 
-/// The value of a field, or where that is undefined the one that stands in its column, if there is one.
+/// Returns the value of a field, or the current value of its column if the field is undefined.
 fn value_in(
     alloc: Global,
     field: Field<'_>,

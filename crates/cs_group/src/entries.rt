@@ -1,4 +1,4 @@
-//! The entries of two groups of one table as those of one.
+//! The concatenation of the entries of two groups of one table.
 ghost use Rattle.std.specs.Prelude.{◌≡◌, ◌≢◌, ◌++◌, All, List, ℕ, IfOk, IfSome, IsTrue, OnOk};
 ghost use Rattle.std.specs.Prelude.{None, Some, false, filter, filter_map, if◌then◌else◌, is_none, length, option_to_list, replicate};
 ghost use Rattle.cs_entries.specs.declared.entry.Entry.{Entry as EntryData};
@@ -16,7 +16,7 @@ use cs_wire::{Entry, EntryRef, Group};
 use indexmap::IndexSet;
 use std::alloc::Global;
 
-/// The entries of what two groups of one table make together. The key of each entry is made once.
+/// Returns the entries of the concatenation of two groups of one table. The key of each entry is made once.
 pub(crate) fn join_entries<'a>(
     alloc: Global,
     first: &'a Group,
@@ -41,7 +41,7 @@ pub(crate) fn join_entries<'a>(
     Ok(joined)
 }
 
-/// Appends what becomes of the entries of the first group, and answers which of the second have the key of one.
+/// Appends the merged entries of the first group. Returns which entries of the second group have the key of one.
 fn keep_entries(
     alloc: Global,
     first: &Group,
@@ -65,7 +65,7 @@ fn keep_entries(
     Ok(met)
 }
 
-/// Appends the entries of the second group that are not marked, with their keys, which are these.
+/// Appends the entries of the second group that are not marked, with these keys.
 fn add_new_entries(
     alloc: Global,
     second: &Group,
@@ -90,7 +90,7 @@ fn add_new_entries(
     Ok(())
 }
 
-/// Appends an entry, which has this key, if it is not marked.
+/// Appends an entry with this key, if it is not marked.
 fn add_unmet(
     alloc: Global,
     joined: &mut JoinedEntries<'_>,
@@ -110,8 +110,8 @@ fn add_unmet(
     joined.push(key, entry)
 }
 
-/// Appends what becomes of an entry of the first group with the one of its key in the second, and answers the place of that
-/// one, if there is one.
+/// Appends an entry of the first group, merged with the one of its key in the second. Returns the index of that one, if
+/// there is one.
 fn join_entry(
     alloc: Global,
     first: &Group,
@@ -146,7 +146,7 @@ fn join_entry(
     }
 }
 
-/// Appends what is left of an entry, which has this key.
+/// Appends what remains of an entry with this key.
 fn add_left(joined: &mut JoinedEntries<'_>, key: Key, left: Option<Entry>) -> Result<(), NoMemory>
     requires { IfSome left (λ e. key ≡ key_of joined.old.flags e.change) }
     ensures added { OnOk result (joined.new.entries ≡ joined.old.entries ++ option_to_list left) }
@@ -158,7 +158,7 @@ fn add_left(joined: &mut JoinedEntries<'_>, key: Key, left: Option<Entry>) -> Re
     }
 }
 
-/// What is left of an entry of the first group when one of its key, of the second, comes after it.
+/// Returns what remains of an entry of the first group, merged with one of its key in the second.
 fn merge_entry(
     alloc: Global,
     first: &Group,
@@ -182,14 +182,14 @@ fn merge_entry(
     }
 }
 
-/// So many marks, of which none is set.
+/// Returns this many marks, none of them set.
 pub(crate) fn unmarked(alloc: Global, count: usize) -> Result<Vec<bool>, NoMemory>
     ensures { IfOk result (λ met. met.items ≡ replicate count false) }
 {
     Ok(Vec::from_elem(alloc, false, count)?)
 }
 
-/// Appends what there is.
+/// Appends a value, if there is one.
 pub(crate) fn push_some<T: Drop>(list: &mut Vec<T>, item: Option<T>) -> Result<(), NoMemory>
     ensures { OnOk result (list.new.items ≡ list.old.items ++ option_to_list item) }
 {

@@ -1,15 +1,14 @@
-//! Why two changesets cannot be joined.
+//! Why two changesets cannot be concatenated.
 ghost use Rattle.std.specs.Prelude.{codes};
 
 use cs_value::{Fault, OrNoMemory};
 use thiserror::Error;
 
-/// A table has another count of columns, or other columns in its key, in the second changeset than
-/// in the first.
+/// A table has another number of columns or another key in the second changeset than in the first.
 #[derive(Clone, Copy, Debug, PartialEq, Eq, Drop, Error)]
 #[error("a table has other columns or another key at group {place}")]
 pub struct SchemaFault {
-    /// The place of the table's group in the second changeset, from 0.
+    /// The index of the group of the table in the second changeset, zero-based.
     pub place: usize,
 }
 
@@ -33,5 +32,5 @@ impl Fault for SchemaFault {
     }
 }
 
-/// Why two changesets are not joined: a table differs, or memory was refused.
+/// Why two changesets are not concatenated: a table differs, or memory ran out.
 pub type ConcatFault = OrNoMemory<SchemaFault>;

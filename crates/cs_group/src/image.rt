@@ -1,4 +1,4 @@
-//! What entries say of their rows, before and after, in fields that borrow from them.
+//! The rows of entries before and after, as fields that borrow from them.
 ghost use Rattle.std.specs.Prelude.{◌≡◌, length, map, Option, IfOk, IfSome};
 ghost use Rattle.std.specs.List.{AllByRecursion};
 ghost use Rattle.cs_value.specs.declared.value.OwnedField.TheVariants.{Defined};
@@ -11,7 +11,7 @@ use cs_value::{Field, NoMemory, Row};
 use cs_wire::{EntryRef, Fields};
 use std::alloc::Global;
 
-/// What an entry says of its row before the change: its fields, or none.
+/// Returns the fields of the row before the entry, or None for an insert.
 pub(crate) fn before_image<'a>(
     alloc: Global,
     entry: &EntryRef<'a>,
@@ -25,7 +25,7 @@ pub(crate) fn before_image<'a>(
     }
 }
 
-/// What an entry says of its row after the change: its fields, or none.
+/// Returns the fields of the row after the entry, or None for a delete.
 pub(crate) fn after_image<'a>(
     alloc: Global,
     entry: &EntryRef<'a>,
@@ -39,8 +39,8 @@ pub(crate) fn after_image<'a>(
     }
 }
 
-/// What is known of a row by one image, and by another where that leaves a field open. Where the
-/// one says that there is no row, there is none.
+/// Returns one image laid over another: its defined fields, and else those of the other. If the first has no row, neither
+/// does the result.
 pub(crate) fn known<'a>(
     alloc: Global,
     upper: Option<Vec<Field<'a>>>,
@@ -61,7 +61,7 @@ pub(crate) fn known<'a>(
     }
 }
 
-/// The fields of a row.
+/// Returns the fields of a row.
 pub(crate) fn row_fields<'a>(alloc: Global, row: &'a Row) -> Result<Vec<Field<'a>>, NoMemory>
     ensures same { IfOk result (λ fields. map field_of fields.items ≡ map Defined row.now) }
     ensures short { IfOk result (λ fields. AllByRecursion FieldFits fields.items) }
@@ -73,7 +73,7 @@ pub(crate) fn row_fields<'a>(alloc: Global, row: &'a Row) -> Result<Vec<Field<'a
     Ok(fields)
 }
 
-/// Fields, as a list.
+/// Collects fields into a list.
 fn list_fields<'a>(alloc: Global, fields: Fields<'a>) -> Result<Vec<Field<'a>>, NoMemory>
     ensures same { IfOk result (λ list. map field_of list.items ≡ fields.entry) }
     ensures short { IfOk result (λ list. AllByRecursion FieldFits list.items) }
@@ -86,7 +86,7 @@ fn list_fields<'a>(alloc: Global, fields: Fields<'a>) -> Result<Vec<Field<'a>>, 
     Ok(list)
 }
 
-/// An image laid over another: its fields where they are defined, elsewhere those of the other.
+/// Returns the defined fields of an image, and else those of another.
 fn lay_over<'a>(
     alloc: Global,
     upper: &[Field<'a>],
@@ -105,7 +105,7 @@ fn lay_over<'a>(
     Ok(fields)
 }
 
-/// A field laid over another.
+/// Returns a field if it is defined, and else another.
 fn over<'a>(upper: Field<'a>, lower: Field<'a>) -> Field<'a>
     requires { FieldFits upper × FieldFits lower }
     ensures same { field_of result ≡ over_of (field_of upper.entry) (field_of lower.entry) }

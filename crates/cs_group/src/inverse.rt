@@ -7,9 +7,8 @@ use cs_value::NoMemory;
 use cs_wire::{Changeset, entry_inverses_law};
 use std::alloc::Global;
 
-/// The changeset that undoes this one, as SQLite's `sqlite3changeset_invert` has it: inserts and deletes
-/// exchanged, in updates the two values of each modified column, and everything else kept. Its file is as
-/// long as that of this one. [`NoMemory`] where memory is refused.
+/// Returns the inverse of a changeset, as SQLite's `sqlite3changeset_invert` does. Inserts and deletes are exchanged, and
+/// so are the two values of each modified column. All else is kept, and the file has the same length.
 pub fn invert(alloc: Global, changeset: Changeset) -> Result<Changeset, NoMemory>
     ensures inverse { IfOk result (IsInverse changeset) }
     ensures well_formed { IfOk result IsChangeset }
@@ -23,14 +22,14 @@ pub fn invert(alloc: Global, changeset: Changeset) -> Result<Changeset, NoMemory
     Ok(inverse)
 }
 
-/// Does nothing. A changeset has one inverse alone.
+/// Does nothing. Its contract says that a changeset has only one inverse.
 pub fn changeset_inverses_law()
     ensures { ChangesetInverses }
 {
     entry_inverses_law();
 }
 
-/// Does nothing. The inverse of the inverse is the changeset.
+/// Does nothing. Its contract says that the inverse of the inverse is the changeset.
 pub fn inverse_twice_law()
     ensures { InverseTwice }
 {

@@ -1,4 +1,4 @@
-//! The entries of a join, as they are gathered.
+//! The entries of a concatenation while it is made.
 ghost use Rattle.std.specs.Prelude.{◌≡◌, ◌↔◌, ◌++◌, ◌∷◌, [], IfOk, IsTrue, OnOk, length};
 ghost use Rattle.cs_wire.specs.Changeset.{IsGroup};
 ghost use Rattle.cs_wire.specs.Entry.{key_of};
@@ -30,7 +30,7 @@ impl<'a> Model for JoinedEntries<'a> {
 }
 
 impl<'a> JoinedEntries<'a> {
-    /// No entry of a table with these flags.
+    /// Returns an empty list for a table with these flags.
     pub(crate) fn new(alloc: Global, flags: &'a [u8]) -> JoinedEntries<'a>
         ensures { result ≡ record { flags = flags.now; entries = [] } }
     {
@@ -41,7 +41,7 @@ impl<'a> JoinedEntries<'a> {
         }
     }
 
-    /// Appends an entry, which has this key.
+    /// Appends an entry with this key.
     pub(crate) fn push(&mut self, key: Key, entry: Entry) -> Result<(), NoMemory>
         requires { key ≡ key_of self.old.flags entry.change }
         ensures flags { self.new.flags ≡ self.old.flags }
@@ -53,14 +53,14 @@ impl<'a> JoinedEntries<'a> {
         Ok(())
     }
 
-    /// Whether there is no entry.
+    /// Returns whether there is no entry.
     pub(crate) fn is_empty(&self) -> bool
         ensures { IsTrue result ↔ (length self.now.entries ≡ 0) }
     {
         self.entries.is_empty()
     }
 
-    /// The group of these entries, behind a header with their flags.
+    /// Returns the group of these entries, with a header that has their flags.
     pub(crate) fn into_group(self, alloc: Global, header: Header) -> Result<Group, NoMemory>
         requires flags { self.flags ≡ header.flags }
         requires group { IsGroup (record { header = header; entries = self.entries }) }

@@ -1,4 +1,4 @@
-//! Two changesets as one.
+//! The concatenation of two changesets.
 ghost use Rattle.std.specs.Prelude.{◌≡◌, ◌≢◌, ◌+◌, ◌≤◌, [], ◌++◌, All, List, length, IfOk, IfErr, IfSome, IsTrue, OnOk, Some};
 ghost use Rattle.std.specs.Prelude.{filter, filter_map, is_none, option_to_list};
 ghost use Rattle.cs_value.specs.declared.refusal.OrNoMemory.TheVariants.{NoMemory as OutOfMemory};
@@ -19,19 +19,19 @@ use cs_value::NoMemory;
 use cs_wire::{Changeset, Group};
 use std::alloc::Global;
 
-/// The changeset that does what `first` does and then `second`, as SQLite's `sqlite3changeset_concat`
-/// makes it, but for the order of keys. Where `first` applies without a conflict, and then `second`, the
-/// join does, and makes the same; a changeset and its inverse join to none.
+/// Returns the changeset that does what `first` does and then what `second` does, as SQLite's
+/// `sqlite3changeset_concat` does, but for the order of keys. If `first` applies without a conflict and then `second`
+/// does, the concatenation applies without a conflict, with the same result. A changeset and its inverse make an empty
+/// one.
 ///
-/// The tables of `first` stand first, in their order, with their headers, and behind them those
-/// that `second` has alone; so do the entries of a table, by their keys. Two entries of one key are
-/// one, as [`merge`] says. An entry of which nothing is left is left out, and a table with none. The file of
-/// the join is at most as long as both files.
+/// The tables of `first` come first, in their order and with their headers, and then those that only `second` has. The
+/// same goes for the keys of a table. Two entries of one key are merged ([`merge`]). Entries and tables of which nothing
+/// remains are left out. The file is at most as long as both files.
 ///
 /// # Errors
 ///
-/// `Fault` where a table has other columns or another key in `second` than in `first`: the place of
-/// the first such group, found before memory is taken. `NoMemory` where memory is refused.
+/// `Fault` if a table has another number of columns or another key in `second`, with the index of the first such group.
+/// It is found before anything is allocated. `NoMemory` if out of memory.
 pub fn concat(
     alloc: Global,
     first: &Changeset,
@@ -52,7 +52,7 @@ pub fn concat(
     Ok(join_all(alloc, first, second)?)
 }
 
-/// The join of two changesets that can be joined.
+/// Returns the concatenation of two changesets whose tables agree.
 fn join_all(alloc: Global, first: &Changeset, second: &Changeset) -> Result<Changeset, NoMemory>
     requires { AreJoinable first.now second.now }
     ensures joined { IfOk result (IsJoined first.now second.now) }
@@ -66,7 +66,7 @@ fn join_all(alloc: Global, first: &Changeset, second: &Changeset) -> Result<Chan
     Ok(join)
 }
 
-/// Appends what becomes of the groups of the first changeset, and answers which tables of the second it has.
+/// Appends the merged groups of the first changeset. Returns which groups of the second have a table of the first.
 fn keep_groups(
     alloc: Global,
     first: &Changeset,
@@ -109,8 +109,8 @@ fn add_new_groups(
     Ok(())
 }
 
-/// Appends what becomes of a group of the first changeset with the one of its table in the second, and answers the place of
-/// that one, if there is one.
+/// Appends a group of the first changeset, merged with the one of its table in the second. Returns the index of that one,
+/// if there is one.
 fn join_group(
     alloc: Global,
     group: &Group,
@@ -137,7 +137,7 @@ fn join_group(
     }
 }
 
-/// The group of what two of one table make together, or none where nothing is left.
+/// Returns the concatenation of two groups of one table, or None if nothing remains.
 fn join_groups(alloc: Global, first: &Group, second: &Group) -> Result<Option<Group>, NoMemory>
     requires agree { key_places second.now.header.flags ≡ key_places first.now.header.flags }
     ensures { IfOk result (λ group. group ≡ joined_group first.now (Some second.now)) }

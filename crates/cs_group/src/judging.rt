@@ -1,23 +1,21 @@
-//! How the changes of a table stand to the table of that name in a database.
+//! Whether a group fits the table of its name.
 ghost use Rattle.std.specs.Prelude.{◌≡◌, option_map};
 ghost use Rattle.cs_group.specs.Judging.{judgement, leads as leads_of};
 
 use crate::columns::is_of_key;
 
-/// How the changes of a table stand to the table of that name.
+/// Whether a group fits the table of its name.
 #[derive(Clone, Copy, Debug, PartialEq, Eq)]
 pub enum Judgement {
-    /// There is no such table, or it has fewer columns, or other ones in the key: the changes are
-    /// passed over.
+    /// There is no such table, or it has fewer columns or another key. The group is skipped.
     Skipped,
-    /// The table has more columns than the changes say.
+    /// The table has more columns than the group.
     Wider,
-    /// The table has the same columns, with the same ones in the key.
+    /// The table has the same number of columns, and the same key.
     Compatible,
 }
 
-/// Judges changes of columns with these flags by the flags of the table of that name, if there is
-/// one. It takes no memory.
+/// Returns whether a group with these flags fits the table of its name, by the flags of that table. It allocates nothing.
 pub fn judge(flags: &[u8], table: Option<&[u8]>) -> Judgement
     ensures { result ≡ judgement flags.now (option_map (λ t. t.now) table.entry) }
 {
@@ -29,7 +27,7 @@ pub fn judge(flags: &[u8], table: Option<&[u8]>) -> Judgement
     }
 }
 
-/// Whether the columns with these flags are the first ones of a table, with the same ones in the key.
+/// Returns whether the first columns of a table have the same key as columns with these flags.
 fn leads(flags: &[u8], table: &[u8]) -> bool
     ensures { result ≡ leads_of flags.now table.now }
 {

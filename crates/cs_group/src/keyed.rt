@@ -1,4 +1,4 @@
-//! The groups of a changeset, found by the names of their tables, and the entries of a group, found by their keys.
+//! The groups of a changeset by the names of their tables, and the entries of a group by their keys.
 ghost use Rattle.std.specs.Prelude.{◌≡◌, ◌↔◌, IfOk, IfSome, IsTrue, is_none, map};
 ghost use Rattle.cs_wire.specs.Changeset.{IsChangeset, IsGroup, IsNewKey, IsNewName};
 ghost use Rattle.cs_wire.specs.Entry.{key_of};
@@ -10,7 +10,7 @@ use indexmap::IndexSet;
 use std::alloc::Global;
 use std::marker::Model;
 
-/// The groups of a changeset, which are found by the names of their tables. Contracts see the groups.
+/// The groups of a changeset, with an index by name. Contracts see the groups.
 #[derive(Debug, Drop)]
 pub(crate) struct NamedGroups<'a> {
     changeset: &'a Changeset,
@@ -31,7 +31,7 @@ impl<'a> Model for NamedGroups<'a> {
 }
 
 impl<'a> NamedGroups<'a> {
-    /// Lists the groups of a changeset, which lie there.
+    /// Indexes the groups of a changeset.
     pub(crate) fn list(alloc: Global, changeset: &'a Changeset) -> Result<NamedGroups<'a>, NoMemory>
         ensures listed { IfOk result (λ named. named ≡ changeset.now) }
         ensures well_formed { IfOk result IsChangeset }
@@ -40,7 +40,7 @@ impl<'a> NamedGroups<'a> {
         Ok(NamedGroups { changeset, names })
     }
 
-    /// The groups, in the order of the file.
+    /// Returns the groups, in the order of the file.
     pub(crate) fn groups(&self) -> &'a [Group]
         ensures same { result.now ≡ self.now }
         ensures well_formed { IsChangeset self.now }
@@ -48,7 +48,7 @@ impl<'a> NamedGroups<'a> {
         self.changeset.groups()
     }
 
-    /// The place of the group of a table, from 0, or None where there is none. It takes no memory.
+    /// Returns the index of the group of a table, zero-based, or None. It allocates nothing.
     pub(crate) fn find(&self, name: &str) -> Option<usize>
         ensures found { IfSome result (IsPlaceOf (λ g. g.header.name ≡ name.now) self.now) }
         ensures absent { IsTrue (is_none result) ↔ IsNewName self.now name.now }
@@ -57,7 +57,7 @@ impl<'a> NamedGroups<'a> {
     }
 }
 
-/// The names of the tables of a changeset, in its order.
+/// Returns the names of the tables of a changeset, in its order.
 fn names_of(alloc: Global, changeset: &Changeset) -> Result<IndexSet<&str>, NoMemory>
     ensures listed { IfOk result (λ names. map (λ name. name.now) names.keys ≡ group_names changeset.now) }
     ensures well_formed { IfOk result (λ _. IsChangeset changeset.now) }
@@ -70,7 +70,7 @@ fn names_of(alloc: Global, changeset: &Changeset) -> Result<IndexSet<&str>, NoMe
     Ok(names)
 }
 
-/// The entries of a group, which are found by their keys, each of which is made once. Contracts see the group.
+/// The entries of a group, with an index by key. Each key is made once. Contracts see the group.
 #[derive(Debug, Drop)]
 pub(crate) struct KeyedGroup<'a> {
     group: &'a Group,
@@ -91,7 +91,7 @@ impl<'a> Model for KeyedGroup<'a> {
 }
 
 impl<'a> KeyedGroup<'a> {
-    /// Lists the entries of a group, which lie there.
+    /// Indexes the entries of a group.
     pub(crate) fn list(alloc: Global, group: &'a Group) -> Result<KeyedGroup<'a>, NoMemory>
         ensures listed { IfOk result (λ keyed. keyed ≡ group.now) }
         ensures well_formed { IfOk result IsGroup }
@@ -100,14 +100,14 @@ impl<'a> KeyedGroup<'a> {
         Ok(KeyedGroup { group, keys })
     }
 
-    /// The group.
+    /// Returns the group.
     pub(crate) fn group(&self) -> &'a Group
         ensures { result.now ≡ self.now }
     {
         self.group
     }
 
-    /// The place of the entry with a key, from 0, or None where there is none. It takes no memory.
+    /// Returns the index of the entry with a key, zero-based, or None. It allocates nothing.
     pub(crate) fn find(&self, key: &Key) -> Option<usize>
         ensures found { IfSome result (IsPlaceOf (λ e. key_of self.now.header.flags e.change ≡ key.now) self.now.entries) }
         ensures absent { IsTrue (is_none result) ↔ IsNewKey self.now.header.flags self.now.entries key.now }
@@ -115,7 +115,7 @@ impl<'a> KeyedGroup<'a> {
         self.keys.get_index_of(key)
     }
 
-    /// Gives the keys back, in the order of the entries, and takes no memory.
+    /// Returns the keys, in the order of the entries. It allocates nothing.
     pub(crate) fn into_keys(self) -> IndexSet<Key>
         ensures { result.keys ≡ group_keys self.entry.header.flags self.entry.entries }
     {
@@ -124,7 +124,7 @@ impl<'a> KeyedGroup<'a> {
     }
 }
 
-/// The keys of the entries of a group, in their order.
+/// Returns the keys of the entries of a group, in their order.
 fn keys_of(alloc: Global, group: &Group) -> Result<IndexSet<Key>, NoMemory>
     ensures listed { IfOk result (λ keys. keys.keys ≡ group_keys group.now.header.flags group.now.entries) }
     ensures well_formed { IfOk result (λ _. IsGroup group.now) }

@@ -1,30 +1,30 @@
-//! What holds of all states and changesets. These functions do nothing: each has a law as its contract,
-//! and a caller states the law where it needs it, by calling it.
+//! Laws of all states and changesets. These functions do nothing. Each has a law as its contract, and a proof uses the law
+//! by calling the function.
 ghost use Rattle.cs_group.specs.Laws.{AppliedOnce, AppliedReverts, WrittenTells, IdleCases, IgnoredStand};
 
-/// A changeset makes one state alone of a state, with the same choices for its conflicts.
+/// A changeset has one result on a state, with the same choices for its conflicts.
 pub fn applied_once_law()
     ensures { AppliedOnce }
 {}
 
-/// Where a changeset met no conflict in a state, whose rows keep the rules of their tables, its inverse meets none
-/// afterwards, and gives the state back.
+/// If a changeset has no conflict on a state, whose rows have NULL only where that is allowed, its inverse has none on the
+/// result, and restores the state.
 pub fn applied_reverts_law()
     ensures { AppliedReverts }
 {}
 
-/// What is told of written keys determines each row that stood there before.
+/// The written keys and their previous rows determine each previous row.
 pub fn written_tells_law()
     ensures { WrittenTells }
 {}
 
-/// Which entries are idle: a delete that finds no row, an insert that finds its row, and an update that finds another
-/// row than it says, which has the new values.
+/// The no-ops are: a delete without a row, an insert whose row exists, and an update of another row that has the new
+/// values.
 pub fn idle_law()
     ensures { IdleCases }
 {}
 
-/// What stands at the key of an entry that is ignored stays there.
+/// An ignored entry leaves the current row unchanged.
 pub fn ignored_law()
     ensures { IgnoredStand }
 {}

@@ -1,5 +1,4 @@
-//! What changesets make together, and of tables: the inverse of a changeset, the join of two, and what one
-//! does to a row.
+//! The inverse of a changeset, the concatenation of two, and what a changeset does to a row.
 //!
 //! ```rust
 //! // An INSERT of ('k', 'x') into the table t, whose first column is its key, and the UPDATE of that
@@ -10,15 +9,13 @@
 //! assert_eq!(rt; write(alloc, &both)?, b"\x54\x02\x01\x00t\x00\x12\x00\x03\x01k\x03\x01y");
 //! ```
 //!
-//! `inverse` makes the changeset that undoes another one, `numbering` the one whose key columns are numbered as
-//! SQLite numbers them, and `joining` one changeset of two: `columns` tells whether that can be, `entries` goes by
-//! the keys of a table, `keyed` finds groups by names and entries by keys, `joined` gathers what comes out, and
-//! `merging` makes one entry of two. `net` has the change from one row to another, `image` what entries say of rows
-//! before and after, and `fault` says why two changesets are not joined.
+//! `inverse` inverts a changeset, `numbering` numbers its key columns as SQLite does, and `joining` concatenates two:
+//! `columns` decides whether their tables agree, `entries` goes through the keys of a table, `keyed` finds groups by name
+//! and entries by key, `joined` collects the result, and `merging` merges two entries. `net` has the change from one row
+//! to another, `image` the rows of entries before and after, and `fault` why two changesets are not concatenated.
 //!
-//! What a changeset does to the tables of a database: `judging` tells which tables it is for, `conflict`
-//! what a change meets at its row and what it leaves there, and `laws` has what holds of all states and
-//! changesets. `CALLING.md`, beside this folder, shows a caller.
+//! For applies, `judging` decides whether a group fits its table, `conflict` has the conflicts of entries and the rows that
+//! they leave, and `laws` what holds of all states and changesets. `CALLING.md`, next to this folder, shows a caller.
 #![tactic(auto)]
 
 mod columns;

@@ -1,4 +1,4 @@
-//! Two entries of one key as one.
+//! Merging two entries of one key.
 ghost use Rattle.std.specs.Prelude.{◌≡◌, ℕ, List, IfOk};
 ghost use Rattle.cs_wire.specs.Entry.{IsEntry, key_of};
 ghost use Rattle.cs_group.specs.Net.{net_change as net_change_of};
@@ -10,25 +10,25 @@ use cs_value::NoMemory;
 use cs_wire::{Change, Entry, EntryRef};
 use std::alloc::Global;
 
-/// What becomes of an entry when a second one of its key comes after it.
+/// The result of merging two entries of one key.
 #[derive(Debug, PartialEq, Eq, Drop)]
 pub enum Merged {
-    /// It stays, and the second is ignored.
+    /// The first is kept, and the second is ignored.
     Keep,
-    /// It becomes the entry of what both do.
+    /// They become this entry.
     Becomes(Entry),
-    /// It is left out: together both do nothing.
+    /// They cancel each other.
     Vanish,
 }
 
-/// Whether an entry finds a row where another leaves one, and none where that leaves none.
+/// Returns whether the second entry expects a row exactly if the first leaves one.
 fn follows(first: &EntryRef<'_>, second: &EntryRef<'_>) -> bool
     ensures { result ≡ follows_of first.now.flags first.now.entry.change second.now.entry.change }
 {
     first.fields_after().is_some() == second.old_fields().is_some()
 }
 
-/// The change from what the row was before the first to what it is after the second.
+/// Returns the change from the row before the first entry to the row after the second.
 fn net_of_both<'a>(
     alloc: Global,
     first: &EntryRef<'a>,
@@ -51,8 +51,7 @@ fn net_of_both<'a>(
     net_change(alloc, first.flags(), before.as_deref(), after.as_deref())
 }
 
-/// What becomes of an entry when a second one of its key comes after it, as [`merge`] says, where they lie. Both are of
-/// one table: their flags mark the same columns as those of the key.
+/// Merges two borrowed entries, as [`merge`] does. Their flags mark the same key columns.
 pub fn merge_refs<'a>(
     alloc: Global,
     first: &EntryRef<'a>,
@@ -63,7 +62,7 @@ pub fn merge_refs<'a>(
     ensures case { IfOk result (λ m. m ≡ merged first.now.flags first.now.entry second.now.entry) }
     ensures fits { IfOk result (λ m. IfBecomes m (FitsKey first.now.flags (key_of first.now.flags first.now.entry.change))) }
 {
-    let (one, other) = (first.is_indirect(), second.is_indirect());
+    let (one, other) = (first.indirect(), second.indirect());
     if !follows(first, second) {
         return Ok(Merged::Keep);
     }
@@ -74,14 +73,14 @@ pub fn merge_refs<'a>(
     })
 }
 
-/// What becomes of an entry when a second one of its key comes after it, as SQLite's
-/// `sqlite3changegroup_add` has it: the first stays where the second does not follow it, that is where
-/// it finds a row and the first leaves none, or the reverse. Else it becomes the change from what the
-/// row was before the first to what it is after the second, indirect only where both are, or vanishes
-/// where that is none.
+/// Merges two entries of one key, as SQLite's `sqlite3changegroup_add` does.
+///
+/// The first is kept if the second does not follow it: it expects a row and the first leaves none, or the reverse. Else
+/// the result is the change from the row before the first to the row after the second, which is indirect if both are.
+/// They cancel each other if that changes nothing.
 ///
 /// Both entries fit the flags ([`cs_wire::Header::admits`]) and have one key
-/// ([`cs_wire::Header::key_of`]). [`NoMemory`] where memory is refused.
+/// ([`cs_wire::Header::key_of`]).
 pub fn merge<'a>(
     alloc: Global,
     flags: &'a [u8],

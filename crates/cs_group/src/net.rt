@@ -14,7 +14,7 @@ use cs_value::{Field, Image, NoMemory, Row};
 use cs_wire::Change;
 use std::alloc::Global;
 
-/// The row of the defined fields.
+/// Returns the row of the defined fields.
 fn row_of(alloc: Global, fields: &[Field<'_>]) -> Result<Row, NoMemory>
     requires { AllByRecursion FieldFits fields.now }
     ensures { IfOk result (λ row. row ≡ values_of (map field_of fields.now)) }
@@ -29,14 +29,14 @@ fn row_of(alloc: Global, fields: &[Field<'_>]) -> Result<Row, NoMemory>
     Ok(Row::new(values))
 }
 
-/// Whether two images are the same.
+/// Returns whether two images are equal.
 fn are_same(before: &[Field<'_>], after: &[Field<'_>]) -> bool
     ensures { result ≡ pointwise is_same (map field_of before.now) (map field_of after.now) }
 {
     before == after
 }
 
-/// The fields of an update's two records in a column with this flag.
+/// Returns the fields of an update's two records in a column with this flag.
 fn update_fields<'a>(flag: u8, before: Field<'a>, after: Field<'a>) -> (Field<'a>, Field<'a>)
     requires { FieldFits before × FieldFits after }
     ensures old { field_of result.0 ≡ by_flag flag
@@ -54,7 +54,7 @@ fn update_fields<'a>(flag: u8, before: Field<'a>, after: Field<'a>) -> (Field<'a
     }
 }
 
-/// The update from one image to another.
+/// Returns the update from one image to another.
 fn update_between(
     alloc: Global,
     flags: &[u8],
@@ -81,12 +81,11 @@ fn update_between(
     })
 }
 
-/// The change that leads from a row to a row, or none where these are the same. Either may be
-/// absent; what is known of it are its fields, one for each flag.
+/// Returns the change from one row to another, or None if they are equal. Each is given by its fields, one for each flag,
+/// or is absent.
 ///
-/// A row that comes to be is an insert, one that is no more a delete. Else the columns outside the
-/// key that differ are an update; the key is that of the row before. [`NoMemory`] where memory is
-/// refused.
+/// A row that appears is an insert, and one that disappears a delete. Else the columns outside the key that differ are an
+/// update, with the key of the row before.
 pub fn net_change(
     alloc: Global,
     flags: &[u8],
@@ -107,10 +106,8 @@ pub fn net_change(
     })
 }
 
-/// The change that leads from a row, or none, to a row, or none; no change where these are the same.
-/// A row has a value for each flag.
-///
-/// As [`net_change`] says it of fields. [`NoMemory`] where memory is refused.
+/// Returns the change from one row to another, or None if they are equal, as [`net_change`] does for fields. Each may be
+/// absent, and has a value for each flag.
 pub fn net_row_change(
     alloc: Global,
     flags: &[u8],
@@ -127,7 +124,7 @@ pub fn net_row_change(
     net_change(alloc, flags, before.as_deref(), after.as_deref())
 }
 
-/// The fields of a row, if there is one.
+/// Returns the fields of a row, if there is one.
 fn fields_of<'a>(alloc: Global, row: Option<&'a Row>) -> Result<Option<Vec<Field<'a>>>, NoMemory>
     ensures same { IfOk result (λ image. image_in image ≡ image_of_row (option_map (λ r. r.now) row.entry)) }
     ensures short { IfOk result (λ image. IfSome image (λ fields. AllByRecursion FieldFits fields.items)) }

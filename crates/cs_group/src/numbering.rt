@@ -10,17 +10,16 @@ use cs_value::NoMemory;
 use cs_wire::{Changeset, Group, Header};
 use std::alloc::Global;
 
-/// The changeset with the flags of key columns numbered in column order: 1 for the first column of the key of its
-/// table, 2 for the second and so on, as SQLite's session extension writes them; 255 stands for each from the
-/// 255th on. It says and does the same, and its file is as long.
+/// Returns the changeset with its key columns numbered in column order, as SQLite's session extension does: 1 for the first
+/// column of the key, 2 for the second, and so on, and 255 from the 255th on. It has the same effect, and its file the same
+/// length.
 ///
-/// SQLite's `sqlite3changeset_apply` passes over a table whose flags are not those numbers, while a changeset may
-/// have any other than 0 at key columns. What SQLite recorded has its numbers already, and they need not be in column
-/// order: it is not to go through this.
+/// SQLite's `sqlite3changeset_apply` skips a table whose flags are not these numbers. Do not call this on a changeset that
+/// SQLite recorded: it has its numbers, and they need not be in column order.
 ///
 /// # Errors
 ///
-/// [`NoMemory`] where memory is refused.
+/// [`NoMemory`] if out of memory.
 pub fn number_keys(alloc: Global, changeset: Changeset) -> Result<Changeset, NoMemory>
     ensures numbered { IfOk result (λ other. other ≡ numbered changeset) }
     ensures well_formed { IfOk result IsChangeset }
@@ -36,7 +35,7 @@ pub fn number_keys(alloc: Global, changeset: Changeset) -> Result<Changeset, NoM
     Ok(numbered)
 }
 
-/// The group under numbered flags.
+/// Returns the group with numbered flags.
 fn number_group(alloc: Global, group: Group) -> Result<Group, NoMemory>
     ensures { IfOk result (λ other. other ≡ numbered_group group) }
 {
@@ -44,7 +43,7 @@ fn number_group(alloc: Global, group: Group) -> Result<Group, NoMemory>
     Group::from_entries(alloc, number_header(alloc, &header)?, entries)
 }
 
-/// The header with numbered flags.
+/// Returns the header with numbered flags.
 fn number_header(alloc: Global, header: &Header) -> Result<Header, NoMemory>
     ensures { IfOk result (λ other. other ≡ numbered_header header.now) }
 {
@@ -52,7 +51,7 @@ fn number_header(alloc: Global, header: &Header) -> Result<Header, NoMemory>
     Ok(Header::new(name, number_flags(alloc, header.flags())?))
 }
 
-/// Flags, those of key columns numbered in column order. It takes as many bytes.
+/// Returns flags with those of key columns numbered in column order.
 pub fn number_flags(alloc: Global, flags: &[u8]) -> Result<Vec<u8>, NoMemory>
     ensures { IfOk result (λ numbers. numbers.items ≡ numbered_flags flags.now) }
 {
@@ -69,7 +68,7 @@ pub fn number_flags(alloc: Global, flags: &[u8]) -> Result<Vec<u8>, NoMemory>
     Ok(numbers)
 }
 
-/// The number of a column of the key behind those up to this one.
+/// Returns the number of the key column after the one with this number.
 fn number_after(last: u8) -> u8
     ensures { result ≡ next_number last }
 {

@@ -175,8 +175,8 @@ command_of (command.Dump slot) = Dump (string_bytes slot)
 command_of (command.Invert from into) = Invert (string_bytes from) (string_bytes into)
 command_of (command.Concat first second into) =
     Concat (string_bytes first) (string_bytes second) (string_bytes into)
-command_of (command.Apply slot on_data on_notfound on_conflict on_constraint noop) =
-    Apply (string_bytes slot) on_data on_notfound on_conflict on_constraint noop
+command_of (command.Apply slot policy noop) =
+    Apply (string_bytes slot) policy.on_data policy.on_notfound policy.on_conflict policy.on_constraint noop
 command_of (command.Revert slot) = Revert (string_bytes slot)
 command_of command.SessionOpen = SessionOpen
 command_of (command.SessionAttach table) = SessionAttach (string_bytes table)

@@ -1,5 +1,5 @@
 //! What lines ask for.
-use cs_group::{Choice, Noop};
+use cs_run::{Noop, Policy};
 use cs_value::OwnedValue;
 
 /// A column and a value: an assignment or a condition.
@@ -68,10 +68,7 @@ pub enum Command {
     /// `report`.
     Apply {
         slot: String,
-        on_data: Choice,
-        on_notfound: Choice,
-        on_conflict: Choice,
-        on_constraint: Choice,
+        policy: Policy,
         noop: Noop,
     },
     /// `.revert slot`: reverts the changeset of the slot.

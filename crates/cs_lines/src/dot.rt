@@ -9,7 +9,7 @@ ghost use Rattle.cs_lines.specs.DotReading.{chosen_in, noop_in, setting_in, sett
 ghost use Rattle.cs_lines.specs.DotReading.{session_in, dot_in};
 
 use crate::command::Command;
-use cs_group::{Choice, Kind, Noop};
+use cs_run::{Choice, Kind, Noop, Policy};
 use cs_tokens::{
     Found, Stop, Token, is_word, misfit_at, next_token, next_word, no_word, one_slot, slot, text,
 };
@@ -138,10 +138,12 @@ fn apply(alloc: Global, line: &[u8]) -> Result<Command, Stop>
     let settings = read_settings(rest)?;
     Ok(Command::Apply {
         slot,
-        on_data: settings.on_data.unwrap_or(Choice::Abort),
-        on_notfound: settings.on_notfound.unwrap_or(Choice::Abort),
-        on_conflict: settings.on_conflict.unwrap_or(Choice::Abort),
-        on_constraint: settings.on_constraint.unwrap_or(Choice::Abort),
+        policy: Policy {
+            on_data: settings.on_data.unwrap_or(Choice::Abort),
+            on_notfound: settings.on_notfound.unwrap_or(Choice::Abort),
+            on_conflict: settings.on_conflict.unwrap_or(Choice::Abort),
+            on_constraint: settings.on_constraint.unwrap_or(Choice::Abort),
+        },
         noop: settings.noop.unwrap_or(Noop::Report),
     })
 }

@@ -9,7 +9,6 @@ ghost use Rattle.cs_machine.specs.Turns.{AreSame, Known, Stands, TurnsBetween, W
 
 use crate::workspace::Workspace;
 use crate::{applying, changesets, sessions, statements};
-use cs_apply::Policy;
 use cs_lines::{Command, parse_line};
 use cs_replies::{Refusal, Reply};
 use cs_store::Store;
@@ -93,28 +92,9 @@ fn run_command<S: Alter>(
             second.as_bytes(),
             into.as_bytes(),
         ),
-        Command::Apply {
-            slot,
-            on_data,
-            on_notfound,
-            on_conflict,
-            on_constraint,
-            noop,
-        } => {
-            let policy = Policy {
-                on_data,
-                on_notfound,
-                on_conflict,
-                on_constraint,
-            };
-            applying::apply_file(
-                alloc,
-                store,
-                session,
-                slots.get(slot.as_bytes())?,
-                &policy,
-                noop,
-            )
+        Command::Apply { slot, policy, noop } => {
+            let file = slots.get(slot.as_bytes())?;
+            applying::apply_file(alloc, store, session, file, &policy, noop)
         }
         Command::Revert { slot } => {
             applying::revert_file(alloc, store, session, slots.get(slot.as_bytes())?)

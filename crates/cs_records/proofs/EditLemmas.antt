@@ -240,5 +240,8 @@ edit_sets db after tab key here holds same sound frozen edit =
         indexes = λ index has. subst (λ (s : Schema). Has s.indexes index) (sym same) has;
         views = ap (λ (s : Schema). s.views) same;
         frozen = by_one db after frozen;
+        no_table = λ table has. inl (subst (λ (s : Schema). Has s.tables table) same has);
+        no_index = λ index has. inl (subst (λ (s : Schema). Has s.indexes index) same has);
+        same = λ declares. same;
       };
     }

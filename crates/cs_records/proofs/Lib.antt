@@ -2,6 +2,7 @@ pub mod AddLemmas
 pub mod AnswerLemmas
 pub mod ContentLemmas
 pub mod EditLemmas
+pub mod Examples
 pub mod FoundRows
 pub mod ListedRows
 pub mod OrderLemmas

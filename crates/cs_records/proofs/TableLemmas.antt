@@ -1,5 +1,5 @@
 -- What CREATE TABLE makes where nothing has the name of the table of records.
-use Rattle.std.proofs.Common.{◌≡◌, ◌⊎◌, ◌||◌, inl, inr, ℕ, List, [], ◌∷◌, ◌++◌, Bool, true, false, is_some, Option, Some, None, slice_get, Result, Ok, Err, IsTrue, length, refl, sym, ap, subst, ◌∙◌, arith}
+use Rattle.std.proofs.Common.{◌≡◌, ◌⊎◌, ◌||◌, inl, inr, ℕ, ◌+◌, codes, List, [], ◌∷◌, ◌++◌, Bool, true, false, is_some, Option, Some, None, slice_get, Result, Ok, Err, IsTrue, length, refl, sym, ap, subst, ◌∙◌, arith}
 use Rattle.std.proofs.lemmas.Bool.{or_parts, true≢false}
 use Rattle.sqlite_value.specs.Order.{Row}
 use Rattle.sqlite_schema.specs.declared.schema.Table.{Table}
@@ -11,14 +11,16 @@ use Rattle.sqlite_rules.specs.Lists.{Has}
 use Rattle.sqlite_rules.proofs.ListLemmas.{all_has, has_left, has_either, has_got}
 use Rattle.sqlite_resolve.specs.Compile.{first, table_defined_by}
 use Rattle.sqlite_resolve.specs.declared.error.CompileError.{CompileError}
+use Rattle.sqlite_catalog.specs.Change.{is_used, next_tree, automatics}
 use Rattle.sqlite_catalog.specs.Calls.{CreatesTable}
 use Rattle.sqlite_catalog.proofs.ListFacts.{none_placed}
+use Rattle.sqlite_catalog.proofs.StepLemmas.{table_below}
 use Rattle.sqlite_tied.specs.Compute.{everything}
 use Rattle.sqlite.specs.Effect.{Database}
 use Rattle.sqlite.specs.Does.{Tally, lacks_sequence, sequence_text, MakesSequence}
 use Rattle.sqlite.specs.State.{State, HasCleanDisk, Survives, Writes, Executes, CommitsBy}
 use Rattle.sqlite.proofs.Callers.{statement_of, runs_as}
-use Rattle.cs_records.specs.Records.{records_table, records_tree, record_rows, table_name, LacksRecords, IsDeclaredOtherwise, DeclaresRecords, HoldsRecords, AreNumbered, Adds, Makes, KeepsOthers, by_one, GoesOn, KeepsCrash}
+use Rattle.cs_records.specs.Records.{records_table, records_tree, record_rows, table_name, LacksRecords, IsDeclaredOtherwise, DeclaresRecords, HoldsRecords, AreNumbered, Adds, Makes, KeepsOthers, MayBeAdded, IsApartFrom, by_one, GoesOn, KeepsCrash}
 use Rattle.cs_records.specs.Statements.{create_text, Creates}
 use Rattle.cs_records.proofs.QueryTexts.{understood_is, plainly, commands}
 use Rattle.cs_records.proofs.StatementLemmas.{went, same_value, inside_keeps_crash, write_goes_on}
@@ -36,7 +38,7 @@ writes old new count makes h =
 
 -- a table that is made is added
 adds : (text : List ℕ) (old new : Database) → CreatesTable old.schema text old.trees new.schema new.trees → Adds text old new
-adds text old new made = record { table = made.table; defined = made.defined; schema = made.is; empty = made.empty; others = made.others }
+adds text old new made = record { table = made.table; defined = made.defined; free = made.free; schema = made.is; empty = made.empty; others = made.others }
 
 -- and one in which SQL counts, where a table wants it and there is none
 counted : (first new : Database) (lacks : Bool) → lacks_sequence first.schema ≡ lacks → MakesSequence first (Ok new) → (new ≡ first) ⊎ Adds sequence_text first new
@@ -72,6 +74,35 @@ make_keeps_crash old new creates = inside_keeps_crash create_text [] old new (λ
   releases = λ name same. absurd (cc);
 })
 
+-- ---- what the texts define
+
+-- the name of the table that a text defines
+abbrev name_of : Result Table CompileError → List ℕ
+name_of (Ok table) = table.name
+name_of (Err e) = []
+
+create_name : (table : Table) → table_defined_by create_text ≡ Ok table → table.name ≡ table_name
+unfolding table_defined_by first everything
+create_name table defined = sym (ap name_of defined)
+
+sequence_name : (table : Table) → table_defined_by sequence_text ≡ Ok table → table.name ≡ codes "sqlite_sequence"
+unfolding table_defined_by first everything
+sequence_name table defined = sym (ap name_of defined)
+
+-- each is one that may be added
+create_may : (table : Table) → table_defined_by create_text ≡ Ok table → MayBeAdded table.name
+unfolding same_name
+create_may table defined = inl (rw (create_name table defined) refl)
+
+sequence_may : (table : Table) → table_defined_by sequence_text ≡ Ok table → MayBeAdded table.name
+sequence_may table defined = inr (sequence_name table defined)
+
+-- an index that is made for the keys of a table is on it
+made_on : (table : Table) (keys : List (List ℕ)) (at tree : ℕ) (index : Index) → Has (automatics table at tree keys) index → index.table ≡ table.tree
+made_on table [] at tree index has = absurd has
+made_on table (key ∷ keys) at tree index (inl same) = ap (λ (i : Index). i.table) same
+made_on table (key ∷ keys) at tree index (inr later) = made_on table keys (at + 1) (tree + 1) index later
+
 -- ---- all else stays
 
 module _ (text : List ℕ) (old new : Database) (added : Adds text old new) where
@@ -86,36 +117,28 @@ module _ (text : List ℕ) (old new : Database) (added : Adds text old new) wher
   index_stays : (index : Index) → Has old.schema.indexes index → Has new.schema.indexes index
   index_stays index has = subst (λ (s : Schema). Has s.indexes index) (sym added.schema) (has_left old.schema.indexes _ index has)
 
-pub made_keeps : (old new : Database) → Makes old new → KeepsOthers old new
-made_keeps old new made = elim made.counts [
-  | inl same ↦ record {
-    tables = λ table has other. subst (λ (d : Database). Has d.schema.tables table × (d.trees table.tree ≡ old.trees table.tree)) (sym same) (table_stays create_text old made.first made.adds table has);
-    indexes = λ index has. subst (λ (d : Database). Has d.schema.indexes index) (sym same) (index_stays create_text old made.first made.adds index has);
-    views = ap (λ (d : Database). d.schema.views) same ∙ ap (λ (s : Schema). s.views) made.adds.schema;
-    frozen = by_one old new made.frozen;
-  }
-  | inr more ↦ record {
-    tables = λ table has other.
-        let one = table_stays create_text old made.first made.adds table has in
-        let two = table_stays sequence_text made.first new more table one.0 in
-        (two.0, two.1 ∙ one.1);
-    indexes = λ index has. index_stays sequence_text made.first new more index (index_stays create_text old made.first made.adds index has);
-    views = ap (λ (s : Schema). s.views) more.schema ∙ ap (λ (s : Schema). s.views) made.adds.schema;
-    frozen = by_one old new made.frozen;
-  }
-]
+  -- each table was there, or is the one that the text defines
+  table_was : (may : MayBeAdded added.table.name) (table : Table) → Has new.schema.tables table → Has old.schema.tables table ⊎ MayBeAdded table.name
+  table_was may table has = elim (has_either old.schema.tables _ table (subst (λ (s : Schema). Has s.tables table) added.schema has)) [
+    | inl there ↦ inl there
+    | inr here ↦ elim here [ inl same ↦ inr (subst MayBeAdded (sym (ap (λ (t : Table). t.name) same)) may) | inr nothing ↦ absurd nothing ]
+  ]
+
+  -- each index was there, or is on no table that was
+  index_was : (index : Index) → Has new.schema.indexes index → Has old.schema.indexes index ⊎ IsApartFrom old.schema index
+  index_was index has = elim (has_either old.schema.indexes _ index (subst (λ (s : Schema). Has s.indexes index) added.schema has)) [
+    | inl there ↦ inl there
+    | inr here ↦ inr (λ table listed other same.
+        let on : index.table ≡ next_tree old.schema = made_on (record added.table { tree = next_tree old.schema }) added.table.uniques 0 (next_tree old.schema + 1) index here in
+        let below = table_below old.schema table listed in
+        absurd (omega arith))
+  ]
 
 -- ---- the table has no row
 
--- the name of the table that a text defines
-abbrev name_of : Result Table CompileError → List ℕ
-name_of (Ok table) = table.name
-name_of (Err e) = []
-
 -- the table in which SQL counts has another name
 other_name : (table : Table) → table_defined_by sequence_text ≡ Ok table → table_name ≡ table.name → ⊥
-unfolding table_defined_by first everything
-other_name table defined same = absurd (let e : 3 ≡ 15 = ap length (same ∙ sym (ap name_of defined)) in omega arith)
+other_name table defined same = absurd (let e : 3 ≡ 15 = ap length (same ∙ sequence_name table defined) in omega arith)
 
 -- where no table has its name, it is not listed
 nothing_there : (o : Option ℕ) → is_some o ≡ false → o ≡ None
@@ -133,6 +156,42 @@ unlisted schema table lacks is has =
 -- a schema that declares the table does not lack it
 pub not_lacking : (schema : Schema) → LacksRecords schema → DeclaresRecords schema → ⊥
 not_lacking schema lacks declares = unlisted schema _ lacks refl (has_got schema.tables declares.place _ declares.table)
+
+-- one that is made was not declared
+undeclared : (old new : Database) → Adds create_text old new → {X : Type 0} → DeclaresRecords old.schema → X
+undeclared old new added declares = absurd (not_lacking old.schema (subst (λ (name : List ℕ). is_used old.schema name ≡ false) (create_name added.table added.defined) added.free) declares)
+
+-- all else stays
+pub made_keeps : (old new : Database) → Makes old new → KeepsOthers old new
+made_keeps old new made = elim made.counts [
+  | inl same ↦ record {
+    tables = λ table has other. subst (λ (d : Database). Has d.schema.tables table × (d.trees table.tree ≡ old.trees table.tree)) (sym same) (table_stays create_text old made.first made.adds table has);
+    indexes = λ index has. subst (λ (d : Database). Has d.schema.indexes index) (sym same) (index_stays create_text old made.first made.adds index has);
+    views = ap (λ (d : Database). d.schema.views) same ∙ ap (λ (s : Schema). s.views) made.adds.schema;
+    frozen = by_one old new made.frozen;
+    no_table = λ table has. table_was create_text old made.first made.adds (create_may made.adds.table made.adds.defined) table (subst (λ (d : Database). Has d.schema.tables table) same has);
+    no_index = λ index has. index_was create_text old made.first made.adds index (subst (λ (d : Database). Has d.schema.indexes index) same has);
+    same = undeclared old made.first made.adds;
+  }
+  | inr more ↦ record {
+    tables = λ table has other.
+        let one = table_stays create_text old made.first made.adds table has in
+        let two = table_stays sequence_text made.first new more table one.0 in
+        (two.0, two.1 ∙ one.1);
+    indexes = λ index has. index_stays sequence_text made.first new more index (index_stays create_text old made.first made.adds index has);
+    views = ap (λ (s : Schema). s.views) more.schema ∙ ap (λ (s : Schema). s.views) made.adds.schema;
+    frozen = by_one old new made.frozen;
+    no_table = λ table has. elim (table_was sequence_text made.first new more (sequence_may more.table more.defined) table has) [
+      | inl there ↦ table_was create_text old made.first made.adds (create_may made.adds.table made.adds.defined) table there
+      | inr may ↦ inr may
+    ];
+    no_index = λ index has. elim (index_was sequence_text made.first new more index has) [
+      | inl there ↦ index_was create_text old made.first made.adds index there
+      | inr apart ↦ inr (λ table listed other. apart table (table_stays create_text old made.first made.adds table listed).0 other)
+    ];
+    same = undeclared old made.first made.adds;
+  }
+]
 
 -- what is declared otherwise is not that table, and does not lack its name
 pub not_declared : (schema : Schema) → IsDeclaredOtherwise schema → DeclaresRecords schema → ⊥

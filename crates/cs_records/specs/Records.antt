@@ -168,10 +168,11 @@ pub record ListsTable (records : Records) (tab : List ℕ) (listed : List (List 
 
 -- ---- what statements do
 
--- a table that the text defines is added, without a row
+-- a table that the text defines, and whose name nothing has, is added, without a row
 pub record Adds (text : List ℕ) (old new : Database) : Type 0 where
   pub table : Table
   pub defined : table_defined_by text ≡ Ok table
+  pub free : is_used old.schema table.name ≡ false
   pub schema : new.schema ≡ created old.schema table
   pub empty : new.trees (next_tree old.schema) ≡ []
   pub others : KeepsRows old.schema.tables old.trees new.trees
@@ -181,14 +182,30 @@ pub data IsSpared : Database → Database → Type 0 where
   by_one : (old new : Database) → SparesFrozen old new → IsSpared old new
   by_each : (old mid new : Database) → IsSpared old mid → IsDatabase mid → IsSpared mid new → IsSpared old new
 
--- each other table, each index and each view is declared as it was, each other table has its rows, and so has what SQL
--- does not understand
+-- the table is another one than that of records
+abbrev pub IsOther : Table → Type 0
+IsOther table = same_name table.name table_name ≡ false
+
+-- the name of a table that may be added: that of records, or the one in which SQL counts
+abbrev pub MayBeAdded : List ℕ → Type 0
+MayBeAdded name = IsTrue (same_name name table_name) ⊎ (name ≡ codes "sqlite_sequence")
+
+-- the index is on no other table of the schema
+abbrev pub IsApartFrom : Schema → Index → Type 0
+IsApartFrom schema index = (table : Table) → Has schema.tables table → IsOther table → index.table ≢ table.tree
+
+-- Each other table, each index and each view is declared as it was, each other table has its rows, and so has what SQL does
+-- not understand. Nothing is added but the tables of records and of counts, with indexes of their own; and nothing at all
+-- if the table of records was declared.
 pub record KeepsOthers (old new : Database) : Type 0 where
-  pub tables : (table : Table) → Has old.schema.tables table → same_name table.name table_name ≡ false
+  pub tables : (table : Table) → Has old.schema.tables table → IsOther table
       → Has new.schema.tables table × (new.trees table.tree ≡ old.trees table.tree)
   pub indexes : (index : Index) → Has old.schema.indexes index → Has new.schema.indexes index
   pub views : new.schema.views ≡ old.schema.views
   pub frozen : IsSpared old new
+  pub no_table : (table : Table) → Has new.schema.tables table → Has old.schema.tables table ⊎ MayBeAdded table.name
+  pub no_index : (index : Index) → Has new.schema.indexes index → Has old.schema.indexes index ⊎ IsApartFrom old.schema index
+  pub same : DeclaresRecords old.schema → new.schema ≡ old.schema
 
 -- a table is added that the text for the table of records defines, and may be the one in which SQL counts
 pub record Makes (old new : Database) : Type 0 where

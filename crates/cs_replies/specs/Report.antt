@@ -1,21 +1,12 @@
 -- The text of what an apply did, which is this project's own.
 use Rattle.std.specs.Prelude.{ℕ, zero, suc, List, [], ◌++◌, length, map, codes, decimal, string_bytes}
 use Rattle.std.specs.List.{flat_map}
-use Rattle.cs_group.specs.declared.conflict.Kind.{Kind}
-use Rattle.cs_group.specs.declared.conflict.Kind.TheVariants as kind
+use Rattle.cs_group.specs.Conflicts.{kind_number}
 use Rattle.cs_group.specs.Applying.{MetData}
 use Rattle.cs_run.specs.declared.report.Report.{Report}
 use Rattle.cs_run.specs.Report.{met_of}
 use Rattle.cs_value.specs.Quoting.{quoted}
 use Rattle.cs_lines.specs.Commands.{kind_text, choice_text}
-
--- the numbers are SQLite's: SQLITE_CHANGESET_DATA, SQLITE_CHANGESET_NOTFOUND, SQLITE_CHANGESET_CONFLICT and
--- SQLITE_CHANGESET_CONSTRAINT
-abbrev pub kind_number : Kind → ℕ
-kind_number kind.Data = 1
-kind_number kind.NotFound = 2
-kind_number kind.Conflict = 3
-kind_number kind.Constraint = 4
 
 -- a table that was passed over; 17 is SQLite's SQLITE_SCHEMA
 unfoldable pub skip_text : List ℕ → List ℕ

@@ -4,25 +4,12 @@ ghost use Rattle.std.specs.List.{flat_map};
 ghost use Rattle.cs_run.specs.Report.{met_of};
 ghost use Rattle.cs_files.specs.Calls.{Writes};
 ghost use Rattle.cs_files.specs.Gathering.{Gathers};
-ghost use Rattle.cs_replies.specs.Report.{kind_number as number_of};
 ghost use Rattle.cs_replies.specs.Report.{skip_text, met_text, counted_text, ignored_text, count_text, report_of};
 
-use cs_apply::{Kind, Met, Report};
+use cs_apply::{Met, Report};
 use cs_files::{Gather, OutputFault, Piece, Told, add_pieces};
 use cs_lines::{choice_name, kind_name};
 use std::io::Write;
-
-/// The number of a kind of conflict, which is SQLite's.
-fn kind_number(kind: Kind) -> usize
-    ensures { result ≡ number_of kind }
-{
-    match kind {
-        Kind::Data => 1,
-        Kind::NotFound => 2,
-        Kind::Conflict => 3,
-        Kind::Constraint => 4,
-    }
-}
 
 /// Adds the line of a table that was passed over.
 #[tactic(auto, unfolding(crate::specs::Report::skip_text))]
@@ -70,7 +57,7 @@ fn add_met<W: Write>(gather: &mut Gather, out: &mut Told<W>, met: &Met) -> Resul
         out,
         &[
             Piece::Bytes(b"conflict "),
-            Piece::Number(kind_number(conflict.kind)),
+            Piece::Number(usize::from(conflict.kind.number())),
             Piece::Bytes(b" "),
             Piece::Bytes(kind_name(conflict.kind).as_bytes()),
             Piece::Bytes(b" "),

@@ -82,7 +82,7 @@ pub(crate) fn apply_entry<B: Rows, H: Fn(&Conflict) -> Choice>(
         name,
         entry,
         current.as_ref(),
-        is_refused(entry, refuses),
+        refuses,
         noop,
         handler,
         conflicts,
@@ -101,26 +101,28 @@ pub(crate) fn apply_entry<B: Rows, H: Fn(&Conflict) -> Choice>(
     }
 }
 
-/// Decides about an entry, which its table refuses or accepts. Reports a conflict and the choice, unless the run ends
-/// there or the entry is ignored.
+/// Decides about an entry of a table whose columns with these marks refuse NULL. Reports a conflict and the choice, unless
+/// the run ends there or the entry is ignored.
 fn settle<H: Fn(&Conflict) -> Choice>(
     alloc: Global,
     table: &str,
     entry: &EntryRef<'_>,
     current: Option<&Row>,
-    is_refused: bool,
+    refuses: &[bool],
     noop: Noop,
     handler: &H,
     conflicts: &mut Vec<Met>,
 ) -> Result<Settled, NoMemory>
     requires callable { H.IsAlwaysCallable handler.now }
     ensures ignored { IfOk result (λ settled. is_left_out settled
-        ≡ is_ignored noop is_refused entry.now.flags entry.now.entry.change (option_map (λ r. r.now) current.entry)) }
-    ensures settles { IfOk result (SettlesAs (FnReturnsAt H.Fn handler.now) is_refused
+        ≡ is_ignored noop (breaks_rule refuses.now entry.now.flags entry.now.entry.change) entry.now.flags
+        entry.now.entry.change (option_map (λ r. r.now) current.entry)) }
+    ensures settles { IfOk result (SettlesAs (FnReturnsAt H.Fn handler.now)
+        (breaks_rule refuses.now entry.now.flags entry.now.entry.change)
         (placed_in_table table.now entry.now) (option_map (λ r. r.now) current.entry) conflicts.old.items
         conflicts.new.items) }
 {
-    let kind = match conflict_kind(entry, current, is_refused) {
+    let kind = match conflict_kind(entry, current, refuses) {
         None => return Ok(Settled::Carried),
         Some(kind) => kind,
     };
@@ -128,7 +130,7 @@ fn settle<H: Fn(&Conflict) -> Choice>(
         return Ok(Settled::Ignored);
     }
     let settled = ask(alloc, kind, table, entry, current, handler, conflicts)?;
-    if is_refused && settled.is_carried() {
+    if is_refused(entry, refuses) && settled.is_carried() {
         let kind = Kind::Constraint;
         return ask(alloc, kind, table, entry, current, handler, conflicts);
     }

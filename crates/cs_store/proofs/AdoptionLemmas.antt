@@ -13,13 +13,14 @@ use Rattle.sqlite_wal.specs.Recovery.{Image}
 use Rattle.cs_rows.specs.declared.fault.StoreError.{StoreError}
 use Rattle.cs_rows.specs.declared.fault.StoreError.TheVariants.{DamagedStore}
 use Rattle.cs_rows.specs.Faults.{IsResource}
-use Rattle.cs_records.specs.Records.{RecordData, record_of, HoldsRecords, AreNumbered, Pass, ListsTable, Sets, GoesOn, KeepsCrash, changed, records_of, records_in, record_rows, DeclaresRecords, LacksRecords, KeepsOthers}
+use Rattle.cs_records.specs.Records.{RecordData, record_of, HoldsRecords, AreNumbered, Pass, ListsTable, Sets, GoesOn, KeepsContent, KeepsCrash, changed, records_of, records_in, record_rows, DeclaresRecords, LacksRecords, KeepsOthers}
 use Rattle.cs_records.proofs.TableLemmas.{not_lacking, not_declared, otherwise_used}
 use Rattle.cs_records.proofs.ContentLemmas.{crash_then, others_then, others_itself}
 use Rattle.cs_stored.specs.Stored.{version, stored_under, StoresIn}
 use Rattle.cs_stored.specs.Valid.{AreValid, AreDeclared, IsGoodRow, Schemas}
 use Rattle.sqlite_trees.specs.View.{doubt}
-use Rattle.cs_store.specs.Store.{HoldsState, HoldsNone, HoldsTables, IsDamaged, Adopts, OpensFiles, SetsUp, MemoryIsHonest, tables_in}
+use Rattle.cs_store.specs.Store.{HoldsState, HoldsNone, HoldsTables, IsDamaged, Adopts, SetsUp, MemoryIsHonest, tables_in}
+use Rattle.cs_store.specs.Opening.{IsFoundIn, OpensFiles, RefusesFound}
 use Rattle.cs_store.specs.Crash.{MayLeave}
 use Rattle.cs_store.specs.Laws.{was_clean}
 use Rattle.cs_stored.specs.declared.version.Version.{Version}
@@ -195,15 +196,31 @@ nothing_damaged db e nothing (inr resource) = resource
 
 -- ---- files
 
--- a store over files that were opened has the tables that they held
+-- a database over files that were opened is the one that they held
+found_in : (image : Image) (found : State) → FindsIn image found → Opens found → IsLive found → IsTrue found.is_open → IsFoundIn image found.now
+found_in image found finds opens live is_open = record {
+  sound = (live is_open).0;
+  holds = λ trees holds. ap (λ (db : Database). db.trees) opens.clean ∙ finds.holds trees holds;
+  reads = subst (λ (db : Database). AreFoundIn image db.trees) (sym opens.clean) finds.reads;
+}
+
+-- so a store over it has the tables that they held
 pub opens_files : (image : Image) (found new : State) → FindsIn image found → Opens found → IsLive found → Adopts found new → OpensFiles image new
 opens_files image found new finds opens live adopts = record {
   db = found.now;
-  sound = (live adopts.was_open).0;
-  found = λ trees holds. ap (λ (db : Database). db.trees) opens.clean ∙ finds.holds trees holds;
-  reads = subst (λ (db : Database). AreFoundIn image db.trees) (sym opens.clean) finds.reads;
+  found = found_in image found finds opens live adopts.was_open;
   holds = adopts.holds;
   held = adopts.held;
   others = adopts.others;
   at_rest = adopts.at_rest;
+}
+
+-- and one that is refused shows what they held
+pub refuses_found : (image : Image) (found shown : State) (e : StoreError) → FindsIn image found → Opens found → IsLive found → ((e ≡ DamagedStore) × IsDamaged found.now) ⊎ IsResource e
+    → KeepsContent found shown → RefusesFound image e shown
+refuses_found image found shown e finds opens live why kept = record {
+  db = found.now;
+  found = found_in image found finds opens live opens.is_open;
+  why = why;
+  kept = kept.now;
 }

@@ -1,5 +1,8 @@
 -- What a crash left of a store is adopted with its tables.
-use Rattle.std.proofs.Common.{◌≡◌, ◌⊎◌, inl, inr, refl, sym, subst, ◌∙◌}
+use Rattle.std.proofs.Common.{◌≡◌, ◌⊎◌, inl, inr, IsTrue, refl, sym, subst, ◌∙◌}
+use Rattle.std.proofs.Math.Logic.{∥∥₁_elim, ∥∥₁_map}
+use Rattle.std.specs.Coded.{Coded-set}
+use Rattle.sqlite_disk.specs.declared.Disk.{Ghosts}
 use Rattle.sqlite_schema.specs.declared.schema.Schema.{Schema}
 use Rattle.sqlite_catalog.specs.Listing.{IsSound as IsSoundIn}
 use Rattle.sqlite_catalog.proofs.ReadLemmas.{reads, read_once}
@@ -8,15 +11,20 @@ use Rattle.sqlite_trees.specs.Objects.{catalog_tree}
 use Rattle.sqlite_wal.specs.Recovery.{Image}
 use Rattle.sqlite.specs.Effect.{Database}
 use Rattle.sqlite.specs.Files.{HoldsDatabase}
-use Rattle.sqlite.specs.State.{State}
+use Rattle.sqlite.specs.State.{State, HasCleanDisk}
+use Rattle.sqlite.specs.Held.{AreDatabases}
+use Rattle.sqlite.proofs.Theorems.{opens_again}
+use Rattle.sqlite_store.specs.declared.store.FileStore.{FileStore}
+use Rattle.sqlite_store.specs.FileStore.{state as files_state, view, recovers}
 use Rattle.cs_value.specs.State as tables
 use Rattle.cs_rows.specs.declared.fault.StoreError.{StoreError}
 use Rattle.cs_rows.specs.declared.fault.StoreError.TheVariants.{DamagedStore}
 use Rattle.cs_rows.specs.Faults.{IsResource}
 use Rattle.cs_records.specs.Records.{HoldsRecords, records_in}
 use Rattle.cs_stored.specs.Stored.{version, Stores}
-use Rattle.cs_store.specs.Store.{HoldsTables, IsDamaged, Adopts, OpensFiles, tables_in}
-use Rattle.cs_store.specs.Crash.{MayLeave, IsLeftOf}
+use Rattle.cs_store.specs.Store.{HoldsTables, IsDamaged, Adopts, tables_in}
+use Rattle.cs_store.specs.Opening.{IsFoundIn, OpensFiles, RefusesFound}
+use Rattle.cs_store.specs.Crash.{MayLeave, LeavesOnly, IsLeftIn, IsLeftOf}
 use Rattle.cs_store.proofs.AdoptionLemmas.{nothing_held, vacant_holds, damaged_none}
 use Rattle.cs_stored.proofs.StateOf.{stored_once}
 
@@ -65,9 +73,26 @@ pub left_refused : (held : tables.State) (db : Database) (e : StoreError) → Is
     → ((e ≡ DamagedStore) × IsDamaged db) ⊎ IsResource e → IsResource e
 left_refused held db e is = held_refused held db e (left_holds held db is)
 
--- and files that hold it are opened with them
-pub left_opens : (held : tables.State) (trees : Trees) (image : Image) (new : State) → HoldsDatabase image trees → MayLeave (λ left. left ≡ held) trees → OpensFiles image new
-    → tables_in new.now ≡ held
-left_opens held trees image new holds left opens =
-    let same = opens.found trees holds in
-    holds_once opens.db (tables_in new.now) held opens.held (left_holds held opens.db (record { sound = opens.sound; left = subst (MayLeave (λ left. left ≡ held)) (sym same) left }))
+-- a database that files held is what was left in them
+found_left : (held : tables.State) (trees : Trees) (image : Image) (db : Database) → HoldsDatabase image trees → MayLeave (λ left. left ≡ held) trees → IsFoundIn image db → IsLeftOf held db
+found_left held trees image db holds left found = record { sound = found.sound; left = subst (MayLeave (λ left. left ≡ held)) (sym (found.holds trees holds)) left }
+
+-- so files that hold it are opened with its tables
+pub left_opens : (held : tables.State) (image : Image) (new : State) → IsLeftIn held image → OpensFiles image new → tables_in new.now ≡ held
+left_opens held image new left opens = ∥∥₁_elim left (Coded-set tables.state_code _ _) (λ it.
+    holds_once opens.db (tables_in new.now) held opens.held (left_holds held opens.db (found_left held it.0 image opens.db it.1 it.2 opens.found)))
+
+-- or refused for memory or by the database
+pub left_refuses : (held : tables.State) (image : Image) (e : StoreError) (shown : State) → IsLeftIn held image → RefusesFound image e shown → IsResource e
+left_refuses held image e shown left refuses = elim refuses.why [
+  | inl damaged ↦ absurd (∥∥₁_elim left (λ x y. absurd x) (λ it. damaged_none refuses.db damaged.1 held (left_holds held refuses.db (found_left held it.0 image refuses.db it.1 it.2 refuses.found))))
+  | inr resource ↦ resource
+]
+
+-- ---- files that a crash leaves
+
+-- they hold the store, if a crash leaves nothing else of it
+pub left_in : {D : Type 0} {g : Ghosts D} (held : tables.State) (s : State) (it : FileStore D g) → HasCleanDisk s → LeavesOnly (λ left. left ≡ held) s → ((trees : Trees) → recovers it trees → s.may_leave trees)
+    → IsTrue (view it).is_numbered → AreDatabases (recovers it) → (image : Image) → (files_state it).may_leave image → IsLeftIn held image
+left_in held s it clean leaves quiet numbered sound image may =
+    ∥∥₁_map (opens_again it numbered sound image may) (λ found. (found.0, found.2, leaves clean found.0 (quiet found.0 found.1)))

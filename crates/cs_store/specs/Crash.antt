@@ -4,6 +4,8 @@ use Rattle.sqlite_schema.specs.declared.schema.Schema.{Schema}
 use Rattle.sqlite_trees.specs.Tree.{Trees}
 use Rattle.sqlite.specs.Effect.{Database, IsDatabase}
 use Rattle.sqlite.specs.State.{State, HasCleanDisk, Survives}
+use Rattle.sqlite.specs.Files.{HoldsDatabase}
+use Rattle.sqlite_wal.specs.Recovery.{Image}
 use Rattle.cs_value.specs.State as tables
 use Rattle.cs_records.specs.Records.{KeepsCrash}
 use Rattle.cs_store.specs.Store.{HoldsState, HoldsTables, tables_in}
@@ -44,3 +46,7 @@ pub record LeavesTakenOver (old new : State) : Type 0 where
 pub record IsLeftOf (held : tables.State) (db : Database) : Type 0 where
   pub sound : IsDatabase db
   pub left : MayLeave (λ left. left ≡ held) db.trees
+
+-- the contents of files hold a database that is what a crash left of these tables
+abbrev pub IsLeftIn : tables.State → Image → Type 0
+IsLeftIn held image = ∥ ((trees : Trees) × HoldsDatabase image trees × MayLeave (λ left. left ≡ held) trees) ∥₁

@@ -9,12 +9,10 @@ use Rattle.cs_value.specs.declared.value.OwnedValue.{OwnedValue}
 use Rattle.cs_value.specs.Spelling.{row_bytes}
 use Rattle.cs_value.specs.State as tables
 use Rattle.sqlite_trees.specs.Tree.{Trees}
-use Rattle.sqlite_wal.specs.Recovery.{Image}
 use Rattle.sqlite_trees.specs.declared.memory.MemStore.{MemStore}
 use Rattle.sqlite.specs.Effect.{Database, IsDatabase}
 use Rattle.sqlite.specs.Held.{Held, state}
 use Rattle.sqlite.specs.Steps.{over_memory}
-use Rattle.sqlite.specs.Files.{HoldsDatabase, AreFoundIn}
 use Rattle.sqlite.specs.State.{State, HasCleanDisk, Shows, KeepsCommit}
 use Rattle.cs_rows.specs.declared.fault.StoreError.{StoreError}
 use Rattle.cs_rows.specs.Faults.{IsResource}
@@ -132,17 +130,6 @@ pub record Adopts (old new : State) : Type 0 where
 pub record IsInside (s : State) : Type 0 where
   pub is_open : IsTrue s.is_open
   pub inside : IsTrue s.in_transaction
-
--- files that are opened as a store: the database that they held, whose tables the store holds, with all else as it was
-pub record OpensFiles (image : Image) (new : State) : Type 0 where
-  pub db : Database
-  pub sound : IsDatabase db
-  pub found : (trees : Trees) → HoldsDatabase image trees → db.trees ≡ trees
-  pub reads : AreFoundIn image db.trees
-  pub holds : HoldsState new.now
-  pub held : HoldsTables db (tables_in new.now)
-  pub others : KeepsOthers db new.now
-  pub at_rest : IsAtRest new
 
 -- inside a transaction, the tables that the database held are held as a store holds them
 pub record SetsUp (old new : State) : Type 0 where

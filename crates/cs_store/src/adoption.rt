@@ -30,6 +30,8 @@ pub(crate) fn adopt<S: Alter>(conn: &mut Connection<S>, alloc: Global) -> Result
         → OnOk result (Adopts (state S.Store conn.old) (state S.Store conn.new)) }
     ensures refused { HasCleanDisk (state S.Store conn.new) → IfErr result (λ e. ((e ≡ Damaged)
         × IsDamaged (state S.Store conn.old).now) ⊎ IsResource e) }
+    ensures damaged { HasCleanDisk (state S.Store conn.new)
+        → IfErr result (λ e. e ≡ Damaged → CanBegin (state S.Store conn.old)) }
     ensures named { IfErr result IsReadRefusal }
     ensures kept { HasCleanDisk (state S.Store conn.new)
         → OnErr result (KeepsContent (state S.Store conn.old) (state S.Store conn.new)) }

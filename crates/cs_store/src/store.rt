@@ -14,11 +14,9 @@ ghost use Rattle.cs_rows.specs.Rows.{IsDeclared, Fits};
 ghost use Rattle.sqlite.specs.Effect.{IsDatabase};
 ghost use Rattle.sqlite.specs.State.{HasCleanDisk, Survives};
 ghost use Rattle.sqlite.specs.Held.{state};
-ghost use Rattle.sqlite.specs.Files.{HoldsDatabase, file_state};
-ghost use Rattle.sqlite.specs.Tree.{Trees};
+ghost use Rattle.sqlite_trees.specs.Tree.{Trees};
 ghost use Rattle.sqlite.specs.Steps.{over_memory};
-ghost use Rattle.sqlite_wal.specs.Files.{image_at};
-ghost use Rattle.cs_store.specs.Store.{Adopts, Begins, HoldsTables, IsAtRest, IsDamaged, KeepsStore, OpensFiles};
+ghost use Rattle.cs_store.specs.Store.{Adopts, Begins, HoldsTables, IsAtRest, IsDamaged, KeepsStore};
 ghost use Rattle.cs_store.specs.Store.{RefusesShut, tables_in};
 
 use crate::batch::SqlBatch;
@@ -28,10 +26,9 @@ use crate::{adoption, known, tables};
 use cs_records::{RecordsError, transactions};
 use cs_rows::{Edit, Schema, StoreError, Written, edit_in};
 use cs_value::{Key, Row, is_table_name};
-use sqlite::{Alter, Connection, FileFrom, FileStore, MemStore, Start};
+use sqlite::{Alter, Connection, MemStore};
 use std::alloc::Global;
 use std::marker::Model;
-use std::rt::HostRuntime;
 
 /// Tables of rows in a database, in memory or in a file.
 ///
@@ -77,54 +74,6 @@ impl Store<MemStore> {
     }
 }
 
-impl<S: Start> Store<FileStore<FileFrom<S>>> {
-    /// Opens the store in the database file at a path.
-    ///
-    /// If there is no file, one is made, with checksums of its pages if `new_has_sums` is set. `start` says what the
-    /// files are supposed to hold. What a crash left of a store is opened with its tables. A store of the former
-    /// version gets the current one.
-    ///
-    /// # Errors
-    ///
-    /// Those of [`adopt`](Store::adopt), and `StoreFault` for a file that is no database or cannot be opened.
-    pub fn open_from(
-        rt: &HostRuntime,
-        path: &str,
-        new_has_sums: bool,
-        start: S,
-    ) -> Result<Store<FileStore<FileFrom<S>>>, StoreError>
-        ensures opened { IfOk result (λ s. HasCleanDisk (file_state s)
-            → OpensFiles (image_at S.Start) (file_state s)) }
-        ensures recovers { (held : tables.State) (trees : Trees) → HoldsDatabase (image_at S.Start) trees
-            → MayLeave (λ left. left ≡ held) trees → IfOk result (λ s. HasCleanDisk (file_state s)
-            → tables_in (file_state s).now ≡ held) }
-        ensures named { IfErr result IsReadRefusal }
-    {
-        match Connection::open_from(rt, path, new_has_sums, start) {
-            Ok(conn) => match Store::adopt(rt.alloc(), conn) {
-                Ok(store) => Ok(store),
-                Err((error, _conn)) => Err(error),
-            },
-            Err((error, _files)) => Err(refused(RecordsError::from(error))),
-        }
-    }
-
-    /// Closes the store: rolls back a transaction that is open, and copies the log into the database file. An empty
-    /// log can be left.
-    ///
-    /// # Errors
-    ///
-    /// `StoreFault` if the database refuses, and `NoMemory` if out of memory. What was committed stays.
-    pub fn close(self) -> Result<(), StoreError>
-        ensures named { IfErr result IsResource }
-    {
-        match self.into_connection().close() {
-            Ok(()) => Ok(()),
-            Err(error) => Err(refused(RecordsError::from(error))),
-        }
-    }
-}
-
 impl<S: Alter> Store<S> {
     /// Adopts a database as a store, in one transaction.
     ///
@@ -148,6 +97,8 @@ impl<S: Alter> Store<S> {
             → Adopts (state S.Store conn) (state S.Store s)) }
         ensures refused { IfErr result (λ e. HasCleanDisk (state S.Store e.1) → ((e.0 ≡ Damaged)
             × IsDamaged (state S.Store conn).now) ⊎ IsResource e.0) }
+        ensures damaged { IfErr result (λ e. HasCleanDisk (state S.Store e.1) → e.0 ≡ Damaged
+            → CanBegin (state S.Store conn)) }
         ensures found { (held : tables.State) → HoldsTables (state S.Store conn).now held → MatchResult result
             (λ s. HasCleanDisk (state S.Store s) → tables_in (state S.Store s).now ≡ held)
             (λ e. HasCleanDisk (state S.Store e.1) → IsResource e.0) }
@@ -182,6 +133,15 @@ impl<S: Alter> Store<S> {
     pub fn crash_law(&self)
         ensures { IsTrue (state S.Store self.now).is_open → LeavesOnly
             (λ left. left ≡ tables_in (state S.Store self.now).committed) (state S.Store self.now) }
+    {
+        let _ = &self.conn;
+    }
+
+    /// Has no effect. Its contract says that a crash of an open store leaves all of its database as the last commit: so
+    /// also the other tables.
+    pub fn others_law(&self)
+        ensures { IsTrue (state S.Store self.now).is_open → (trees : Trees)
+            → (state S.Store self.now).may_leave trees → trees ≡ (state S.Store self.now).committed.trees }
     {
         let _ = &self.conn;
     }

@@ -9,7 +9,7 @@
 //! while let Some(header) = tables.next_table() {
 //!     assert_eq!(rt; header.name, "t");
 //!     while let Some(entry) = tables.next_entry() {
-//!         assert_eq!(rt; entry.operation(), 0x12);
+//!         assert_eq!(rt; entry.op(), 0x12);
 //!     }
 //! }
 //! ```

@@ -23,4 +23,4 @@ mod told;
 pub use fault::OutputFault;
 pub use gather::Gather;
 pub use texts::{Form, Piece, add_pieces, dump_text, sql_text, write_tables};
-pub use told::{Told, write_whole};
+pub use told::{ReadCall, Told, WriteCall, write_whole};

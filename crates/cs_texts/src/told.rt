@@ -1,5 +1,6 @@
 //! Readers and writers that remember whether a call failed.
-ghost use Rattle.std.specs.Prelude.{◌≡◌, ◌||◌, is_err, false};
+ghost use Rattle.std.specs.Prelude.{◌≡◌, ◌||◌, is_err, false, ℕ, List, Result};
+ghost use Rattle.std.specs.declared.io.Error.{Error as IoError};
 ghost use Rattle.std.specs.Io.{ReadsAtMost, WritesAtMost};
 ghost use Rattle.std.specs.Io.KnownBytes.{Keeps, ReadConsumes, WriteAppends};
 ghost use Rattle.cs_texts.specs.Calls.{Writes, is_failed_write};
@@ -44,16 +45,74 @@ impl<T> Told<T> {
     }
 }
 
-impl<R: Read> Read for Told<R> {
+/// A reader, with what one call of it does. Every reader is one. A wrapper that is generic over this trait is proved to call
+/// the reader, since nothing else shows what a call does.
+pub trait ReadCall: Read {
+    // What a call returns, leaves in the buffer, and leaves of the reader.
+    ghost reads: { Self → Result ℕ IoError → List ℕ → List ℕ → Self → Type 0 };
+
+    /// Calls `read` once.
+    fn call_read(&mut self, buf: &mut [u8]) -> io::Result<usize>
+        ensures called { reads self.old result buf.old buf.new self.new }
+        ensures bound { ReadsAtMost result buf.new }
+        ensures bytes { ReadConsumes (Self.remaining self.old) (Self.remaining self.new) result buf.new };
+}
+
+impl<R: Read> ReadCall for R {
+    ghost reads = { λ old result before after new. ReadsAtMost result after
+        × ReadConsumes (R.remaining old) (R.remaining new) result after };
+
+    fn call_read(&mut self, buf: &mut [u8]) -> io::Result<usize> {
+        self.read(buf)
+    }
+}
+
+/// A writer, with what one call of it does, as [`ReadCall`] has it of a reader.
+pub trait WriteCall: Write {
+    // What a call of `write` returns, and leaves of the writer.
+    ghost writes: { Self → Result ℕ IoError → List ℕ → Self → Type 0 };
+
+    // What a call of `flush` returns, and leaves of the writer.
+    ghost flushes: { Self → Result (Unit {0}) IoError → Self → Type 0 };
+
+    /// Calls `write` once.
+    fn call_write(&mut self, buf: &[u8]) -> io::Result<usize>
+        ensures called { writes self.old result buf.now self.new }
+        ensures bound { WritesAtMost result buf.now }
+        ensures bytes { WriteAppends (Self.contents self.old) (Self.contents self.new) result buf.now };
+
+    /// Calls `flush` once.
+    fn call_flush(&mut self) -> io::Result<()>
+        ensures called { flushes self.old result self.new }
+        ensures bytes { Keeps (Self.contents self.old) (Self.contents self.new) };
+}
+
+impl<W: Write> WriteCall for W {
+    ghost writes = { λ old result bytes new. WritesAtMost result bytes
+        × WriteAppends (W.contents old) (W.contents new) result bytes };
+
+    ghost flushes = { λ old result new. Keeps (W.contents old) (W.contents new) };
+
+    fn call_write(&mut self, buf: &[u8]) -> io::Result<usize> {
+        self.write(buf)
+    }
+
+    fn call_flush(&mut self) -> io::Result<()> {
+        self.flush()
+    }
+}
+
+impl<R: ReadCall> Read for Told<R> {
     ghost remaining = { λ told. known R.remaining told };
 
     fn read(&mut self, buf: &mut [u8]) -> io::Result<usize>
         ensures bound { ReadsAtMost result buf.new }
         ensures bytes { ReadConsumes
             (known R.remaining self.old) (known R.remaining self.new) result buf.new }
+        ensures called { R.reads (inner_of self.old) result buf.old buf.new (inner_of self.new) }
         ensures flag { has_failed self.new ≡ (has_failed self.old || is_err result) }
     {
-        let result = self.inner.read(buf);
+        let result = self.inner.call_read(buf);
         if result.is_err() {
             self.failed = true;
         }
@@ -61,17 +120,18 @@ impl<R: Read> Read for Told<R> {
     }
 }
 
-impl<W: Write> Write for Told<W> {
+impl<W: WriteCall> Write for Told<W> {
     ghost contents = { λ told. known W.contents told };
 
     fn write(&mut self, buf: &[u8]) -> io::Result<usize>
         ensures bound { WritesAtMost result buf.now }
         ensures bytes { WriteAppends
             (known W.contents self.old) (known W.contents self.new) result buf.now }
+        ensures called { W.writes (inner_of self.old) result buf.now (inner_of self.new) }
         ensures flag { has_failed self.new
             ≡ (has_failed self.old || is_failed_write result buf.now) }
     {
-        let result = self.inner.write(buf);
+        let result = self.inner.call_write(buf);
         match &result {
             Ok(0) if !buf.is_empty() => self.failed = true,
             Ok(_) => {}
@@ -82,9 +142,10 @@ impl<W: Write> Write for Told<W> {
 
     fn flush(&mut self) -> io::Result<()>
         ensures bytes { Keeps (known W.contents self.old) (known W.contents self.new) }
+        ensures called { W.flushes (inner_of self.old) result (inner_of self.new) }
         ensures flag { has_failed self.new ≡ has_failed self.old }
     {
-        self.inner.flush()
+        self.inner.call_flush()
     }
 }
 

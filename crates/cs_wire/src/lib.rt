@@ -17,7 +17,7 @@
 //! while let Some(item) = cursor.next()? {
 //!     match item {
 //!         Item::Table(header) => assert_eq!(rt; header.name, "t"),
-//!         Item::Entry(entry) => assert_eq!(rt; entry.old_field(0), None),
+//!         Item::Entry(entry) => assert_eq!(rt; entry.old(0), None),
 //!     }
 //! }
 //! ```

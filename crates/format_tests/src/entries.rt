@@ -48,7 +48,7 @@ fn entry_of<'a>(rt: &(impl Abort + AllocGlobal), file: &'a [u8]) -> EntryRef<'a>
 
 /// Asserts that an entry updates the row (1, old) to (1, new).
 fn expect_update(rt: &impl Abort, entry: &EntryRef<'_>, old: &str, new: &str) {
-    assert!(rt; entry.operation() == 0x17 && !entry.is_indirect());
+    assert!(rt; entry.op() == 0x17 && !entry.indirect());
     assert!(rt; entry.column_count() == 2);
     for (column, before, after) in [
         (0, Field::Defined(Value::Int(1)), Field::Undefined),
@@ -59,8 +59,8 @@ fn expect_update(rt: &impl Abort, entry: &EntryRef<'_>, old: &str, new: &str) {
         ),
     ] {
         assert!(rt; column < entry.column_count());
-        assert!(rt; entry.old_field(column) == Some(before));
-        assert!(rt; entry.new_field(column) == Some(after));
+        assert!(rt; entry.old(column) == Some(before));
+        assert!(rt; entry.new(column) == Some(after));
     }
 }
 

@@ -29,7 +29,7 @@ pub(crate) enum Want {
 }
 
 impl Want {
-    /// Why a field is refused, if it is.
+    /// Returns why a field is refused, or None if it is not.
     fn refusal(self, field: Field) -> Option<ReadFaultKind>
         ensures { result ≡ refusal self (field_of field.entry) }
     {
@@ -45,7 +45,7 @@ impl Want {
         }
     }
 
-    /// What an update's new record has in a column with this flag and this field in the old record.
+    /// Returns what an update's new record has in a column with this flag and this field in the old record.
     fn beside(old: Field, flag: u8) -> Want
         ensures { result ≡ in_new (is_modified flag (field_of old.entry)) }
     {
@@ -56,7 +56,7 @@ impl Want {
     }
 }
 
-/// The remaining columns of a record, by which each field is judged with its flag.
+/// The remaining columns of a record, with what each of their fields may be.
 #[derive(Clone, Copy, Debug)]
 pub(crate) enum Columns<'a> {
     /// Those of a row.
@@ -68,7 +68,7 @@ pub(crate) enum Columns<'a> {
 }
 
 impl<'a> Columns<'a> {
-    /// What the next column wants, which has this flag, and the columns after it.
+    /// Returns what the field of the next column may be, whose flag this is, and the columns after it.
     #[tactic(auto, unfolding(crate::specs::Items::fields_in))]
     fn next(self, flag: u8) -> (Want, Columns<'a>)
         ensures { (flags : List ℕ) → wants_in self.entry (flag ∷ flags) ≡ result.0 ∷ wants_in result.1 flags }
@@ -85,7 +85,7 @@ impl<'a> Columns<'a> {
     }
 }
 
-/// The bytes of the record at an offset, which has in each column a field that is wanted there, and the offset after it.
+/// Returns the bytes of the record at an offset, whose fields are all allowed, and the offset after it.
 pub(crate) fn read_record<'a>(
     file: &'a [u8],
     at: usize,
@@ -105,7 +105,7 @@ pub(crate) fn read_record<'a>(
     Ok((part(file, at, end), end))
 }
 
-/// The bytes of the file from one offset to another.
+/// Returns the bytes of the file from one offset to another.
 fn part(file: &[u8], from: usize, to: usize) -> &[u8]
     requires { (from ≤ to) × (to ≤ length file.now) }
     ensures { (text : List ℕ) → Stands file.now from text to → result.now ≡ text }
@@ -113,7 +113,7 @@ fn part(file: &[u8], from: usize, to: usize) -> &[u8]
     &file[from..to]
 }
 
-/// The offset after the record at an offset, which has in each column a field that is wanted there.
+/// Returns the offset after the record at an offset, whose fields are all allowed.
 fn pass_record(file: &[u8], at: usize, flags: &[u8], columns: Columns) -> Result<usize, ReadFault>
     requires { at ≤ length file.now }
     ensures forward { IfOk result (λ end. (at ≤ end) × (end ≤ length file.now)) }
@@ -135,7 +135,7 @@ fn pass_record(file: &[u8], at: usize, flags: &[u8], columns: Columns) -> Result
     Ok(end)
 }
 
-/// The field at an offset, which is wanted there and borrows from the file, and the offset after it.
+/// Returns the field at an offset, which is allowed there and borrows from the file, and the offset after it.
 fn read_wanted(file: &[u8], at: usize, want: Want) -> Result<(Field<'_>, usize), ReadFault>
     requires { at ≤ length file.now }
     ensures found { IfOk result (λ r. IsFieldAt want file.now at (field_of r.0) r.1) }

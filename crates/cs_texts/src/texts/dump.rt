@@ -80,7 +80,7 @@ pub(super) fn add_entry<W: Write>(
     ensures { Gathers W.contents result gather.old gather.new out.old out.new
         (entry_text entry.now.entry.indirect entry.now.entry.change) }
 {
-    let flag = flag_bytes(entry.is_indirect());
+    let flag = flag_bytes(entry.indirect());
     gather.add_all(out, &[change_bytes(entry), flag])?;
     add_record(gather, out, b" old ", entry.old_fields())?;
     add_record(gather, out, b" new ", entry.new_fields())?;

@@ -10,5 +10,5 @@ returns-clause-fits c =
     let first = c.args.first.now in
     let second = c.args.second.now in
     let is : c.match-branch-2.result ≡ merged first.flags first.entry second.entry = search rules in
-    let other = fits_same second.flags first.flags second.entry.change c.requires.agree c.is_indirect-other.ensures.well_formed in
-    rw is (merged_fits first.flags first.entry second.entry c.is_indirect-one.ensures.well_formed other c.requires.one_key)
+    let other = fits_same second.flags first.flags second.entry.change c.requires.agree c.indirect-other.ensures.well_formed in
+    rw is (merged_fits first.flags first.entry second.entry c.indirect-one.ensures.well_formed other c.requires.one_key)

@@ -17,7 +17,7 @@ pub returns-in-Ended-clause-comes_to : goal.returns-in-Ended-clause-comes_to
 returns-in-Ended-clause-comes_to g c = λ honest.
     let state = g.B.Rows.state c.args.rows.now in
     let p = placed_in_table (rc_str_bytes c.args.table.now) c.args.entry.now in
-    let rule : c.is_refused.result ≡ refused_at state p = c.is_refused.ensures ∙ ap (λ (rules : List Bool). is_refused rules p.flags p.entry.change) (c.requires.rules (c.in_ok-current.ensures.was_honest honest)) in
+    let rule : is_refused c.args.refuses.now p.flags p.entry.change ≡ refused_at state p = ap (λ (rules : List Bool). is_refused rules p.flags p.entry.change) (c.requires.rules (c.in_ok-current.ensures.was_honest honest)) in
     let found = rw c.as_str-name.ensures.value at c.in_ok-current.ensures.found honest in
     let is : c.in_ok-current.current ≡ current state p = rw c.in_ok-key.ensures at found in
     let stopped = rw (c.as_str-name.ensures.value, c.as_ref.ensures.value, c.in-Ended.is, rule) at c.in_ok-settle.ensures.settles in
@@ -28,7 +28,7 @@ pub returns-in-Passed-clause-comes_to : goal.returns-in-Passed-clause-comes_to
 returns-in-Passed-clause-comes_to g c = λ honest.
     let state = g.B.Rows.state c.args.rows.now in
     let p = placed_in_table (rc_str_bytes c.args.table.now) c.args.entry.now in
-    let rule : c.is_refused.result ≡ refused_at state p = c.is_refused.ensures ∙ ap (λ (rules : List Bool). is_refused rules p.flags p.entry.change) (c.requires.rules (c.in_ok-current.ensures.was_honest honest)) in
+    let rule : is_refused c.args.refuses.now p.flags p.entry.change ≡ refused_at state p = ap (λ (rules : List Bool). is_refused rules p.flags p.entry.change) (c.requires.rules (c.in_ok-current.ensures.was_honest honest)) in
     let found = rw c.as_str-name.ensures.value at c.in_ok-current.ensures.found honest in
     let is : c.in_ok-current.current ≡ current state p = rw c.in_ok-key.ensures at found in
     let settled = rw (c.as_str-name.ensures.value, c.as_ref.ensures.value, c.in-Passed.is, rule) at c.in_ok-settle.ensures.settles in
@@ -39,23 +39,23 @@ pub carry_out-requires-clause-found : goal.carry_out-requires-clause-found
 carry_out-requires-clause-found g c =
     let p = placed_in_table (rc_str_bytes c.args.table.now) c.args.entry.now in
     let settled = rw (c.as_str-name.ensures.value, c.as_ref.ensures.value, c.in-Carried.is) at c.in_ok-settle.ensures.settles in
-    (carried_out (FnReturnsAt g.H.Fn c.args.handler.now) c.is_refused.result p c.in_ok-current.current _ _ settled).1
+    (carried_out (FnReturnsAt g.H.Fn c.args.handler.now) (is_refused c.args.refuses.now p.flags p.entry.change) p c.in_ok-current.current _ _ settled).1
 
 pub carry_out-requires-clause-obeys : goal.carry_out-requires-clause-obeys
 carry_out-requires-clause-obeys g c = λ honest.
     let p = placed_in_table (rc_str_bytes c.args.table.now) c.args.entry.now in
     let settled = rw (c.as_str-name.ensures.value, c.as_ref.ensures.value, c.in-Carried.is) at c.in_ok-settle.ensures.settles in
-    let kept = (carried_out (FnReturnsAt g.H.Fn c.args.handler.now) c.is_refused.result p c.in_ok-current.current _ _ settled).0 in
+    let kept = (carried_out (FnReturnsAt g.H.Fn c.args.handler.now) (is_refused c.args.refuses.now p.flags p.entry.change) p c.in_ok-current.current _ _ settled).0 in
     ap (λ (s : State). refused_at s p) (c.in_ok-current.ensures.same honest)
     ∙ ap (λ (rules : List Bool). is_refused rules p.flags p.entry.change) (sym (c.requires.rules (c.in_ok-current.ensures.was_honest honest)))
-    ∙ sym c.is_refused.ensures ∙ kept
+    ∙ kept
 
 pub returns-in_ok-carry_out-in-Carried-clause-comes_to : goal.returns-in_ok-carry_out-in-Carried-clause-comes_to
 returns-in_ok-carry_out-in-Carried-clause-comes_to g c = λ after.
     let honest = c.carry_out.ensures.was_honest after in
     let state = g.B.Rows.state c.args.rows.now in
     let p = placed_in_table (rc_str_bytes c.args.table.now) c.args.entry.now in
-    let rule : c.is_refused.result ≡ refused_at state p = c.is_refused.ensures ∙ ap (λ (rules : List Bool). is_refused rules p.flags p.entry.change) (c.requires.rules (c.in_ok-current.ensures.was_honest honest)) in
+    let rule : is_refused c.args.refuses.now p.flags p.entry.change ≡ refused_at state p = ap (λ (rules : List Bool). is_refused rules p.flags p.entry.change) (c.requires.rules (c.in_ok-current.ensures.was_honest honest)) in
     let found = rw c.as_str-name.ensures.value at c.in_ok-current.ensures.found honest in
     let is : c.in_ok-current.current ≡ current state p = rw c.in_ok-key.ensures at found in
     let settled = rw (c.as_str-name.ensures.value, c.as_ref.ensures.value, c.in-Carried.is, rule) at c.in_ok-settle.ensures.settles in
@@ -71,7 +71,7 @@ pub returns-in-Ignored-clause-comes_to : goal.returns-in-Ignored-clause-comes_to
 returns-in-Ignored-clause-comes_to g c = λ honest.
     let state = g.B.Rows.state c.args.rows.now in
     let p = placed_in_table (rc_str_bytes c.args.table.now) c.args.entry.now in
-    let rule : c.is_refused.result ≡ refused_at state p = c.is_refused.ensures ∙ ap (λ (rules : List Bool). is_refused rules p.flags p.entry.change) (c.requires.rules (c.in_ok-current.ensures.was_honest honest)) in
+    let rule : is_refused c.args.refuses.now p.flags p.entry.change ≡ refused_at state p = ap (λ (rules : List Bool). is_refused rules p.flags p.entry.change) (c.requires.rules (c.in_ok-current.ensures.was_honest honest)) in
     let found = rw c.as_str-name.ensures.value at c.in_ok-current.ensures.found honest in
     let is : c.in_ok-current.current ≡ current state p = rw c.in_ok-key.ensures at found in
     let same = rw (c.as_str-name.ensures.value, c.as_ref.ensures.value, c.in-Ignored.is) at c.in_ok-settle.ensures.settles in
