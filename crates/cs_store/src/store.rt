@@ -87,8 +87,8 @@ impl<S: Alter> Store<S> {
     ///
     /// They come with the connection as it was. `DamagedStore` if the records are not those of tables, or a table of
     /// the name `rec` is declared otherwise. `StoreFault` if a transaction is open, the database refuses, or the
-    /// table `rec` cannot be written: it has a trigger, for example, or another table refers to it. `NoMemory` if out
-    /// of memory.
+    /// table `rec` cannot be read or written: it has a trigger, for example, or another table refers to it. `NoMemory`
+    /// if out of memory.
     pub fn adopt(
         alloc: Global,
         mut conn: Connection<S>,
