@@ -1,5 +1,5 @@
 -- What changesets do to tables, worked as examples: on the table t of columns a and b, of which a is the key.
-use Rattle.std.proofs.Common.{◌≡◌, ◌≢◌, ℕ, zero, suc, arith, pos, Bool, true, false, true≢false, cond, List, [], ◌∷◌, ◌++◌, get_or, map, filter_map, All, Option, Some, None, option_map, unwrap_or, codes, refl, sym, ap, ◌∙◌, subst}
+use Rattle.std.proofs.Common.{◌≡◌, ◌≢◌, ℕ, zero, suc, arith, pos, Bool, true, false, true≢false, not, cond, List, [], ◌∷◌, ◌++◌, get_or, map, length, filter_map, All, Option, Some, None, option_map, unwrap_or, codes, refl, sym, ap, ◌∙◌, subst}
 use Rattle.std.specs.List.{cons_option, flat_map, AllPairs}
 use Rattle.std.specs.Char.{encode_utf8}
 use Rattle.std.specs.Str.{chars, is_utf8}
@@ -26,12 +26,12 @@ use Rattle.cs_group.specs.declared.conflict.Kind.{Kind}
 use Rattle.cs_group.specs.declared.conflict.Kind.TheVariants.{Data, NotFound, Conflict, Constraint}
 use Rattle.cs_group.specs.declared.conflict.Choice.{Choice}
 use Rattle.cs_group.specs.declared.conflict.Choice.TheVariants.{Omit, Replace, Abort}
-use Rattle.cs_group.specs.declared.conflict.Noop.TheVariants.{Report}
+use Rattle.cs_group.specs.declared.conflict.Noop.TheVariants.{Report, Ignore}
 use Rattle.cs_group.specs.declared.merging.Merged.TheVariants.{Keep, Becomes}
 use Rattle.cs_group.specs.Joining.{merged}
 use Rattle.cs_group.specs.Judging.{judgement, judged, is_skipped, is_compatible}
 use Rattle.cs_group.specs.Conflicts.{has_values, is_refused, conflict_kind, kinds_met, is_idle, row_after, is_carried_out, entry_result}
-use Rattle.cs_group.specs.Applying.{PlacedEntry, placed_by, placed, placed_result, current, refuses_at, refused_at, IsElsewhere, skipped, FirstWider, applicable, placed_kind, NoneWider, IsClean, Choices, met_with, met_at, met_under, written_for, written, AreApplied, IsApplied, omit_all}
+use Rattle.cs_group.specs.Applying.{PlacedEntry, placed_by, placed, placed_result, current, refuses_at, refused_at, IsElsewhere, skipped, FirstWider, applicable, placed_kind, NoneWider, IsClean, Choices, met_with, met_at, met_under, written_for, written, written_under, ignored, ignored_of, heeded, heeded_of, AreApplied, IsApplied, omit_all}
 use Rattle.cs_group.proofs.ApplyLemmas.{applied_reverts}
 use Rattle.cs_group.proofs.Examples.{update_and_back}
 
@@ -340,15 +340,22 @@ any_mark_is_compatible mark = refl
 abbrev key : List ℕ
 key = 0x01 ∷ 0 ∷ 0 ∷ 0 ∷ 0 ∷ 0 ∷ 0 ∷ 0 ∷ 1 ∷ []
 
--- the columns of t, t with this row alone, under the key 1, and the state of that table alone
-abbrev schema : SchemaData
-schema = record { columns = codes "a" ∷ codes "b" ∷ []; flags = flags; refuses = refuses }
+-- the columns of t, t with this row alone, under the key 1, and the state of that table alone, where these columns refuse NULL
+abbrev schema_by : List Bool → SchemaData
+schema_by rules = record { columns = codes "a" ∷ codes "b" ∷ []; flags = flags; refuses = rules }
 
-abbrev table_of : List OwnedValue → TableData
-table_of r = record { schema = schema; rows = insert empty key r }
+abbrev table_by : List Bool → List OwnedValue → TableData
+table_by rules r = record { schema = schema_by rules; rows = insert empty key r }
+
+abbrev state_by : List Bool → List OwnedValue → State
+state_by rules r = insert empty (codes "t") (table_by rules r)
+
+-- those where b may be NULL
+abbrev schema : SchemaData
+schema = schema_by refuses
 
 abbrev state_of : List OwnedValue → State
-state_of r = insert empty (codes "t") (table_of r)
+state_of r = state_by refuses r
 
 -- whether texts are one
 abbrev is_text : List ℕ → List ℕ → Bool
@@ -365,65 +372,67 @@ schema_in o = option_map (λ t. t.schema) o
 abbrev row_in : Option TableData → List ℕ → Option (List OwnedValue)
 row_in o q = get (unwrap_or (option_map (λ t. t.rows) o) empty) q
 
--- the schemas of the state, and its rows
-schema_is : (r : List OwnedValue) (name : List ℕ) → schema_at (state_of r) name ≡ cond (is_text name (codes "t")) (Some schema) None
-schema_is r name = ap schema_in (single (codes "t") (table_of r) name) ∙ at (is_text name (codes "t"))
-  where
-    at : (b : Bool) → schema_in (cond b (Some (table_of r)) None) ≡ cond b (Some schema) None
-    at true = refl
-    at false = refl
-
-row_is : (r : List OwnedValue) (name q : List ℕ) → row_at (state_of r) name q ≡ cond (is_text name (codes "t")) (cond (is_text q key) (Some r) None) None
-row_is r name q = ap (λ o. row_in o q) (single (codes "t") (table_of r) name) ∙ at (is_text name (codes "t"))
-  where
-    at : (b : Bool) → row_in (cond b (Some (table_of r)) None) q ≡ cond b (cond (is_text q key) (Some r) None) None
-    at true = single key r q
-    at false = get-empty (slice_cmp nat_cmp) q
-
--- changes of t are compatible
-t_is_compatible : (r : List OwnedValue) (change : Change) → judged (state_of r) (group (change ∷ [])) ≡ Compatible
-t_is_compatible r change = ap (λ (o : Option SchemaData). judgement flags (option_map (λ s. s.flags) o)) (schema_is r (codes "t"))
-
 -- an entry of t
 abbrev in_t : Change → PlacedEntry
 in_t change = placed_by header (direct change)
 
-t_is_applicable : (r : List OwnedValue) (change : Change) → applicable (state_of r) (one_change change) ≡ in_t change ∷ []
-t_is_applicable r change = ap (λ (j : Judgement). placed (cond (is_compatible j) (one_change change) [])) (t_is_compatible r change)
+-- what is said of a state, of its rules and of the row that an entry meets there
+module _ (rules : List Bool) where
+  -- the schemas of the state, and its rows
+  schema_is : (r : List OwnedValue) (name : List ℕ) → schema_at (state_by rules r) name ≡ cond (is_text name (codes "t")) (Some (schema_by rules)) None
+  schema_is r name = ap schema_in (single (codes "t") (table_by rules r) name) ∙ at (is_text name (codes "t"))
+    where
+      at : (b : Bool) → schema_in (cond b (Some (table_by rules r)) None) ≡ cond b (Some (schema_by rules)) None
+      at true = refl
+      at false = refl
 
--- a change of the row with key 1 meets it
-row_is_met : (r : List OwnedValue) (change : Change) → key_of flags change ≡ key → current (state_of r) (in_t change) ≡ Some r
-row_is_met r change same = ap (row_at (state_of r) (codes "t")) same ∙ row_is r (codes "t") key
+  row_is : (r : List OwnedValue) (name q : List ℕ) → row_at (state_by rules r) name q ≡ cond (is_text name (codes "t")) (cond (is_text q key) (Some r) None) None
+  row_is r name q = ap (λ o. row_in o q) (single (codes "t") (table_by rules r) name) ∙ at (is_text name (codes "t"))
+    where
+      at : (b : Bool) → row_in (cond b (Some (table_by rules r)) None) q ≡ cond b (cond (is_text q key) (Some r) None) None
+      at true = single key r q
+      at false = get-empty (slice_cmp nat_cmp) q
 
--- the columns of t are those
-rules_are : (r : List OwnedValue) → refuses_at (state_of r) (codes "t") ≡ refuses
-rules_are r = ap (λ (o : Option SchemaData). unwrap_or (option_map (λ s. s.refuses) o) []) (schema_is r (codes "t"))
+  -- changes of t are compatible
+  t_is_compatible : (r : List OwnedValue) (change : Change) → judged (state_by rules r) (group (change ∷ [])) ≡ Compatible
+  t_is_compatible r change = ap (λ (o : Option SchemaData). judgement flags (option_map (λ s. s.flags) o)) (schema_is r (codes "t"))
 
--- so what is said of such a change, of the rules and of the row, is said of these
-module _ (r : List OwnedValue) (change : Change) (same : key_of flags change ≡ key) where
-  in_state : {X : Type 0} (said : Bool → Option (List OwnedValue) → X)
-      → said (refused_at (state_of r) (in_t change)) (current (state_of r) (in_t change)) ≡ said (is_refused refuses flags change) (Some r)
-  in_state said =
-      ap (λ (rules : List Bool). said (is_refused rules flags change) (current (state_of r) (in_t change))) (rules_are r)
-      ∙ ap (said (is_refused refuses flags change)) (row_is_met r change same)
+  t_is_applicable : (r : List OwnedValue) (change : Change) → applicable (state_by rules r) (one_change change) ≡ in_t change ∷ []
+  t_is_applicable r change = ap (λ (j : Judgement). placed (cond (is_compatible j) (one_change change) [])) (t_is_compatible r change)
 
-  -- as what it meets
-  met_are : (choose : Choices) → met_under Report (state_of r) (one_change change) choose
-      ≡ met_with (is_refused refuses flags change) (in_t change) (Some r) (choose (in_t change)) ++ []
-  met_are choose =
-      ap (flat_map (met_at (state_of r) choose)) (t_is_applicable r change)
-      ∙ in_state (λ refused row. met_with refused (in_t change) row (choose (in_t change)) ++ [])
+  -- a change of the row with key 1 meets it
+  row_is_met : (r : List OwnedValue) (change : Change) → key_of flags change ≡ key → current (state_by rules r) (in_t change) ≡ Some r
+  row_is_met r change same = ap (row_at (state_by rules r) (codes "t")) same ∙ row_is r (codes "t") key
+
+  -- the columns of t are those
+  rules_are : (r : List OwnedValue) → refuses_at (state_by rules r) (codes "t") ≡ rules
+  rules_are r = ap (λ (o : Option SchemaData). unwrap_or (option_map (λ s. s.refuses) o) []) (schema_is r (codes "t"))
+
+  -- so what is said of such a change, of the rules and of the row, is said of these
+  module _ (r : List OwnedValue) (change : Change) (same : key_of flags change ≡ key) where
+    in_state : {X : Type 0} (said : Bool → Option (List OwnedValue) → X)
+        → said (refused_at (state_by rules r) (in_t change)) (current (state_by rules r) (in_t change)) ≡ said (is_refused rules flags change) (Some r)
+    in_state said =
+        ap (λ (found : List Bool). said (is_refused found flags change) (current (state_by rules r) (in_t change))) (rules_are r)
+        ∙ ap (said (is_refused rules flags change)) (row_is_met r change same)
+
+    -- as what it meets
+    met_are : (choose : Choices) → met_under Report (state_by rules r) (one_change change) choose
+        ≡ met_with (is_refused rules flags change) (in_t change) (Some r) (choose (in_t change)) ++ []
+    met_are choose =
+        ap (flat_map (met_at (state_by rules r) choose)) (t_is_applicable r change)
+        ∙ in_state (λ refused row. met_with refused (in_t change) row (choose (in_t change)) ++ [])
 
 -- no table is wider
 none_wider : (r : List OwnedValue) (change : Change) → NoneWider (state_of r) (one_change change)
-none_wider r change = one (λ g. judged (state_of r) g ≢ Wider) (group (change ∷ [])) (λ wider. let e = sym (t_is_compatible r change) ∙ wider in cc)
+none_wider r change = one (λ g. judged (state_of r) g ≢ Wider) (group (change ∷ [])) (λ wider. let e = sym (t_is_compatible refuses r change) ∙ wider in cc)
 
 -- the update of 'x' to 'y' meets no conflict where t has (1, 'x')
 update_is_clean : IsClean (state_of row) (one_change (update x y))
 unfolding value_bytes field_bytes
 update_is_clean = record {
   none_wider = none_wider row (update x y);
-  no_conflict = subst (All MeetsNone) (sym (t_is_applicable row (update x y))) (one MeetsNone (in_t (update x y)) (in_state row (update x y) refl (λ refused o. conflict_kind refused (update x y) o)));
+  no_conflict = subst (All MeetsNone) (sym (t_is_applicable refuses row (update x y))) (one MeetsNone (in_t (update x y)) (in_state refuses row (update x y) refl (λ refused o. conflict_kind refused (update x y) o)));
 }
   where
     MeetsNone : PlacedEntry → Type 0
@@ -433,16 +442,16 @@ update_is_clean = record {
 update_is_applied : (choose : Choices) → IsApplied (state_of row) (one_change (update x y)) choose (state_of later)
 unfolding value_bytes field_bytes
 update_is_applied choose =
-    subst (λ (ps : List PlacedEntry). AreApplied (state_of row) ps choose (state_of later)) (sym (t_is_applicable row (update x y))) (record {
-      schemas = λ table. schema_is later table ∙ sym (schema_is row table);
+    subst (λ (ps : List PlacedEntry). AreApplied (state_of row) ps choose (state_of later)) (sym (t_is_applicable refuses row (update x y))) (record {
+      schemas = λ table. schema_is refuses later table ∙ sym (schema_is refuses row table);
       results = one (λ p. placed_result (state_of row) choose p ≡ Some (current (state_of later) p)) (in_t (update x y)) result;
-      others = λ table k elsewhere. row_is later table k ∙ other table k (elsewhere 0 (in_t (update x y)) (omega arith)) (is_text table (codes "t")) (is_text k key) refl refl ∙ sym (row_is row table k);
+      others = λ table k elsewhere. row_is refuses later table k ∙ other table k (elsewhere 0 (in_t (update x y)) (omega arith)) (is_text table (codes "t")) (is_text k key) refl refl ∙ sym (row_is refuses row table k);
     })
   where
     result : placed_result (state_of row) choose (in_t (update x y)) ≡ Some (current (state_of later) (in_t (update x y)))
     result =
-        in_state row (update x y) refl (λ refused o. entry_result refused flags (update x y) o (choose (in_t (update x y))))
-        ∙ ap Some (sym (row_is_met later (update x y) refl))
+        in_state refuses row (update x y) refl (λ refused o. entry_result refused flags (update x y) o (choose (in_t (update x y))))
+        ∙ ap Some (sym (row_is_met refuses later (update x y) refl))
 
     other : (table k : List ℕ) → IsElsewhere (in_t (update x y)) table k → (b c : Bool) → is_text table (codes "t") ≡ b → is_text k key ≡ c
         → cond b (cond c (Some later) None) None ≡ cond b (cond c (Some row) None) None
@@ -490,7 +499,7 @@ row_stands = record { values = row_has_values; keyed = row_is_keyed; obeys = ref
 
 state_is_one : IsState (state_of row)
 state_is_one =
-    state_insert empty (codes "t") (table_of row) empty_state header_is.name
+    state_insert empty (codes "t") (table_by refuses row) empty_state header_is.name
     (table_insert (record { schema = schema; rows = empty }) key row (empty_table schema schema_is_one) row_stands)
 
 -- in which the inverse meets no conflict, and from which it makes the first
@@ -501,8 +510,8 @@ update_is_undone choose = applied_reverts (state_of row) (one_change (update x y
 update_tells_former : (choose : Choices) → written (state_of row) (one_change (update x y)) choose ≡ record { table = codes "t"; key = key; former = Some row } ∷ []
 unfolding value_bytes field_bytes
 update_tells_former choose =
-    ap (filter_map (written_for (state_of row) choose)) (t_is_applicable row (update x y))
-    ∙ in_state row (update x y) refl (λ refused o.
+    ap (filter_map (written_for (state_of row) choose)) (t_is_applicable refuses row (update x y))
+    ∙ in_state refuses row (update x y) refl (λ refused o.
     cons_option (cond (is_carried_out (kinds_met refused (update x y) o (choose (in_t (update x y)))) (choose (in_t (update x y)))) (Some (record { table = codes "t"; key = key; former = o })) None) [])
 
 -- an insert of (1, 'x') where t has (1, 'z') meets that row
@@ -512,7 +521,39 @@ insert_meets_row : (choose : Choices) → met_under Report (state_of apart) (one
       choice = choose (in_t (Insert row)) Conflict;
     } ∷ []
 unfolding value_bytes field_bytes
-insert_meets_row choose = met_are apart (Insert row) refl choose
+insert_meets_row choose = met_are refuses apart (Insert row) refl choose
+
+-- an insert of (1, NULL) where t has (1, 'x') and b refuses NULL meets that row, and in its place breaks the rule
+insert_meets_two : met_under Report (state_by both_refuse row) (one_change (Insert null_row)) (λ p. always Replace)
+    ≡ record {
+      conflict = record { kind = Conflict; table = codes "t"; entry = direct (Insert null_row); current = Some row };
+      choice = Replace;
+    } ∷ record {
+      conflict = record { kind = Constraint; table = codes "t"; entry = direct (Insert null_row); current = Some row };
+      choice = Replace;
+    } ∷ []
+unfolding value_bytes field_bytes
+insert_meets_two = met_are both_refuse row (Insert null_row) refl (λ p. always Replace)
+
+-- the update of 'x' to 'y' is ignored where t has (1, 'y') already
+update_is_ignored : ignored Ignore (state_of later) (one_change (update x y)) ≡ 1
+unfolding value_bytes field_bytes
+update_is_ignored =
+    ap (λ (ps : List PlacedEntry). length (ignored_of Ignore (state_of later) ps)) (t_is_applicable refuses later (update x y))
+    ∙ in_state refuses later (update x y) refl (λ refused o. length (cond (is_idle refused flags (update x y) o) (in_t (update x y) ∷ []) []))
+
+-- so nothing is asked and nothing written
+none_is_heeded : heeded Ignore (state_of later) (one_change (update x y)) ≡ []
+unfolding value_bytes field_bytes
+none_is_heeded =
+    ap (heeded_of Ignore (state_of later)) (t_is_applicable refuses later (update x y))
+    ∙ in_state refuses later (update x y) refl (λ refused o. cond (not (is_idle refused flags (update x y) o)) (in_t (update x y) ∷ []) [])
+
+ignored_meets_none : (choose : Choices) → met_under Ignore (state_of later) (one_change (update x y)) choose ≡ []
+ignored_meets_none choose = ap (flat_map (met_at (state_of later) choose)) none_is_heeded
+
+ignored_writes_none : (choose : Choices) → written_under Ignore (state_of later) (one_change (update x y)) choose ≡ []
+ignored_writes_none choose = ap (filter_map (written_for (state_of later) choose)) none_is_heeded
 
 -- the table t of the column a alone
 abbrev header_a : HeaderData
@@ -523,7 +564,7 @@ a_alone_is_wider : FirstWider (state_of row) (one_change_of header_a (Insert (In
 a_alone_is_wider = record {
   within = omega arith;
   before = All-nil (λ g. judged (state_of row) g ≢ Wider);
-  wider = λ d. ap (λ (o : Option SchemaData). judgement header_a.flags (option_map (λ s. s.flags) o)) (schema_is row (codes "t"));
+  wider = λ d. ap (λ (o : Option SchemaData). judgement header_a.flags (option_map (λ s. s.flags) o)) (schema_is refuses row (codes "t"));
 }
 
 -- ---- a table z that is not there
@@ -537,7 +578,7 @@ group_z = record { header = header_z; entries = direct (Insert row) ∷ [] }
 
 -- it is passed over
 z_is_skipped : judged (state_of row) group_z ≡ Skipped
-z_is_skipped = ap (λ (o : Option SchemaData). judgement flags (option_map (λ s. s.flags) o)) (schema_is row (codes "z"))
+z_is_skipped = ap (λ (o : Option SchemaData). judgement flags (option_map (λ s. s.flags) o)) (schema_is refuses row (codes "z"))
 
 -- its name is told
 z_is_told : skipped (state_of row) (one_change_of header_z (Insert row)) ≡ codes "z" ∷ []
