@@ -7,6 +7,7 @@ cannot be a store is refused, and stays as it is. The program has to be built fi
 """
 import contextlib
 import os
+import resource
 import sqlite3
 import sys
 import tempfile
@@ -89,15 +90,13 @@ OTHERS = {
         "CREATE VIEW found AS SELECT a FROM own WHERE b LIKE 'o%' OR a IN (SELECT b FROM own)",
     ],
     "triggers": [OWN, ROWS, INDEX, TRIGGER, TRIGGER.replace("own_t AFTER", "own_u BEFORE")],
-    "a trigger with the name of its table": [OWN, ROWS, TRIGGER.replace("own_t", "own")],
-    "a trigger with the name of another table": [*LATE, OWN, TRIGGER.replace("own_t", "late")],
-    "a trigger with the name of a view": [OWN, ROWS, VIEW, TRIGGER.replace("own_t", "own_v")],
     "a trigger and a descending index of one row": [OWN, ONE, DESCENDING, TRIGGER],
     "a trigger and an index without case of one row": [OWN, ONE, NOCASE, TRIGGER],
     "a trigger and two rows in the order of both": [OWN, TWO.replace("B", "b"), NOCASE, TRIGGER],
     "a partial index": [OWN, ROWS, INDEX + " WHERE a > 1"],
     "an index on an expression": [OWN, ROWS, "CREATE INDEX own_e ON own(a + 1)"],
     "a word in a name": [PREFERENCES, "INSERT INTO preferences VALUES('k', 'v')"],
+    "a word in a trigger": [OWN, ROWS, TRIGGER.replace("DELETE FROM rec", "SELECT 'references'")],
     "similar names": ['CREATE TABLE "Rec2"(rec)', "CREATE TABLE record(a)", "CREATE TABLE rec_(a)"],
     "names in quotes": ['CREATE TABLE "a ""b"""("order"/**/)', 'INSERT INTO "a ""b""" VALUES(1)'],
     "fields of the header": ["PRAGMA user_version = 77", "PRAGMA application_id = 99"],
@@ -131,6 +130,10 @@ SINCE = {"a view with FULL JOIN": (3, 39), "a view with ->>": (3, 38)}
 REFUSED = {
     **{f"a view with {what}": [OWN, f"CREATE VIEW v AS {text}"] for what, text in VIEWS.items()},
     "a trigger on a view": [OWN, VIEW, TRIGGER.replace("AFTER INSERT ON own", VIEW_INSERT)],
+    "a trigger with the name of its table": [OWN, ROWS, TRIGGER.replace("own_t", "own")],
+    "a trigger with the name of another table": [*LATE, OWN, TRIGGER.replace("own_t", "Late")],
+    "a trigger with the name of a view": [OWN, VIEW, TRIGGER.replace("own_t", "own_v")],
+    "a trigger with the name of an index": [OWN, INDEX, TRIGGER.replace("own_t", "own_b")],
     "auto-vacuum": ["PRAGMA auto_vacuum = FULL", OWN, ROWS],
     "incremental auto-vacuum": ["PRAGMA auto_vacuum = INCREMENTAL", OWN, ROWS],
     "UTF-16": ["PRAGMA encoding = 'UTF-16'", OWN, ROWS],
@@ -249,9 +252,9 @@ CUT_LINES = [
 ]
 CUTS, OPENED = (1_000_000, 1_000_000) if TRIES_ALL else (150, 30)
 
-# How many rows other tables have. An opening takes at most this multiple of what SQLite's check takes
-# for the rows that one has more, in one of some tries.
-OWN_ROWS, MULTIPLE, TRIES = {"few": 20_000, "many": 100_000}, 4, 3
+# How many rows another table has in two stores, and which multiple of SQLite's check each row takes of
+# an opening at most.
+OWN_ROWS, MULTIPLE = {"few": 20_000, "many": 100_000}, 5
 
 # Whether SQLite has FTS5, and what is compared of the header of a file.
 with contextlib.closing(sqlite3.connect(":memory:")) as base:
@@ -264,6 +267,12 @@ def run_texts(path, texts):
     with contextlib.closing(sqlite3.connect(path, isolation_level=None)) as base:
         for text in texts:
             base.execute(text).fetchall()
+
+
+def processor_time():
+    """The processor time that this process and those that it ran took, in seconds."""
+    used = map(resource.getrusage, (resource.RUSAGE_SELF, resource.RUSAGE_CHILDREN))
+    return sum(one.ru_utime + one.ru_stime for one in used)
 
 
 def rows_of(base, name):
@@ -379,7 +388,9 @@ class Surroundings(NextTest):
     def test_renamed_records(self):
         """Next to records that have another name a new store is made, whatever they are."""
         row, rename = "INSERT INTO rec VALUES('none', X'05', X'05')", "ALTER TABLE rec RENAME TO x"
-        self.assertEqual(self.ends([*STORE, row, rename]), self.ends())
+        alone = self.ends()
+        with self.case():
+            self.assertEqual(self.ends([*STORE, row, rename]), alone)
 
     def test_spelled_records(self):
         """The text of the table of records may differ in what SQL does not read."""
@@ -438,26 +449,23 @@ class Surroundings(NextTest):
         store.insert("t", 3, None)
 
     def times_of(self, store):
-        """The least time that SQLite's check of a file takes, and the least of an opening."""
-        return [min(timeit.repeat(call, repeat=5, number=1)) for call in (
+        """The least processor time of SQLite's check of a file, and the least of an opening."""
+        return [min(timeit.repeat(call, timer=processor_time, repeat=5, number=1)) for call in (
             lambda: run_texts(self.folder / store, ["PRAGMA integrity_check"]),
             lambda: self.assertEqual(self.run_shell([], store), (0, "", "")),
         )]
 
     def test_time_of_opening(self):
         """Each row of another table costs an opening no more than a multiple of what it costs SQLite's
-        check. A machine that does something else meanwhile gets further tries.
+        check. What an opening costs without rows does not count.
         """
         for store, rows in OWN_ROWS.items():
             numbers = f"VALUES(1) UNION ALL SELECT i + 1 FROM n LIMIT {rows}"
             texts = f"INSERT INTO own WITH n(i) AS ({numbers}) SELECT i, 'row ' || i FROM n"
             run_texts(self.folder / store, [OWN, texts, INDEX])
             self.assertEqual(self.run_shell(MAKE, store), (0, "", ""))
-        for _ in range(TRIES):
-            few, many = map(self.times_of, OWN_ROWS)
-            by_sqlite, by_program = (more - less for less, more in zip(few, many))
-            if by_program < MULTIPLE * by_sqlite:
-                break
+        few, many = map(self.times_of, OWN_ROWS)
+        by_sqlite, by_program = (more - less for less, more in zip(few, many))
         self.assertLess(by_program, MULTIPLE * by_sqlite)
 
 
