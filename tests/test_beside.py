@@ -45,6 +45,14 @@ LATE = ["CREATE TABLE late(a, b)", "INSERT INTO late VALUES(1, 2)"]
 ONE, TWO = "INSERT INTO own VALUES(1, 'a')", "INSERT INTO own VALUES(1, 'a'), (2, 'B')"
 DESCENDING, NOCASE = (f"CREATE INDEX own_d ON own(b {how})" for how in ("DESC", "COLLATE NOCASE"))
 
+# A table of many columns, and indexes on so many of them, the last in an order of its own.
+COLUMNS = [f"c{number}" for number in range(64)]
+WIDE = f"CREATE TABLE own({', '.join(COLUMNS)})"
+LONG = {
+    (count, how): f"CREATE INDEX own_i ON own({', '.join(COLUMNS[:count])} {how})"
+    for count in (21, 22, 23) for how in ("DESC", "COLLATE NOCASE")
+}
+
 # A table that has a default in a column that was added to its rows.
 ADDED = [OWN, ROWS, "ALTER TABLE own ADD COLUMN c DEFAULT 7"]
 
@@ -86,7 +94,8 @@ OTHERS = {
     "views": [OWN, ROWS, VIEW, "CREATE VIEW one AS SELECT 1", "CREATE VIEW r AS SELECT * FROM rec"],
     "views of several forms": [
         OWN, ROWS, "CREATE VIEW pairs AS SELECT x.a FROM own AS x LEFT JOIN own AS y ON x.a = y.b",
-        "CREATE VIEW counts AS WITH w AS (SELECT b FROM own) SELECT count(*) AS c FROM w GROUP BY b",
+        "CREATE VIEW counts AS WITH w AS (SELECT b FROM own) SELECT count(*) AS c FROM w",
+        "CREATE VIEW groups AS SELECT b, max(a) AS m FROM own GROUP BY b HAVING m > 1",
         "CREATE VIEW found AS SELECT a FROM own WHERE b LIKE 'o%' OR a IN (SELECT b FROM own)",
     ],
     "triggers": [OWN, ROWS, INDEX, TRIGGER, TRIGGER.replace("own_t AFTER", "own_u BEFORE")],
@@ -95,6 +104,11 @@ OTHERS = {
     "a trigger and two rows in the order of both": [OWN, TWO.replace("B", "b"), NOCASE, TRIGGER],
     "a partial index": [OWN, ROWS, INDEX + " WHERE a > 1"],
     "an index on an expression": [OWN, ROWS, "CREATE INDEX own_e ON own(a + 1)"],
+    "a REAL column after the 63rd": [
+        WIDE.replace(")", " REAL)"), "INSERT INTO own(c0, c63) VALUES(1, 1), (2, 1.5)",
+    ],
+    "an index that descends in its 22nd column": [WIDE, LONG[22, "DESC"]],
+    "an index without case in its 21st column": [WIDE, LONG[21, "COLLATE NOCASE"]],
     "a word in a name": [PREFERENCES, "INSERT INTO preferences VALUES('k', 'v')"],
     "a word in a trigger": [OWN, ROWS, TRIGGER.replace("DELETE FROM rec", "SELECT 'references'")],
     "similar names": ['CREATE TABLE "Rec2"(rec)', "CREATE TABLE record(a)", "CREATE TABLE rec_(a)"],
@@ -151,6 +165,8 @@ REFUSED = {
     "a trigger and a descending index of two rows": [OWN, TWO, DESCENDING, TRIGGER],
     "a trigger and an index without case of two rows": [OWN, TWO, NOCASE, TRIGGER],
     "a column that was added with a default": ADDED,
+    "an index that descends in its 23rd column": [WIDE, LONG[23, "DESC"]],
+    "an index without case in its 22nd column": [WIDE, LONG[22, "COLLATE NOCASE"]],
     "an FTS5 table": [OWN, "CREATE VIRTUAL TABLE f USING fts5(a)", "INSERT INTO f VALUES('words')"],
 }
 
@@ -199,7 +215,7 @@ SPELLED = {
     "blanks": RECORDS.replace(", ", " ,\n\t").replace("(", " ( ").replace(")", " ) "),
     "comments": RECORDS.replace("(", "/* the records */(").replace(", ", ", -- a column\n"),
     "quotes": RECORDS.replace("rec(", "'rec'(").replace("tab", '"tab"').replace("keyb", "[keyb]"),
-    "another case of keywords": RECORDS.replace(" TEXT NOT NULL", " text Not Null").replace("STRICT", "strict"),
+    "another case of keywords": RECORDS.replace("TEXT", "text").replace("STRICT", "Strict"),
 }
 
 # Tables that refer to the records.
@@ -252,8 +268,8 @@ CUT_LINES = [
 ]
 CUTS, OPENED = (1_000_000, 1_000_000) if TRIES_ALL else (150, 30)
 
-# How many rows another table has in two stores, and which multiple of SQLite's check each row takes of
-# an opening at most.
+# How many rows another table has in two stores, and which multiple of what a row costs SQLite's check
+# it may cost an opening.
 OWN_ROWS, MULTIPLE = {"few": 20_000, "many": 100_000}, 5
 
 # Whether SQLite has FTS5, and what is compared of the header of a file.
@@ -410,12 +426,12 @@ class Surroundings(NextTest):
         self.assertEqual(self.run_shell(MAKE), (0, "", ""))
         run_texts(self.path, ["CREATE UNIQUE INDEX i ON rec(rowb)"])
         found = read_records(self.path)
-        equal, file = "INSERT INTO n VALUES(2, X'00ff');", N + insert(3, "new") + insert(2, b"\0\xff")
+        equal = "INSERT INTO n VALUES(2, X'00ff');"
+        file = N + insert(3, "new") + insert(2, b"\0\xff")
         lines = [
             f".load c {file.hex()}", equal, "UPDATE n SET b='x' WHERE a=1;", ".apply c",
-            "CREATE TABLE other(a, b, PRIMARY KEY(a));", ".session open", ".session attach n", equal,
-            ".apply c", ".session isempty", "INSERT INTO n VALUES(2, 'y');", *READ,
-            "DELETE FROM n WHERE a=2;",
+            CREATE.replace("t(", "other("), ".session open", ".session attach n", equal, ".apply c",
+            ".session isempty", "INSERT INTO n VALUES(2, 'y');", *READ, "DELETE FROM n WHERE a=2;",
         ]
         printed = STORE_FAULT * 6 + "1\n1|'x'\n2|X'00ff'\n1|'n'\n2|'y'\n"
         self.assertEqual(self.run_shell(lines), (1, printed, ""))
@@ -456,8 +472,8 @@ class Surroundings(NextTest):
         )]
 
     def test_time_of_opening(self):
-        """Each row of another table costs an opening no more than a multiple of what it costs SQLite's
-        check. What an opening costs without rows does not count.
+        """What each row of another table costs an opening is a small multiple of what it costs
+        SQLite's check. What an opening costs without rows does not count.
         """
         for store, rows in OWN_ROWS.items():
             numbers = f"VALUES(1) UNION ALL SELECT i + 1 FROM n LIMIT {rows}"
@@ -473,7 +489,8 @@ class Refusals(NextTest):
     """Databases that cannot be stores stay as they are."""
 
     def expect_refusal(self, line, look):
-        """Asserts that each way to open the file is refused with a line, and leaves what this finds.
+        """Asserts that each way to open the file is refused with a line, and that `look` returns the
+        same after each.
         """
         self.make("a.cs", INSERT)
         found, script = look(), "".join(line + "\n" for line in MAKE).encode()
@@ -508,8 +525,8 @@ class Refusals(NextTest):
                 self.assertRaises(AssertionError, seen, self.path)
 
     def test_journal(self):
-        """A write that was stopped left pages and a journal. SQLite rolls it back, and then the store
-        is opened.
+        """A write that was stopped left pages and a journal. After SQLite has rolled it back, the
+        store is opened.
         """
         self.write_next([OWN, ROWS], LATE)
         found = seen(self.path)

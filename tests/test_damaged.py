@@ -3,8 +3,8 @@
 
 A reader that shares no code with the program (`support/reader.py`) says what is right: the inverse,
 and concatenations with a whole file and with itself (`support/model.py`), or the fault with its
-offset. After a fault the slot and the store are unchanged. Files that claim more than they have take
-no more memory than others of their length. The program and the library have to be built first.
+offset. After a fault the slot and the store are unchanged. Files that claim more than they have
+take no more memory than others of their length. The program and the library have to be built first.
 """
 import subprocess
 import sys
@@ -152,8 +152,8 @@ class DamageTest(unittest.TestCase):
                 self.expect_each(damaged(file))
 
     def test_each_byte_in_concatenations(self):
-        """The same files, concatenated with a whole one and with themselves, by the program and by the
-        library.
+        """The same files, concatenated with a whole one and with themselves, by the program and by
+        the library.
         """
         for what, file in FILES.items():
             with self.subTest(what):
