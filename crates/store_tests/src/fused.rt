@@ -1,5 +1,5 @@
-//! Stores on disks that stop answering, next to another table. A store is opened again from what the disks hold then, and
-//! from what a crash leaves of that.
+//! Stores on disks that stop answering, next to another table. A store is opened again from what the disks hold then,
+//! and from what a crash leaves of that.
 
 use crate::adoption::{adopted, connected, open};
 use crate::rows::{Call, declaration, edit_of, end, key_of, row_of, rows_of};
@@ -345,8 +345,8 @@ fn expect_numbers<S: Alter>(
     }
 }
 
-/// Whether the store in files has what a call leaves, or what it finds if it was not carried out. The other table has its
-/// rows, and where the store was only opened, the records are as before, and of this version if it was opened.
+/// Whether the store in files has what a call leaves, or what it finds if it was not carried out. The other table has
+/// its rows. After an opening the records are as before, and of this version if it was carried out.
 fn hold<D: Disk + Drop>(
     rt: &(impl Abort + AllocGlobal),
     files: Files<D>,

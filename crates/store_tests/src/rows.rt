@@ -121,8 +121,8 @@ pub(crate) fn end(store: Store<MemStore>) {
     let _conn = store.into_connection();
 }
 
-/// Marks of the key and of the columns that refuse NULL with which two columns make no table: no column is of the key, or
-/// there are fewer or more marks.
+/// Marks of the key and of the columns that refuse NULL with which two columns make no table: no column is of the key,
+/// or there are fewer or more marks.
 const OTHER_MARKS: &[(&[bool], &[bool])] = &[
     (&[false, false], &[false, false]),
     (&[false, false], &[true, true]),
