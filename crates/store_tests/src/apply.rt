@@ -112,9 +112,10 @@ fn run_batch<S: Alter>(
 ) -> Answer {
     let mut batch = store.begin().expect(rt, "a batch");
     let answer = run(rt, &mut batch, step);
-    if answer[0] == 0 {
-        batch.commit().expect(rt, "a commit");
+    if answer[0] != 0 {
+        return answer;
     }
+    batch.commit().expect(rt, "a commit");
     answer
 }
 

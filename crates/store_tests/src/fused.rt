@@ -346,7 +346,7 @@ fn expect_numbers<S: Alter>(
 }
 
 /// Whether the store in files has what a call leaves, or what it finds if it was not carried out. The other table has
-/// its rows. After an opening the records are as before, and of this version if it was carried out.
+/// its rows. After an opening the records are as before. They are of this version if the call was carried out.
 fn hold<D: Disk + Drop>(
     rt: &(impl Abort + AllocGlobal),
     files: Files<D>,
@@ -358,7 +358,9 @@ fn hold<D: Disk + Drop>(
     expect_numbers(rt, &mut conn, OTHER_ROWS);
     if matches!(action, Action::Nothing) {
         expect_numbers(rt, &mut conn, RECORDS);
-        expect_numbers(rt, &mut conn, if is_done { THIS_VERSION } else { &[] });
+    }
+    if is_done {
+        expect_numbers(rt, &mut conn, THIS_VERSION);
     }
     let mut store = adopted(rt, conn);
     has(rt, &mut store, after) || (!is_done && has(rt, &mut store, FIRST))
