@@ -7,6 +7,7 @@ cannot be a store is refused, and stays as it is. The program has to be built fi
 """
 import contextlib
 import os
+import resource
 import sqlite3
 import sys
 import tempfile
@@ -16,9 +17,11 @@ from support.faults import MarkedScript
 from support.power import Disk, Recording, Run, Story, files_of, make_files, opened_again, tried
 from support.program import PROGRAM, TOP, TRIES_ALL, main
 from support.programs import DAMAGED_STORE, StoreTest, tables_of
-from support.samples import CREATE, CREATE_N, INSERT, STORE_FAULT, T, UPDATE
+from support.samples import CREATE, CREATE_N, INSERT, N, STORE_FAULT, T, UPDATE
 from support.shell import Shell
-from support.stores import FORMER, RECORDS, VERSION, expect_whole, header, insert, read_records
+from support.stores import (
+    FORMER, RECORDS, VERSION, expect_whole, header, insert, read_records, records_of, run_sql,
+)
 from support.trials import build_shim
 
 sys.path.insert(0, str(TOP / "bindings/python"))
@@ -34,7 +37,27 @@ INDEX = "CREATE INDEX own_b ON own(b)"
 TRIGGER = "CREATE TRIGGER own_t AFTER INSERT ON own BEGIN DELETE FROM rec; END"
 VIEW, VIEW_INSERT = "CREATE VIEW own_v AS SELECT b FROM own", "INSTEAD OF INSERT ON own_v"
 CHILD = "CREATE TABLE child(a REFERENCES own ON DELETE CASCADE)"
+SELF = OWN.replace("b)", "b REFERENCES own)")
 LATE = ["CREATE TABLE late(a, b)", "INSERT INTO late VALUES(1, 2)"]
+
+# One row and two rows of that table, an index that lists rows in another order than BINARY, and one
+# without case.
+ONE, TWO = "INSERT INTO own VALUES(1, 'a')", "INSERT INTO own VALUES(1, 'a'), (2, 'B')"
+DESCENDING, NOCASE = (f"CREATE INDEX own_d ON own(b {how})" for how in ("DESC", "COLLATE NOCASE"))
+
+# A table of many columns, and indexes on so many of them, the last in an order of its own.
+COLUMNS = [f"c{number}" for number in range(64)]
+WIDE = f"CREATE TABLE own({', '.join(COLUMNS)})"
+LONG = {
+    (count, how): f"CREATE INDEX own_i ON own({', '.join(COLUMNS[:count])} {how})"
+    for count in (21, 22, 23) for how in ("DESC", "COLLATE NOCASE")
+}
+
+# A table that has a default in a column that was added to its rows.
+ADDED = [OWN, ROWS, "ALTER TABLE own ADD COLUMN c DEFAULT 7"]
+
+# A table with a name that has a word of SQL in it.
+PREFERENCES = "CREATE TABLE preferences(k TEXT PRIMARY KEY, v)"
 
 # What is next to a store: texts that are run before it is made, after it, and in part before it.
 OTHERS = {
@@ -67,33 +90,100 @@ OTHERS = {
         "INSERT INTO own VALUES(1 << 63, X'00ff', 1e-300, NULL, '1e3', hex(zeroblob(9000)))",
     ],
     "a column that was added": [OWN, ROWS, "ALTER TABLE own ADD COLUMN c"],
+    "a column that was added with a default, and set": [*ADDED, "UPDATE own SET c = c"],
     "views": [OWN, ROWS, VIEW, "CREATE VIEW one AS SELECT 1", "CREATE VIEW r AS SELECT * FROM rec"],
+    "views of several forms": [
+        OWN, ROWS, "CREATE VIEW pairs AS SELECT x.a FROM own AS x LEFT JOIN own AS y ON x.a = y.b",
+        "CREATE VIEW counts AS WITH w AS (SELECT b FROM own) SELECT count(*) AS c FROM w",
+        "CREATE VIEW groups AS SELECT b, max(a) AS m FROM own GROUP BY b HAVING m > 1",
+        "CREATE VIEW found AS SELECT a FROM own WHERE b LIKE 'o%' OR a IN (SELECT b FROM own)",
+    ],
     "triggers": [OWN, ROWS, INDEX, TRIGGER, TRIGGER.replace("own_t AFTER", "own_u BEFORE")],
+    "a trigger and a descending index of one row": [OWN, ONE, DESCENDING, TRIGGER],
+    "a trigger and an index without case of one row": [OWN, ONE, NOCASE, TRIGGER],
+    "a trigger and two rows in the order of both": [OWN, TWO.replace("B", "b"), NOCASE, TRIGGER],
     "a partial index": [OWN, ROWS, INDEX + " WHERE a > 1"],
     "an index on an expression": [OWN, ROWS, "CREATE INDEX own_e ON own(a + 1)"],
+    "a REAL column after the 63rd": [
+        WIDE.replace(")", " REAL)"), "INSERT INTO own(c0, c63) VALUES(1, 1), (2, 1.5)",
+    ],
+    "an index that descends in its 22nd column": [WIDE, LONG[22, "DESC"]],
+    "an index without case in its 21st column": [WIDE, LONG[21, "COLLATE NOCASE"]],
+    "a word in a name": [PREFERENCES, "INSERT INTO preferences VALUES('k', 'v')"],
+    "a word in a trigger": [OWN, ROWS, TRIGGER.replace("DELETE FROM rec", "SELECT 'references'")],
     "similar names": ['CREATE TABLE "Rec2"(rec)', "CREATE TABLE record(a)", "CREATE TABLE rec_(a)"],
     "names in quotes": ['CREATE TABLE "a ""b"""("order"/**/)', 'INSERT INTO "a ""b""" VALUES(1)'],
     "fields of the header": ["PRAGMA user_version = 77", "PRAGMA application_id = 99"],
     "small pages": ["PRAGMA page_size = 512", OWN, ROWS],
     "a log": ["PRAGMA journal_mode = WAL", OWN, ROWS],
+    "a journal without a header": ["PRAGMA journal_mode = PERSIST", OWN, ROWS],
+    "a journal without a byte": ["PRAGMA journal_mode = TRUNCATE", OWN, ROWS],
     "sixty tables": [f"CREATE TABLE own{number}(a, b)" for number in range(60)],
     "an index on the records": ["CREATE INDEX i ON rec(rowb)"],
     "a unique index on the records": ["CREATE UNIQUE INDEX i ON rec(rowb DESC, keyb, tab)"],
     "statistics of the records": [OWN, ROWS, INDEX, "CREATE INDEX i ON rec(keyb, rowb)", "ANALYZE"],
 }
 
+# What a view may not have, and the first SQLite that has it.
+VIEWS = {
+    "a window": "SELECT sum(a) OVER () AS s FROM own",
+    "FILTER": "SELECT count(*) FILTER (WHERE a > 1) AS c FROM own",
+    "FULL JOIN": "SELECT x.a FROM own AS x FULL JOIN own AS y ON x.a = y.b",
+    "NATURAL JOIN": "SELECT x.a FROM own AS x NATURAL JOIN own AS y",
+    "->>": "SELECT b ->> '$.a' AS c FROM own",
+    "ESCAPE": "SELECT a FROM own WHERE b LIKE 'o!%' ESCAPE '!'",
+    "REGEXP": "SELECT a FROM own WHERE b REGEXP 'o'",
+    "a row value": "SELECT a FROM own WHERE (a, b) = (1, 'one')",
+    "a bare VALUES": "VALUES(1)",
+    "a table function": "SELECT name FROM pragma_table_info('own')",
+    "MATERIALIZED": "WITH w AS MATERIALIZED (SELECT a FROM own) SELECT a FROM w",
+}
+SINCE = {"a view with FULL JOIN": (3, 39), "a view with ->>": (3, 38)}
+
 # Databases that are refused as StoreFault, with the table of records and without it.
 REFUSED = {
-    "a view with a window": [OWN, "CREATE VIEW v AS SELECT sum(a) OVER () AS s FROM own"],
+    **{f"a view with {what}": [OWN, f"CREATE VIEW v AS {text}"] for what, text in VIEWS.items()},
     "a trigger on a view": [OWN, VIEW, TRIGGER.replace("AFTER INSERT ON own", VIEW_INSERT)],
+    "a trigger with the name of its table": [OWN, ROWS, TRIGGER.replace("own_t", "own")],
+    "a trigger with the name of another table": [*LATE, OWN, TRIGGER.replace("own_t", "Late")],
+    "a trigger with the name of a view": [OWN, VIEW, TRIGGER.replace("own_t", "own_v")],
+    "a trigger with the name of an index": [OWN, INDEX, TRIGGER.replace("own_t", "own_b")],
     "auto-vacuum": ["PRAGMA auto_vacuum = FULL", OWN, ROWS],
+    "incremental auto-vacuum": ["PRAGMA auto_vacuum = INCREMENTAL", OWN, ROWS],
     "UTF-16": ["PRAGMA encoding = 'UTF-16'", OWN, ROWS],
     "a row that breaks a foreign key": [OWN, CHILD, "INSERT INTO child VALUES(7)"],
-    "a trigger and a foreign key": [OWN.replace("b)", "b REFERENCES own)"), TRIGGER],
+    "a trigger and a foreign key": [SELF, TRIGGER],
+    "a generated column and a foreign key": [SELF[:-1] + ", c AS (a))"],
+    "a partial index and a foreign key": [SELF, INDEX + " WHERE a > 1"],
+    "an index on an expression and a foreign key": [SELF, "CREATE INDEX own_e ON own(a + 1)"],
+    "WITHOUT ROWID and a foreign key": [SELF.replace("INTEGER", "TEXT") + " WITHOUT ROWID"],
+    "WITHOUT ROWID and a word in a name": [PREFERENCES + " WITHOUT ROWID"],
+    "a trigger and a word in a name": [PREFERENCES, TRIGGER.replace("ON own", "ON preferences")],
+    "a trigger and a word in a text": [OWN.replace("b)", "b DEFAULT 'References')"), TRIGGER],
+    "a trigger and a word in a comment": [OWN.replace("b)", "b /* REFERENCES own */)"), TRIGGER],
     "a trigger and a row that refers": [OWN, ROWS, CHILD, "INSERT INTO child VALUES(2)", TRIGGER],
-    "a trigger and a descending index": [OWN, ROWS, "CREATE INDEX own_d ON own(a DESC)", TRIGGER],
-    "a column that was added with a default": [OWN, ROWS, "ALTER TABLE own ADD COLUMN c DEFAULT 7"],
+    "a trigger and a descending index of two rows": [OWN, TWO, DESCENDING, TRIGGER],
+    "a trigger and an index without case of two rows": [OWN, TWO, NOCASE, TRIGGER],
+    "a column that was added with a default": ADDED,
+    "an index that descends in its 23rd column": [WIDE, LONG[23, "DESC"]],
+    "an index without case in its 22nd column": [WIDE, LONG[22, "COLLATE NOCASE"]],
     "an FTS5 table": [OWN, "CREATE VIRTUAL TABLE f USING fts5(a)", "INSERT INTO f VALUES('words')"],
+}
+
+# Databases with a row that breaks a constraint of its table.
+WRITABLE = "PRAGMA writable_schema = ON"
+BROKEN = {
+    "CHECK": [
+        OWN[:-1] + " CHECK(b > 0))", "PRAGMA ignore_check_constraints = ON",
+        "INSERT INTO own VALUES(1, -1)",
+    ],
+    "NOT NULL": [
+        OWN, ROWS, WRITABLE, "UPDATE sqlite_schema SET sql = replace(sql, 'b)', 'b NOT NULL)')",
+    ],
+    "STRICT": [
+        OWN.replace("b)", "b TEXT)"), "INSERT INTO own VALUES(1, X'00')", WRITABLE,
+        "UPDATE sqlite_schema SET sql = sql || ' STRICT'",
+    ],
 }
 
 # A store without tables, and what has the name `rec` and is not the table of records of a store.
@@ -117,6 +207,15 @@ UNREADABLE = {
     "an index on an expression": [*STORE, "CREATE INDEX i ON rec(length(rowb))"],
     "an index of the name": [OWN, INDEX.replace("own_b", "rec")],
     "a trigger of the name": [OWN, TRIGGER.replace("own_t", "rec")],
+}
+
+# The text of the table of records, spelled in other ways.
+SPELLED = {
+    "without IF NOT EXISTS": RECORDS.replace("IF NOT EXISTS ", ""),
+    "blanks": RECORDS.replace(", ", " ,\n\t").replace("(", " ( ").replace(")", " ) "),
+    "comments": RECORDS.replace("(", "/* the records */(").replace(", ", ", -- a column\n"),
+    "quotes": RECORDS.replace("rec(", "'rec'(").replace("tab", '"tab"').replace("keyb", "[keyb]"),
+    "another case of keywords": RECORDS.replace("TEXT", "text").replace("STRICT", "Strict"),
 }
 
 # Tables that refer to the records.
@@ -169,8 +268,9 @@ CUT_LINES = [
 ]
 CUTS, OPENED = (1_000_000, 1_000_000) if TRIES_ALL else (150, 30)
 
-# How many rows a large database has. It opens in this multiple of SQLite's check, and some seconds.
-OWN_ROWS, MULTIPLE, MORE = 100_000, 3, 1
+# How many rows another table has in two stores, and which multiple of what a row costs SQLite's check
+# it may cost an opening.
+OWN_ROWS, MULTIPLE = {"few": 20_000, "many": 100_000}, 5
 
 # Whether SQLite has FTS5, and what is compared of the header of a file.
 with contextlib.closing(sqlite3.connect(":memory:")) as base:
@@ -185,6 +285,12 @@ def run_texts(path, texts):
             base.execute(text).fetchall()
 
 
+def processor_time():
+    """The processor time that this process and those that it ran took, in seconds."""
+    used = map(resource.getrusage, (resource.RUSAGE_SELF, resource.RUSAGE_CHILDREN))
+    return sum(one.ru_utime + one.ru_stime for one in used)
+
+
 def rows_of(base, name):
     """The rows of a table as sorted texts, with their rowids if the table has these."""
     quoted = '"' + name.replace('"', '""') + '"'
@@ -195,12 +301,13 @@ def rows_of(base, name):
     return sorted(map(repr, rows))
 
 
-def seen(path, without=()):
-    """What SQLite finds in a file, which has to be whole: fields of the header, the entries of the
-    schema in their order, and the rows of tables; all without these names.
+def seen(path, without=(), whole=True):
+    """What SQLite finds in a file, which has to be whole or not: fields of the header, the entries
+    of the schema in their order, and the rows of tables; all without these names.
     """
     with contextlib.closing(sqlite3.connect(path)) as base:
-        expect_whole(base)
+        if whole:
+            expect_whole(base)
         fields = [base.execute(f"PRAGMA {field}").fetchone() for field in FIELDS]
         entries = base.execute("SELECT type, name, tbl_name, sql FROM sqlite_schema ORDER BY rowid")
         entries = [entry for entry in entries.fetchall() if entry[1] not in without]
@@ -211,6 +318,17 @@ def seen(path, without=()):
 def seen_next(path):
     """What SQLite finds next to the table of records."""
     return seen(path, ("rec", "sqlite_autoindex_rec_1"))
+
+
+def stop_writing(path):
+    """Has SQLite change a table, and leaves the files that a stop before the end of that leaves."""
+    journal = path.with_name(path.name + "-journal")
+    with contextlib.closing(sqlite3.connect(path, isolation_level=None)) as base:
+        for text in ("PRAGMA cache_size = 1", "BEGIN", "UPDATE own SET b = zeroblob(100000)"):
+            base.execute(text)
+        left = {name: name.read_bytes() for name in (path, journal)}
+    for name, content in left.items():
+        name.write_bytes(content)
 
 
 def orders(texts):
@@ -283,17 +401,54 @@ class Surroundings(NextTest):
                 self.assertEqual(self.read_alone(), tables_of((1, "z")))
                 self.assertEqual(seen_next(self.path), found)
 
+    def test_renamed_records(self):
+        """Next to records that have another name a new store is made, whatever they are."""
+        row, rename = "INSERT INTO rec VALUES('none', X'05', X'05')", "ALTER TABLE rec RENAME TO x"
+        alone = self.ends()
+        with self.case():
+            self.assertEqual(self.ends([*STORE, row, rename]), alone)
+
+    def test_spelled_records(self):
+        """The text of the table of records may differ in what SQL does not read."""
+        for what, text in SPELLED.items():
+            with self.case(what=what):
+                run_sql(self.path, text, records=records_of(tables_of((1, "z"))))
+                found = seen(self.path)
+                lines = ["INSERT INTO t VALUES(2, 'y');", "SELECT * FROM t;"]
+                self.assertEqual(self.run_shell(lines), (0, "1|'z'\n2|'y'\n", ""))
+                self.assertEqual(self.read_alone(), tables_of((1, "z"), (2, "y")))
+                self.assertEqual(seen(self.path)[:2], found[:2])
+
+    def test_equal_rows(self):
+        """Another index on the records may refuse one that is equal to another one. It leaves the
+        records, and the store goes on.
+        """
+        self.assertEqual(self.run_shell(MAKE), (0, "", ""))
+        run_texts(self.path, ["CREATE UNIQUE INDEX i ON rec(rowb)"])
+        found = read_records(self.path)
+        equal = "INSERT INTO n VALUES(2, X'00ff');"
+        file = N + insert(3, "new") + insert(2, b"\0\xff")
+        lines = [
+            f".load c {file.hex()}", equal, "UPDATE n SET b='x' WHERE a=1;", ".apply c",
+            CREATE.replace("t(", "other("), ".session open", ".session attach n", equal, ".apply c",
+            ".session isempty", "INSERT INTO n VALUES(2, 'y');", *READ, "DELETE FROM n WHERE a=2;",
+        ]
+        printed = STORE_FAULT * 6 + "1\n1|'x'\n2|X'00ff'\n1|'n'\n2|'y'\n"
+        self.assertEqual(self.run_shell(lines), (1, printed, ""))
+        self.assertEqual(read_records(self.path), found)
+
     def test_python(self):
-        """Edits in a session, undo, an apply and a revert by the Python package."""
-        for what in ("statistics", "triggers", "foreign keys"):
-            for before, after in orders(OTHERS[what]):
-                with self.case(what=what, before=len(before)):
-                    self.write_next(before, after)
-                    found = seen_next(self.path)
-                    with vollikash.open(self.path) as store:
-                        self.use(store)
-                    self.assertEqual(self.read_alone(), tables_of((1, "z"), (3, None)))
-                    self.assertEqual(seen_next(self.path), found)
+        """Edits in a session, undo, an apply and a revert by the Python package, in one of the orders.
+        """
+        for what, texts in OTHERS.items():
+            with self.case(what=what):
+                *_, (before, after) = orders(texts)
+                self.write_next(before, after)
+                found = seen_next(self.path)
+                with vollikash.open(self.path) as store:
+                    self.use(store)
+                self.assertEqual(self.read_alone(), tables_of((1, "z"), (3, None)))
+                self.assertEqual(seen_next(self.path), found)
 
     def use(self, store):
         """Uses a store from Python."""
@@ -310,44 +465,77 @@ class Surroundings(NextTest):
         self.assertRaisesRegex(vollikash.StoreError, "33 KeyTaken", store.insert, "t", 1, "again")
         store.insert("t", 3, None)
 
+    def times_of(self, store):
+        """The least processor time of SQLite's check of a file, and the least of an opening."""
+        return [min(timeit.repeat(call, timer=processor_time, repeat=5, number=1)) for call in (
+            lambda: run_texts(self.folder / store, ["PRAGMA integrity_check"]),
+            lambda: self.assertEqual(self.run_shell([], store), (0, "", "")),
+        )]
+
     def test_time_of_opening(self):
-        """A database with many rows of its own opens in time."""
-        numbers = f"VALUES(1) UNION ALL SELECT i + 1 FROM n LIMIT {OWN_ROWS}"
-        rows = f"INSERT INTO own WITH n(i) AS ({numbers}) SELECT i, 'row ' || i FROM n"
-        run_texts(self.path, [OWN, rows, INDEX])
-        self.assertEqual(self.run_shell(MAKE), (0, "", ""))
-        by_sqlite, by_program = (min(timeit.repeat(call, repeat=3, number=1)) for call in (
-            lambda: run_texts(self.path, ["PRAGMA integrity_check"]),
-            lambda: self.assertEqual(self.run_shell([]), (0, "", "")),
-        ))
-        self.assertLess(by_program, MULTIPLE * by_sqlite + MORE)
+        """What each row of another table costs an opening is a small multiple of what it costs
+        SQLite's check. What an opening costs without rows does not count.
+        """
+        for store, rows in OWN_ROWS.items():
+            numbers = f"VALUES(1) UNION ALL SELECT i + 1 FROM n LIMIT {rows}"
+            texts = f"INSERT INTO own WITH n(i) AS ({numbers}) SELECT i, 'row ' || i FROM n"
+            run_texts(self.folder / store, [OWN, texts, INDEX])
+            self.assertEqual(self.run_shell(MAKE, store), (0, "", ""))
+        few, many = map(self.times_of, OWN_ROWS)
+        by_sqlite, by_program = (more - less for less, more in zip(few, many))
+        self.assertLess(by_program, MULTIPLE * by_sqlite)
 
 
 class Refusals(NextTest):
     """Databases that cannot be stores stay as they are."""
 
-    def expect_refusal(self, line):
-        """Asserts that each way to open the file is refused with a line, and leaves the file."""
+    def expect_refusal(self, line, look):
+        """Asserts that each way to open the file is refused with a line, and that `look` returns the
+        same after each.
+        """
         self.make("a.cs", INSERT)
-        found, script = seen(self.path), "".join(line + "\n" for line in MAKE).encode()
+        found, script = look(), "".join(line + "\n" for line in MAKE).encode()
         for words, stdin in ((SHELL, b""), (SHELL, script), (APPLY, b"")):
             self.assertEqual(self.run_program(*words, stdin=stdin), (1, "", line), words)
-            self.assertEqual(seen(self.path), found, words)
+            self.assertEqual(look(), found, words)
         self.assertRaisesRegex(vollikash.StoreError, line.strip(), vollikash.open, self.path)
-        self.assertEqual(seen(self.path), found)
+        self.assertEqual(look(), found)
 
-    def expect_each(self, refused, line, *places):
+    def expect_each(self, refused, line, *places, whole=True):
         """Asserts the refusal of each of these, where others are made before it and after it."""
         for what, texts in refused.items():
             for place, (before, after) in enumerate(places):
                 with self.case(what=what, place=place):
                     run_texts(self.path, [*before, *texts, *after])
-                    self.expect_refusal(line)
+                    self.expect_refusal(line, lambda: seen(self.path, whole=whole))
 
     def test_what_cannot_be_opened(self):
         """Without the table of records, and before it."""
         refused = {what: texts for what, texts in REFUSED.items() if HAS_FTS5 or "FTS5" not in what}
+        for what, since in SINCE.items():
+            if sqlite3.sqlite_version_info < since:
+                del refused[what]
         self.expect_each(refused, STORE_FAULT, ([], []), ([], STORE))
+
+    def test_rows_that_break_a_constraint(self):
+        """Without the table of records, and before it. SQLite reports each row."""
+        self.expect_each(BROKEN, STORE_FAULT, ([], []), ([], STORE), whole=False)
+        for what, texts in BROKEN.items():
+            with self.case(what=what):
+                run_texts(self.path, texts)
+                self.assertRaises(AssertionError, seen, self.path)
+
+    def test_journal(self):
+        """A write that was stopped left pages and a journal. After SQLite has rolled it back, the
+        store is opened.
+        """
+        self.write_next([OWN, ROWS], LATE)
+        found = seen(self.path)
+        stop_writing(self.path)
+        self.expect_refusal(STORE_FAULT, lambda: files_of(self.folder))
+        self.assertEqual(seen(self.path), found)
+        self.assertEqual(self.run_shell(["SELECT * FROM t;"]), (0, "1|'z'\n", ""))
+        self.assertEqual(seen(self.path), found)
 
     def test_tables_that_refer_to_the_records(self):
         """Without the table of records, after it and before it."""

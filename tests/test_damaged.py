@@ -1,19 +1,23 @@
 #!/usr/bin/env python3
 """Damaged files: each file cut at each byte, and each byte set to each other value.
 
-A reader that shares no code with the program (`support/reader.py`) says what is right: the inverse
-and the concatenations with a whole file (`support/model.py`), or the fault with its offset. After a
-fault the slot and the store are unchanged. Files that claim
-more than they have take no more memory than others of their length. The program has to be built
-first.
+A reader that shares no code with the program (`support/reader.py`) says what is right: the inverse,
+and concatenations with a whole file and with itself (`support/model.py`), or the fault with its
+offset. After a fault the slot and the store are unchanged. Files that claim more than they have
+take no more memory than others of their length. The program and the library have to be built first.
 """
 import subprocess
+import sys
 import unittest
 
 from support import model, reader
-from support.program import PROGRAM, main
+from support.program import PROGRAM, TOP, main
 from support.samples import INSERT, T
 from support.stores import UNDEFINED, delete, header, insert, update
+
+sys.path.insert(0, str(TOP / "bindings/python"))
+
+import vollikash  # noqa: E402
 
 # How many seconds a run may take, how many bytes a script has at most, and how many of memory a run
 # may have.
@@ -80,34 +84,48 @@ def scripts(datas):
 
 
 def joined(first, second):
-    """The concatenation of two files, or why they are refused: the faults of the first come first."""
+    """The concatenation of two files, or why they are refused, and which of them is at fault. The
+    faults of the first come first.
+    """
+    groups = []
+    for which, data in enumerate((first, second), 1):
+        try:
+            groups.append(reader.Reader(data).groups())
+        except reader.Fault as fault:
+            return None, f"{fault}\n", which
     try:
-        groups = [reader.Reader(data).groups() for data in (first, second)]
-        return reader.write(model.concatenated(*groups)), ""
-    except reader.Fault as fault:
-        return None, f"{fault}\n"
+        return reader.write(model.concatenated(*groups)), "", 0
     except model.Refusal as refusal:
-        return None, refusal.line.decode() + "\n"
+        return None, refusal.line.decode() + "\n", 2
+
+
+def joined_by_library(first, second):
+    """The same, by a call of the library."""
+    try:
+        return vollikash.concat(first, second), "", 0
+    except vollikash.ChangesetError as error:
+        return None, f"error {error.code} {error.name} {error.place}\n", error.which
 
 
 def concatenating(datas):
-    """Scripts that concatenate each of these bytes with a whole file, in both orders, into one slot;
-    and what they print.
+    """Scripts that concatenate each of these bytes with a whole file, in both orders, and with
+    themselves, into one slot; what they print; and the files with what `joined` returns of them.
     """
     begin = f".load w {WHOLE.hex()}\n.load y\n"
-    lines, printed, size, slot = [begin], [], len(begin), b""
+    lines, printed, pairs, size, slot = [begin], [], [], len(begin), b""
     for data in datas:
         lines.append(f".load x {data.hex()}\n")
-        for words, files in (("x w", (data, WHOLE)), ("w x", (WHOLE, data))):
-            made, said = joined(*files)
+        for words, files in (("x w", (data, WHOLE)), ("w x", (WHOLE, data)), ("x x", (data, data))):
+            made, said, which = joined(*files)
             slot = slot if made is None else made
             lines.append(f".concat {words} y\n.hex y\n")
             printed.append(said + slot.hex() + "\n")
-        size += sum(map(len, lines[-3:]))
+            pairs.append((files, (made, said, which)))
+        size += sum(map(len, lines[-4:]))
         if size > LONGEST:
-            yield "".join(lines), "".join(printed)
-            lines, printed, size, slot = [begin], [], len(begin), b""
-    yield "".join(lines), "".join(printed)
+            yield "".join(lines), "".join(printed), pairs
+            lines, printed, pairs, size, slot = [begin], [], [], len(begin), b""
+    yield "".join(lines), "".join(printed), pairs
 
 
 def run(script, limit=None):
@@ -134,11 +152,16 @@ class DamageTest(unittest.TestCase):
                 self.expect_each(damaged(file))
 
     def test_each_byte_in_concatenations(self):
-        """The same files, concatenated with a whole one."""
+        """The same files, concatenated with a whole one and with themselves, by the program and by
+        the library.
+        """
         for what, file in FILES.items():
             with self.subTest(what):
-                for script, printed in concatenating(damaged(file)):
+                for script, printed, pairs in concatenating(damaged(file)):
                     self.assertEqual(run(script), printed)
+                    for files, wanted in pairs:
+                        if joined_by_library(*files) != wanted:
+                            self.fail(f"{files}: {joined_by_library(*files)}, and not {wanted}")
 
     def test_claims(self):
         """Files that claim more than they have are refused in the memory of short ones."""

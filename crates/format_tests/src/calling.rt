@@ -73,3 +73,30 @@ fn undoes_two_files(rt: HostRuntime) {
         assert!(rt; undo.as_deref() == undone);
     }
 }
+
+/// How many keys a large file has.
+const MANY: u64 = 20_000;
+
+/// Returns a file with many entries of this operation, each of a row of a table u of one column.
+fn many(rt: &(impl Abort + AllocGlobal), operation: u8) -> Vec<u8> {
+    let mut file = Vec::from_slice(rt.alloc(), b"T\x01\x01u\x00").expect(rt, "memory");
+    for key in 0..MANY {
+        file.extend_from_slice(&[operation, 0, 1])
+            .expect(rt, "memory");
+        file.extend_from_slice(&key.to_be_bytes())
+            .expect(rt, "memory");
+    }
+    file
+}
+
+#[test]
+fn undoes_two_files_of_many_keys(rt: HostRuntime) {
+    let (inserts, deletes) = (many(&rt, 0x12), many(&rt, 0x09));
+    for (first, second, undone) in [
+        (&deletes, &inserts, b"".as_slice()),
+        (&inserts, &inserts, deletes.as_slice()),
+    ] {
+        let undo = undo_of(rt.alloc(), first, second).expect(&rt, "memory");
+        assert!(rt; undo.as_deref() == Some(undone));
+    }
+}

@@ -67,8 +67,11 @@ fn orders_keys_by_their_bytes(rt: HostRuntime) {
     for (low, high) in [
         (TWO, MINUS_ONE),
         (MINUS_ONE, b"\x03\x01b".as_slice()),
+        (b"\x03\x01\x00".as_slice(), b"\x03\x01b".as_slice()),
         (b"\x03\x01b".as_slice(), b"\x03\x02aa".as_slice()),
-        (b"\x03\x02aa".as_slice(), b"\x04\x01a".as_slice()),
+        (b"\x03\x02aa".as_slice(), b"\x04\x00".as_slice()),
+        (b"\x04\x00".as_slice(), b"\x04\x01\x00".as_slice()),
+        (b"\x04\x01\x00".as_slice(), b"\x04\x01a".as_slice()),
     ] {
         let order = key_of(&rt, low).cmp(&key_of(&rt, high));
         assert!(rt; order == Ordering::Less);

@@ -11,7 +11,7 @@ fn database(rt: &(impl Abort + AllocGlobal)) -> Connection<MemStore> {
 }
 
 /// Returns the store of a database that is one.
-fn adopted<S: Alter>(rt: &(impl Abort + AllocGlobal), conn: Connection<S>) -> Store<S> {
+pub(crate) fn adopted<S: Alter>(rt: &(impl Abort + AllocGlobal), conn: Connection<S>) -> Store<S> {
     match Store::adopt(rt.alloc(), conn) {
         Ok(store) => store,
         Err((error, _)) => panic!(rt; "no store: {error}"),
@@ -34,13 +34,13 @@ pub(crate) fn open<D: Disk + Drop>(
     Connection::open_files(rt.alloc(), files, options)
 }
 
-/// Returns the store on disks that answer.
-pub(crate) fn opened<D: Disk + Drop>(
+/// Returns the database on disks that answer.
+pub(crate) fn connected<D: Disk + Drop>(
     rt: &(impl Abort + AllocGlobal),
     files: Files<D>,
-) -> Store<FileStore<D>> {
+) -> Connection<FileStore<D>> {
     match open(rt, files) {
-        Ok(conn) => adopted(rt, conn),
+        Ok(conn) => conn,
         Err((error, _)) => panic!(rt; "no database: {error}"),
     }
 }

@@ -1,10 +1,14 @@
-//! Changesets that run over rows in memory.
+//! Changesets that run over rows in memory and over batches, and the text of a report.
 
-use crate::rows::{row_of, tables};
+use crate::edits::listed;
+use crate::rows::{end, row_of, rows_of, store_of, tables};
 use crate::{DELETE, INSERT, NULL_INSERT, UPDATE};
 use cs_apply::{ApplyFault, Choice, Conflict, Direction, Kind, Noop, Report, run_in};
-use cs_store::Rows;
+use cs_replies::report_text;
+use cs_store::{Rows, Store};
+use cs_texts::Told;
 use cs_value::{Fault, Row, Value};
+use sqlite::Alter;
 use std::process::Abort;
 
 /// An INSERT of (1, 'z').
@@ -100,12 +104,59 @@ fn run<B: Rows>(rt: &(impl Abort + AllocGlobal), rows: &mut B, step: Step) -> An
     )
 }
 
+/// Runs a file in a batch, which is committed if the file is not refused.
+fn run_batch<S: Alter>(
+    rt: &(impl Abort + AllocGlobal),
+    store: &mut Store<S>,
+    step: Step,
+) -> Answer {
+    let mut batch = store.begin().expect(rt, "a batch");
+    let answer = run(rt, &mut batch, step);
+    if answer[0] != 0 {
+        return answer;
+    }
+    batch.commit().expect(rt, "a commit");
+    answer
+}
+
 #[test]
-fn runs_files_over_rows_in_memory(rt: HostRuntime) {
+fn runs_files_over_rows_in_memory_and_in_batches(rt: HostRuntime) {
     let mut rows = tables(&rt);
+    let mut store = store_of(&rt, &[false, true]);
     for (place, step) in STEPS.iter().enumerate() {
         assert!(rt; run(&rt, &mut rows, *step) == step.4, "at {place}");
+        assert!(rt; run_batch(&rt, &mut store, *step) == step.4, "at {place}");
+        let is_refused = step.4[0] != 0;
+        assert!(rt;
+            is_refused || listed(&rt, &mut rows) == rows_of(&rt, &mut store),
+            "at {place}"
+        );
     }
+    end(store);
+}
+
+/// An INSERT into a table z that there is not, an INSERT of (1, NULL) into t, the DELETE of (2, 'q') and an INSERT of
+/// (3, 'r').
+const EACH_LINE: &[u8] = b"T\x02\x01\x00z\x00\x12\x00\x01\x00\x00\x00\x00\x00\x00\x00\x01\x03\x01x\
+T\x02\x01\x00t\x00\x12\x00\x01\x00\x00\x00\x00\x00\x00\x00\x01\x05\
+\x09\x00\x01\x00\x00\x00\x00\x00\x00\x00\x02\x03\x01q\
+\x12\x00\x01\x00\x00\x00\x00\x00\x00\x00\x03\x03\x01r";
+
+/// The report of that file over t without rows, which refuses NULL in b.
+const EACH_TEXT: &[u8] =
+    b"warning 17 skipped 'z'\nconflict 4 constraint omit 't'\nignored 1\napplied 1\n";
+
+#[test]
+fn prints_a_report(rt: HostRuntime) {
+    let mut rows = tables(&rt);
+    let handler = |_: &Conflict| Choice::Omit;
+    let report = run_in(rt.alloc(), &mut rows, EACH_LINE, FORWARD, IGNORE, &handler).expect(
+        &rt,
+        "no refusal",
+    );
+    let mut out = Told::new(Vec::new(rt.alloc()));
+    assert!(rt; report_text(&report, &mut out).is_ok());
+    assert!(rt; out.into_inner().as_slice() == EACH_TEXT);
 }
 
 /// Omits a constraint conflict in t whose current row is this one, or none if it is none, and else replaces.

@@ -1,6 +1,6 @@
-//! Edits of rows in memory and in a batch, which return the same.
+//! Edits of rows in memory and in a batch, which return the same, and the order in which rows are listed.
 
-use crate::rows::{Call, edit_of, end, rows_of, store_of, tables};
+use crate::rows::{Call, edit_of, end, row_of, rows_of, store_of, tables};
 use cs_store::{Rows, Store, StoreError, Written, edit_in};
 use cs_value::{Row, Value};
 use sqlite::Alter;
@@ -87,7 +87,7 @@ const CASES: &[Case] = &[
 ];
 
 /// Returns the rows of t.
-fn listed<B: Rows>(rt: &(impl Abort + AllocGlobal), rows: &mut B) -> Vec<Row> {
+pub(crate) fn listed<B: Rows>(rt: &(impl Abort + AllocGlobal), rows: &mut B) -> Vec<Row> {
     match rows.schema(rt.alloc(), "t").expect(rt, "memory") {
         Some(_) => rows.list(rt.alloc(), "t").expect(rt, "memory"),
         None => panic!(rt; "no table"),
@@ -120,21 +120,55 @@ fn expect_answers<B: Rows>(rt: &(impl Abort + AllocGlobal), rows: &mut B) {
     }
 }
 
+/// Rows in the order in which they are listed, by the bytes of their keys.
+const LISTED: &[&[Value<'static>]] = &[
+    &[Value::Int(0), Value::Int(7)],
+    &[Value::Int(256), Value::Int(7)],
+    &[Value::Int(-1), Value::Int(7)],
+    &[Value::Text(""), Value::Int(7)],
+    &[Value::Text("\0"), Value::Int(7)],
+    &[Value::Text("b"), Value::Int(7)],
+    &[Value::Text("aa"), Value::Int(7)],
+    &[Value::Blob(b""), Value::Int(7)],
+    &[Value::Blob(b"\x00"), Value::Int(7)],
+    &[Value::Blob(b"\x01"), Value::Int(7)],
+    &[Value::Blob(b"\x00\x00"), Value::Int(7)],
+];
+
+/// Inserts these rows in another order, and asserts how they are listed.
+fn expect_order<B: Rows>(rt: &(impl Abort + AllocGlobal), rows: &mut B) {
+    for row in LISTED.iter().rev() {
+        assert!(rt; edit(rt, rows, Call::Insert("t", row)) == Ok(1));
+    }
+    let listed = listed(rt, rows);
+    assert!(rt; listed.len() == LISTED.len());
+    for (row, wanted) in listed.iter().zip(LISTED) {
+        assert!(rt; *row == row_of(rt, wanted));
+    }
+}
+
 #[test]
 fn edits_rows_in_memory(rt: HostRuntime) {
     expect_answers(&rt, &mut tables(&rt));
+    expect_order(&rt, &mut tables(&rt));
 }
 
-/// Asserts it of a batch, which is dropped.
+/// Asserts both of batches, which are dropped.
 fn expect_answers_in_batch<S: Alter>(rt: &(impl Abort + AllocGlobal), store: &mut Store<S>) {
     let mut batch = store.begin().expect(rt, "a batch");
     expect_answers(rt, &mut batch);
+}
+
+fn expect_order_in_batch<S: Alter>(rt: &(impl Abort + AllocGlobal), store: &mut Store<S>) {
+    let mut batch = store.begin().expect(rt, "a batch");
+    expect_order(rt, &mut batch);
 }
 
 #[test]
 fn edits_rows_in_a_batch(rt: HostRuntime) {
     let mut store = store_of(&rt, &[false, true]);
     expect_answers_in_batch(&rt, &mut store);
+    expect_order_in_batch(&rt, &mut store);
     assert!(rt; rows_of(&rt, &mut store).is_empty());
     end(store);
 }

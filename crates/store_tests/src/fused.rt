@@ -1,8 +1,8 @@
-//! Stores on disks that stop answering. A store is opened again from what the disks hold then, and from what a crash
-//! leaves of that.
+//! Stores on disks that stop answering, next to another table. A store is opened again from what the disks hold then,
+//! and from what a crash leaves of that.
 
-use crate::adoption::{open, opened};
-use crate::rows::{Call, declaration, edit_of, end, row_of, rows_of};
+use crate::adoption::{adopted, connected, open};
+use crate::rows::{Call, declaration, edit_of, end, key_of, row_of, rows_of};
 use crate::session::{code_of, edited, session_alone};
 use cs_apply::{Choice, Conflict, Noop, apply, revert};
 use cs_session::Session;
@@ -12,10 +12,18 @@ use sqlite::{Alter, Connection};
 use sqlite_disk::{Crash, Disk, Files, Fuse, Memory};
 use std::process::Abort;
 
-/// The calls that commit, and none.
+/// The calls that commit, those that leave a store as it is, and none.
 #[derive(Clone, Copy, Debug)]
 enum Action {
     Nothing,
+    Begin,
+    LeaveBatch,
+    Tables,
+    Schema,
+    Rows,
+    Get,
+    Attach,
+    Changeset,
     Declare,
     Edit,
     CommitBatch,
@@ -57,6 +65,18 @@ const CASES: &[Case] = &[
 /// A store is opened, and no more.
 const OPENING: Case = (Action::Nothing, FIRST);
 
+/// The calls that leave a store as it is.
+const IDLE: &[Action] = &[
+    Action::Begin,
+    Action::LeaveBatch,
+    Action::Tables,
+    Action::Schema,
+    Action::Rows,
+    Action::Get,
+    Action::Attach,
+    Action::Changeset,
+];
+
 /// The edit by which t has the second row and not the first, and its inverse.
 const MOVE: Call = Call::Update("t", 1, SECOND_ROW);
 
@@ -70,6 +90,22 @@ const FORTH: &[u8] = b"T\x02\x01\x00t\x00\
 const BACK: &[u8] = b"T\x02\x01\x00t\x00\
 \x09\x00\x01\x00\x00\x00\x00\x00\x00\x00\x02\x03\x01q\
 \x12\x00\x01\x00\x00\x00\x00\x00\x00\x00\x01\x03\x01x";
+
+/// Begins a batch, and drops it.
+fn begin_batch<S: Alter>(store: &mut Store<S>) -> Result<(), StoreError> {
+    let _batch = store.begin()?;
+    Ok(())
+}
+
+/// Makes that edit in a batch, and drops this.
+fn leave_batch<S: Alter>(
+    rt: &(impl Abort + AllocGlobal),
+    store: &mut Store<S>,
+) -> Result<(), StoreError> {
+    let mut batch = store.begin()?;
+    edit_in(rt.alloc(), &mut batch, &edit_of(rt, MOVE))?;
+    Ok(())
+}
 
 /// Commits a batch with that edit.
 fn commit_batch<S: Alter>(
@@ -113,6 +149,18 @@ fn call_session<S: Alter>(
     code
 }
 
+/// Attaches t to a session, and returns the code of the refusal, or 0.
+fn attached<S: Alter>(rt: &(impl Abort + AllocGlobal), store: &mut Store<S>) -> u8 {
+    let mut session = Session::new(rt.alloc());
+    code_of(session.attach(rt.alloc(), store, "t"))
+}
+
+/// Has a session make its changeset, and returns the code of the refusal, or 0.
+fn changed<S: Alter>(rt: &(impl Abort + AllocGlobal), store: &mut Store<S>) -> u8 {
+    let session = session_alone(rt);
+    code_of(session.changeset(rt.alloc(), store))
+}
+
 /// Undoes what a session has noted of another store, in which it moved the second row back.
 fn undone<S: Alter>(rt: &(impl Abort + AllocGlobal), store: &mut Store<S>) -> u8 {
     let mut other = Store::new_memory(rt.alloc()).expect(rt, "a store");
@@ -130,6 +178,14 @@ fn undone<S: Alter>(rt: &(impl Abort + AllocGlobal), store: &mut Store<S>) -> u8
 fn call<S: Alter>(rt: &(impl Abort + AllocGlobal), store: &mut Store<S>, action: Action) -> u8 {
     match action {
         Action::Nothing => 0,
+        Action::Begin => code_of(begin_batch(store)),
+        Action::LeaveBatch => code_of(leave_batch(rt, store)),
+        Action::Tables => code_of(store.tables(rt.alloc())),
+        Action::Schema => code_of(store.schema(rt.alloc(), "t")),
+        Action::Rows => code_of(store.rows(rt.alloc(), "t")),
+        Action::Get => code_of(store.get(rt.alloc(), "t", &key_of(rt, 1))),
+        Action::Attach => attached(rt, store),
+        Action::Changeset => changed(rt, store),
         Action::Declare => code_of(declaration(rt, store, "u", &[false, false])),
         Action::Edit => code_of(store.edit(rt.alloc(), &edit_of(rt, MOVE))),
         Action::CommitBatch => code_of(commit_batch(rt, store)),
@@ -183,13 +239,24 @@ fn fill<S: Alter>(
     store.edit(rt.alloc(), &edit).expect(rt, "no refusal");
 }
 
-/// Returns the files of a store with the first state.
+/// The statements that make another table with an index.
+const OTHER: &[&str] = &[
+    "CREATE TABLE own(a, b)",
+    "CREATE INDEX own_b ON own(b)",
+    "INSERT INTO own VALUES(7, 'one'), (8, 'two')",
+];
+
+/// Returns the files of a store with the first state next to that table.
 fn first_files(rt: &(impl Abort + AllocGlobal)) -> Files<Memory> {
     let empty = Files {
         log: Memory::new(rt.alloc()),
         db: Memory::new(rt.alloc()),
     };
-    let mut store = opened(rt, empty);
+    let mut conn = connected(rt, empty);
+    for text in OTHER {
+        conn.execute(text, &[]).expect(rt, "another table");
+    }
+    let mut store = adopted(rt, conn);
     fill(rt, &mut store, FIRST_ROW);
     store.into_connection().into_store().close()
 }
@@ -197,13 +264,9 @@ fn first_files(rt: &(impl Abort + AllocGlobal)) -> Files<Memory> {
 /// Returns the files of a store with the first state, in the former version.
 fn former_files(rt: &(impl Abort + AllocGlobal)) -> Files<Memory> {
     let change = "UPDATE rec SET rowb = X'01' WHERE tab = '' AND keyb = X''";
-    match open(rt, first_files(rt)) {
-        Ok(mut conn) => {
-            assert!(rt; conn.execute(change, &[]) == Ok(1));
-            conn.into_store().close()
-        }
-        Err((error, _)) => panic!(rt; "no database: {error}"),
-    }
+    let mut conn = connected(rt, first_files(rt));
+    assert!(rt; conn.execute(change, &[]) == Ok(1));
+    conn.into_store().close()
 }
 
 /// Returns a file with the bytes of another, all of which are synced.
@@ -242,30 +305,80 @@ fn has<S: Alter>(rt: &(impl Abort + AllocGlobal), store: &mut Store<S>, state: S
     rows.len() == 1 && rows.first() == Some(&row_of(rt, row))
 }
 
-/// Whether the store in files has what a call leaves, or what it finds if it was not carried out.
+/// Queries of what is next to a store, each with its number: the rows of the other table, and one by its index.
+const OTHER_ROWS: &[(&str, i64)] = &[
+    ("SELECT count(*) FROM own", 2),
+    ("SELECT a FROM own WHERE b = 'two'", 8),
+];
+
+/// Queries of the records of the first state, and of those with either version and with this one.
+const RECORDS: &[(&str, i64)] = &[
+    ("SELECT count(*) FROM rec", 3),
+    (
+        "SELECT rowb = X'02010161000162' FROM rec WHERE tab = '' AND keyb = X'74'",
+        1,
+    ),
+    (
+        "SELECT rowb = X'010000000000000001030178' FROM rec WHERE tab = 't' AND keyb = X'010000000000000001'",
+        1,
+    ),
+    (
+        "SELECT rowb IN (X'01', X'02') FROM rec WHERE tab = '' AND keyb = X''",
+        1,
+    ),
+];
+
+const THIS_VERSION: &[(&str, i64)] = &[(
+    "SELECT rowb = X'02' FROM rec WHERE tab = '' AND keyb = X''",
+    1,
+)];
+
+/// Asserts what queries return.
+fn expect_numbers<S: Alter>(
+    rt: &(impl Abort + AllocGlobal),
+    conn: &mut Connection<S>,
+    queries: &[(&str, i64)],
+) {
+    for (text, number) in queries {
+        let row = conn.query_row(text, &[]).expect(rt, "a row");
+        assert!(rt; row.get::<i64>(0) == Ok(*number), "{text}");
+    }
+}
+
+/// Whether the store in files has what a call leaves, or what it finds if it was not carried out. The other table has
+/// its rows. After an opening the records are as before. They are of this version if the call was carried out.
 fn hold<D: Disk + Drop>(
     rt: &(impl Abort + AllocGlobal),
     files: Files<D>,
-    after: State,
+    case: Case,
     is_done: bool,
 ) -> bool {
-    let mut store = opened(rt, files);
+    let (action, after) = case;
+    let mut conn = connected(rt, files);
+    expect_numbers(rt, &mut conn, OTHER_ROWS);
+    if matches!(action, Action::Nothing) {
+        expect_numbers(rt, &mut conn, RECORDS);
+    }
+    if is_done {
+        expect_numbers(rt, &mut conn, THIS_VERSION);
+    }
+    let mut store = adopted(rt, conn);
     has(rt, &mut store, after) || (!is_done && has(rt, &mut store, FIRST))
 }
 
 /// Whether a call is carried out on the store in fused files. What the disks hold then, and what a crash leaves of that,
 /// is a store with what the call leaves or what it finds.
 fn is_carried_out(rt: &(impl Abort + AllocGlobal), files: Files<Fuse<Memory>>, case: Case) -> bool {
-    let (action, after) = case;
+    let (action, _) = case;
     let (is_done, mut files) = called_on(rt, files, action);
     let kept = Files {
         log: copy_of(rt, files.log.inner()),
         db: copy_of(rt, files.db.inner()),
     };
-    assert!(rt; hold(rt, kept, after, is_done), "{action:?}");
+    assert!(rt; hold(rt, kept, case, is_done), "{action:?}");
     files.log.crash();
     files.db.crash();
-    assert!(rt; hold(rt, files, after, is_done), "{action:?} and a crash");
+    assert!(rt; hold(rt, files, case, is_done), "{action:?} and a crash");
     is_done
 }
 
@@ -294,6 +407,17 @@ fn a_disk_that_stops_leaves_a_store(rt: HostRuntime) {
         for (place, case) in CASES.iter().enumerate() {
             let calls = count_calls(&rt, &files, *case, is_log, opening);
             assert!(rt; calls > opening, "at {place}");
+        }
+    }
+}
+
+#[test]
+fn a_disk_that_stops_under_a_call_that_writes_nothing_leaves_a_store(rt: HostRuntime) {
+    let files = first_files(&rt);
+    for is_log in [true, false] {
+        let opening = count_calls(&rt, &files, OPENING, is_log, 0);
+        for action in IDLE {
+            count_calls(&rt, &files, (*action, FIRST), is_log, opening);
         }
     }
 }

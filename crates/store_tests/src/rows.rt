@@ -38,7 +38,7 @@ pub(crate) fn row_of(rt: &(impl Abort + AllocGlobal), values: &[Value<'_>]) -> R
 }
 
 /// Returns the key of an integer.
-fn key_of(rt: &(impl Abort + AllocGlobal), number: i64) -> Key {
+pub(crate) fn key_of(rt: &(impl Abort + AllocGlobal), number: i64) -> Key {
     Key::from_values(rt.alloc(), &[OwnedValue::Int(number)]).expect(rt, "memory")
 }
 
@@ -121,26 +121,42 @@ pub(crate) fn end(store: Store<MemStore>) {
     let _conn = store.into_connection();
 }
 
-/// Fewer and more marks than a table of two columns takes.
-const OTHER_LENGTHS: &[&[bool]] = &[&[], &[false], &[true], &[false, false, false]];
+/// Marks of the key and of the columns that refuse NULL with which two columns make no table: no column is of the key,
+/// or there are fewer or more marks.
+const OTHER_MARKS: &[(&[bool], &[bool])] = &[
+    (&[false, false], &[false, false]),
+    (&[false, false], &[true, true]),
+    (&[], &[]),
+    (&[], &[false, false]),
+    (&[true], &[false, false]),
+    (&[true], &[true]),
+    (&[true, false, false], &[false, false]),
+    (&[true, false, false], &[false, false, false]),
+    (&[true, false], &[]),
+    (&[true, false], &[false]),
+    (&[true, false], &[true]),
+    (&[true, false], &[false, false, false]),
+];
 
 #[test]
-fn refuses_fewer_and_more_marks_in_memory(rt: HostRuntime) {
+fn refuses_other_marks_in_memory(rt: HostRuntime) {
     let columns = names(&rt, "a", "b");
     let mut rows = MemRows::new(rt.alloc());
-    for refuses in OTHER_LENGTHS {
-        let schema = Schema::new(rt.alloc(), &columns, &[true, false], refuses);
+    for (keys, refuses) in OTHER_MARKS {
+        let schema = Schema::new(rt.alloc(), &columns, keys, refuses);
         assert!(rt; matches!(schema, Err(StoreError::BadSchema)));
-        let answer = rows.declare(rt.alloc(), "t", &columns, &[true, false], refuses);
+        let answer = rows.declare(rt.alloc(), "t", &columns, keys, refuses);
         assert!(rt; answer == Err(StoreError::BadSchema));
     }
 }
 
 #[test]
-fn refuses_fewer_and_more_marks_before_a_taken_name(rt: HostRuntime) {
+fn refuses_other_marks_before_a_taken_name(rt: HostRuntime) {
+    let columns = names(&rt, "a", "b");
     let mut store = store_of(&rt, &[false, false]);
-    for refuses in OTHER_LENGTHS {
-        assert!(rt; declaration(&rt, &mut store, "t", refuses) == Err(StoreError::BadSchema));
+    for (keys, refuses) in OTHER_MARKS {
+        let answer = store.declare(rt.alloc(), "t", &columns, keys, refuses);
+        assert!(rt; answer == Err(StoreError::BadSchema));
     }
     end(store);
 }

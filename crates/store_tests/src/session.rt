@@ -1,9 +1,11 @@
-//! Sessions on stores that are not theirs.
+//! Sessions: tables that are attached, changesets, undos, and stores that are not theirs.
 
-use crate::rows::{Call, edit_of, end, names, store_of};
+use crate::rows::{Call, edit_of, end, names, rows_of, store_of};
+use crate::{INSERT, UPDATE};
 use cs_session::Session;
 use cs_store::Store;
 use cs_value::{Fault, Value};
+use cs_wire::write;
 use sqlite::{Alter, MemStore};
 use std::process::Abort;
 
@@ -90,4 +92,133 @@ fn refuses_other_stores(rt: HostRuntime) {
         expect_code(&rt, &mut session, &mut store, *code);
         end(store);
     }
+}
+
+#[test]
+fn attaches_a_table_once(rt: HostRuntime) {
+    let mut session = session_alone(&rt);
+    let mut store = store_with(&rt, "v", "b", &[true, false], &[false, false]);
+    for (name, code) in [("t", 50), ("u", 31), ("v", 0), ("v", 50), ("", 31)] {
+        let answer = session.attach(rt.alloc(), &mut store, name);
+        assert!(rt; code_of(answer) == code, "of {name}");
+    }
+    end(store);
+}
+
+/// An edit in a session, the code that it returns, and the changeset of the session after it.
+type Step = (Call, u8, &'static [u8]);
+
+/// The INSERT of (1, 'y') into t.
+const OTHER_INSERT: &[u8] =
+    b"T\x02\x01\x00t\x00\x12\x00\x01\x00\x00\x00\x00\x00\x00\x00\x01\x03\x01y";
+
+/// The DELETE of (1, 'x') from t and the INSERT of (2, 'x').
+const MOVED: &[u8] = b"T\x02\x01\x00t\x00\
+\x09\x00\x01\x00\x00\x00\x00\x00\x00\x00\x01\x03\x01x\
+\x12\x00\x01\x00\x00\x00\x00\x00\x00\x00\x02\x03\x01x";
+
+/// These, and the INSERT of (3, 'z').
+const MOVED_AND_INSERTED: &[u8] = b"T\x02\x01\x00t\x00\
+\x09\x00\x01\x00\x00\x00\x00\x00\x00\x00\x01\x03\x01x\
+\x12\x00\x01\x00\x00\x00\x00\x00\x00\x00\x02\x03\x01x\
+\x12\x00\x01\x00\x00\x00\x00\x00\x00\x00\x03\x03\x01z";
+
+/// Edits of t without rows, and of t with the row (1, 'x'), in turn.
+const FROM_NONE: &[Step] = &[
+    (
+        Call::Insert("t", &[Value::Int(1), Value::Text("x")]),
+        0,
+        INSERT,
+    ),
+    (
+        Call::Update("t", 1, &[Value::Int(1), Value::Text("y")]),
+        0,
+        OTHER_INSERT,
+    ),
+    (Call::Delete("t", 1), 0, b""),
+];
+
+const FROM_ONE: &[Step] = &[
+    (
+        Call::Update("t", 1, &[Value::Int(1), Value::Text("y")]),
+        0,
+        UPDATE,
+    ),
+    (
+        Call::Update("t", 1, &[Value::Int(1), Value::Text("x")]),
+        0,
+        b"",
+    ),
+    (
+        Call::Update("t", 1, &[Value::Int(2), Value::Text("x")]),
+        0,
+        MOVED,
+    ),
+    (
+        Call::Insert("t", &[Value::Int(3), Value::Text("z")]),
+        0,
+        MOVED_AND_INSERTED,
+    ),
+    (
+        Call::Update("t", 2, &[Value::Int(3), Value::Text("x")]),
+        33,
+        MOVED_AND_INSERTED,
+    ),
+];
+
+/// Whether the changeset of a session is written with these bytes.
+fn has_changes<S: Alter>(
+    rt: &(impl Abort + AllocGlobal),
+    session: &Session,
+    store: &mut Store<S>,
+    file: &[u8],
+) -> bool {
+    let changeset = session
+        .changeset(rt.alloc(), store)
+        .expect(rt, "a changeset");
+    let bytes = write(rt.alloc(), &changeset).expect(rt, "memory");
+    bytes.as_slice() == file
+}
+
+/// Returns the number of rows that an undo writes.
+fn undo<S: Alter>(
+    rt: &(impl Abort + AllocGlobal),
+    session: &Session,
+    store: &mut Store<S>,
+) -> usize {
+    let report = session.undo(rt.alloc(), store).expect(rt, "no refusal");
+    assert!(rt; report.is_clean() && report.skipped.is_empty());
+    report.written.len()
+}
+
+/// Asserts what a session with t has noted after each edit, and how many rows its undos write.
+fn expect_changes<S: Alter>(
+    rt: &(impl Abort + AllocGlobal),
+    store: &mut Store<S>,
+    steps: &[Step],
+    count: usize,
+) {
+    let mut session = Session::new(rt.alloc());
+    session.attach(rt.alloc(), store, "t").expect(rt, "a table");
+    assert!(rt; session.is_empty() && undo(rt, &session, store) == 0);
+    for (place, step) in steps.iter().enumerate() {
+        let (call, code, file) = *step;
+        assert!(rt; edited(rt, &mut session, store, call) == code, "at {place}");
+        assert!(rt; !session.is_empty(), "at {place}");
+        assert!(rt; has_changes(rt, &session, store, file), "at {place}");
+    }
+    assert!(rt; undo(rt, &session, store) == count);
+    assert!(rt; undo(rt, &session, store) == 0);
+    assert!(rt; has_changes(rt, &session, store, b""));
+}
+
+#[test]
+fn writes_and_undoes_what_was_noted(rt: HostRuntime) {
+    let mut store = store_of(&rt, &[false, false]);
+    expect_changes(&rt, &mut store, FROM_NONE, 0);
+    let call = Call::Insert("t", &[Value::Int(1), Value::Text("x")]);
+    assert!(rt; code_of(store.edit(rt.alloc(), &edit_of(&rt, call))) == 0);
+    expect_changes(&rt, &mut store, FROM_ONE, 3);
+    assert!(rt; rows_of(&rt, &mut store).len() == 1);
+    end(store);
 }
