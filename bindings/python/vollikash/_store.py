@@ -3,15 +3,32 @@ import os
 import re
 import threading
 from types import TracebackType
-from typing import Collection, Iterator, List, Mapping, NoReturn, Optional, Sequence, Tuple, Type, Union
+from typing import (
+    Callable, Collection, Iterator, Mapping, NoReturn, Optional, Sequence, Tuple, Type, TypeVar,
+    Union, get_args,
+)
 
-from ._files import Bytes, ChangesetError, Code
-from ._lines import Report, Value, read_report, read_rows, read_text, spelled, spelled_name
-from ._process import Process, ProgramError
+from ._errors import ChangesetError, Code, ConflictError, ProgramError, StoreError
+from ._files import Bytes
+from ._lines import (
+    Choice, Report, malformed, read_bytes, read_nothing, read_report, read_rows, read_truth,
+    spelled, spelled_name,
+)
+from ._process import Process
+from ._values import Value
 
-_REFUSED = re.compile(r"error (?P<number>[0-9]+) (?P<name>[A-Za-z]+)(?: (?P<rest>.*))?\n", re.DOTALL)
+_REFUSED = re.compile(
+    r"error (?P<number>[0-9]{1,2}) (?P<name>[A-Za-z]+)(?: (?P<rest>.*))?\n", re.DOTALL
+)
 
-_CHOICES = ("omit", "replace", "abort")
+# The details of the errors that have some.
+_DETAILS = {
+    Code.ABORT: re.compile("(?:data|notfound|conflict|constraint) '.*'", re.DOTALL),
+    Code.MISUSE: re.compile("(?:data|notfound|conflict|constraint) '.*'", re.DOTALL),
+    **{Code(number): re.compile("[0-9]{1,19}") for number in (*range(1, 19), Code.SCHEMA)},
+}
+
+_CHOICES: Tuple[Choice, ...] = get_args(Choice)
 
 # The bytes of lines that are kept for the session's own lines, so that its changeset can be read
 # and undone when the program takes no more edits.
@@ -20,47 +37,25 @@ _KEPT = 4096
 # The seconds that a line may take.
 TIMEOUT = 60.0
 
-
-class StoreError(Exception):
-    """A call was refused. It has changed nothing, and the store can be used.
-
-    `number` and `name` are those of docs/ERRORS.md. `detail` is the rest of the error line, such as
-    the index of a table.
-    """
-
-    def __init__(self, number: int, name: str, detail: str = "") -> None:
-        super().__init__(f"error {number} {name} {detail}".rstrip())
-        self.number = number
-        self.name = name
-        self.detail = detail
-
-    def __reduce__(self) -> Tuple[Type["StoreError"], Tuple[int, str, str]]:
-        return type(self), (self.number, self.name, self.detail)
+_Answer = TypeVar("_Answer")
 
 
-class ConflictError(StoreError):
-    """An apply or a revert ended at a conflict, and has changed nothing."""
-
-    @property
-    def kind(self) -> str:
-        """The kind of the conflict: data, notfound, conflict or constraint."""
-        return self.detail.split(" ", 1)[0]
-
-    @property
-    def table(self) -> str:
-        """The table of the entry."""
-        return read_text(self.detail.split(" ", 1)[1])
-
-
-def _raise(number: int, name: str, rest: str) -> NoReturn:
+def _raise(refused: "re.Match[str]") -> NoReturn:
     """Raise the exception for an error line."""
-    if number == Code.NO_MEMORY:
+    try:
+        code = Code(int(refused["number"]))
+    except ValueError:
+        raise malformed(refused[0], 0, "known error") from None
+    rest = refused["rest"] or ""
+    if code.title != refused["name"] or not _DETAILS.get(code, re.compile(".*")).fullmatch(rest):
+        raise malformed(refused[0], 0, "known error")
+    if code == Code.NO_MEMORY:
         raise MemoryError("the changeset program was refused memory")
-    if name in ("Abort", "Misuse"):
-        raise ConflictError(number, name, rest)
-    if number <= Code.DUPLICATE_KEY or number == Code.SCHEMA:
-        raise ChangesetError(Code(number), 1, int(rest))
-    raise StoreError(number, name, rest)
+    if code in (Code.ABORT, Code.MISUSE):
+        raise ConflictError(code, code.title, rest)
+    if code <= Code.DUPLICATE_KEY or code == Code.SCHEMA:
+        raise ChangesetError(code, 1, int(rest))
+    raise StoreError(code, code.title, rest)
 
 
 def _assigned(values: Mapping[str, Value], between: str) -> str:
@@ -101,7 +96,7 @@ class Store:
             refused = _REFUSED.fullmatch(error.said)
             if refused is None:
                 raise
-            _raise(int(refused["number"]), refused["name"], refused["rest"] or "")
+            _raise(refused)
 
     def _make_room(self, lines: Sequence[str], kept: int) -> None:
         """Start the program again if it takes no such lines any more, and if only the file matters.
@@ -121,7 +116,10 @@ class Store:
         return self
 
     def __exit__(
-        self, kind: Optional[Type[BaseException]], error: Optional[BaseException], trace: Optional[TracebackType]
+        self,
+        kind: Optional[Type[BaseException]],
+        error: Optional[BaseException],
+        trace: Optional[TracebackType],
     ) -> None:
         self.close()
 
@@ -130,21 +128,35 @@ class Store:
         with self._lock:
             self._process.close()
 
-    def _ask(self, *lines: str, kept: int = _KEPT) -> str:
-        """Return the reply to the last of some lines, or raise the error of the first that is
-        refused. Keeps bytes of lines.
+    def _ask(self, read: Callable[[str], _Answer], *lines: str, kept: int = _KEPT) -> _Answer:
+        """Return the reply to the last of some lines as `read` reads it, or raise the error of the
+        first that is refused. Keep so many bytes of lines.
         """
         with self._lock:
             self._make_room(lines, kept)
-            printed = ""
-            for line in lines:
-                printed = self._process.ask(line)
-                refused = _REFUSED.fullmatch(printed)
-                if refused is not None:
-                    _raise(int(refused["number"]), refused["name"], refused["rest"] or "")
-            return printed
+            try:
+                for line in lines[:-1]:
+                    read_nothing(self._reply(line))
+                return read(self._reply(lines[-1]))
+            except ProgramError:
+                self._process.end()
+                raise
 
-    def create(self, table: str, columns: Sequence[str], key: Sequence[str], refuses: Collection[str] = ()) -> None:
+    def _reply(self, line: str) -> str:
+        """Return the reply to a line, or raise the error if it is refused."""
+        printed = self._process.ask(line)
+        refused = _REFUSED.fullmatch(printed)
+        if refused is not None:
+            _raise(refused)
+        return printed
+
+    def create(
+        self,
+        table: str,
+        columns: Sequence[str],
+        key: Sequence[str],
+        refuses: Collection[str] = (),
+    ) -> None:
         """Create a table without rows: its columns, those of the key, and those that refuse None.
         Key columns refuse None anyway. A name in `refuses` that is not a column raises ValueError
         before anything is sent.
@@ -153,34 +165,40 @@ class Store:
         for name in marked:
             if name not in names:
                 raise ValueError(f"refuses has {name!r}, which is no column's name")
-        named = ", ".join(spelled_name(column) + " NOT NULL" * (column in marked) for column in names)
+        named = ", ".join(
+            spelled_name(column) + " NOT NULL" * (column in marked) for column in names
+        )
         keys = ", ".join(spelled_name(column) for column in key)
-        self._ask(f"CREATE TABLE {spelled_name(table)}({named}, PRIMARY KEY({keys}));")
+        line = f"CREATE TABLE {spelled_name(table)}({named}, PRIMARY KEY({keys}));"
+        self._ask(read_nothing, line)
 
     def insert(self, table: str, *values: Value) -> None:
         """Insert one row, with a value for each column."""
-        self._ask(f"INSERT INTO {spelled_name(table)} VALUES({', '.join(map(spelled, values))});")
+        row = ", ".join(map(spelled, values))
+        self._ask(read_nothing, f"INSERT INTO {spelled_name(table)} VALUES({row});")
 
     def update(self, table: str, values: Mapping[str, Value], where: Mapping[str, Value]) -> None:
         """Set columns of the row whose key columns have the values of `where`."""
-        self._ask(f"UPDATE {spelled_name(table)} SET {_assigned(values, ', ')} WHERE {_assigned(where, ' AND ')};")
+        row, key = _assigned(values, ", "), _assigned(where, " AND ")
+        self._ask(read_nothing, f"UPDATE {spelled_name(table)} SET {row} WHERE {key};")
 
     def delete(self, table: str, where: Mapping[str, Value]) -> None:
         """Delete the row whose key columns have the values of `where`."""
-        self._ask(f"DELETE FROM {spelled_name(table)} WHERE {_assigned(where, ' AND ')};")
+        key = _assigned(where, " AND ")
+        self._ask(read_nothing, f"DELETE FROM {spelled_name(table)} WHERE {key};")
 
     def rows(self, table: str) -> Iterator[Tuple[Value, ...]]:
         """Return an iterator over the current rows of a table, by the bytes of their keys."""
-        return read_rows(self._ask(f"SELECT * FROM {spelled_name(table)};"))
+        return read_rows(self._ask(str, f"SELECT * FROM {spelled_name(table)};"))
 
     def apply(
         self,
         file: Bytes,
         *,
-        data: str = "abort",
-        notfound: str = "abort",
-        conflict: str = "abort",
-        constraint: str = "abort",
+        data: Choice = "abort",
+        notfound: Choice = "abort",
+        conflict: Choice = "abort",
+        constraint: Choice = "abort",
         ignore_noop: bool = False,
     ) -> Report:
         """Apply a changeset in one transaction, and return a report.
@@ -192,18 +210,21 @@ class Store:
         nothing is changed. With `ignore_noop` an entry that has a conflict and would change nothing
         is ignored. docs/COMMAND.md has the details.
         """
-        choices = {"data": data, "notfound": notfound, "conflict": conflict, "constraint": constraint}
+        choices = {
+            "data": data, "notfound": notfound, "conflict": conflict, "constraint": constraint
+        }
         for kind, choice in choices.items():
             if choice not in _CHOICES:
                 raise ValueError(f"{kind} is one of {', '.join(_CHOICES)}, and not {choice!r}")
-        said = " ".join(f"{kind}={choice}" for kind, choice in choices.items()) + (" noop=ignore" if ignore_noop else "")
-        return read_report(self._ask(f".load f {bytes(file).hex()}", f".apply f {said}"))
+        words = [f"{kind}={choice}" for kind, choice in choices.items()]
+        line = " ".join([".apply f", *words, *["noop=ignore"] * ignore_noop])
+        return self._ask(read_report, f".load f {bytes(file).hex()}", line)
 
     def revert(self, file: Bytes) -> Report:
         """Apply the inverse of a changeset. A conflict raises `ConflictError`, and nothing is
         changed.
         """
-        return read_report(self._ask(f".load f {bytes(file).hex()}", ".revert f"))
+        return self._ask(read_report, f".load f {bytes(file).hex()}", ".revert f")
 
     def session(self, *tables: str) -> "Session":
         """Open a session that records these tables. There is one at a time: a second one raises
@@ -225,11 +246,11 @@ class Session:
         with store._lock:
             if not store._process.has_half():
                 store._run_anew()
-            store._ask(".session open")
+            store._ask(read_nothing, ".session open")
             store._has_session = True
         try:
             for name in names:
-                store._ask(f".session attach {name}")
+                store._ask(read_nothing, f".session attach {name}")
         except BaseException:
             self._forget()
             raise
@@ -238,7 +259,10 @@ class Session:
         return self
 
     def __exit__(
-        self, kind: Optional[Type[BaseException]], error: Optional[BaseException], trace: Optional[TracebackType]
+        self,
+        kind: Optional[Type[BaseException]],
+        error: Optional[BaseException],
+        trace: Optional[TracebackType],
     ) -> None:
         self._forget()
 
@@ -251,24 +275,24 @@ class Session:
 
     def attach(self, table: str) -> None:
         """Attach one more table."""
-        self._store._ask(f".session attach {spelled_name(table)}")
+        self._store._ask(read_nothing, f".session attach {spelled_name(table)}")
 
     def changeset(self) -> bytes:
         """Return the changeset file of the net changes of the attached tables."""
-        return bytes.fromhex(self._store._ask(".session changeset c", ".hex c", kept=0).strip())
+        return self._store._ask(read_bytes, ".session changeset c", ".hex c", kept=0)
 
     def is_empty(self) -> bool:
         """Return whether no row of the attached tables was written."""
-        return self._store._ask(".session isempty", kept=0) == "1\n"
+        return self._store._ask(read_truth, ".session isempty", kept=0)
 
     def undo(self) -> Report:
         """Restore the attached tables to their rows when they were attached."""
-        return read_report(self._store._ask(".session undo", kept=0))
+        return self._store._ask(read_report, ".session undo", kept=0)
 
     def close(self) -> None:
         """Close the session, and change no row."""
         try:
-            self._store._ask(".session close", kept=0)
+            self._store._ask(read_nothing, ".session close", kept=0)
         except StoreError as error:
             # The program takes no more lines: the next one starts it again, without the session.
             if error.name != "ScriptTooLong":

@@ -1,0 +1,159 @@
+"""Spelling tables and changes as the bytes of a changeset, docs/FORMAT.md."""
+import struct
+from typing import Iterable, List, NoReturn, Optional, Sequence, Tuple
+
+from ._values import UNDEFINED, Field, Op, shown
+
+_MOST_COLUMNS = 32767
+_LONGEST = 0x7FFFFFFF
+
+_UNDEFINED, _NULL = b"\x00", b"\x05"
+_OPERATIONS = {"insert": b"\x12", "delete": b"\x09", "update": b"\x17"}
+
+_integer = struct.Struct(">Bq").pack
+
+
+class Unfit(ValueError):
+    """Something that cannot be in a changeset, and the one-based column, if it is in one."""
+
+    def __init__(self, why: str, column: Optional[int] = None) -> None:
+        super().__init__(why if column is None else f"column {column}: {why}")
+
+
+def _varint(number: int) -> bytes:
+    """Return the bytes of a count."""
+    spelled = [number & 0x7F]
+    while number > 0x7F:
+        number >>= 7
+        spelled.append(number & 0x7F | 0x80)
+    return bytes(reversed(spelled))
+
+
+# What begins a short text and a short blob.
+_TEXTS = [b"\x03" + _varint(size) for size in range(256)]
+_BLOBS = [b"\x04" + _varint(size) for size in range(256)]
+
+
+def _utf8(text: str) -> bytes:
+    """Return the bytes of a text."""
+    try:
+        return text.encode()
+    except UnicodeEncodeError as error:
+        raise Unfit(f"a text that is not Unicode: {error.reason}") from None
+
+
+def _sized(starts: Sequence[bytes], content: bytes) -> bytes:
+    """Return the bytes of a text or a blob."""
+    size = len(content)
+    if size < len(starts):
+        return starts[size] + content
+    if size > _LONGEST:
+        raise Unfit(f"{size} bytes. A text or a blob has at most {_LONGEST}")
+    return starts[0][:1] + _varint(size) + content
+
+
+def spelled(value: object) -> bytes:
+    """Return the bytes of a field. Raise `Unfit` for what cannot be one."""
+    if isinstance(value, int) and not isinstance(value, bool):
+        try:
+            return _integer(1, value)
+        except struct.error:
+            raise Unfit("an int of more than 64 bits") from None
+    if isinstance(value, str):
+        return _sized(_TEXTS, _utf8(value))
+    if value is None:
+        return _NULL
+    if value is UNDEFINED:
+        return _UNDEFINED
+    if isinstance(value, (bytes, bytearray, memoryview)):
+        return _sized(_BLOBS, bytes(value))
+    kind = type(value).__name__
+    raise Unfit(f"a {kind}. A changeset has ints of 64 bits, str, bytes and None")
+
+
+def flags_of(key: Iterable[int]) -> bytes:
+    """Return the flags of a table's columns: bools, or the numbers that a file has."""
+    flags = list(key)
+    if not 1 <= len(flags) <= _MOST_COLUMNS:
+        raise Unfit(f"{len(flags)} columns. A table has 1 to {_MOST_COLUMNS}")
+    for column, flag in enumerate(flags, 1):
+        if not isinstance(flag, int) or not 0 <= flag <= 255:
+            raise Unfit("a flag is a bool or a number from 0 to 255", column)
+    if not any(flags):
+        raise Unfit("no key column")
+    return bytes(flags)
+
+
+def header(name: str, flags: bytes) -> bytes:
+    """Return the header of a table. Raise `Unfit` for a name that no table has."""
+    if not isinstance(name, str):
+        raise Unfit(f"a name is a str, and not a {type(name).__name__}")
+    if not name or "\0" in name:
+        raise Unfit(f"the name {shown(name)} is empty or has a zero character")
+    return b"".join((b"T", _varint(len(flags)), flags, _utf8(name), b"\0"))
+
+
+class Encoder:
+    """Spells the changes of a table with these flags."""
+
+    def __init__(self, flags: bytes) -> None:
+        self._count = len(flags)
+        self._keys = [place for place, flag in enumerate(flags) if flag]
+        self._others = [place for place, flag in enumerate(flags) if not flag]
+
+    def entry(
+        self,
+        op: Op,
+        indirect: bool,
+        old: Optional[Sequence[Field]],
+        new: Optional[Sequence[Field]],
+    ) -> Tuple[bytes, bytes]:
+        """Return the bytes of a change's key, and those of the change. Raise `Unfit`."""
+        if op == "update":
+            fields, later = self._fields(old, "old"), self._fields(new, "new")
+            self._expect_update(fields, later)
+        elif op == "insert" or op == "delete":
+            record, other = (new, old) if op == "insert" else (old, new)
+            if other is not None:
+                raise Unfit(f"`{'old' if op == 'insert' else 'new'}` of {op} is None")
+            fields, later = self._fields(record, "new" if op == "insert" else "old"), []
+            if _UNDEFINED in fields:
+                raise Unfit(f"UNDEFINED in {op}", fields.index(_UNDEFINED) + 1)
+        else:
+            raise Unfit(f"the operation {op!r} is not insert, update or delete")
+        key = [fields[place] for place in self._keys]
+        if _NULL in key:
+            raise Unfit("None in a key column", self._keys[key.index(_NULL)] + 1)
+        start = _OPERATIONS[op] + (b"\x01" if indirect else b"\x00")
+        return b"".join(key), b"".join((start, *fields, *later))
+
+    def _fields(self, record: Optional[Sequence[Field]], name: str) -> List[bytes]:
+        """Return the bytes of each field of a record."""
+        if record is None:
+            raise Unfit(f"`{name}` is missing")
+        if len(record) != self._count:
+            raise Unfit(f"{len(record)} values for {self._count} columns")
+        try:
+            return list(map(spelled, record))
+        except Unfit:
+            self._raise_for_column(record)
+
+    def _raise_for_column(self, record: Sequence[Field]) -> NoReturn:
+        """Raise `Unfit` for the first value that cannot be in a changeset, with its column."""
+        for column, value in enumerate(record, 1):
+            try:
+                spelled(value)
+            except Unfit as error:
+                raise Unfit(str(error), column) from None
+        raise AssertionError("a value was refused, and is not now")
+
+    def _expect_update(self, old: List[bytes], new: List[bytes]) -> None:
+        """Raise `Unfit` if the records are not those of an UPDATE."""
+        for place in self._keys:
+            if old[place] == _UNDEFINED:
+                raise Unfit("UNDEFINED in a key column of `old`", place + 1)
+            if new[place] != _UNDEFINED:
+                raise Unfit("a key column of `new` is UNDEFINED", place + 1)
+        for place in self._others:
+            if (old[place] == _UNDEFINED) != (new[place] == _UNDEFINED):
+                raise Unfit("UNDEFINED in only one of `old` and `new`", place + 1)
