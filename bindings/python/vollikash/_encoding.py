@@ -54,13 +54,13 @@ def _sized(starts: Sequence[bytes], content: bytes) -> bytes:
 
 def spelled(value: object) -> bytes:
     """Return the bytes of a field. Raise `Unfit` for what cannot be one."""
-    if isinstance(value, int) and not isinstance(value, bool):
+    if isinstance(value, str):
+        return _sized(_TEXTS, _utf8(value))
+    if isinstance(value, int) and value is not True and value is not False:
         try:
             return _integer(1, value)
         except struct.error:
             raise Unfit("an int of more than 64 bits") from None
-    if isinstance(value, str):
-        return _sized(_TEXTS, _utf8(value))
     if value is None:
         return _NULL
     if value is UNDEFINED:
@@ -109,23 +109,39 @@ class Encoder:
         new: Optional[Sequence[Field]],
     ) -> Tuple[bytes, bytes]:
         """Return the bytes of a change's key, and those of the change. Raise `Unfit`."""
-        if op == "update":
+        later: List[bytes] = []
+        if op == "insert":
+            fields = self._row(new, old, "new")
+        elif op == "delete":
+            fields = self._row(old, new, "old")
+        elif op == "update":
             fields, later = self._fields(old, "old"), self._fields(new, "new")
             self._expect_update(fields, later)
-        elif op == "insert" or op == "delete":
-            record, other = (new, old) if op == "insert" else (old, new)
-            if other is not None:
-                raise Unfit(f"`{'old' if op == 'insert' else 'new'}` of {op} is None")
-            fields, later = self._fields(record, "new" if op == "insert" else "old"), []
-            if _UNDEFINED in fields:
-                raise Unfit(f"UNDEFINED in {op}", fields.index(_UNDEFINED) + 1)
         else:
             raise Unfit(f"the operation {op!r} is not insert, update or delete")
+        start = _OPERATIONS[op] + (b"\x01" if indirect else b"\x00")
+        return self._key(fields), b"".join((start, *fields, *later))
+
+    def _row(
+        self,
+        record: Optional[Sequence[Field]],
+        other: Optional[Sequence[Field]],
+        name: str,
+    ) -> List[bytes]:
+        """Return the bytes of each field of the one record of an INSERT or a DELETE."""
+        if other is not None:
+            raise Unfit(f"it has two records, and not only `{name}`")
+        fields = self._fields(record, name)
+        if _UNDEFINED in fields:
+            raise Unfit("UNDEFINED outside an update", fields.index(_UNDEFINED) + 1)
+        return fields
+
+    def _key(self, fields: List[bytes]) -> bytes:
+        """Return the bytes of the key."""
         key = [fields[place] for place in self._keys]
         if _NULL in key:
             raise Unfit("None in a key column", self._keys[key.index(_NULL)] + 1)
-        start = _OPERATIONS[op] + (b"\x01" if indirect else b"\x00")
-        return b"".join(key), b"".join((start, *fields, *later))
+        return b"".join(key)
 
     def _fields(self, record: Optional[Sequence[Field]], name: str) -> List[bytes]:
         """Return the bytes of each field of a record."""

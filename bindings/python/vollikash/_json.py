@@ -109,6 +109,9 @@ _DECODER = json.JSONDecoder(
     object_pairs_hook=_members, parse_int=_integer, parse_float=_refuse, parse_constant=_refuse
 )
 
+# The members of a change.
+_MEMBERS = frozenset(("op", "indirect", "old", "new"))
+
 # The objects that are values: their member, what it has to be, and how it is read.
 _WRAPPED: Tuple[Tuple[str, "re.Pattern[str]", Callable[[str], Field]], ...] = (
     ("blob", re.compile("(?:[0-9a-fA-F]{2})*"), bytes.fromhex),
@@ -118,7 +121,8 @@ _WRAPPED: Tuple[Tuple[str, "re.Pattern[str]", Callable[[str], Field]], ...] = (
 # No word or escape of JSON has more characters.
 _TOKEN = 16
 
-_BLANKS = re.compile(r"[ \t\r\n]*")
+_BLANKS = " \t\r\n"
+_SPACE = re.compile(f"[{_BLANKS}]*")
 
 
 class _Text:
@@ -169,12 +173,13 @@ class _Text:
     def peek(self) -> str:
         """Return the next character that is not blank, or "" at the end."""
         while True:
-            found = _BLANKS.match(self._text, self._at)
-            self._at = found.end() if found else self._at
-            if self._at < len(self._text):
-                return self._text[self._at]
-            if not self._read_more():
-                return ""
+            following = self._text[self._at:self._at + 1]
+            if following in _BLANKS:
+                found = _SPACE.match(self._text, self._at)
+                self._at = found.end() if found else self._at
+                following = self._text[self._at:self._at + 1]
+            if following or not self._read_more():
+                return following
 
     def take(self, wanted: str) -> str:
         """Take one of these characters."""
@@ -233,9 +238,8 @@ class _Spelling:
         """Return the bytes of a change. Raise `Unfit`."""
         if not isinstance(change, dict):
             raise Unfit("a change is not an object")
-        strange = change.keys() - {"op", "indirect", "old", "new"}
-        if strange:
-            raise Unfit(f"a change has no member {shown(min(strange))}")
+        if not _MEMBERS.issuperset(change):
+            raise Unfit(f"a change has no member {shown(min(change.keys() - _MEMBERS))}")
         op, indirect = change.get("op"), change.get("indirect", False)
         if op not in ("insert", "update", "delete"):
             raise Unfit('"op" is not "insert", "update" or "delete"')
