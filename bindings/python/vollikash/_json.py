@@ -4,7 +4,7 @@ Both directions keep one change in memory, next to the bytes of the file.
 """
 import json
 import re
-from typing import Any, Callable, Dict, Iterator, List, NoReturn, Optional, Set, TextIO, Tuple
+from typing import Any, Callable, Dict, Iterator, List, NoReturn, Optional, Set, TextIO, Tuple, Union
 
 from ._decoding import Table, entries
 from ._encoding import Encoder, Unfit, flags_of, header
@@ -45,7 +45,7 @@ def _record(record: Record) -> str:
 
 def _start(table: Table, is_first: bool) -> str:
     """Return the JSON of a table up to its changes, and the end of the table before it."""
-    end = "\n" if is_first else "]},\n"
+    end = "\n" if is_first else "\n]},\n"
     flags = ", ".join(map(str, table.flags))
     return f'{end}{{"table": {_text(table.name)}, "flags": [{flags}], "changes": [\n'
 
@@ -64,7 +64,7 @@ def _pieces(data: bytes) -> Iterator[str]:
         if new is not None:
             parts.append(f', "new": {_record(new)}')
         yield "".join(parts) + "}"
-    yield "]\n" if last is None else "]}\n]\n"
+    yield "]\n" if last is None else "\n]}\n]\n"
 
 
 def to_json(file: Bytes) -> str:
@@ -304,35 +304,42 @@ class _Reader:
                 self._text.fail_value('a table has "table", "flags" and "changes", each once')
             self._text.take(":")
             if name != "changes":
-                members[name] = self._text.value()
+                members[name] = self._read_member(name)
             elif len(members) == 2:
                 members[name] = None
-                self._add(members, self._values())
+                self._add(members["table"], members["flags"], self._values())
             else:
                 members[name] = list(self._values())
         if len(members) < 3:
             self._text.fail('a table lacks "table", "flags" or "changes"')
         if members["changes"] is not None:
-            self._add(members, iter(members["changes"]))
+            self._add(members["table"], members["flags"], iter(members["changes"]))
+
+    def _read_member(self, name: str) -> Union[str, bytes]:
+        """Return the name or the flags of a table."""
+        value = self._text.value()
+        try:
+            if name == "flags":
+                if not isinstance(value, list):
+                    raise Unfit('"flags" is not an array')
+                return flags_of(value)
+            header(value, b"")
+            if value in self._names:
+                raise Unfit(f"{shown(value)} is there before")
+        except Unfit as error:
+            self._text.fail_value(f"a table: {error}")
+        self._names.add(value)
+        return str(value)
 
     def _values(self) -> Iterator[Any]:
         """Yield the changes of a table."""
         for _ in self._text.items("[]"):
             yield self._text.value()
 
-    def _add(self, members: Dict[str, Any], changes: Iterator[Any]) -> None:
+    def _add(self, name: str, flags: bytes, changes: Iterator[Any]) -> None:
         """Add the bytes of a table and its changes."""
-        name, flags, count = members["table"], members["flags"], 0
-        try:
-            if not isinstance(flags, list):
-                raise Unfit("\"flags\" is not an array")
-            start, spelling = header(name, flags_of(flags)), _Spelling(flags_of(flags))
-        except Unfit as error:
-            self._text.fail(f"a table: {error}")
-        if name in self._names:
-            self._text.fail(f"table {shown(name)} is there before")
-        self._names.add(name)
-        self._parts.append(start)
+        spelling, count = _Spelling(flags), 0
+        self._parts.append(header(name, flags))
         for count, change in enumerate(changes, 1):
             try:
                 self._parts.append(spelling.entry(change))
