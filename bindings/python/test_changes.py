@@ -280,9 +280,9 @@ class Builders(unittest.TestCase):
         insert, delete, update = builder.insert, builder.delete, builder.update
         where = "table 't', change 2 "
         for call, wanted in (
-            (lambda: insert("t", 2, 1.5), r"\(INSERT\), column 2: a float\."),
-            (lambda: insert("t", 2, True), r"\(INSERT\), column 2: a bool\."),
-            (lambda: insert("t", [2], "x"), r"\(INSERT\), column 1: a list\."),
+            (lambda: insert("t", 2, 1.5), r"\(INSERT\), column 2: a float, and not an int of 64 bits, str, bytes or None"),
+            (lambda: insert("t", 2, True), r"\(INSERT\), column 2: a bool,"),
+            (lambda: insert("t", [2], "x"), r"\(INSERT\), column 1: a list,"),
             (lambda: insert("t", 1 << 63, "x"), r"\(INSERT\), column 1: an int of more than 64 bits"),
             (lambda: insert("t", 2, -(1 << 63) - 1), r"\(INSERT\), column 2: an int of more"),
             (lambda: insert("t", 2, "\ud800"), r"\(INSERT\), column 2: a text that is not Unicode"),

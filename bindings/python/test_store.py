@@ -404,6 +404,35 @@ class Programs(Folder):
                 store.insert("t", 1, 2)
         store.close()
 
+    def answering(self, answer):
+        """Makes a program the one that is run which answers each line but its mark with this text."""
+        self.program(f"""\
+            while read -r word slot digits; do
+                case "$word $slot" in
+                    ".load m") mark=$digits ;;
+                    ".hex m") echo "$mark" ;;
+                    *) printf '{answer}' ;;
+                esac
+            done
+        """)
+
+    def test_malformed_answers(self):
+        """Each is reported, and the store is closed."""
+        for call, answers in (
+            (lambda store: store.insert("t", 1), ("applied 1\\n", "error 99 NoTable\\n", "error 31 NoRow\\n", "\\377")),
+            (lambda store: store.insert("t", 1), ("error 41 Abort\\n", "error 41 Abort kind t\\n", "error 1 Truncated x\\n")),
+            (lambda store: list(store.rows("t")), ("1", "1|", "x\\n", "1 2\\n", "X1\\n")),
+            (lambda store: store.revert(b""), ("", "applied\\n", "applied 1", "conflict 1 data what x\\n")),
+            (lambda store: store.session(), ("1\\n",)),
+        ):
+            for answer in answers:
+                self.answering(answer)
+                with self.subTest(answer), vollikash.open(":memory:") as store:
+                    for _ in range(2):
+                        with self.assertRaises(ProgramError) as caught:
+                            call(store)
+                        self.assertIsInstance(caught.exception, vollikash.Error)
+
     def test_what_is_left(self):
         """Nothing runs behind a store that is closed, that nobody has, or at the end of the process."""
         store = store_with_table()

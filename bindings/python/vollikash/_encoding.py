@@ -68,7 +68,7 @@ def spelled(value: object) -> bytes:
     if isinstance(value, (bytes, bytearray, memoryview)):
         return _sized(_BLOBS, bytes(value))
     kind = type(value).__name__
-    raise Unfit(f"a {kind}. A changeset has ints of 64 bits, str, bytes and None")
+    raise Unfit(f"a {kind}, and not an int of 64 bits, str, bytes or None")
 
 
 def flags_of(key: Iterable[int]) -> bytes:

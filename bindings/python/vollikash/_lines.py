@@ -112,6 +112,8 @@ def read_rows(printed: str) -> Iterator[Tuple[Value, ...]]:
         elif end != "|":
             raise malformed(printed, at, "row's end")
         at += 1
+    if row:
+        raise malformed(printed, at, "value")
 
 
 def read_nothing(printed: str) -> None:
