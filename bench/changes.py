@@ -1,5 +1,5 @@
 #!/usr/bin/env python3
-"""Times how Python looks into changesets, beside SQLite's iterator by ctypes on the same files.
+"""Times how Python looks into changesets, and SQLite's iterator by ctypes on the same files.
 
 `changes` checks the file and makes an object of each change, with all values. The loop over SQLite
 calls `sqlite3changeset_next`, `_op`, `_old` and `_new`, and makes a tuple of each change

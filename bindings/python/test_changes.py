@@ -116,10 +116,11 @@ class Decoded(unittest.TestCase):
                 for change in vollikash.changes(file)
             ]
             theirs = [
-                (*parts, *(record and tuple(undefined.get(value, value) for value in record) for record in records))
-                for *parts, records in (
-                    (*change[:3], change[3:]) for change in iterator.Iterator(sqlite, file)
-                )
+                (*change[:3], *(
+                    record and tuple(undefined.get(value, value) for value in record)
+                    for record in change[3:]
+                ))
+                for change in iterator.Iterator(sqlite, file)
             ]
             with self.subTest(file=file.hex()):
                 self.assertEqual(ours, theirs)
@@ -486,8 +487,9 @@ class Json(unittest.TestCase):
         """Blanks, the order of members, and what a writer of JSON leaves open."""
         document = json.loads(self.text)
         for text in (
-            json.dumps(document), json.dumps(document, indent=4, sort_keys=True), json.dumps(document, ensure_ascii=False),
-            json.dumps([dict(reversed(table.items())) for table in document]), f" \t\r\n{self.text} \n",
+            json.dumps(document), json.dumps(document, indent=4, sort_keys=True),
+            json.dumps(document, ensure_ascii=False), f" \t\r\n{self.text} \n",
+            json.dumps([dict(reversed(list(table.items()))) for table in document]),
             self.text.replace('"insert",', '"insert", "indirect": false,').replace("[1, 0]", "[true, false]"),
             self.text.replace('{"integer": "-9223372036854775808"}', "-9223372036854775808"),
             self.text.replace("9007199254740991", '{"integer": "9007199254740991"}').replace("00ff", "00FF"),

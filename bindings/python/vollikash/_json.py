@@ -4,7 +4,9 @@ Both directions keep one change in memory, next to the bytes of the file.
 """
 import json
 import re
-from typing import Any, Callable, Dict, Iterator, List, NoReturn, Optional, Set, TextIO, Tuple, Union
+from typing import (
+    Any, Callable, Dict, Iterator, List, NoReturn, Optional, Set, TextIO, Tuple, Union,
+)
 
 from ._decoding import Table, entries
 from ._encoding import Encoder, Unfit, flags_of, header
