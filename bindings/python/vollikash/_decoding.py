@@ -42,7 +42,7 @@ def _header(data: bytes, start: int) -> Tuple[Table, int]:
     return Table(data[at + count:end].decode(), data[at:at + count], start), end + 1
 
 
-def _record(data: bytes, at: int, count: int) -> Tuple[Record, int]:
+def record_at(data: bytes, at: int, count: int) -> Tuple[Record, int]:
     """Return the record of this many columns at an offset, and the offset after it."""
     fields: List[Field] = []
     add = fields.append
@@ -73,11 +73,11 @@ def entries(data: bytes) -> Iterator[Entry]:
         count = len(table.flags)
         while at < end and data[at] != _TABLE:
             kind, indirect = data[at], data[at + 1] != 0
-            record, at = _record(data, at + 2, count)
+            record, at = record_at(data, at + 2, count)
             if kind == _INSERT:
                 yield table, "insert", indirect, None, record
             elif kind == _DELETE:
                 yield table, "delete", indirect, record, None
             else:
-                new, at = _record(data, at, count)
+                new, at = record_at(data, at, count)
                 yield table, "update", indirect, record, new

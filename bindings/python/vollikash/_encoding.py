@@ -2,13 +2,17 @@
 import struct
 from typing import Iterable, List, NoReturn, Optional, Sequence, Tuple
 
-from ._values import UNDEFINED, Field, Op, shown
+from ._values import UNDEFINED as LEFT_OUT
+from ._values import Field, Op, shown
 
 _MOST_COLUMNS = 32767
 _LONGEST = 0x7FFFFFFF
 
-_UNDEFINED, _NULL = b"\x00", b"\x05"
-_OPERATIONS = {"insert": b"\x12", "delete": b"\x09", "update": b"\x17"}
+# Fields without content, and the bytes of operations.
+UNDEFINED, NULL = b"\x00", b"\x05"
+INSERT, DELETE, UPDATE = b"\x12", b"\x09", b"\x17"
+
+_OPERATIONS = {"insert": INSERT, "delete": DELETE, "update": UPDATE}
 
 _integer = struct.Struct(">Bq").pack
 
@@ -62,9 +66,9 @@ def spelled(value: object) -> bytes:
         except struct.error:
             raise Unfit("an int of more than 64 bits") from None
     if value is None:
-        return _NULL
-    if value is UNDEFINED:
-        return _UNDEFINED
+        return NULL
+    if value is LEFT_OUT:
+        return UNDEFINED
     if isinstance(value, (bytes, bytearray, memoryview)):
         return _sized(_BLOBS, bytes(value))
     kind = type(value).__name__
@@ -115,7 +119,7 @@ class Encoder:
         elif op == "delete":
             fields = self._row(old, new, "old")
         elif op == "update":
-            fields, later = self._fields(old, "old"), self._fields(new, "new")
+            fields, later = self._record(old, "old"), self._record(new, "new")
             self._expect_update(fields, later)
         else:
             raise Unfit(f"the operation {op!r} is not insert, update or delete")
@@ -131,22 +135,26 @@ class Encoder:
         """Return the bytes of each field of the one record of an INSERT or a DELETE."""
         if other is not None:
             raise Unfit(f"it has two records, and not only `{name}`")
-        fields = self._fields(record, name)
-        if _UNDEFINED in fields:
-            raise Unfit("UNDEFINED outside an update", fields.index(_UNDEFINED) + 1)
+        fields = self._record(record, name)
+        if UNDEFINED in fields:
+            raise Unfit("UNDEFINED outside an update", fields.index(UNDEFINED) + 1)
         return fields
 
     def _key(self, fields: List[bytes]) -> bytes:
         """Return the bytes of the key."""
         key = [fields[place] for place in self._keys]
-        if _NULL in key:
-            raise Unfit("None in a key column", self._keys[key.index(_NULL)] + 1)
+        if NULL in key:
+            raise Unfit("None in a key column", self._keys[key.index(NULL)] + 1)
         return b"".join(key)
 
-    def _fields(self, record: Optional[Sequence[Field]], name: str) -> List[bytes]:
-        """Return the bytes of each field of a record."""
+    def _record(self, record: Optional[Sequence[Field]], name: str) -> List[bytes]:
+        """Return the bytes of each field of a record that is not missing."""
         if record is None:
             raise Unfit(f"`{name}` is missing")
+        return self.fields(record)
+
+    def fields(self, record: Sequence[Field]) -> List[bytes]:
+        """Return the bytes of each field of a record. Raise `Unfit`."""
         if len(record) != self._count:
             raise Unfit(f"{len(record)} values for {self._count} columns")
         try:
@@ -166,10 +174,10 @@ class Encoder:
     def _expect_update(self, old: List[bytes], new: List[bytes]) -> None:
         """Raise `Unfit` if the records are not those of an UPDATE."""
         for place in self._keys:
-            if old[place] == _UNDEFINED:
+            if old[place] == UNDEFINED:
                 raise Unfit("UNDEFINED in a key column of `old`", place + 1)
-            if new[place] != _UNDEFINED:
+            if new[place] != UNDEFINED:
                 raise Unfit("a key column of `new` is UNDEFINED", place + 1)
         for place in self._others:
-            if (old[place] == _UNDEFINED) != (new[place] == _UNDEFINED):
+            if (old[place] == UNDEFINED) != (new[place] == UNDEFINED):
                 raise Unfit("UNDEFINED in only one of `old` and `new`", place + 1)

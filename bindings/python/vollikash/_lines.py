@@ -1,6 +1,6 @@
 """The lines of the shell: spelling values and names, and reading replies."""
 import re
-from typing import Iterator, List, Literal, NamedTuple, Tuple, cast
+from typing import Iterable, Iterator, List, Literal, NamedTuple, Tuple, cast
 
 from ._errors import ProgramError
 from ._values import Value
@@ -40,6 +40,11 @@ class Report(NamedTuple):
     skipped: List[str]
     applied: int
     ignored: int = 0
+
+
+def is_one_line(values: Iterable[Value]) -> bool:
+    """Return whether no text of some values has a line feed, which no line can hold."""
+    return not any(isinstance(value, str) and "\n" in value for value in values)
 
 
 def _one_line(what: str, text: str) -> str:

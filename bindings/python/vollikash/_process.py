@@ -19,6 +19,9 @@ _BEHIND = "\n.hex m\n"
 # How many bytes of lines a program takes.
 _LONGEST = 16777216
 
+# How many bytes a file may have that is loaded by a line. The rest is for lines of other kinds.
+LONGEST_FILE = _LONGEST // 2 - 8192
+
 
 def find_program() -> str:
     """Return the program: VOLLIKASH_PROGRAM, the file `changeset` in this folder, the one that the
@@ -51,6 +54,27 @@ def _end(process: "subprocess.Popen[bytes]") -> None:
     process.wait()
 
 
+def run_command(words: Sequence[str], timeout: float) -> "subprocess.CompletedProcess[str]":
+    """Run a command of the program, and return how it has ended."""
+    command = [find_program(), *words]
+    try:
+        return subprocess.run(
+            command, stdin=subprocess.DEVNULL, capture_output=True, encoding="utf-8",
+            timeout=timeout, start_new_session=True, check=False,
+        )
+    except subprocess.TimeoutExpired:
+        raise ProgramError(f"the program has not ended in {timeout} seconds") from None
+    except UnicodeDecodeError as error:
+        raise ProgramError(f"the program answered no UTF-8: {error.reason}") from None
+    except OSError as error:
+        raise ProgramError(f"{command[0]} does not run: {error.strerror}") from error
+
+
+def path_word(path: str) -> str:
+    """Return a path as a word of a command, which is no option."""
+    return f"./{path}" if path.startswith("-") else path
+
+
 class Process:
     """A program that runs a shell on a file."""
 
@@ -59,7 +83,7 @@ class Process:
         program = find_program()
         try:
             self._process = subprocess.Popen(
-                [program, f"./{path}" if path.startswith("-") else path, "shell"],
+                [program, path_word(path), "shell"],
                 stdin=subprocess.PIPE,
                 stdout=subprocess.PIPE,
                 stderr=subprocess.PIPE,

@@ -1,20 +1,24 @@
 """Stores and sessions, by a program that runs the lines of the shell."""
+import contextlib
 import os
 import re
+import tempfile
 import threading
 from types import TracebackType
 from typing import (
-    Callable, Collection, Iterator, Mapping, NoReturn, Optional, Sequence, Tuple, Type, TypeVar,
-    Union, get_args,
+    Callable, Collection, Dict, Iterable, Iterator, List, Mapping, NoReturn, Optional, Sequence,
+    Tuple, Type, TypeVar, Union, get_args,
 )
 
+from ._edits import Edits, Row, TableEdits, refusal
 from ._errors import ChangesetError, Code, ConflictError, ProgramError, StoreError
-from ._files import Bytes
+from ._files import Bytes, as_bytes, invert
 from ._lines import (
-    Choice, Report, malformed, read_bytes, read_nothing, read_report, read_rows, read_truth,
-    spelled, spelled_name,
+    Choice, Report, is_one_line, malformed, read_bytes, read_nothing, read_report, read_rows,
+    read_truth, spelled, spelled_name,
 )
-from ._process import Process
+from ._process import LONGEST_FILE, Process, path_word, run_command
+from ._schema import Schema, is_unfinished, read_schemas
 from ._values import Value
 
 _REFUSED = re.compile(
@@ -26,6 +30,11 @@ _DETAILS = {
     Code.ABORT: re.compile("(?:data|notfound|conflict|constraint) '.*'", re.DOTALL),
     Code.MISUSE: re.compile("(?:data|notfound|conflict|constraint) '.*'", re.DOTALL),
     **{Code(number): re.compile("[0-9]{1,19}") for number in (*range(1, 19), Code.SCHEMA)},
+}
+
+# What a conflict of the changeset of edits is the error of.
+_REFUSALS = {
+    "conflict": Code.KEY_TAKEN, "notfound": Code.NO_ROW, "constraint": Code.NOT_NULL,
 }
 
 _CHOICES: Tuple[Choice, ...] = get_args(Choice)
@@ -68,8 +77,9 @@ def _assigned(values: Mapping[str, Value], between: str) -> str:
 class Store:
     """A store in a file, or in memory for the path ":memory:". Made by `open`.
 
-    Several threads can share a store: a lock lets one call through at a time. Each call is one or
-    two lines of the shell.
+    Several threads can share a store: a lock lets one call or one transaction through at a time.
+    Each call is one or two lines of the shell. An edit with a text that no line can hold, and a
+    transaction, is the apply of a changeset.
 
     A refused call raises `StoreError`, `ConflictError` or `ChangesetError`, and changes nothing. A
     value or a name that no line can hold raises ValueError before anything is sent. If the program
@@ -86,10 +96,21 @@ class Store:
         self._path = os.fspath(path)
         self._timeout = timeout
         self._has_session = False
+        self._schemas: Dict[str, Schema] = {}
+        # The edits of the open transaction.
+        self._edits: Optional[Edits] = None
         self._process = self._start()
 
     def _start(self) -> Process:
-        """Start the program."""
+        """Start the program, and read what the store declares before it has the file."""
+        if self._path != ":memory:":
+            if is_unfinished(self._path):
+                self._run().close()
+            self._schemas = read_schemas(self._path)
+        return self._run()
+
+    def _run(self) -> Process:
+        """Run the program."""
         try:
             return Process(self._path, self._timeout)
         except ProgramError as error:
@@ -133,14 +154,26 @@ class Store:
         first that is refused. Keep so many bytes of lines.
         """
         with self._lock:
-            self._make_room(lines, kept)
-            try:
-                for line in lines[:-1]:
-                    read_nothing(self._reply(line))
-                return read(self._reply(lines[-1]))
-            except ProgramError:
-                self._process.end()
-                raise
+            self._expect_no_transaction()
+            return self._ask_at_once(read, *lines, kept=kept)
+
+    def _expect_no_transaction(self) -> None:
+        """Raise RuntimeError if a transaction is open."""
+        if self._edits is not None:
+            raise RuntimeError("a transaction is open, which has only edits and reads of rows")
+
+    def _ask_at_once(
+        self, read: Callable[[str], _Answer], *lines: str, kept: int = _KEPT
+    ) -> _Answer:
+        """Return what `_ask` does, also in a transaction."""
+        self._make_room(lines, kept)
+        try:
+            for line in lines[:-1]:
+                read_nothing(self._reply(line))
+            return read(self._reply(lines[-1]))
+        except ProgramError:
+            self._process.end()
+            raise
 
     def _reply(self, line: str) -> str:
         """Return the reply to a line, or raise the error if it is refused."""
@@ -156,40 +189,144 @@ class Store:
         columns: Sequence[str],
         key: Sequence[str],
         refuses: Collection[str] = (),
+        *,
+        exist_ok: bool = False,
     ) -> None:
         """Create a table without rows: its columns, those of the key, and those that refuse None.
+
         Key columns refuse None anyway. A name in `refuses` that is not a column raises ValueError
-        before anything is sent.
+        before anything is sent. With `exist_ok` a table that exists with these columns is kept.
         """
-        names, marked = list(columns), list(refuses)
+        names, marked, keys = list(columns), list(refuses), list(key)
         for name in marked:
             if name not in names:
                 raise ValueError(f"refuses has {name!r}, which is no column's name")
-        named = ", ".join(
-            spelled_name(column) + " NOT NULL" * (column in marked) for column in names
+        named = ", ".join(spelled_name(name) + " NOT NULL" * (name in marked) for name in names)
+        key_names = ", ".join(map(spelled_name, keys))
+        schema = Schema(
+            tuple(names),
+            tuple(name for name in names if name in keys),
+            tuple(name for name in names if name in marked and name not in keys),
         )
-        keys = ", ".join(spelled_name(column) for column in key)
-        line = f"CREATE TABLE {spelled_name(table)}({named}, PRIMARY KEY({keys}));"
-        self._ask(read_nothing, line)
+        line = f"CREATE TABLE {spelled_name(table)}({named}, PRIMARY KEY({key_names}));"
+        with self._lock:
+            try:
+                self._ask(read_nothing, line)
+            except StoreError as error:
+                is_same = error.code == Code.TABLE_EXISTS and self._schemas.get(table) == schema
+                if not (exist_ok and is_same):
+                    raise
+            self._schemas[table] = schema
+
+    def tables(self) -> List[str]:
+        """Return the names of the tables, sorted by their bytes."""
+        with self._lock:
+            return sorted(self._schemas, key=str.encode)
+
+    def schema(self, table: str) -> Schema:
+        """Return the columns of a table, those of its key, and those outside it that refuse None.
+        """
+        with self._lock:
+            schema = self._schemas.get(table)
+        if schema is None:
+            raise refusal(Code.NO_TABLE)
+        return schema
 
     def insert(self, table: str, *values: Value) -> None:
         """Insert one row, with a value for each column."""
-        row = ", ".join(map(spelled, values))
-        self._ask(read_nothing, f"INSERT INTO {spelled_name(table)} VALUES({row});")
+        with self._lock:
+            if self._edits is None and is_one_line(values):
+                row = ", ".join(map(spelled, values))
+                self._ask(read_nothing, f"INSERT INTO {spelled_name(table)} VALUES({row});")
+            else:
+                with self._edited(table) as edits:
+                    edits.insert(values)
+
+    def insert_many(self, table: str, rows: Iterable[Sequence[Value]]) -> None:
+        """Insert rows in one transaction. If one is refused, none is inserted."""
+        with self._edited(table) as edits:
+            for row in rows:
+                edits.insert(row)
 
     def update(self, table: str, values: Mapping[str, Value], where: Mapping[str, Value]) -> None:
         """Set columns of the row whose key columns have the values of `where`."""
-        row, key = _assigned(values, ", "), _assigned(where, " AND ")
-        self._ask(read_nothing, f"UPDATE {spelled_name(table)} SET {row} WHERE {key};")
+        with self._lock:
+            if self._edits is None and is_one_line((*values.values(), *where.values())):
+                row, key = _assigned(values, ", "), _assigned(where, " AND ")
+                self._ask(read_nothing, f"UPDATE {spelled_name(table)} SET {row} WHERE {key};")
+            else:
+                with self._edited(table) as edits:
+                    edits.update(values, where)
 
     def delete(self, table: str, where: Mapping[str, Value]) -> None:
         """Delete the row whose key columns have the values of `where`."""
-        key = _assigned(where, " AND ")
-        self._ask(read_nothing, f"DELETE FROM {spelled_name(table)} WHERE {key};")
+        with self._lock:
+            if self._edits is None and is_one_line(where.values()):
+                key = _assigned(where, " AND ")
+                self._ask(read_nothing, f"DELETE FROM {spelled_name(table)} WHERE {key};")
+            else:
+                with self._edited(table) as edits:
+                    edits.delete(where)
 
-    def rows(self, table: str) -> Iterator[Tuple[Value, ...]]:
+    def rows(self, table: str) -> Iterator[Row]:
         """Return an iterator over the current rows of a table, by the bytes of their keys."""
-        return read_rows(self._ask(str, f"SELECT * FROM {spelled_name(table)};"))
+        with self._lock:
+            if self._edits is None:
+                return self._select(table)
+            return iter(list(self._edits.table(table).rows()))
+
+    def get(self, table: str, *key: Value) -> Optional[Row]:
+        """Return the row of a key, or None. The values of the key are in the order of its columns.
+
+        The program prints all rows for that.
+        """
+        with self._lock:
+            edits = self._edits or Edits(self.schema, self._select)
+            return edits.table(table).get(key)
+
+    def _select(self, table: str) -> Iterator[Row]:
+        """Return an iterator over the rows of a table as they are without a transaction."""
+        return read_rows(self._ask_at_once(str, f"SELECT * FROM {spelled_name(table)};"))
+
+    @contextlib.contextmanager
+    def transaction(self) -> Iterator[None]:
+        """Carry out the edits of the `with` block in one transaction at its end.
+
+        If the block raises an exception, none is carried out. An edit that needs a row to exist or
+        not to exist may be refused only at the end of the block. Then all of them are. In the block
+        `rows` and `get` see its edits. Other calls raise RuntimeError.
+        """
+        with self._lock:
+            self._expect_no_transaction()
+            self._edits = edits = Edits(self.schema, self._select)
+            try:
+                yield
+            finally:
+                self._edits = None
+            self._carry_out(edits)
+
+    @contextlib.contextmanager
+    def _edited(self, table: str) -> Iterator[TableEdits]:
+        """Yield the edits of a table in the open transaction, or in one of the block."""
+        with self._lock:
+            if self._edits is not None:
+                yield self._edits.table(table)
+                return
+            edits = Edits(self.schema, self._select)
+            yield edits.table(table)
+            self._carry_out(edits)
+
+    def _carry_out(self, edits: Edits) -> None:
+        """Apply the changeset of edits."""
+        file = edits.to_bytes()
+        if not file:
+            return
+        try:
+            report = self.apply(file, data="replace")
+        except ConflictError as error:
+            raise refusal(_REFUSALS[error.kind]) from None
+        if report.skipped:
+            raise ProgramError("the file has other tables than when the store was opened")
 
     def apply(
         self,
@@ -218,13 +355,46 @@ class Store:
                 raise ValueError(f"{kind} is one of {', '.join(_CHOICES)}, and not {choice!r}")
         words = [f"{kind}={choice}" for kind, choice in choices.items()]
         line = " ".join([".apply f", *words, *["noop=ignore"] * ignore_noop])
-        return self._ask(read_report, f".load f {bytes(file).hex()}", line)
+        options = [f"--{word}" for word in words] + ["--ignore-noop"] * ignore_noop
+        given = as_bytes(file)
+        return self._apply(given, line, lambda: self._apply_by_command(given, options))
+
+    def _apply(self, file: bytes, line: str, by_command: Callable[[], Report]) -> Report:
+        """Apply a changeset by a line. If it is too long for one, apply it while the store is
+        closed.
+        """
+        with self._lock:
+            self._expect_no_transaction()
+            if len(file) <= LONGEST_FILE:
+                return self._ask(read_report, f".load f {file.hex()}", line)
+            if self._path == ":memory:" or self._has_session:
+                raise refusal(Code.SCRIPT_TOO_LONG)
+            self._process.close()
+            try:
+                return by_command()
+            finally:
+                self._process = self._start()
+
+    def _apply_by_command(self, file: bytes, options: Sequence[str]) -> Report:
+        """Apply a changeset by a command, while the store is closed."""
+        with tempfile.NamedTemporaryFile() as given:
+            given.write(file)
+            given.flush()
+            words = [*options, given.name, "apply", path_word(self._path)]
+            ended = run_command(words, self._timeout)
+        refused = _REFUSED.fullmatch(ended.stderr)
+        if refused is not None:
+            _raise(refused)
+        if ended.returncode:
+            raise ProgramError(f"the program has ended: {ended.stderr.strip()}", ended.stderr)
+        return read_report(ended.stdout)
 
     def revert(self, file: Bytes) -> Report:
         """Apply the inverse of a changeset. A conflict raises `ConflictError`, and nothing is
         changed.
         """
-        return self._ask(read_report, f".load f {bytes(file).hex()}", ".revert f")
+        given = as_bytes(file)
+        return self._apply(given, ".revert f", lambda: self._apply_by_command(invert(given), []))
 
     def session(self, *tables: str) -> "Session":
         """Open a session that records these tables. There is one at a time: a second one raises

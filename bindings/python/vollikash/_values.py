@@ -14,7 +14,8 @@ class Undefined(enum.Enum):
     def __repr__(self) -> str:
         return "UNDEFINED"
 
-    __str__ = __repr__
+    def __str__(self) -> str:
+        return "UNDEFINED"
 
 
 # A column that an UPDATE leaves out.
