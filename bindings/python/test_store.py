@@ -118,7 +118,7 @@ class Stores(Folder):
     def test_values_that_no_line_holds(self):
         """Each is told before anything is sent."""
         with store_with_table() as store:
-            for value in (1.5, "a\nb", "\ud800", 1 << 63, -(1 << 63) - 1, True, [1], object()):
+            for value in (1.5, "\ud800", 1 << 63, -(1 << 63) - 1, True, [1], object()):
                 with self.subTest(repr(value)[:20]), self.assertRaises(ValueError):
                     store.insert("t", 1, value)
             for name in ("a\nb", "\ud800", 7):

@@ -22,13 +22,14 @@ from ._merging import concat
 from ._schema import Schema
 from ._store import Session, Store, open
 from ._tables import Counts, select, stat
+from ._undo import UndoStack
 from ._values import UNDEFINED, Field, Op, Undefined, Value
 
 __all__ = [
     "Builder", "Change", "ChangesetError", "Code", "Conflict", "ConflictError", "Counts", "Error",
     "Field", "JsonError", "Op", "ProgramError", "Report", "Schema", "Session", "Store",
-    "StoreError", "UNDEFINED", "Undefined", "Value", "changes", "check", "concat", "dump",
-    "explain", "from_json", "invert", "number_keys", "open", "read_json", "select", "sql", "stat",
-    "to_json", "write_json",
+    "StoreError", "UNDEFINED", "Undefined", "UndoStack", "Value", "changes", "check", "concat",
+    "dump", "explain", "from_json", "invert", "number_keys", "open", "read_json", "select", "sql",
+    "stat", "to_json", "write_json",
 ]
 __version__ = "1.0.0"

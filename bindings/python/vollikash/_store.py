@@ -12,13 +12,14 @@ from typing import (
 
 from ._edits import Edits, Row, TableEdits, refusal
 from ._errors import ChangesetError, Code, ConflictError, ProgramError, StoreError
-from ._files import Bytes, as_bytes, invert
+from ._files import Bytes, as_bytes, invert, number_keys
 from ._lines import (
     Choice, Report, is_one_line, malformed, read_bytes, read_nothing, read_report, read_rows,
     read_truth, spelled, spelled_name,
 )
 from ._process import LONGEST_FILE, Process, path_word, run_command
 from ._schema import Schema, is_unfinished, read_schemas
+from ._undo import UndoStack
 from ._values import Value
 
 _REFUSED = re.compile(
@@ -396,6 +397,19 @@ class Store:
         given = as_bytes(file)
         return self._apply(given, ".revert f", lambda: self._apply_by_command(invert(given), []))
 
+    def undo_stack(
+        self,
+        *tables: str,
+        limit: int = 100,
+        path: Optional[Union[str, "os.PathLike[str]"]] = None,
+    ) -> UndoStack:
+        """Return a stack of the last actions on some tables, which can be undone and done again.
+
+        It has at most `limit` actions of each kind. If a path is given, they are kept in that file,
+        and read from it if it exists.
+        """
+        return UndoStack(self, tables, limit, path)
+
     def session(self, *tables: str) -> "Session":
         """Open a session that records these tables. There is one at a time: a second one raises
         StoreError.
@@ -447,9 +461,14 @@ class Session:
         """Attach one more table."""
         self._store._ask(read_nothing, f".session attach {spelled_name(table)}")
 
-    def changeset(self) -> bytes:
-        """Return the changeset file of the net changes of the attached tables."""
-        return self._store._ask(read_bytes, ".session changeset c", ".hex c", kept=0)
+    def changeset(self, *, for_sqlite: bool = False) -> bytes:
+        """Return the changeset file of the net changes of the attached tables.
+
+        With `for_sqlite` its key columns are numbered, as SQLite's apply needs them for a key of
+        several columns.
+        """
+        changes = self._store._ask(read_bytes, ".session changeset c", ".hex c", kept=0)
+        return number_keys(changes) if for_sqlite else changes
 
     def is_empty(self) -> bool:
         """Return whether no row of the attached tables was written."""
