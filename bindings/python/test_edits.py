@@ -366,6 +366,101 @@ class Transactions(Folder):
             self.assertEqual(list(store.rows("t")), [(1, "block"), (2, "other")])
 
 
+class Stacks(Folder):
+    """Actions that are undone and done again."""
+
+    def test_actions(self):
+        with self.store(self.folder / "store") as store:
+            stack = store.undo_stack("t", "k")
+            with stack.action("add"):
+                store.insert("t", 1, "x\ny")
+                store.insert("k", 1)
+            with stack.action("change"):
+                store.update("t", {"b": 2}, where={"a": 1})
+            with stack.action("nothing"):
+                store.update("t", {"b": 2}, where={"a": 1})
+            self.assertEqual((stack.done, stack.undone), (["add", "change"], []))
+            self.assertEqual((stack.undo(), stack.undo()), ("change", "add"))
+            self.assertEqual((stack.can_undo, stack.can_redo), (False, True))
+            self.assertEqual(rows_of(store), {"t": set(), "k": set(), "u": set()})
+            self.assertEqual((stack.redo(), stack.undone), ("add", ["change"]))
+            self.assertEqual(rows_of(store), {"t": {(1, "x\ny")}, "k": {(1,)}, "u": set()})
+            with stack.action("other"):
+                store.insert("t", 2, 2)
+            self.assertEqual((stack.done, stack.undone), (["add", "other"], []))
+            with self.assertRaises(IndexError):
+                stack.redo()
+            stack.undo()
+            stack.undo()
+            with self.assertRaises(IndexError):
+                stack.undo()
+
+    def test_exceptions(self):
+        """What a block has done is undone. An action that has conflicts stays where it is."""
+        with self.store() as store:
+            stack = store.undo_stack("t")
+            with self.assertRaises(KeyError), stack.action("part"):
+                store.insert("t", 1, "x")
+                raise KeyError
+            self.assertEqual((list(store.rows("t")), stack.done), ([], []))
+            with stack.action("add"):
+                store.insert("t", 1, "x")
+            store.update("t", {"b": "y"}, where={"a": 1})
+            with self.assertRaises(ConflictError):
+                stack.undo()
+            self.assertEqual((stack.done, stack.undone), (["add"], []))
+            store.update("t", {"b": "x"}, where={"a": 1})
+            stack.undo()
+            store.insert("t", 1, "z")
+            with self.assertRaises(ConflictError):
+                stack.redo()
+            self.assertEqual((stack.done, stack.undone), ([], ["add"]))
+            self.expect("NoTable", store.undo_stack("v").action("x").__enter__)
+
+    def test_limit(self):
+        with self.store() as store:
+            stack = store.undo_stack("t", limit=3)
+            for key in range(5):
+                with stack.action(str(key)):
+                    store.insert("t", key, key)
+            self.assertEqual(stack.done, ["2", "3", "4"])
+            for limit in (0, -1):
+                with self.assertRaises(ValueError):
+                    store.undo_stack("t", limit=limit)
+
+    def test_files(self):
+        """The actions are kept over a restart."""
+        path, kept = self.folder / "store", self.folder / "actions"
+        with self.store(path) as store:
+            stack = store.undo_stack("t", path=kept)
+            for key in range(3):
+                with stack.action(f"é {key}"):
+                    store.insert("t", key, key)
+            stack.undo()
+        with vollikash.open(path) as store:
+            stack = store.undo_stack("t", path=str(kept))
+            self.assertEqual((stack.done, stack.undone), (["é 0", "é 1"], ["é 2"]))
+            stack.redo()
+            self.assertEqual([stack.undo() for _ in range(3)], ["é 2", "é 1", "é 0"])
+            self.assertEqual(list(store.rows("t")), [])
+            self.assertEqual(store.undo_stack("t", path=kept).undone, ["é 2", "é 1", "é 0"])
+            self.assertEqual(sorted(os.listdir(self.folder))[:2], ["actions", "store"])
+            for text in ("", "[]", "{}", '{"done": [["x", "00"]], "undone": []}', '{"done": [[1, ""]]}',
+                         '{"done": [["x", "zz"]], "undone": []}', '{"done": 1, "undone": 1}', "[" * 99999):
+                kept.write_text(text)
+                with self.subTest(text=text[:40]), self.assertRaisesRegex(ValueError, "has no actions"):
+                    store.undo_stack("t", path=kept)
+
+    def test_changesets_for_sqlite(self):
+        with self.store() as store, store.session("u") as session:
+            store.insert("u", 1, 2, 3)
+            flags = [
+                next(vollikash.changes(session.changeset(for_sqlite=is_wanted))).flags
+                for is_wanted in (False, True)
+            ]
+            self.assertEqual(flags, [b"\x01\x00\x01", b"\x01\x00\x02"])
+
+
 class Sizes(Folder):
     """Many rows, and long changesets."""
 
