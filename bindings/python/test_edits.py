@@ -18,10 +18,14 @@ import time
 import unittest
 
 import vollikash
-from vollikash import ChangesetError, ConflictError, Schema, StoreError
+from vollikash import UNDEFINED, ChangesetError, ConflictError, Schema, StoreError
 
 HERE = pathlib.Path(__file__).resolve().parent
 PROGRAM = HERE.parents[1] / "crates/changeset/out/changeset"
+sys.path.insert(0, str(HERE.parents[1] / "tests"))
+
+from support import model, reader, stores  # noqa: E402
+from support.making import Maker  # noqa: E402
 
 # Tables of a store: the columns, those of the key, and those outside it that refuse None.
 SCHEMAS = {
@@ -459,6 +463,162 @@ class Stacks(Folder):
                 for is_wanted in (False, True)
             ]
             self.assertEqual(flags, [b"\x01\x00\x01", b"\x01\x00\x02"])
+
+
+class Asking(model.Applying):
+    """The model of an apply, with a choice for each conflict in turn."""
+
+    def __init__(self, tables, chance, noop):
+        super().__init__(tables, {b"noop": noop})
+        self.chance = chance
+
+    def ask(self, name, kind):
+        choice = choose(self.chance, kind.decode())
+        self.choices[kind] = choice.encode()
+        return super().ask(name, kind)
+
+
+def choose(chance, kind):
+    """A choice that mostly does not end the apply."""
+    if chance.random() < 0.05:
+        return chance.choice(("abort", "replace"))
+    return "omit" if kind in ("notfound", "constraint") else chance.choice(("omit", "replace"))
+
+
+def value_of(field):
+    """The value of a field."""
+    return stores.take_value(field, 0)[0]
+
+
+class Conflicts(Folder):
+    """Conflicts that a function decides."""
+
+    def filled(self, tables):
+        """A store with the tables of the model."""
+        store = vollikash.open(":memory:")
+        self.addCleanup(store.close)
+        for name, table in tables.items():
+            columns = [column.decode() for column in table.columns]
+            store.create(
+                name.decode(), columns, [column for column, flag in zip(columns, table.flags) if flag],
+                [column for column, mark in zip(columns, table.refuses) if mark],
+            )
+            store.insert_many(name.decode(), [tuple(map(value_of, row)) for row in table.rows.values()])
+        return store
+
+    def tables(self, maker):
+        """Made-up tables of the model, with rows."""
+        tables = {}
+        for name, flags in maker.tables():
+            refuses = [bool(flag) or maker.is_one_in(3) for flag in flags]
+            table = model.Table([b"c%d" % place for place in range(len(flags))], list(map(bool, flags)), refuses)
+            for row in (tuple(maker.row(flags)) for _ in range(6)):
+                if not table.has_null(row):
+                    table.rows[table.key(row)] = row
+            tables[name] = table
+        return tables
+
+    def test_each_file(self):
+        """Reports and rows are those of the model, for choices that differ from conflict to conflict."""
+        maker, asked, refused = Maker(random.Random("conflicts")), 0, 0
+        for number in range(8 * SEEDS):
+            tables = self.tables(maker)
+            file, noop = reader.write(maker.changeset_of(tables)), maker.pick((b"report", b"ignore"))
+            with self.subTest(number), self.filled(tables) as store:
+                wanted = self.wanted(tables, file, random.Random(number), noop)
+                chance, conflicts = random.Random(number), []
+
+                def decide(conflict):
+                    conflicts.append(conflict)
+                    return choose(chance, conflict.kind)
+
+                self.assertEqual(self.told(store, file, decide, noop == b"ignore"), wanted)
+                for name, table in tables.items():
+                    rows = [tuple(map(value_of, row)) for row in table.rows.values()]
+                    self.assertEqual(set(store.rows(name.decode())), set(rows))
+                asked += len(conflicts)
+                refused += isinstance(wanted, str)
+        self.assertGreater(asked, 100)
+        self.assertGreater(refused, 5)
+
+    def wanted(self, tables, file, chance, noop):
+        """What the model reports, as text, or why it refuses."""
+        try:
+            return Asking(tables, chance, noop).run(reader.Reader(file).groups())
+        except model.Refusal as refusal:
+            return refusal.line.decode()
+
+    def told(self, store, file, decide, ignore_noop):
+        """What the store reports, in the same way."""
+        try:
+            report = store.apply(file, on_conflict=decide, ignore_noop=ignore_noop)
+        except StoreError as error:
+            return str(error)
+        numbers = {"data": 1, "notfound": 2, "conflict": 3, "constraint": 4}
+        quoted = [model.quoted(name.encode()) for name in report.skipped]
+        return [
+            *(b"warning 17 skipped " + name for name in quoted),
+            *(b"conflict %d %s %s %s" % (numbers[it.kind], it.kind.encode(), it.choice.encode(),
+                                         model.quoted(it.table.encode())) for it in report.conflicts),
+            *[b"ignored %d" % report.ignored] * bool(report.ignored), b"applied %d" % report.applied,
+        ]
+
+    def test_what_is_asked(self):
+        with self.store() as store:
+            store.insert_many("t", [(1, "x"), (2, "y")])
+            store.insert("u", 1, 2, 3)
+            builder = vollikash.Builder()
+            builder.table("t", key=[True, False])
+            builder.table("u", key=[True, False, True])
+            builder.insert("t", 1, "new\n")
+            builder.delete("t", 3, "gone")
+            builder.update("t", old=(2, "other"), new=(UNDEFINED, "z"))
+            builder.update("u", old=(1, 4, 3), new=(UNDEFINED, None, UNDEFINED))
+            file, asked = builder.to_bytes(), []
+            choices = iter(("omit", "omit", "replace", "replace", "omit"))
+
+            def decide(conflict):
+                asked.append((conflict.kind, conflict.change.table, conflict.change.key, conflict.current))
+                self.assertEqual(store.get("t", 2), (2, "y"))
+                return next(choices)
+
+            report = store.apply(file, on_conflict=decide)
+            self.assertEqual(asked, [
+                ("conflict", "t", (1,), (1, "x")), ("notfound", "t", (3,), None), ("data", "t", (2,), (2, "y")),
+                ("data", "u", (1, 3), (1, 2, 3)), ("constraint", "u", (1, 3), (1, 2, 3)),
+            ])
+            self.assertEqual([it.choice for it in report.conflicts], ["omit", "omit", "replace", "replace", "omit"])
+            self.assertEqual((report.applied, list(store.rows("t"))), (1, [(1, "x"), (2, "z")]))
+
+    def test_refusals(self):
+        """Nothing is written."""
+        with self.store() as store:
+            store.insert("t", 1, "x")
+            builder = vollikash.Builder()
+            builder.table("t", key=[True, False])
+            builder.insert("t", 2, "new")
+            builder.insert("t", 1, "y")
+            file = builder.to_bytes()
+            for handler, error in (
+                (lambda conflict: "abort", ConflictError), (lambda conflict: None, ValueError),
+                (lambda conflict: 1 // 0, ZeroDivisionError), (lambda: "omit", TypeError),
+            ):
+                with self.assertRaises(error):
+                    store.apply(file, on_conflict=handler)
+            with self.assertRaises(ValueError):
+                store.apply(file, on_conflict=lambda conflict: "omit", data="omit")
+            with self.assertRaises(ChangesetError):
+                store.apply(file[:-1], on_conflict=lambda conflict: "omit")
+            self.assertEqual(list(store.rows("t")), [(1, "x")])
+
+    def test_session(self):
+        """What was decided is recorded."""
+        with self.store() as store, store.session("t") as session:
+            file = vollikash.invert(b"".join((stores.header("t", 1, 0), stores.insert(1, "x"))))
+            store.apply(file, on_conflict=lambda conflict: "omit")
+            self.assertTrue(session.is_empty())
+            store.apply(vollikash.invert(file), on_conflict=lambda conflict: "omit")
+            self.assertFalse(session.is_empty())
 
 
 class Sizes(Folder):

@@ -1,6 +1,6 @@
 """The lines of the shell: spelling values and names, and reading replies."""
 import re
-from typing import Iterable, Iterator, List, Literal, NamedTuple, Tuple, cast
+from typing import Iterable, Iterator, List, Literal, NamedTuple, Tuple, cast, get_args
 
 from ._errors import ProgramError
 from ._values import Value
@@ -8,6 +8,8 @@ from ._values import Value
 # What may be the matter when a change is applied, and what can be done about it.
 Kind = Literal["data", "notfound", "conflict", "constraint"]
 Choice = Literal["omit", "replace", "abort"]
+
+CHOICES: Tuple[Choice, ...] = get_args(Choice)
 
 _VALUE = re.compile(
     r"(?P<integer>-?[0-9]+)|(?P<null>NULL)|X'(?P<blob>(?:[0-9a-f]{2})*)'|'(?P<text>(?:[^']|'')*)'"

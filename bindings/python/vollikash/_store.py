@@ -7,15 +7,16 @@ import threading
 from types import TracebackType
 from typing import (
     Callable, Collection, Dict, Iterable, Iterator, List, Mapping, NoReturn, Optional, Sequence,
-    Tuple, Type, TypeVar, Union, get_args,
+    Type, TypeVar, Union,
 )
 
+from ._deciding import Decider, Handler, decided
 from ._edits import Edits, Row, TableEdits, refusal
 from ._errors import ChangesetError, Code, ConflictError, ProgramError, StoreError
 from ._files import Bytes, as_bytes, invert, number_keys
 from ._lines import (
-    Choice, Report, is_one_line, malformed, read_bytes, read_nothing, read_report, read_rows,
-    read_truth, spelled, spelled_name,
+    CHOICES, Choice, Report, is_one_line, malformed, read_bytes, read_nothing, read_report,
+    read_rows, read_truth, spelled, spelled_name,
 )
 from ._process import LONGEST_FILE, Process, path_word, run_command
 from ._schema import Schema, is_unfinished, read_schemas
@@ -37,8 +38,6 @@ _DETAILS = {
 _REFUSALS = {
     "conflict": Code.KEY_TAKEN, "notfound": Code.NO_ROW, "constraint": Code.NOT_NULL,
 }
-
-_CHOICES: Tuple[Choice, ...] = get_args(Choice)
 
 # The bytes of lines that are kept for the session's own lines, so that its changeset can be read
 # and undone when the program takes no more edits.
@@ -338,6 +337,7 @@ class Store:
         conflict: Choice = "abort",
         constraint: Choice = "abort",
         ignore_noop: bool = False,
+        on_conflict: Optional[Handler] = None,
     ) -> Report:
         """Apply a changeset in one transaction, and return a report.
 
@@ -347,18 +347,37 @@ class Store:
         replaced. "abort", and "replace" where it is not possible, raise `ConflictError`, and
         nothing is changed. With `ignore_noop` an entry that has a conflict and would change nothing
         is ignored. docs/COMMAND.md has the details.
+
+        With `on_conflict` that function is called in place of these choices, once for each conflict
+        in the order of the file, with a `PendingConflict`. It returns the choice. Nothing is
+        written before its last call.
         """
         choices = {
             "data": data, "notfound": notfound, "conflict": conflict, "constraint": constraint
         }
         for kind, choice in choices.items():
-            if choice not in _CHOICES:
-                raise ValueError(f"{kind} is one of {', '.join(_CHOICES)}, and not {choice!r}")
+            if choice not in CHOICES:
+                raise ValueError(f"{kind} is one of {', '.join(CHOICES)}, and not {choice!r}")
+            if on_conflict is not None and choice != "abort":
+                raise ValueError(f"{kind} is chosen, and on_conflict too")
+        if on_conflict is not None:
+            return self._apply_decided(as_bytes(file), on_conflict, ignore_noop)
         words = [f"{kind}={choice}" for kind, choice in choices.items()]
         line = " ".join([".apply f", *words, *["noop=ignore"] * ignore_noop])
         options = [f"--{word}" for word in words] + ["--ignore-noop"] * ignore_noop
         given = as_bytes(file)
         return self._apply(given, line, lambda: self._apply_by_command(given, options))
+
+    def _apply_decided(self, file: bytes, handler: Handler, ignore_noop: bool) -> Report:
+        """Apply a changeset whose conflicts a function decides."""
+        with self._lock:
+            self._expect_no_transaction()
+            decider = Decider(handler, ignore_noop)
+            kept = decided(file, self._schemas, self._select, decider)
+            report = self.apply(
+                kept, data="replace", conflict="replace", ignore_noop=ignore_noop
+            )
+            return report._replace(conflicts=decider.conflicts)
 
     def _apply(self, file: bytes, line: str, by_command: Callable[[], Report]) -> Report:
         """Apply a changeset by a line. If it is too long for one, apply it while the store is
