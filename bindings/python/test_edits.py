@@ -621,6 +621,64 @@ class Conflicts(Folder):
             self.assertFalse(session.is_empty())
 
 
+class Exchanges(Folder):
+    """Tables of ordinary SQLite databases."""
+
+    def database(self, *texts):
+        """An ordinary database in memory, with these statements run."""
+        base = sqlite3.connect(":memory:")
+        self.addCleanup(base.close)
+        base.executescript(";".join(texts))
+        return base
+
+    def test_there_and_back(self):
+        base = self.database(
+            'CREATE TABLE "a ""b"""(x TEXT, y INTEGER NOT NULL, z, PRIMARY KEY(y, x))',
+            """INSERT INTO "a ""b\""" VALUES('one' || char(10), 1, x'00ff'), ('', -5, NULL)""",
+        )
+        with self.store(self.folder / "store") as store:
+            store.load_from(base, 'a "b"')
+            self.assertEqual(store.schema('a "b"'), (("x", "y", "z"), ("x", "y"), ()))
+            rows = {("one\n", 1, b"\x00\xff"), ("", -5, None)}
+            self.assertEqual(set(store.rows('a "b"')), rows)
+            other = self.database()
+            store.save_to(other, 'a "b"')
+            self.assertEqual(set(other.execute('SELECT * FROM "a ""b"""')), rows)
+            self.assertFalse(other.in_transaction)
+            with self.assertRaises(sqlite3.IntegrityError):
+                store.save_to(other, 'a "b"')
+            self.expect("KeyTaken", store.load_from, base, 'a "b"')
+            self.expect("NoTable", store.save_to, other, "v")
+
+    def test_refusals(self):
+        """A float is refused by row and column, and nothing is made."""
+        base = self.database(
+            "CREATE TABLE f(a PRIMARY KEY, b, c)", "INSERT INTO f VALUES(1, 1, 1), (2, 2, 2.5)",
+            "CREATE TABLE g(a)", "CREATE TABLE n(a PRIMARY KEY)", "INSERT INTO n VALUES(NULL)",
+        )
+        with self.store() as store:
+            with self.assertRaisesRegex(ValueError, "table 'f', row 2, column 'c': a float"):
+                store.load_from(base, "f")
+            with self.assertRaisesRegex(ValueError, "table 'g': it has no primary key"):
+                store.load_from(base, "g")
+            with self.assertRaisesRegex(ValueError, "table 'nowhere': the database has no such"):
+                store.load_from(base, "nowhere")
+            self.assertEqual(store.tables(), ["k", "t", "u"])
+            self.expect("NullInKey", store.load_from, base, "n")
+
+    def test_many_rows(self):
+        base = self.database("CREATE TABLE m(a INTEGER PRIMARY KEY, b NOT NULL)")
+        rows = [(key, f"row {key}") for key in range(100_000)]
+        base.executemany("INSERT INTO m VALUES(?, ?)", rows)
+        with self.store(self.folder / "store") as store:
+            started = time.perf_counter()
+            store.load_from(base, "m")
+            other = self.database()
+            store.save_to(other, "m")
+            self.assertLess(time.perf_counter() - started, 60)
+            self.assertEqual(other.execute("SELECT * FROM m ORDER BY a").fetchall(), rows)
+
+
 class Sizes(Folder):
     """Many rows, and long changesets."""
 

@@ -6,10 +6,11 @@ import tempfile
 import threading
 from types import TracebackType
 from typing import (
-    Callable, Collection, Dict, Iterable, Iterator, List, Mapping, NoReturn, Optional, Sequence,
+    TYPE_CHECKING, Callable, Collection, Dict, Iterable, Iterator, List, Mapping, NoReturn, Optional, Sequence,
     Type, TypeVar, Union,
 )
 
+from . import _exchange
 from ._deciding import Decider, Handler, decided
 from ._edits import Edits, Row, TableEdits, refusal
 from ._errors import ChangesetError, Code, ConflictError, ProgramError, StoreError
@@ -22,6 +23,9 @@ from ._process import LONGEST_FILE, Process, path_word, run_command
 from ._schema import Schema, is_unfinished, read_schemas
 from ._undo import UndoStack
 from ._values import Value
+
+if TYPE_CHECKING:
+    import sqlite3
 
 _REFUSED = re.compile(
     r"error (?P<number>[0-9]{1,2}) (?P<name>[A-Za-z]+)(?: (?P<rest>.*))?\n", re.DOTALL
@@ -415,6 +419,27 @@ class Store:
         """
         given = as_bytes(file)
         return self._apply(given, ".revert f", lambda: self._apply_by_command(invert(given), []))
+
+    def load_from(self, connection: "sqlite3.Connection", table: str) -> None:
+        """Copy a table of an ordinary SQLite database into the store, in one transaction.
+
+        The table is created, with its primary key and its NOT NULL columns, if the store does not
+        have it. A float, and a table without a primary key, raise ValueError, and nothing is
+        copied.
+        """
+        schema = _exchange.read_schema(connection, table)
+        rows = list(_exchange.read_rows(connection, table, schema.columns))
+        with self._lock:
+            self.create(table, *schema, exist_ok=True)
+            self.insert_many(table, rows)
+
+    def save_to(self, connection: "sqlite3.Connection", table: str) -> None:
+        """Copy a table into an ordinary SQLite database, in one transaction.
+
+        The table is created, without types, if the database does not have it.
+        """
+        schema = self.schema(table)
+        _exchange.write_rows(connection, table, schema, self.rows(table))
 
     def undo_stack(
         self,
