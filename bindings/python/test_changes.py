@@ -281,7 +281,7 @@ class Builders(unittest.TestCase):
         insert, delete, update = builder.insert, builder.delete, builder.update
         where = "table 't', change 2 "
         for call, wanted in (
-            (lambda: insert("t", 2, 1.5), r"\(INSERT\), column 2: a float, and not an int of 64 bits, str, bytes or None"),
+            (lambda: insert("t", 2, 1.5), r"column 2: a float, and not an int of 64 bits, str, bytes or None"),
             (lambda: insert("t", 2, True), r"\(INSERT\), column 2: a bool,"),
             (lambda: insert("t", [2], "x"), r"\(INSERT\), column 1: a list,"),
             (lambda: insert("t", 1 << 63, "x"), r"\(INSERT\), column 1: an int of more than 64 bits"),
@@ -356,7 +356,8 @@ class Files(unittest.TestCase):
             with self.subTest(number):
                 self.assertEqual(refusal(_merging._by_key, files), wanted)
                 self.assertEqual(refusal(vollikash.concat, *files), wanted)
-                self.assertEqual(refusal(vollikash.concat, *files * 5), refusal(_merging._one_by_one, files * 5))
+                again = files * 5
+                self.assertEqual(refusal(vollikash.concat, *again), refusal(_merging._one_by_one, again))
             made += isinstance(wanted, bytes)
         self.assertGreater(made, MADE // 2)
 

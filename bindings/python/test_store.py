@@ -421,7 +421,8 @@ class Programs(Folder):
         for call, answers in (
             (lambda store: store.insert("t", 1), ("applied 1\\n", "error 31 NoRow\\n", "\\377")),
             (lambda store: store.insert("t", 1), ("error 99 NoTable\\n", "error 31 \\n")),
-            (lambda store: store.insert("t", 1), ("error 41 Abort\\n", "error 41 Abort kind t\\n", "error 1 Truncated x\\n")),
+            (lambda store: store.insert("t", 1), ("error 41 Abort\\n", "error 41 Abort kind t\\n")),
+            (lambda store: store.insert("t", 1), ("error 1 Truncated x\\n",)),
             (lambda store: list(store.rows("t")), ("1", "1|", "x\\n", "1 2\\n", "X1\\n")),
             (lambda store: store.revert(b""), ("", "applied\\n", "applied 1", "conflict 1 data what x\\n")),
             (lambda store: store.session(), ("1\\n",)),

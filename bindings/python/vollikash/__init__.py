@@ -21,7 +21,8 @@ from ._json import from_json, read_json, to_json, write_json
 from ._lines import Conflict, Report
 from ._merging import concat
 from ._schema import Schema
-from ._store import Session, Store, open
+from ._session import Session
+from ._store import Store, open
 from ._tables import Counts, select, stat
 from ._undo import UndoStack
 from ._values import UNDEFINED, Field, Op, Undefined, Value

@@ -131,7 +131,7 @@ class Process:
         self._ends()
 
     def _send_and_wait(self, sent: bytes) -> str:
-        """Send lines, the last of which prints the mark. Return what is printed before it."""
+        """Send a line, and the one that prints the mark. Return what is printed before that."""
         self.left -= len(sent)
         wanted = (self._mark + "\n").encode()
         try:

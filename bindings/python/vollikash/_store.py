@@ -1,74 +1,35 @@
-"""Stores and sessions, by a program that runs the lines of the shell."""
+"""Stores, by a program that runs the lines of the shell."""
 import contextlib
 import os
-import re
-import tempfile
-import threading
 from types import TracebackType
 from typing import (
-    TYPE_CHECKING, Callable, Collection, Dict, Iterable, Iterator, List, Mapping, NoReturn, Optional, Sequence,
-    Type, TypeVar, Union,
+    TYPE_CHECKING, Callable, Collection, Iterable, Iterator, List, Mapping, Optional, Sequence,
+    Type, Union,
 )
 
 from . import _exchange
+from ._asking import TIMEOUT, Asker
 from ._deciding import Decider, Handler, decided
 from ._edits import Edits, Row, TableEdits, refusal
-from ._errors import ChangesetError, Code, ConflictError, ProgramError, StoreError
-from ._files import Bytes, as_bytes, invert, number_keys
+from ._errors import Code, ConflictError, ProgramError, StoreError
+from ._files import Bytes, as_bytes, invert
 from ._lines import (
-    CHOICES, Choice, Report, is_one_line, malformed, read_bytes, read_nothing, read_report,
-    read_rows, read_truth, spelled, spelled_name,
+    CHOICES, Choice, Report, is_one_line, read_nothing, read_report, read_rows, spelled,
+    spelled_name,
 )
-from ._process import LONGEST_FILE, Process, path_word, run_command
-from ._schema import Schema, is_unfinished, read_schemas
+from ._process import LONGEST_FILE
+from ._schema import Schema
+from ._session import Session
 from ._undo import UndoStack
 from ._values import Value
 
 if TYPE_CHECKING:
     import sqlite3
 
-_REFUSED = re.compile(
-    r"error (?P<number>[0-9]{1,2}) (?P<name>[A-Za-z]+)(?: (?P<rest>.*))?\n", re.DOTALL
-)
-
-# The details of the errors that have some.
-_DETAILS = {
-    Code.ABORT: re.compile("(?:data|notfound|conflict|constraint) '.*'", re.DOTALL),
-    Code.MISUSE: re.compile("(?:data|notfound|conflict|constraint) '.*'", re.DOTALL),
-    **{Code(number): re.compile("[0-9]{1,19}") for number in (*range(1, 19), Code.SCHEMA)},
-}
-
 # What a conflict of the changeset of edits is the error of.
 _REFUSALS = {
     "conflict": Code.KEY_TAKEN, "notfound": Code.NO_ROW, "constraint": Code.NOT_NULL,
 }
-
-# The bytes of lines that are kept for the session's own lines, so that its changeset can be read
-# and undone when the program takes no more edits.
-_KEPT = 4096
-
-# The seconds that a line may take.
-TIMEOUT = 60.0
-
-_Answer = TypeVar("_Answer")
-
-
-def _raise(refused: "re.Match[str]") -> NoReturn:
-    """Raise the exception for an error line."""
-    try:
-        code = Code(int(refused["number"]))
-    except ValueError:
-        raise malformed(refused[0], 0, "known error") from None
-    rest = refused["rest"] or ""
-    if code.title != refused["name"] or not _DETAILS.get(code, re.compile(".*")).fullmatch(rest):
-        raise malformed(refused[0], 0, "known error")
-    if code == Code.NO_MEMORY:
-        raise MemoryError("the changeset program was refused memory")
-    if code in (Code.ABORT, Code.MISUSE):
-        raise ConflictError(code, code.title, rest)
-    if code <= Code.DUPLICATE_KEY or code == Code.SCHEMA:
-        raise ChangesetError(code, 1, int(rest))
-    raise StoreError(code, code.title, rest)
 
 
 def _assigned(values: Mapping[str, Value], between: str) -> str:
@@ -78,7 +39,7 @@ def _assigned(values: Mapping[str, Value], between: str) -> str:
     return between.join(f"{spelled_name(name)}={spelled(value)}" for name, value in values.items())
 
 
-class Store:
+class Store(Asker):
     """A store in a file, or in memory for the path ":memory:". Made by `open`.
 
     Several threads can share a store: a lock lets one call or one transaction through at a time.
@@ -95,48 +56,6 @@ class Store:
     sent.
     """
 
-    def __init__(self, path: Union[str, "os.PathLike[str]"], timeout: float = TIMEOUT) -> None:
-        self._lock = threading.RLock()
-        self._path = os.fspath(path)
-        self._timeout = timeout
-        self._has_session = False
-        self._schemas: Dict[str, Schema] = {}
-        # The edits of the open transaction.
-        self._edits: Optional[Edits] = None
-        self._process = self._start()
-
-    def _start(self) -> Process:
-        """Start the program, and read what the store declares before it has the file."""
-        if self._path != ":memory:":
-            if is_unfinished(self._path):
-                self._run().close()
-            self._schemas = read_schemas(self._path)
-        return self._run()
-
-    def _run(self) -> Process:
-        """Run the program."""
-        try:
-            return Process(self._path, self._timeout)
-        except ProgramError as error:
-            refused = _REFUSED.fullmatch(error.said)
-            if refused is None:
-                raise
-            _raise(refused)
-
-    def _make_room(self, lines: Sequence[str], kept: int) -> None:
-        """Start the program again if it takes no such lines any more, and if only the file matters.
-        """
-        if not self._process.fits(lines, kept):
-            self._run_anew()
-        if not self._process.fits(lines, kept):
-            raise StoreError(63, "ScriptTooLong")
-
-    def _run_anew(self) -> None:
-        """Start the program again, if only the file matters."""
-        if not self._has_session and self._path != ":memory:":
-            self._process.close()
-            self._process = self._start()
-
     def __enter__(self) -> "Store":
         return self
 
@@ -152,40 +71,6 @@ class Store:
         """End the program. What was done remains in the file."""
         with self._lock:
             self._process.close()
-
-    def _ask(self, read: Callable[[str], _Answer], *lines: str, kept: int = _KEPT) -> _Answer:
-        """Return the reply to the last of some lines as `read` reads it, or raise the error of the
-        first that is refused. Keep so many bytes of lines.
-        """
-        with self._lock:
-            self._expect_no_transaction()
-            return self._ask_at_once(read, *lines, kept=kept)
-
-    def _expect_no_transaction(self) -> None:
-        """Raise RuntimeError if a transaction is open."""
-        if self._edits is not None:
-            raise RuntimeError("a transaction is open, which has only edits and reads of rows")
-
-    def _ask_at_once(
-        self, read: Callable[[str], _Answer], *lines: str, kept: int = _KEPT
-    ) -> _Answer:
-        """Return what `_ask` does, also in a transaction."""
-        self._make_room(lines, kept)
-        try:
-            for line in lines[:-1]:
-                read_nothing(self._reply(line))
-            return read(self._reply(lines[-1]))
-        except ProgramError:
-            self._process.end()
-            raise
-
-    def _reply(self, line: str) -> str:
-        """Return the reply to a line, or raise the error if it is refused."""
-        printed = self._process.ask(line)
-        refused = _REFUSED.fullmatch(printed)
-        if refused is not None:
-            _raise(refused)
-        return printed
 
     def create(
         self,
@@ -399,20 +284,6 @@ class Store:
             finally:
                 self._process = self._start()
 
-    def _apply_by_command(self, file: bytes, options: Sequence[str]) -> Report:
-        """Apply a changeset by a command, while the store is closed."""
-        with tempfile.NamedTemporaryFile() as given:
-            given.write(file)
-            given.flush()
-            words = [*options, given.name, "apply", path_word(self._path)]
-            ended = run_command(words, self._timeout)
-        refused = _REFUSED.fullmatch(ended.stderr)
-        if refused is not None:
-            _raise(refused)
-        if ended.returncode:
-            raise ProgramError(f"the program has ended: {ended.stderr.strip()}", ended.stderr)
-        return read_report(ended.stdout)
-
     def revert(self, file: Bytes) -> Report:
         """Apply the inverse of a changeset. A conflict raises `ConflictError`, and nothing is
         changed.
@@ -454,83 +325,11 @@ class Store:
         """
         return UndoStack(self, tables, limit, path)
 
-    def session(self, *tables: str) -> "Session":
+    def session(self, *tables: str) -> Session:
         """Open a session that records these tables. There is one at a time: a second one raises
         StoreError.
         """
         return Session(self, tables)
-
-
-class Session:
-    """The changes of the attached tables of a store since they were attached. Made by
-    `Store.session`.
-
-    While a session is open, it records each call of the store.
-    """
-
-    def __init__(self, store: Store, tables: Sequence[str]) -> None:
-        self._store = store
-        names = [spelled_name(table) for table in tables]
-        with store._lock:
-            if not store._process.has_half():
-                store._run_anew()
-            store._ask(read_nothing, ".session open")
-            store._has_session = True
-        try:
-            for name in names:
-                store._ask(read_nothing, f".session attach {name}")
-        except BaseException:
-            self._forget()
-            raise
-
-    def __enter__(self) -> "Session":
-        return self
-
-    def __exit__(
-        self,
-        kind: Optional[Type[BaseException]],
-        error: Optional[BaseException],
-        trace: Optional[TracebackType],
-    ) -> None:
-        self._forget()
-
-    def _forget(self) -> None:
-        """Close the session, if the store still has it."""
-        try:
-            self.close()
-        except (ProgramError, StoreError):
-            pass
-
-    def attach(self, table: str) -> None:
-        """Attach one more table."""
-        self._store._ask(read_nothing, f".session attach {spelled_name(table)}")
-
-    def changeset(self, *, for_sqlite: bool = False) -> bytes:
-        """Return the changeset file of the net changes of the attached tables.
-
-        With `for_sqlite` its key columns are numbered, as SQLite's apply needs them for a key of
-        several columns.
-        """
-        changes = self._store._ask(read_bytes, ".session changeset c", ".hex c", kept=0)
-        return number_keys(changes) if for_sqlite else changes
-
-    def is_empty(self) -> bool:
-        """Return whether no row of the attached tables was written."""
-        return self._store._ask(read_truth, ".session isempty", kept=0)
-
-    def undo(self) -> Report:
-        """Restore the attached tables to their rows when they were attached."""
-        return self._store._ask(read_report, ".session undo", kept=0)
-
-    def close(self) -> None:
-        """Close the session, and change no row."""
-        try:
-            self._store._ask(read_nothing, ".session close", kept=0)
-        except StoreError as error:
-            # The program takes no more lines: the next one starts it again, without the session.
-            if error.name != "ScriptTooLong":
-                raise
-        self._store._has_session = False
 
 
 def open(path: Union[str, "os.PathLike[str]"], *, timeout: float = TIMEOUT) -> Store:
