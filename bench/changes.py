@@ -87,12 +87,14 @@ def main() -> None:
     counts = [int(word) for word in sys.argv[1:]] or [1_000, 10_000, 100_000]
     for shape in (one_table, twenty_columns):
         print(shape.__name__.replace("_", " "))
-        print("  entries  call           bytes   seconds   us/entry" + "    SQLite    times" * bool(sqlite))
+        theirs_too = "    SQLite    times" * bool(sqlite)
+        print(f"  entries  call           bytes   seconds   us/entry{theirs_too}")
         for entries in counts:
             file = b"".join(shape(entries))
             theirs = sqlite and seconds(lambda: exhaust(iterator.Iterator(sqlite, file)))
             for call, taken in measured(file):
-                line = f"{entries:>9}  {call:<10} {len(file):>9} {taken:>9.4f} {taken / entries * 1e6:>10.3f}"
+                line = f"{entries:>9}  {call:<10} {len(file):>9} {taken:>9.4f}"
+                line += f" {taken / entries * 1e6:>10.3f}"
                 if theirs and call == "changes":
                     line += f" {theirs:>9.4f} {taken / theirs:>8.2f}"
                 print(line, flush=True)

@@ -1,5 +1,5 @@
 #!/usr/bin/env python3
-"""Tests of changes as objects: `changes`, `Builder`, JSON, `concat`, `select`, `stat` and `explain`.
+"""Tests of changes as objects: `changes`, `Builder`, JSON, `concat`, `select`, `stat`, `explain`.
 
 The files are the recorded ones, damaged ones and made-up ones. What is right is said by the reader
 and the model of the tests, and by SQLite's own iterator if its library is there.
@@ -90,7 +90,7 @@ def built(changes):
 
 
 def refusal(call, *files):
-    """The number, file and place of the fault for which a call refuses files, or what it returns."""
+    """The number, file and place of the fault for which a call refuses files; or its result."""
     try:
         return call(*files)
     except ChangesetError as error:
@@ -144,8 +144,8 @@ class Decoded(unittest.TestCase):
     def test_key(self):
         key_first = Change("t", "insert", False, None, (1, "x"), b"\x01\x00")
         self.assertEqual(key_first.key, (1,))
-        update = Change("t", "update", True, (1, 2, "k"), (UNDEFINED, 3, UNDEFINED), b"\x02\x00\x01")
-        self.assertEqual(update.key, (1, "k"))
+        old, new = (1, 2, "k"), (UNDEFINED, 3, UNDEFINED)
+        self.assertEqual(Change("t", "update", True, old, new, b"\x02\x00\x01").key, (1, "k"))
         self.assertEqual(Change("t", "delete", False, (1, "x"), None, b"\x00\x07").key, ("x",))
 
 
@@ -158,9 +158,8 @@ class Objects(unittest.TestCase):
         with self.assertRaises(AttributeError):
             self.change.table = "u"
         self.assertFalse(hasattr(self.change, "__dict__"))
-        for copied in (
-            copy.copy(self.change), copy.deepcopy(self.change), pickle.loads(pickle.dumps(self.change))
-        ):
+        pickled = pickle.dumps(self.change)
+        for copied in (copy.copy(self.change), copy.deepcopy(self.change), pickle.loads(pickled)):
             self.assertEqual(copied, self.change)
             self.assertIs(copied.new[0], UNDEFINED)
         self.assertEqual(len({self.change, copy.deepcopy(self.change)}), 1)
@@ -259,15 +258,17 @@ class Builders(unittest.TestCase):
         builder.add(Change("t", "insert", False, None, (1, 2, 3), b"\xff\x00\x01"))
         self.assertEqual(builder.to_bytes()[2:5], b"\x02\x00\x01")
         for key in ([True, True, True], [1, 0], [1, 0, 0, 1]):
-            with self.subTest(key=key), self.assertRaisesRegex(ValueError, "table 't': .*another key"):
+            with self.subTest(key=key), self.assertRaisesRegex(ValueError, "'t': .*another key"):
                 builder.table("t", key=key)
 
     def test_what_no_table_has(self):
         for name, key, why in (
-            ("t", [], "0 columns"), ("t", [True] * 32768, "32768 columns"), ("t", [False, 0], "no key"),
-            ("t", [256], "column 1"), ("t", [1, -1], "column 2"), ("t", [1, "x"], "column 2"),
+            ("t", [], "0 columns"), ("t", [True] * 32768, "32768 columns"),
+            ("t", [False, 0], "no key"), ("t", [256], "column 1"), ("t", [1, -1], "column 2"),
+            ("t", [1, "x"], "column 2"),
             ("t", [1, 1.0], "column 2"), ("", [1], "empty"), ("a\0b", [1], "zero character"),
-            ("\ud800", [1], "Unicode"), (7, [1], "int"), (None, [1], "NoneType"), (b"t", [1], "bytes"),
+            ("\ud800", [1], "Unicode"), (7, [1], "int"), (None, [1], "NoneType"),
+            (b"t", [1], "bytes"),
         ):
             with self.subTest(name=name, key=key[:3]), self.assertRaisesRegex(ValueError, why):
                 Builder().table(name, key=key)
@@ -281,10 +282,10 @@ class Builders(unittest.TestCase):
         insert, delete, update = builder.insert, builder.delete, builder.update
         where = "table 't', change 2 "
         for call, wanted in (
-            (lambda: insert("t", 2, 1.5), r"column 2: a float, and not an int of 64 bits, str, bytes or None"),
+            (lambda: insert("t", 2, 1.5), "column 2: a float, and not an int of 64 bits, str"),
             (lambda: insert("t", 2, True), r"\(INSERT\), column 2: a bool,"),
             (lambda: insert("t", [2], "x"), r"\(INSERT\), column 1: a list,"),
-            (lambda: insert("t", 1 << 63, "x"), r"\(INSERT\), column 1: an int of more than 64 bits"),
+            (lambda: insert("t", 1 << 63, "x"), r"\(INSERT\), column 1: an int of more than 64"),
             (lambda: insert("t", 2, -(1 << 63) - 1), r"\(INSERT\), column 2: an int of more"),
             (lambda: insert("t", 2, "\ud800"), r"\(INSERT\), column 2: a text that is not Unicode"),
             (lambda: insert("t", None, "x"), r"\(INSERT\), column 1: None in a key column"),
@@ -292,15 +293,15 @@ class Builders(unittest.TestCase):
             (lambda: insert("t", 2), r"\(INSERT\), 1 values for 2 columns"),
             (lambda: delete("t", 2, "x", "y"), r"\(DELETE\), 3 values for 2 columns"),
             (lambda: delete("t", UNDEFINED, "x"), r"\(DELETE\), column 1: UNDEFINED outside"),
-            (lambda: update("t", old=(None, 1), new=(UNDEFINED, 2)), r"\(UPDATE\), column 1: None in"),
-            (lambda: update("t", old=(UNDEFINED, 1), new=(UNDEFINED, 2)), r"column 1: UNDEFINED in"),
+            (lambda: update("t", old=(None, 1), new=(UNDEFINED, 2)), "column 1: None in"),
+            (lambda: update("t", old=(UNDEFINED, 1), new=(UNDEFINED, 2)), "column 1: UNDEFINED in"),
             (lambda: update("t", old=(1, 1), new=(2, 2)), r"column 1: a key column of `new`"),
-            (lambda: update("t", old=(1, UNDEFINED), new=(UNDEFINED, 2)), r"column 2: UNDEFINED in"),
-            (lambda: update("t", old=(1, 1), new=(UNDEFINED, UNDEFINED)), r"column 2: UNDEFINED in"),
+            (lambda: update("t", old=(1, UNDEFINED), new=(UNDEFINED, 2)), "column 2: UNDEFINED in"),
+            (lambda: update("t", old=(1, 1), new=(UNDEFINED, UNDEFINED)), "column 2: UNDEFINED in"),
             (lambda: update("t", old=None, new=(UNDEFINED, 2)), r"\(UPDATE\), `old` is missing"),
             (lambda: update("t", old=(1, 2), new=(UNDEFINED,)), r"\(UPDATE\), 1 values for 2"),
         ):
-            with self.subTest(wanted), self.assertRaisesRegex(ValueError, f"(?s)^{where}?.*{wanted}"):
+            with self.subTest(wanted), self.assertRaisesRegex(ValueError, f"^{where}.*{wanted}"):
                 call()
         with self.assertRaisesRegex(ValueError, "table 'u' is not declared"):
             builder.insert("u", 1)
@@ -357,7 +358,8 @@ class Files(unittest.TestCase):
                 self.assertEqual(refusal(_merging._by_key, files), wanted)
                 self.assertEqual(refusal(vollikash.concat, *files), wanted)
                 again = files * 5
-                self.assertEqual(refusal(vollikash.concat, *again), refusal(_merging._one_by_one, again))
+                wanted_again = refusal(_merging._one_by_one, again)
+                self.assertEqual(refusal(vollikash.concat, *again), wanted_again)
             made += isinstance(wanted, bytes)
         self.assertGreater(made, MADE // 2)
 
@@ -383,12 +385,14 @@ class Files(unittest.TestCase):
 
     def test_file_at_fault(self):
         """Its number is that of the arguments."""
-        file, wider = H + stores.insert(1, "x"), stores.header("t", 1, 0, 0) + stores.insert(1, 2, 3)
+        file = H + stores.insert(1, "x")
+        wider = stores.header("t", 1, 0, 0) + stores.insert(1, 2, 3)
         for count in (1, 2, 5, 40):
             for place in range(count):
                 files = [file] * count
                 files[place] = H
-                self.assertEqual(refusal(vollikash.concat, *files), (Code.EMPTY_GROUP, place + 1, 6))
+                told = refusal(vollikash.concat, *files)
+                self.assertEqual(told, (Code.EMPTY_GROUP, place + 1, 6))
                 if place:
                     files[place] = wider
                     self.assertEqual(refusal(vollikash.concat, *files), (Code.SCHEMA, place + 1, 0))
@@ -458,8 +462,10 @@ class Json(unittest.TestCase):
     text = (
         '[\n{"table": "t", "flags": [1, 0], "changes": [\n'
         '{"op": "insert", "new": {"c1": 1, "c2": "\\u00e9"}},\n'
-        '{"op": "update", "indirect": true, "old": {"c1": 2, "c2": null}, "new": {"c2": {"blob": "00ff"}}},\n'
-        '{"op": "delete", "old": {"c1": {"integer": "-9223372036854775808"}, "c2": 9007199254740991}}\n'
+        '{"op": "update", "indirect": true, "old": {"c1": 2, "c2": null}, '
+        '"new": {"c2": {"blob": "00ff"}}},\n'
+        '{"op": "delete", "old": {"c1": {"integer": "-9223372036854775808"}, '
+        '"c2": 9007199254740991}}\n'
         "]}\n]\n"
     )
     file = H + (
@@ -491,9 +497,10 @@ class Json(unittest.TestCase):
             json.dumps(document), json.dumps(document, indent=4, sort_keys=True),
             json.dumps(document, ensure_ascii=False), f" \t\r\n{self.text} \n",
             json.dumps([dict(reversed(list(table.items()))) for table in document]),
-            self.text.replace('"insert",', '"insert", "indirect": false,').replace("[1, 0]", "[true, false]"),
+            self.text.replace('"insert",', '"insert", "indirect": false,'),
+            self.text.replace("[1, 0]", "[true, false]").replace("00ff", "00FF"),
             self.text.replace('{"integer": "-9223372036854775808"}', "-9223372036854775808"),
-            self.text.replace("9007199254740991", '{"integer": "9007199254740991"}').replace("00ff", "00FF"),
+            self.text.replace("9007199254740991", '{"integer": "9007199254740991"}'),
         ):
             with self.subTest(text=text):
                 self.assertEqual(vollikash.from_json(text), self.file)
@@ -545,7 +552,7 @@ class Json(unittest.TestCase):
             ('"op": "insert", ', "", '"op" is not', 3, 1),
             ("true", "1", '"indirect" is not', 4, 1),
             ('"indirect": true', '"direct": true', "no member 'direct'", 4, 1),
-            ('"c2": null}, ', '"c3": null}, ', "change 2, 'c3' is none of the columns c1 to c2", 4, 1),
+            ('"c2": null}, ', '"c3": null}, ', "change 2, 'c3' is none of the columns c1 to", 4, 1),
             ('"c2": null}, ', '"c02": null}, ', "'c02' is none of", 4, 1),
             (', "c2": null', "", "column 2: UNDEFINED in only one", 4, 1),
             ('"c2": null}, ', '"c2": null, "c2": 1}, ', "'c2' is there twice", 4, 1),
@@ -569,7 +576,7 @@ class Json(unittest.TestCase):
             ("-9223372036854775808", "-9223372036854775809", "more than 64 bits", 5, 1),
             ('"c1": 2', '"c1": 1', "change of this key before|UNDEFINED", 4, 1),
             ('"new": {"c1": 1', '"old": {"c1": 1', "`new` is missing|two records", 3, 1),
-            ('{"op": "insert", "new": {"c1": 1, "c2": "\\u00e9"}}', "7", "change 1, a change is not an object", 3, 1),
+            ('{"op": "insert", "new": {"c1": 1, "c2": "\\u00e9"}}', "7", "is not an object", 3, 1),
         ):
             with self.subTest(old=old, new=new[:40]):
                 self.assertIn(old, self.text)
@@ -579,7 +586,7 @@ class Json(unittest.TestCase):
         table = '{"table": "t", "flags": [1], "changes": [%s]}'
         change = '{"op": "insert", "new": {"c1": 1}}'
         self.expect(f"[{table % change}, {table % change}]", "a table: 't' is there before")
-        self.expect(f"[{table % f'{change}, {change}'}]", "change 2, the table has a change of this key")
+        self.expect(f"[{table % f'{change}, {change}'}]", "change 2, the table has a change of")
         self.expect(f"[{table % ''}]", "table 't' has no change")
 
     def test_hostile_texts(self):
@@ -594,9 +601,10 @@ class Json(unittest.TestCase):
             '[{"flags": [1], "changes": [' + '"x", ' * 1_000_000,
         ):
             with self.subTest(text=text[:50]):
-                for call in (vollikash.from_json, lambda text: vollikash.read_json(io.StringIO(text))):
-                    with self.assertRaises(JsonError):
-                        call(text)
+                with self.assertRaises(JsonError):
+                    vollikash.from_json(text)
+                with self.assertRaises(JsonError):
+                    vollikash.read_json(io.StringIO(text))
         self.assertLess(time.perf_counter() - started, 60)
 
     def test_streams_of_other_types(self):
@@ -607,7 +615,8 @@ class Json(unittest.TestCase):
 
     def test_speed(self):
         """A stream of 100000 changes, each way."""
-        file = H + b"".join(stores.update((key, "x"), (stores.UNDEFINED, "y")) for key in range(100_000))
+        new = stores.UNDEFINED, "y"
+        file = H + b"".join(stores.update((key, "x"), new) for key in range(100_000))
         stream = io.StringIO()
         started = time.perf_counter()
         vollikash.write_json(file, stream)
@@ -678,8 +687,8 @@ class Explained(unittest.TestCase):
         )
         self.assertEqual(
             vollikash.explain(file, self.refused(file), "prices.cs"),
-            "prices.cs: table 'price', change 2 (UPDATE), column 2, byte 35: a REAL. Vollikash takes "
-            "integers, texts, blobs and NULL.",
+            "prices.cs: table 'price', change 2 (UPDATE), column 2, byte 35: a REAL. Vollikash "
+            "takes integers, texts, blobs and NULL.",
         )
         self.assertEqual(
             vollikash.explain(b"A", self.refused(b"A")),
@@ -727,14 +736,15 @@ class Explained(unittest.TestCase):
             vollikash.concat(first, other)
         self.assertEqual(
             vollikash.explain(other, caught.exception, "other.cs"),
-            f"other.cs: table 't', byte {len(other) // 2}: the table has other columns or another key "
-            "than before. Record both files on one schema.",
+            f"other.cs: table 't', byte {len(other) // 2}: the table has other columns or another "
+            "key than before. Record both files on one schema.",
         )
 
     def test_other_files(self):
         """A file that is not at fault has a sentence too."""
         whole = H + stores.insert(1, "x")
-        for file in (b"", b"T", whole, b"\x54" + b"\xff" * 1000, H + b"\x12\x00\x03" + b"\xff" * 1000, bytes(99)):
+        long = b"\xff" * 1000
+        for file in (b"", b"T", whole, b"\x54" + long, H + b"\x12\x00\x03" + long, bytes(99)):
             for code in (*range(1, 19), Code.SCHEMA):
                 for place in (0, 1, 7, 1 << 40):
                     said = vollikash.explain(file, ChangesetError(Code(code), 1, place))
@@ -743,12 +753,13 @@ class Explained(unittest.TestCase):
     def test_names(self):
         """A name is on the line, whatever it has."""
         file = stores.header("a\nb'", 1) + b"\x13"
-        self.assertTrue(vollikash.explain(file, self.refused(file)).startswith("table \"a\\nb'\", change 1, byte"))
+        said = vollikash.explain(file, self.refused(file))
+        self.assertTrue(said.startswith("table \"a\\nb'\", change 1, byte"), said)
         file = stores.header("n" * 10_000, 1) + b"\x13"
         self.assertLess(len(vollikash.explain(file, self.refused(file))), 200)
 
     def test_iterator_of_sqlite(self):
-        """Table, change and column of a REAL, of NULL in a key and of a text are those that SQLite reads."""
+        """Table, change and column of REALs, NULL keys and texts are those that SQLite reads."""
         sqlite = iterator.library()
         if sqlite is None:
             self.skipTest("there is no SQLite library with the session extension")
@@ -782,7 +793,8 @@ class Explained(unittest.TestCase):
         changes = iterator.Iterator(sqlite, file)
         for name, op, _, old, new in changes:
             last, number = name, number + 1 if name == last else 1
-            for column, (value, flag) in enumerate(zip(new if old is None else old, changes.flags), 1):
+            record = new if old is None else old
+            for column, (value, flag) in enumerate(zip(record, changes.flags), 1):
                 if self.is_fault(code, value, flag):
                     where = f"table {shown(name)}, change {number} ({op.upper()})"
                     return f"{where}, column {column}, byte "
@@ -804,14 +816,16 @@ class Errors(unittest.TestCase):
     def test_base(self):
         for error, other in (
             (ChangesetError(Code.SCHEMA, 2, 0), ValueError), (JsonError("why", 1, 2), ValueError),
-            (vollikash.StoreError(31, "NoTable"), Exception), (vollikash.ProgramError("why"), OSError),
+            (vollikash.StoreError(31, "NoTable"), Exception),
+            (vollikash.ProgramError("why"), OSError),
             (vollikash.ConflictError(41, "Abort", "data 't'"), vollikash.StoreError),
         ):
             with self.subTest(error=error):
                 self.assertIsInstance(error, vollikash.Error)
                 self.assertIsInstance(error, other)
                 copied = pickle.loads(pickle.dumps(error))
-                self.assertEqual((type(copied), str(copied), vars(copied)), (type(error), str(error), vars(error)))
+                self.assertEqual((type(copied), str(copied)), (type(error), str(error)))
+                self.assertEqual(vars(copied), vars(error))
         self.assertIs(vollikash.StoreError(31, "NoTable").code, Code.NO_TABLE)
 
     def test_exports(self):

@@ -310,7 +310,8 @@ class Transactions(Folder):
         refused = 0
         for seed in range(8 * SEEDS):
             chance = random.Random(seed)
-            before = [edit for edit in (made_up_edit(chance) for _ in range(12)) if edit[0] == "insert"]
+            before = [made_up_edit(chance) for _ in range(12)]
+            before = [edit for edit in before if edit[0] == "insert"]
             edits = [made_up_edit(chance) for _ in range(chance.randint(1, 5))]
             with self.subTest(seed), self.store() as single, self.store() as block:
                 for edit in before:
@@ -449,10 +450,12 @@ class Stacks(Folder):
             self.assertEqual(list(store.rows("t")), [])
             self.assertEqual(store.undo_stack("t", path=kept).undone, ["é 2", "é 1", "é 0"])
             self.assertEqual(sorted(os.listdir(self.folder))[:2], ["actions", "store"])
-            for text in ("", "[]", "{}", '{"done": [["x", "00"]], "undone": []}', '{"done": [[1, ""]]}',
-                         '{"done": [["x", "zz"]], "undone": []}', '{"done": 1, "undone": 1}', "[" * 99999):
+            for text in (
+                "", "[]", "{}", '{"done": [["x", "00"]], "undone": []}', '{"done": [[1, ""]]}',
+                '{"done": [["x", "zz"]], "undone": []}', '{"done": 1, "undone": 1}', "[" * 99999,
+            ):
                 kept.write_text(text)
-                with self.subTest(text=text[:40]), self.assertRaisesRegex(ValueError, "has no actions"):
+                with self.subTest(text[:40]), self.assertRaisesRegex(ValueError, "has no actions"):
                     store.undo_stack("t", path=kept)
 
     def test_changesets_for_sqlite(self):
@@ -485,9 +488,9 @@ def choose(chance, kind):
     return "omit" if kind in ("notfound", "constraint") else chance.choice(("omit", "replace"))
 
 
-def value_of(field):
-    """The value of a field."""
-    return stores.take_value(field, 0)[0]
+def values_of(table):
+    """The rows of a table of the model, as values."""
+    return [tuple(stores.take_value(field, 0)[0] for field in row) for row in table.rows.values()]
 
 
 class Conflicts(Folder):
@@ -499,11 +502,10 @@ class Conflicts(Folder):
         self.addCleanup(store.close)
         for name, table in tables.items():
             columns = [column.decode() for column in table.columns]
-            store.create(
-                name.decode(), columns, [column for column, flag in zip(columns, table.flags) if flag],
-                [column for column, mark in zip(columns, table.refuses) if mark],
-            )
-            store.insert_many(name.decode(), [tuple(map(value_of, row)) for row in table.rows.values()])
+            key = [column for column, flag in zip(columns, table.flags) if flag]
+            refuses = [column for column, mark in zip(columns, table.refuses) if mark]
+            store.create(name.decode(), columns, key, refuses)
+            store.insert_many(name.decode(), values_of(table))
         return store
 
     def tables(self, maker):
@@ -511,7 +513,8 @@ class Conflicts(Folder):
         tables = {}
         for name, flags in maker.tables():
             refuses = [bool(flag) or maker.is_one_in(3) for flag in flags]
-            table = model.Table([b"c%d" % place for place in range(len(flags))], list(map(bool, flags)), refuses)
+            columns = [b"c%d" % place for place in range(len(flags))]
+            table = model.Table(columns, list(map(bool, flags)), refuses)
             for row in (tuple(maker.row(flags)) for _ in range(6)):
                 if not table.has_null(row):
                     table.rows[table.key(row)] = row
@@ -519,11 +522,12 @@ class Conflicts(Folder):
         return tables
 
     def test_each_file(self):
-        """Reports and rows are those of the model, for choices that differ from conflict to conflict."""
+        """Reports and rows are those of the model, with another choice for each conflict."""
         maker, asked, refused = Maker(random.Random("conflicts")), 0, 0
         for number in range(8 * SEEDS):
             tables = self.tables(maker)
-            file, noop = reader.write(maker.changeset_of(tables)), maker.pick((b"report", b"ignore"))
+            file = reader.write(maker.changeset_of(tables))
+            noop = maker.pick((b"report", b"ignore"))
             with self.subTest(number), self.filled(tables) as store:
                 wanted = self.wanted(tables, file, random.Random(number), noop)
                 chance, conflicts = random.Random(number), []
@@ -534,8 +538,7 @@ class Conflicts(Folder):
 
                 self.assertEqual(self.told(store, file, decide, noop == b"ignore"), wanted)
                 for name, table in tables.items():
-                    rows = [tuple(map(value_of, row)) for row in table.rows.values()]
-                    self.assertEqual(set(store.rows(name.decode())), set(rows))
+                    self.assertEqual(set(store.rows(name.decode())), set(values_of(table)))
                 asked += len(conflicts)
                 refused += isinstance(wanted, str)
         self.assertGreater(asked, 100)
@@ -554,14 +557,14 @@ class Conflicts(Folder):
             report = store.apply(file, on_conflict=decide, ignore_noop=ignore_noop)
         except StoreError as error:
             return str(error)
-        numbers = {"data": 1, "notfound": 2, "conflict": 3, "constraint": 4}
-        quoted = [model.quoted(name.encode()) for name in report.skipped]
-        return [
-            *(b"warning 17 skipped " + name for name in quoted),
-            *(b"conflict %d %s %s %s" % (numbers[it.kind], it.kind.encode(), it.choice.encode(),
-                                         model.quoted(it.table.encode())) for it in report.conflicts),
-            *[b"ignored %d" % report.ignored] * bool(report.ignored), b"applied %d" % report.applied,
-        ]
+        lines = [b"warning 17 skipped " + model.quoted(name.encode()) for name in report.skipped]
+        for conflict in report.conflicts:
+            kind, choice, table = map(str.encode, conflict)
+            parts = model.NUMBERS[kind], kind, choice, model.quoted(table)
+            lines.append(b"conflict %d %s %s %s" % parts)
+        if report.ignored:
+            lines.append(b"ignored %d" % report.ignored)
+        return [*lines, b"applied %d" % report.applied]
 
     def test_what_is_asked(self):
         with self.store() as store:
@@ -575,19 +578,21 @@ class Conflicts(Folder):
             builder.update("t", old=(2, "other"), new=(UNDEFINED, "z"))
             builder.update("u", old=(1, 4, 3), new=(UNDEFINED, None, UNDEFINED))
             file, asked = builder.to_bytes(), []
-            choices = iter(("omit", "omit", "replace", "replace", "omit"))
+            choices = ["omit", "omit", "replace", "replace", "omit"]
 
             def decide(conflict):
-                asked.append((conflict.kind, conflict.change.table, conflict.change.key, conflict.current))
+                change = conflict.change
+                asked.append((conflict.kind, change.table, change.key, conflict.current))
                 self.assertEqual(store.get("t", 2), (2, "y"))
-                return next(choices)
+                return choices[len(asked) - 1]
 
             report = store.apply(file, on_conflict=decide)
             self.assertEqual(asked, [
-                ("conflict", "t", (1,), (1, "x")), ("notfound", "t", (3,), None), ("data", "t", (2,), (2, "y")),
-                ("data", "u", (1, 3), (1, 2, 3)), ("constraint", "u", (1, 3), (1, 2, 3)),
+                ("conflict", "t", (1,), (1, "x")), ("notfound", "t", (3,), None),
+                ("data", "t", (2,), (2, "y")), ("data", "u", (1, 3), (1, 2, 3)),
+                ("constraint", "u", (1, 3), (1, 2, 3)),
             ])
-            self.assertEqual([it.choice for it in report.conflicts], ["omit", "omit", "replace", "replace", "omit"])
+            self.assertEqual([conflict.choice for conflict in report.conflicts], choices)
             self.assertEqual((report.applied, list(store.rows("t"))), (1, [(1, "x"), (2, "z")]))
 
     def test_refusals(self):
@@ -724,6 +729,9 @@ class Sizes(Folder):
             with store.session("t"):
                 self.expect("ScriptTooLong", store.apply, deletes)
             self.assertEqual(list(store.rows("t")), rows)
+            store.close()
+            with self.assertRaises(vollikash.ProgramError):
+                store.apply(deletes)
         with self.store() as store:
             self.expect("ScriptTooLong", store.apply, deletes)
             self.expect("ScriptTooLong", store.insert_many, "t", rows)

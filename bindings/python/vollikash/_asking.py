@@ -93,6 +93,7 @@ class Asker:
     def _run_anew(self) -> None:
         """Start the program again, if only the file matters."""
         if not self._has_session and self._path != ":memory:":
+            self._process.expect_open()
             self._process.close()
             self._process = self._start()
 

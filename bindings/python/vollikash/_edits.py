@@ -24,9 +24,9 @@ _ABSENT = b""
 _Edit = Tuple[bytes, List[bytes]]
 
 
-def refusal(code: Code) -> StoreError:
+def refusal(code: Code, detail: str = "") -> StoreError:
     """Return the error of this number."""
-    return StoreError(code, code.title)
+    return StoreError(code, code.title, detail)
 
 
 class TableEdits:

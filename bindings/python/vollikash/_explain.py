@@ -49,12 +49,14 @@ _NAMELESS = {Code.BAD_VARINT, Code.COLUMN_COUNT, Code.BAD_NAME}
 class _Part(NamedTuple):
     """A part of a file: where it begins, and what it is of.
 
-    Numbers are one-based. A header is of no change, and an operation of no column.
+    Numbers are one-based. A header is of no change, and an operation of no column. `columns` is the
+    number of the table's columns.
     """
 
     start: int
     number: int
     name: str
+    columns: int = 0
     change: int = 0
     operation: str = ""
     column: int = 0
@@ -67,6 +69,11 @@ class _Part(NamedTuple):
         if self.column:
             words.append(f"column {self.column}")
         return words
+
+    def fields(self) -> Iterator[int]:
+        """Yield the column of each field of the change, in its order."""
+        for _ in range(2 if self.operation == "UPDATE" else 1):
+            yield from range(1, self.columns + 1)
 
 
 def _count(data: bytes, at: int) -> Tuple[int, int]:
@@ -92,18 +99,18 @@ def _field_end(data: bytes, at: int) -> int:
     return at + 1
 
 
-def _header(data: bytes, at: int, number: int) -> Tuple[_Part, int, int]:
-    """Return the header at an offset, its number of columns, and the offset after it."""
+def _header(data: bytes, at: int, number: int) -> Tuple[_Part, int]:
+    """Return the header at an offset, and the offset after it."""
     try:
         count, flags = _count(data, at + 1)
         end = data.index(0, flags + count)
     except (IndexError, ValueError):
-        return _Part(at, number, ""), 0, len(data)
-    return _Part(at, number, data[flags + count:end].decode(errors="replace")), count, end + 1
+        return _Part(at, number, ""), len(data)
+    return _Part(at, number, data[flags + count:end].decode(errors="replace"), count), end + 1
 
 
-def _changes(data: bytes, at: int, table: _Part, count: int) -> Generator[_Part, None, int]:
-    """Yield the parts of the changes of a table, and return the offset after them."""
+def _changes(data: bytes, at: int, table: _Part) -> Generator[_Part, None, int]:
+    """Yield the changes of a table, and return the offset after them."""
     change = 0
     while at < len(data) and data[at] != _TABLE:
         change += 1
@@ -111,31 +118,48 @@ def _changes(data: bytes, at: int, table: _Part, count: int) -> Generator[_Part,
         entry = table._replace(start=at, change=change, operation=operation)
         yield entry
         at += 2
-        for place in range(2 * count if operation == "UPDATE" else count):
-            yield entry._replace(start=at, column=place % count + 1)
+        for _ in entry.fields():
             at = _field_end(data, at)
     return at
 
 
 def _parts(data: bytes) -> Iterator[_Part]:
-    """Yield the parts of a file, as far as it can be read."""
+    """Yield the headers and changes of a file, as far as it can be read."""
     at, number = 0, 0
     try:
         while data[at] == _TABLE:
             number += 1
-            table, count, at = _header(data, at, number)
+            table, at = _header(data, at, number)
             yield table
-            at = yield from _changes(data, at, table, count)
+            at = yield from _changes(data, at, table)
     except (IndexError, ValueError):
         # What was yielded last is the part that ends early, or is malformed.
         return
+
+
+def _column_at(data: bytes, part: _Part, place: int) -> int:
+    """Return the column of a change that has a place, or 0 before the first one."""
+    at, found = part.start + 2, 0
+    try:
+        for column in part.fields():
+            if at > place:
+                break
+            found = column
+            at = _field_end(data, at)
+    except (IndexError, ValueError):
+        # The change goes no further.
+        pass
+    return found
 
 
 def _part_at(data: bytes, place: int) -> Optional[_Part]:
     """Return the part of a file that has a place."""
     parts = itertools.takewhile(lambda part: part.start <= place, _parts(data))
     last = collections.deque(parts, 1)
-    return last[0] if last else None
+    if not last:
+        return None
+    part = last[0]
+    return part._replace(column=_column_at(data, part, place)) if part.change else part
 
 
 def _part_of(data: bytes, error: ChangesetError) -> Optional[_Part]:

@@ -115,6 +115,11 @@ class Process:
         """Return the answer to a line, which fits."""
         return self._send_and_wait((line + _BEHIND).encode())
 
+    def expect_open(self) -> None:
+        """Raise `ProgramError` if the program was ended."""
+        if not self._ends.alive:
+            raise ProgramError("the store is closed")
+
     def end(self) -> None:
         """End the program, whatever it does."""
         self._ends()
@@ -146,8 +151,8 @@ class Process:
     def _exchange(self, sent: bytes, wanted: bytes) -> bytearray:
         """Write and read until the bytes that are wanted were read last."""
         stdin, stdout = self._process.stdin, self._process.stdout
-        if not self._ends.alive or stdin is None or stdout is None:
-            raise ProgramError("the store is closed")
+        self.expect_open()
+        assert stdin is not None and stdout is not None
         deadline, printed, unsent = time.monotonic() + self.timeout, bytearray(), memoryview(sent)
         with selectors.DefaultSelector() as selector:
             selector.register(stdout, selectors.EVENT_READ)

@@ -31,6 +31,12 @@ _REFUSALS = {
     "conflict": Code.KEY_TAKEN, "notfound": Code.NO_ROW, "constraint": Code.NOT_NULL,
 }
 
+# Why a long changeset is refused, and what can be done.
+_TOO_LONG = (
+    f"in memory and in a session a changeset has at most {LONGEST_FILE} bytes: close the session, "
+    "take a store in a file, or apply parts of it"
+)
+
 
 def _assigned(values: Mapping[str, Value], between: str) -> str:
     """Return columns with their values."""
@@ -277,7 +283,8 @@ class Store(Asker):
             if len(file) <= LONGEST_FILE:
                 return self._ask(read_report, f".load f {file.hex()}", line)
             if self._path == ":memory:" or self._has_session:
-                raise refusal(Code.SCRIPT_TOO_LONG)
+                raise refusal(Code.SCRIPT_TOO_LONG, _TOO_LONG)
+            self._process.expect_open()
             self._process.close()
             try:
                 return by_command()
