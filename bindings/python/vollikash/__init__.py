@@ -18,7 +18,7 @@ from ._errors import ChangesetError, Code, ConflictError, Error, JsonError, Prog
 from ._explain import explain
 from ._files import check, dump, invert, number_keys, sql
 from ._json import from_json, read_json, to_json, write_json
-from ._lines import Conflict, Report
+from ._lines import Choice, Conflict, Kind, Report
 from ._merging import concat
 from ._schema import Schema
 from ._session import Session
@@ -28,10 +28,10 @@ from ._undo import UndoStack
 from ._values import UNDEFINED, Field, Op, Undefined, Value
 
 __all__ = [
-    "Builder", "Change", "ChangesetError", "Code", "Conflict", "ConflictError", "Counts", "Error",
-    "Field", "JsonError", "Op", "PendingConflict", "ProgramError", "Report", "Schema", "Session",
-    "Store", "StoreError", "UNDEFINED", "Undefined", "UndoStack", "Value", "changes", "check",
-    "concat", "dump", "explain", "from_json", "invert", "number_keys", "open", "read_json",
-    "select", "sql", "stat", "to_json", "write_json",
+    "Builder", "Change", "ChangesetError", "Choice", "Code", "Conflict", "ConflictError", "Counts",
+    "Error", "Field", "JsonError", "Kind", "Op", "PendingConflict", "ProgramError", "Report",
+    "Schema", "Session", "Store", "StoreError", "UNDEFINED", "Undefined", "UndoStack", "Value",
+    "changes", "check", "concat", "dump", "explain", "from_json", "invert", "number_keys", "open",
+    "read_json", "select", "sql", "stat", "to_json", "write_json",
 ]
 __version__ = "1.0.0"
