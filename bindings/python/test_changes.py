@@ -748,7 +748,7 @@ class Explained(unittest.TestCase):
             for code in (*range(1, 19), Code.SCHEMA):
                 for place in (0, 1, 7, 1 << 40):
                     said = vollikash.explain(file, ChangesetError(Code(code), 1, place))
-                    self.assertTrue(said.endswith("."), said)
+                    self.assertRegex(said, r"^\S.*[a-zA-Z]\.$")
 
     def test_names(self):
         """A name is on the line, whatever it has."""

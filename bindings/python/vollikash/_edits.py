@@ -10,9 +10,7 @@ from ._decoding import record_at
 from ._encoding import DELETE, INSERT, NULL, UNDEFINED, UPDATE, Encoder, Unfit, header
 from ._errors import Code, StoreError
 from ._schema import Schema
-from ._values import Value, shown
-from ._values import UNDEFINED as LEFT_OUT
-from ._values import Field
+from ._values import UNDEFINED as LEFT_OUT, Field, Value, shown
 
 Row = Tuple[Value, ...]
 

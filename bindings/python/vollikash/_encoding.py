@@ -2,8 +2,7 @@
 import struct
 from typing import Iterable, List, NoReturn, Optional, Sequence, Tuple
 
-from ._values import UNDEFINED as LEFT_OUT
-from ._values import Field, Op, shown
+from ._values import UNDEFINED as LEFT_OUT, Field, Op, shown
 
 _MOST_COLUMNS = 32767
 _LONGEST = 0x7FFFFFFF

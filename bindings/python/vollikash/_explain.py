@@ -33,11 +33,11 @@ _SENTENCES = {
     Code.BAD_TEXT: "a text that is not UTF-8. Keep such values as blobs.",
     Code.UNDEFINED_FIELD: f"an undefined value, in a key or outside an UPDATE. {_AGAIN}",
     Code.UNPAIRED: f"an UPDATE has a value only before or only after it, or a new key. {_AGAIN}",
-    Code.NULL_KEY: "NULL in a key column. Declare the key columns NOT NULL.",
-    Code.DUPLICATE_KEY: "the table has two changes of this key. Concatenate files, do not append"
-                        " them.",
-    Code.SCHEMA: "the table has other columns or another key than before. Record both files on one"
-                 " schema.",
+    Code.NULL_KEY: f"NULL in a key column. {_AGAIN}",
+    Code.DUPLICATE_KEY: "the table has a change of this key before. Concatenate files, do not "
+    "append them.",
+    Code.SCHEMA: "the table has other columns or another key than before. Record both files on "
+    "one schema.",
 }
 
 # The faults whose place is after the table that they are of, and those in a header that come before
@@ -186,5 +186,5 @@ def explain(file: Bytes, error: ChangesetError, name: Optional[str] = None) -> s
         words.append(f"byte {error.place}")
     elif part is not None:
         words.append(f"byte {part.start}")
-    parts = [] if name is None else [name]
-    return ": ".join([*parts, ", ".join(words), _SENTENCES.get(error.code, error.name)])
+    parts = [name, ", ".join(words), _SENTENCES.get(error.code, error.name)]
+    return ": ".join(filter(None, parts))
