@@ -92,7 +92,7 @@ def _integer(digits: str) -> int:
 
 def _refuse(number: str) -> NoReturn:
     """Raise ValueError for a number that is no integer."""
-    raise ValueError(f"{number[:_LONGEST_INTEGER]} is not an integer")
+    raise ValueError("a number that is not an integer")
 
 
 def _members(pairs: List[Tuple[str, Any]]) -> Dict[str, Any]:
@@ -120,8 +120,9 @@ _WRAPPED: Tuple[Tuple[str, "re.Pattern[str]", Callable[[str], Field]], ...] = (
     ("integer", re.compile("-?[0-9]{1,19}"), int),
 )
 
-# No word or escape of JSON has more characters.
-_TOKEN = 16
+# No word or escape of JSON has more characters, and no more are needed to see that an integer is
+# followed by an exponent.
+_TOKEN, _EXPONENT = 16, 3
 
 _BLANKS = " \t\r\n"
 _SPACE = re.compile(f"[{_BLANKS}]*")
@@ -207,8 +208,8 @@ class _Text:
                 self.fail(str(error))
             else:
                 ahead = end - self._at
-                # A number may go on.
-                if end < len(self._text) or not self._read_more():
+                may_go_on = isinstance(value, int) and end + _EXPONENT > len(self._text)
+                if not may_go_on or not self._read_more():
                     self._start, self._at = self._at, self._at + ahead
                     return value
 
