@@ -616,6 +616,16 @@ class Conflicts(Folder):
                 store.apply(file[:-1], on_conflict=lambda conflict: "omit")
             self.assertEqual(list(store.rows("t")), [(1, "x")])
 
+    def test_tables_that_are_not_known(self):
+        """Nothing is carried out that was not asked for."""
+        with self.store() as store:
+            store.insert("t", 1, "x")
+            del store._schemas["t"]
+            file = stores.header("t", 1, 0) + stores.insert(1, "y")
+            report = store.apply(file, on_conflict=lambda conflict: "replace")
+            self.assertEqual(report, ([], ["t"], 0, 0))
+            self.assertEqual(list(store.rows("t")), [(1, "x")])
+
     def test_session(self):
         """What was decided is recorded."""
         with self.store() as store, store.session("t") as session:

@@ -233,7 +233,7 @@ class Stores(unittest.TestCase):
         self.assertGreater(asked_of_all, SEEDS)
 
     def changeset(self, chance, rows):
-        """A made-up changeset for rows, most of which have its keys."""
+        """A made-up changeset. Most of its keys are those of rows."""
         builder = vollikash.Builder()
         builder.table("t", key=[True, True, False])
         for key in chance.sample(range(6), 5):

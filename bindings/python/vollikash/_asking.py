@@ -8,7 +8,7 @@ from typing import Callable, Dict, NoReturn, Optional, Sequence, TypeVar, Union
 from ._edits import Edits, refusal
 from ._errors import ChangesetError, Code, ConflictError, ProgramError, StoreError
 from ._lines import Report, malformed, read_nothing, read_report
-from ._process import Process, path_word, run_command
+from ._process import LONGEST_FILE, Process, path_word, run_command
 from ._schema import Schema, is_unfinished, read_schemas
 
 _REFUSED = re.compile(
@@ -137,7 +137,9 @@ class Asker:
             given.write(file)
             given.flush()
             words = [*options, given.name, "apply", path_word(self._path)]
-            ended = run_command(words, self._timeout)
+            # A longer changeset may take longer.
+            patience = self._timeout * (1 + len(file) // LONGEST_FILE)
+            ended = run_command(words, patience)
         refused = _REFUSED.fullmatch(ended.stderr)
         if refused is not None:
             _raise(refused)

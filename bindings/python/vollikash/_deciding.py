@@ -7,7 +7,7 @@ import operator
 from typing import Callable, Dict, Iterator, List, Mapping, NamedTuple, Optional, Sequence, Set
 
 from ._changes import Change, changes
-from ._edits import Row
+from ._edits import Row, refusal
 from ._encoding import Encoder, header
 from ._errors import Code, ConflictError
 from ._lines import CHOICES, Choice, Conflict, Kind
@@ -61,11 +61,14 @@ def _is_noop(change: Change, row: Optional[Row]) -> bool:
 
 
 class Decider:
-    """Asks the function about the conflicts of a file, and notes them."""
+    """Asks the function about the conflicts of a file, and notes them, and the tables that a store
+    does not have as the file has them.
+    """
 
     def __init__(self, handler: Handler, ignores_noop: bool) -> None:
         self._handler, self._ignores_noop = handler, ignores_noop
         self.conflicts: List[Conflict] = []
+        self.skipped: List[str] = []
 
     def _choose(self, kind: Kind, change: Change, row: Optional[Row]) -> Choice:
         """Return the choice for a conflict. Raise the error if it ends the apply."""
@@ -123,19 +126,22 @@ def decided(
     rows: Callable[[str], Iterator[Row]],
     decider: Decider,
 ) -> bytes:
-    """Return an accepted file without the changes that are omitted."""
+    """Return a file without the changes that are omitted, and without the tables that are skipped.
+
+    So nothing is carried out that was not looked at here.
+    """
     groups = [list(group) for _, group in itertools.groupby(changes(data), _table)]
-    if any(_is_wider(schemas.get(group[0].table), group[0].flags) for group in groups):
-        # The program refuses the file, before it looks at a row.
-        return data
+    for index, group in enumerate(groups):
+        if _is_wider(schemas.get(group[0].table), group[0].flags):
+            raise refusal(Code.WIDER, str(index))
     parts: List[bytes] = []
     for group in groups:
         table, flags = group[0].table, group[0].flags
-        schema, kept = schemas.get(table), iter(group)
-        # The program skips a table that the store does not have in this way, and reports that.
-        if schema is not None and _starts(schema, flags):
-            kept = _kept(group, schema, rows(table), decider)
-        spell = Encoder(flags).entry
+        schema, spell = schemas.get(table), Encoder(flags).entry
+        if schema is None or not _starts(schema, flags):
+            decider.skipped.append(table)
+            continue
+        kept = _kept(group, schema, rows(table), decider)
         spelled = [spell(one.op, one.indirect, one.old, one.new)[1] for one in kept]
         parts += [header(table, flags), *spelled] if spelled else []
     return b"".join(parts)

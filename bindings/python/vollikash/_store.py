@@ -272,7 +272,7 @@ class Store(Asker):
             report = self.apply(
                 kept, data="replace", conflict="replace", ignore_noop=ignore_noop
             )
-            return report._replace(conflicts=decider.conflicts)
+            return report._replace(conflicts=decider.conflicts, skipped=decider.skipped)
 
     def _apply(self, file: bytes, line: str, by_command: Callable[[], Report]) -> Report:
         """Apply a changeset by a line. If it is too long for one, apply it while the store is
