@@ -8,6 +8,7 @@ usage: bindings/python/test_changes.py
 """
 import collections
 import copy
+import dataclasses
 import io
 import json
 import pathlib
@@ -163,6 +164,7 @@ class Objects(unittest.TestCase):
             self.assertEqual(copied, self.change)
             self.assertIs(copied.new[0], UNDEFINED)
         self.assertEqual(len({self.change, copy.deepcopy(self.change)}), 1)
+        self.assertEqual(dataclasses.replace(self.change, table="u").table, "u")
         self.assertEqual(
             repr(self.change),
             "Change(table='t', op='update', indirect=False, old=(1, 'x'), new=(UNDEFINED, 'y'), "
