@@ -84,7 +84,8 @@ def is_unfinished(path: str) -> bool:
 
     If so, the next program has to open it before SQLite does.
     """
+    name = os.path.realpath(path)
     try:
-        return os.path.getsize(f"{path}-wal") > _LOG_HEADER
+        return os.path.getsize(f"{name}-wal") > _LOG_HEADER
     except OSError:
-        return os.path.exists(f"{path}-journal")
+        return os.path.exists(f"{name}-journal")
