@@ -92,11 +92,12 @@ def of_opening(data: str, entry: dict[str, str]) -> Iterator[Row]:
 
 def of_stores(fields: list[str]) -> Iterator[Row]:
     """The calls of a store from Python."""
-    count, insert, their_insert, in_session, rows, their_rows = fields
+    count, insert, their_insert, in_session, rows, their_rows, many, their_many = fields
     for what, ours, theirs in (
         ("`Store.insert`", insert, their_insert),
         ("`Store.insert` in a session", in_session, their_insert),
         ("`Store.rows`", rows, their_rows),
+        ("`Store.insert_many`", many, their_many),
     ):
         ratio = f"{float(ours) / float(theirs):.1f}"
         yield Row(ratio, what, "rows in a file", int(count), "", ours, "", "stores")
