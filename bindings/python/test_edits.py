@@ -705,6 +705,12 @@ class Sizes(Folder):
             self.assertLess(time.perf_counter() - started, 60)
             self.assertEqual(sum(1 for _ in store.rows("t")), count)
             self.expect("KeyTaken", store.insert_many, "t", [(count, 1), (0, 1)])
+            with self.assertRaisesRegex(StoreError, "33 KeyTaken in table 't', key \\(7,\\)$"):
+                store.insert_many("t", [(count, 1), (7, 1), (8, 1)])
+            with self.assertRaisesRegex(StoreError, "35 RowWidth in row 2$"):
+                store.insert_many("t", [(count, 1), (count + 1,)])
+            with self.assertRaisesRegex(ValueError, "row 2: table 't', column 2: a float"):
+                store.insert_many("t", [(count, 1), (count + 1, 1.5)])
             self.expect("KeyTaken", store.insert_many, "t", [(count, 1), (count, 1)])
             self.expect("RowWidth", store.insert_many, "t", [(count, 1), (count + 1,)])
             with self.assertRaises(ValueError):

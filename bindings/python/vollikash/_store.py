@@ -9,7 +9,7 @@ from typing import (
 
 from . import _exchange
 from ._asking import TIMEOUT, Asker
-from ._deciding import Decider, Handler, decided
+from ._deciding import Decider, Handler, PendingConflict, decided
 from ._edits import Edits, Row, TableEdits, refusal
 from ._errors import Code, ConflictError, ProgramError, StoreError
 from ._files import Bytes, as_bytes, invert
@@ -21,7 +21,7 @@ from ._process import LONGEST_FILE
 from ._schema import Schema
 from ._session import Session
 from ._undo import UndoStack
-from ._values import Value
+from ._values import Value, shown
 
 if TYPE_CHECKING:
     import sqlite3
@@ -138,10 +138,16 @@ class Store(Asker):
                     edits.insert(values)
 
     def insert_many(self, table: str, rows: Iterable[Sequence[Value]]) -> None:
-        """Insert rows in one transaction. If one is refused, none is inserted."""
+        """Insert rows in one transaction. If one is refused, none is inserted. The error says which.
+        """
         with self._edited(table) as edits:
-            for row in rows:
-                edits.insert(row)
+            for number, row in enumerate(rows, 1):
+                try:
+                    edits.insert(row)
+                except StoreError as error:
+                    raise refusal(error.code, f"in row {number}") from None
+                except ValueError as error:
+                    raise ValueError(f"row {number}: {error}") from None
 
     def update(self, table: str, values: Mapping[str, Value], where: Mapping[str, Value]) -> None:
         """Set columns of the row whose key columns have the values of `where`."""
@@ -219,9 +225,24 @@ class Store(Asker):
         try:
             report = self.apply(file, data="replace")
         except ConflictError as error:
-            raise refusal(_REFUSALS[error.kind]) from None
+            raise refusal(_REFUSALS[error.kind], self._culprit(file)) from None
         if report.skipped:
             raise ProgramError("the file has other tables than when the store was opened")
+
+    def _culprit(self, file: bytes) -> str:
+        """Return the table and the key of the first edit that is refused, as text."""
+        found: List[str] = []
+
+        def note(conflict: PendingConflict) -> Choice:
+            if conflict.kind == "data":
+                return "replace"
+            change = conflict.change
+            found.append(f"in table {shown(change.table)}, key {change.key!r:.80}")
+            return "abort"
+
+        with contextlib.suppress(ConflictError):
+            decided(file, self._schemas, self._select, Decider(note, False))
+        return "".join(found)
 
     def apply(
         self,
