@@ -359,9 +359,9 @@ class Files(unittest.TestCase):
             with self.subTest(number):
                 self.assertEqual(refusal(_merging._by_key, files), wanted)
                 self.assertEqual(refusal(vollikash.concat, *files), wanted)
-                again = files * 5
-                wanted_again = refusal(_merging._one_by_one, again)
-                self.assertEqual(refusal(vollikash.concat, *again), wanted_again)
+                for most in (0, 100, 1000):
+                    told = refusal(lambda: _merging._one_by_one(files, most=most))
+                    self.assertEqual(told, wanted)
             made += isinstance(wanted, bytes)
         self.assertGreater(made, MADE // 2)
 
@@ -389,7 +389,7 @@ class Files(unittest.TestCase):
         """Its number is that of the arguments."""
         file = H + stores.insert(1, "x")
         wider = stores.header("t", 1, 0, 0) + stores.insert(1, 2, 3)
-        for count in (1, 2, 5, 40):
+        for count in (1, 2, 5, 60):
             for place in range(count):
                 files = [file] * count
                 files[place] = H

@@ -7,7 +7,7 @@ second one are concatenated with the second ones, then the results with the thir
 import bisect
 import collections
 import operator
-from typing import Callable, Deque, Dict, Iterable, Iterator, List, Sequence, Tuple
+from typing import Callable, Deque, Dict, Iterable, Iterator, List, Optional, Sequence, Tuple
 
 from ._decoding import entries
 from ._encoding import Encoder, header
@@ -17,8 +17,9 @@ from ._files import Bytes, as_bytes, check, concat_two
 # The place of a change among all, from 0 on, and its bytes.
 _Placed = Tuple[int, bytes]
 
-# How many files are concatenated one after the other, which then takes less time.
-_FEW = 24
+# How many times the length of all files may be read while they are concatenated one after the
+# other. To go on key by key takes the time of some such readings.
+_READINGS = 12
 
 
 class Group:
@@ -113,23 +114,28 @@ def _check_nth(data: bytes, number: int) -> None:
         raise ChangesetError(error.code, number, error.place) from None
 
 
-def _one_by_one(files: Sequence[bytes]) -> bytes:
-    """Concatenate files, one after the other."""
-    made = files[0]
-    for number, data in enumerate(files[1:], 2):
+def _one_by_one(files: Sequence[bytes], first: int = 1, most: Optional[int] = None) -> bytes:
+    """Concatenate files one after the other, and key by key once more than `most` bytes were read.
+    `first` is the number of the first file.
+    """
+    made, read = files[0], 0
+    for index, data in enumerate(files[1:], 1):
+        read += len(made) + len(data)
+        if most is not None and read > most:
+            return _by_key([made, *files[index:]], first + index - 1)
         try:
             made = concat_two(made, data)
         except ChangesetError as error:
-            which = number if error.which == 2 else 1
+            which = first + index if error.which == 2 else first
             raise ChangesetError(error.code, which, error.place) from None
     return made
 
 
-def _by_key(files: Sequence[bytes]) -> bytes:
-    """Concatenate many files, key by key."""
+def _by_key(files: Sequence[bytes], first: int = 1) -> bytes:
+    """Concatenate many files, key by key. `first` is the number of the first file."""
     groups: Dict[str, Group] = {}
     starts, place = [], 0
-    for number, data in enumerate(files, 1):
+    for number, data in enumerate(files, first):
         _check_nth(data, number)
         starts.append(place)
         for table, op, indirect, old, new in entries(data):
@@ -138,7 +144,7 @@ def _by_key(files: Sequence[bytes]) -> bytes:
                 group = groups[table.name] = Group(table.name, table.flags)
             elif group.flags != table.flags:
                 # Which flags a table has, or whether it may have these, depends on the order.
-                return _one_by_one(files)
+                return _one_by_one(files, first)
             group.add(place, *group.encoder.entry(op, indirect, old, new))
             place += 1
     return joined(groups.values(), lambda at: bisect.bisect_right(starts, at))
@@ -154,4 +160,4 @@ def concat(*files: Bytes) -> bytes:
         for data in datas:
             check(data)
         return b"".join(datas)
-    return _one_by_one(datas) if len(datas) <= _FEW else _by_key(datas)
+    return _one_by_one(datas, most=_READINGS * sum(map(len, datas)))

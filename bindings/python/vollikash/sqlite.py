@@ -31,6 +31,7 @@ _OPERATIONS = {18: "insert", 9: "delete", 23: "update"}
 _INTEGER, _FLOAT, _TEXT, _BLOB = 1, 2, 3, 4
 _READ_WRITE_CREATE = 0x2 | 0x4 | 0x10000
 _IGNORE_NOOP, _IGNORE_NOOP_SINCE = 0x4, 3042000
+_LONGEST = 0x7FFFFFFF
 # SQLite copies what is bound.
 _COPY = ctypes.c_void_p(-1)
 
@@ -123,6 +124,13 @@ def _library() -> ctypes.CDLL:
             raise SqliteError(f"SQLite's library has no session extension: no {name}") from None
         call.restype, call.argtypes = result, arguments
     return library
+
+
+def _size(data: bytes) -> int:
+    """Return how many bytes there are, as a number that SQLite's calls take."""
+    if len(data) > _LONGEST:
+        raise SqliteError(f"{len(data)} bytes: SQLite takes at most {_LONGEST}")
+    return len(data)
 
 
 def _value(prefix: str, *where: Any) -> SqliteValue:
@@ -282,9 +290,9 @@ class Database:
                 self._expect(library.sqlite3_bind_double(query, number, value))
             elif isinstance(value, str):
                 data = value.encode()
-                self._expect(library.sqlite3_bind_text(query, number, data, len(data), _COPY))
+                self._expect(library.sqlite3_bind_text(query, number, data, _size(data), _COPY))
             elif isinstance(value, bytes):
-                self._expect(library.sqlite3_bind_blob(query, number, value, len(value), _COPY))
+                self._expect(library.sqlite3_bind_blob(query, number, value, _size(value), _COPY))
             elif value is not None:
                 raise ValueError(f"parameter {number}: a {type(value).__name__}")
 
@@ -323,7 +331,7 @@ class Database:
         deciding = _Deciding(on_conflict)
         flags = _IGNORE_NOOP if ignore_noop else 0
         code = library.sqlite3changeset_apply_v2(
-            self._open(), len(data), data, None, _HANDLER(deciding), None, None, None, flags
+            self._open(), _size(data), data, None, _HANDLER(deciding), None, None, None, flags
         )
         if deciding.error is not None:
             raise deciding.error
