@@ -138,8 +138,7 @@ class Store(Asker):
                     edits.insert(values)
 
     def insert_many(self, table: str, rows: Iterable[Sequence[Value]]) -> None:
-        """Insert rows in one transaction. If one is refused, none is inserted. The error says which.
-        """
+        """Insert rows in one transaction. If one is refused, none is, and the error says which."""
         with self._edited(table) as edits:
             for number, row in enumerate(rows, 1):
                 try:
