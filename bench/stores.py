@@ -1,7 +1,8 @@
 #!/usr/bin/env python3
 """Times a store from Python and Python's own sqlite3, on files.
 
-Each row is inserted in a transaction of its own. Then all rows are read.
+Each row is inserted in a transaction of its own. Then all rows are read. `many` is all rows in one
+transaction: `Store.insert_many`, and `executemany`.
 
 Build the libraries and the program first: `make -C bindings/c`, and `rt run` in `crates/changeset`.
 
@@ -27,38 +28,52 @@ def timed(work):
 
 
 def by_vollikash(folder, count):
-    """The seconds of the inserts, of reading all rows, and of the same inserts in a session."""
+    """The seconds of the inserts, of reading all rows, of the same inserts in a session, and of all
+    rows in one transaction.
+    """
     with vollikash.open(folder / "store") as store:
-        for name in ("t", "u"):
+        for name in ("t", "u", "v"):
             store.create(name, ["a", "b"], key=["a"])
         inserts = timed(lambda: [store.insert("t", key, f"row {key}") for key in range(count)])
         reads = timed(lambda: list(store.rows("t")))
         with store.session("u"):
             recorded = timed(lambda: [store.insert("u", key, f"row {key}") for key in range(count)])
-    return inserts, reads, recorded
+        many = timed(lambda: store.insert_many("v", ((key, f"row {key}") for key in range(count))))
+    return inserts, reads, recorded, many
 
 
 def by_sqlite3(folder, count):
-    """The seconds of the same inserts and of the SELECT."""
+    """The seconds of the same inserts, of the SELECT, and of all rows in one transaction."""
     base = sqlite3.connect(folder / "base", isolation_level=None)
     base.execute("PRAGMA journal_mode = WAL")
-    base.execute("CREATE TABLE t(a PRIMARY KEY, b)")
+    for name in ("t", "v"):
+        base.execute(f"CREATE TABLE {name}(a PRIMARY KEY, b)")
     insert = "INSERT INTO t VALUES(?, ?)"
     inserts = timed(lambda: [base.execute(insert, (key, f"row {key}")) for key in range(count)])
     reads = timed(lambda: base.execute("SELECT * FROM t").fetchall())
+    many = timed(lambda: insert_all(base, count))
     base.close()
-    return inserts, reads
+    return inserts, reads, many
+
+
+def insert_all(base, count):
+    """Has sqlite3 insert all rows in one transaction."""
+    base.execute("BEGIN")
+    rows = ((key, f"row {key}") for key in range(count))
+    base.executemany("INSERT INTO v VALUES(?, ?)", rows)
+    base.execute("COMMIT")
 
 
 def main():
     """Prints a line for each number of rows, in microseconds for a row."""
-    print("rows      insert  sqlite3  session   rows  sqlite3   (microseconds a row)")
+    print("rows      insert  sqlite3  session   rows  sqlite3   many  sqlite3   (microseconds a row)")
     for count in map(int, sys.argv[1:] or ("1000", "10000", "100000")):
         with tempfile.TemporaryDirectory() as name:
             folder = pathlib.Path(name)
-            inserts, reads, recorded = by_vollikash(folder, count)
-            theirs, read = by_sqlite3(folder, count)
-        shown = (seconds * 1e6 / count for seconds in (inserts, theirs, recorded, reads, read))
+            inserts, reads, recorded, many = by_vollikash(folder, count)
+            theirs, read, their_many = by_sqlite3(folder, count)
+        times = inserts, theirs, recorded, reads, read, many, their_many
+        shown = (seconds * 1e6 / count for seconds in times)
         print(f"{count:<8}" + "".join(f"{one:8.1f}" for one in shown))
 
 

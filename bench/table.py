@@ -24,7 +24,7 @@ from typing import NamedTuple
 
 BENCH = pathlib.Path(__file__).resolve().parent
 
-SCRIPTS = ("calls", "opening", "stores", "read_write", "apply", "scripts", "collisions")
+SCRIPTS = ("calls", "changes", "opening", "stores", "read_write", "apply", "scripts", "collisions")
 
 # Scripts of lines that the table leaves out.
 LEFT_OUT = re.compile("hundred tables|one row|DELETE|^[.]")
@@ -69,17 +69,17 @@ def logged(text: str) -> Iterator[tuple[str, str, list[str], list[str]]]:
             header = fields
 
 
-def of_calls(data: str, entry: dict[str, str]) -> Iterator[Row]:
-    """A call from C."""
+def of_calls(script: str, data: str, entry: dict[str, str]) -> Iterator[Row]:
+    """A call from C, or on changes from Python."""
     yield Row(
         entry.get("times", ""),
-        f"`vollikash_{entry['call']}`",
+        f"`{'vollikash_' * (script == 'calls')}{entry['call']}`",
         data,
         int(entry["entries"]),
         entry["seconds"],
         entry["us/entry"],
         "",
-        "calls",
+        script,
     )
 
 
@@ -92,11 +92,12 @@ def of_opening(data: str, entry: dict[str, str]) -> Iterator[Row]:
 
 def of_stores(fields: list[str]) -> Iterator[Row]:
     """The calls of a store from Python."""
-    count, insert, their_insert, in_session, rows, their_rows = fields
+    count, insert, their_insert, in_session, rows, their_rows, many, their_many = fields
     for what, ours, theirs in (
         ("`Store.insert`", insert, their_insert),
         ("`Store.insert` in a session", in_session, their_insert),
         ("`Store.rows`", rows, their_rows),
+        ("`Store.insert_many`", many, their_many),
     ):
         ratio = f"{float(ours) / float(theirs):.1f}"
         yield Row(ratio, what, "rows in a file", int(count), "", ours, "", "stores")
@@ -146,8 +147,8 @@ def rows(text: str) -> Iterator[Row]:
     for script, data, header, fields in logged(text):
         entry = dict(zip(header, fields))
         match script:
-            case "calls":
-                yield from of_calls(data, entry)
+            case "calls" | "changes":
+                yield from of_calls(script, data, entry)
             case "opening":
                 yield from of_opening(data, entry)
             case "stores":

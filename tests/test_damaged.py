@@ -12,8 +12,8 @@ import unittest
 
 from support import model, reader
 from support.program import PROGRAM, TOP, main
-from support.samples import INSERT, T
-from support.stores import UNDEFINED, delete, header, insert, update
+from support.samples import K1, T, TO_DAMAGE, damaged
+from support.stores import UNDEFINED, header, insert, update
 
 sys.path.insert(0, str(TOP / "bindings/python"))
 
@@ -23,33 +23,8 @@ import vollikash  # noqa: E402
 # may have.
 PATIENCE, LONGEST, MEMORY = 300, 16_000_000, 96 << 20
 
-K1, K2 = (b"\x01" + key.to_bytes(8, "big") for key in (1, 2))
-
-FILES = {
-    "an INSERT": INSERT,
-    "a DELETE": T + delete(1, "x"),
-    "an UPDATE": T + update((1, "x"), (UNDEFINED, "y")),
-    "the least integer": T + b"\x12\x00\x01\x80" + bytes(7) + b"\x05",
-    "a blob of 128 bytes": T + b"\x12\x00" + K1 + b"\x04\x81\x00" + bytes(128),
-    "a key of two columns": b"\x54\x02\x02\x01k\x00\x12\x00" + K1 + K2,
-    "two tables": header("z", 1, 0) + insert(1, "x") + INSERT,
-    "an UPDATE to what was there": T + update((1, "x"), (UNDEFINED, "x")),
-    "an UPDATE of nothing": T + b"\x17\x00" + K1 + b"\x00\x00\x00",
-    "an entry of each operation": (
-        T + insert(1, "x") + delete(2, "q") + b"\x17\x00\x01" + bytes(7) + b"\x03\x03\x01x\x00\x03\x01y"
-    ),
-}
-
-
 # What each is concatenated with.
 WHOLE = T + update((1, "x"), (UNDEFINED, "w")) + insert(3, "v") + header("u", 1) + b"\x12\x00" + K1
-
-
-def damaged(file):
-    """The file cut at each place, and with each byte set to each other value."""
-    yield from (file[:end] for end in range(len(file) + 1))
-    for place, byte in enumerate(file):
-        yield from (file[:place] + bytes([other]) + file[place + 1:] for other in range(256) if other != byte)
 
 
 def wanted(data):
@@ -147,7 +122,7 @@ class DamageTest(unittest.TestCase):
 
     def test_each_byte(self):
         """Each file, cut at each place, and with each byte set to each other value."""
-        for what, file in FILES.items():
+        for what, file in TO_DAMAGE.items():
             with self.subTest(what):
                 self.expect_each(damaged(file))
 
@@ -155,7 +130,7 @@ class DamageTest(unittest.TestCase):
         """The same files, concatenated with a whole one and with themselves, by the program and by
         the library.
         """
-        for what, file in FILES.items():
+        for what, file in TO_DAMAGE.items():
             with self.subTest(what):
                 for script, printed, pairs in concatenating(damaged(file)):
                     self.assertEqual(run(script), printed)

@@ -118,7 +118,7 @@ class Stores(Folder):
     def test_values_that_no_line_holds(self):
         """Each is told before anything is sent."""
         with store_with_table() as store:
-            for value in (1.5, "a\nb", "\ud800", 1 << 63, -(1 << 63) - 1, True, [1], object()):
+            for value in (1.5, "\ud800", 1 << 63, -(1 << 63) - 1, True, [1], object()):
                 with self.subTest(repr(value)[:20]), self.assertRaises(ValueError):
                     store.insert("t", 1, value)
             for name in ("a\nb", "\ud800", 7):
@@ -403,6 +403,37 @@ class Programs(Folder):
             with self.assertRaises(ProgramError):
                 store.insert("t", 1, 2)
         store.close()
+
+    def answering(self, answer):
+        """Makes a program the one that is run which answers each line but its mark with this text."""
+        self.program(f"""\
+            while read -r word slot digits; do
+                case "$word $slot" in
+                    ".load m") mark=$digits ;;
+                    ".hex m") echo "$mark" ;;
+                    *) printf '{answer}' ;;
+                esac
+            done
+        """)
+
+    def test_malformed_answers(self):
+        """Each is reported, and the store is closed."""
+        for call, answers in (
+            (lambda store: store.insert("t", 1), ("applied 1\\n", "error 31 NoRow\\n", "\\377")),
+            (lambda store: store.insert("t", 1), ("error 99 NoTable\\n", "error 31 \\n")),
+            (lambda store: store.insert("t", 1), ("error 41 Abort\\n", "error 41 Abort kind t\\n")),
+            (lambda store: store.insert("t", 1), ("error 1 Truncated x\\n",)),
+            (lambda store: list(store.rows("t")), ("1", "1|", "x\\n", "1 2\\n", "X1\\n")),
+            (lambda store: store.revert(b""), ("", "applied\\n", "applied 1", "conflict 1 data what x\\n")),
+            (lambda store: store.session(), ("1\\n",)),
+        ):
+            for answer in answers:
+                self.answering(answer)
+                with self.subTest(answer), vollikash.open(":memory:") as store:
+                    for _ in range(2):
+                        with self.assertRaises(ProgramError) as caught:
+                            call(store)
+                        self.assertIsInstance(caught.exception, vollikash.Error)
 
     def test_what_is_left(self):
         """Nothing runs behind a store that is closed, that nobody has, or at the end of the process."""

@@ -330,11 +330,9 @@ class Numbers(unittest.TestCase):
             for number, name in rows:
                 self.assertEqual(int(number), numbers[name][0])
 
-    def test_numbers_that_calls_answer(self):
-        answered, rest = HEADER.read_text().split("/* No call of this library answers those below")
-        self.assertEqual({code.name: code.value for code in Code},
-                         {name: number for number, name in self.numbers(answered).values()})
-        self.assertGreater(len(self.numbers(rest)), 20)
+    def test_codes(self):
+        numbers = {name: number for number, name, _ in self.documented()}
+        self.assertEqual({code.title: code.value for code in Code}, {"Ok": 0, **numbers})
 
     def test_classes(self):
         numbers = self.numbers(HEADER.read_text())

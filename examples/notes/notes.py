@@ -3,22 +3,20 @@
 
 usage: notes.py FILE
 
-The notes stand in a store, FILE, which is made where it is missing. Each action is done in a session, whose net
-changeset is kept: undo reverts it, and redo applies it again. So the editor has no code of its own for the undo of an
-action, whatever the action is. The history lives as long as the program.
+The notes are in a store, FILE, which is made if it is missing. Each action is one of an undo stack, which records it
+by a changeset. So the editor has no code of its own for the undo of an action, whatever the action is. The history
+lasts as long as the program.
 """
 import pathlib
 import signal
 import sys
-from typing import Callable, List, NoReturn, Optional, Tuple, TypeVar
+from typing import Callable, List, NoReturn, Optional, Tuple
 
 # Where the package is not installed, the one of this repository.
 sys.path.append(str(pathlib.Path(__file__).resolve().parents[2] / "bindings/python"))
 
 import vollikash  # noqa: E402
 from terminal import Key, Line, Terminal, around, cut, shown, width_of, wrapped  # noqa: E402
-
-Answer = TypeVar("Answer")
 
 TABLE = "notes"
 
@@ -33,33 +31,28 @@ ABOVE, BELOW = 2, 4
 class Notes:
     """The notes of a store, with the actions that were done and undone since it was opened.
 
-    An action answers what it did; one that is refused raises an exception, and changes nothing, unless it is refused
-    since the program of the store has ended, or takes no more lines: then `rows` tells whether it was carried out.
+    An action returns what it did. One that is refused raises an exception, and changes nothing. If
+    the program of the store has ended, `rows` has what it left.
     """
 
     def __init__(self, path: str) -> None:
         self.path = path
-        self.done = []  # type: List[Tuple[str, bytes]]
-        self.undone = []  # type: List[Tuple[str, bytes]]
-        self.rows = []  # type: List[Tuple[int, str]]
-        self._open()
+        self.rows: List[Tuple[int, str]] = []
+        self.store = vollikash.open(path)
+        self.stack = self.store.undo_stack(TABLE)
+        self._prepare()
 
-    def _open(self) -> None:
-        """Opens the store, makes its table where it has none, and reads the notes."""
-        self.store = vollikash.open(self.path)
-        try:
-            self.store.create(TABLE, ["number", "text"], key=["number"])
-        except vollikash.StoreError as error:
-            if error.name != "TableExists":
-                raise
+    def _prepare(self) -> None:
+        """Make the table if there is none, and read the notes."""
+        self.store.create(TABLE, ["number", "text"], key=["number"], exist_ok=True)
         self.read()
 
     def close(self) -> None:
-        """Closes the store."""
+        """Close the store."""
         self.store.close()
 
     def read(self) -> None:
-        """Reads the notes again."""
+        """Read the notes again."""
         rows = []
         for row in self.store.rows(TABLE):
             if [type(value) for value in row] != [int, str]:
@@ -68,64 +61,52 @@ class Notes:
         self.rows = rows
 
     def add(self, text: str) -> str:
-        """Adds a note."""
+        """Add a note."""
         number = max((number for number, _ in self.rows), default=0) + 1
         return self._act(f"note {number} added", lambda: self.store.insert(TABLE, number, text))
 
     def change(self, number: int, text: str) -> str:
-        """Writes another text into a note."""
-        return self._act(f"note {number} changed", lambda: self.store.update(TABLE, {"text": text}, {"number": number}))
+        """Write another text into a note."""
+        where = {"number": number}
+        return self._act(f"note {number} changed", lambda: self.store.update(TABLE, {"text": text}, where))
 
     def delete(self, number: int) -> str:
-        """Deletes a note."""
+        """Delete a note."""
         return self._act(f"note {number} deleted", lambda: self.store.delete(TABLE, {"number": number}))
 
     def undo(self) -> str:
-        """Undoes the last action that is still done."""
-        return self._move(self.done, self.undone, "undo", lambda changes: self.store.revert(changes))
+        """Undo the last action."""
+        return f"undo: {self._ask(self.stack.undo)}"
 
     def redo(self) -> str:
-        """Does the action again that was undone last."""
-        return self._move(self.undone, self.done, "redo", lambda changes: self.store.apply(changes))
+        """Do the action again that was undone last."""
+        return f"redo: {self._ask(self.stack.redo)}"
 
     def _act(self, what: str, edit: Callable[[], None]) -> str:
-        """Does an action in a session, and keeps its net changeset, if it changed anything."""
+        """Do an action, which is none if it changes nothing."""
 
-        def recorded() -> bytes:
-            with self.store.session(TABLE) as session:
+        def act() -> str:
+            before = len(self.stack.done), len(self.stack.undone)
+            with self.stack.action(what):
                 edit()
-                return session.changeset()
+            is_done = (len(self.stack.done), len(self.stack.undone)) != before
+            return what if is_done else "nothing changed"
 
-        changes = self._ask(recorded)
-        if not changes:
-            return "nothing changed"
-        self.done.append((what, changes))
-        self.undone.clear()
-        self._ask(self.read)
-        return what
+        return self._ask(act)
 
-    def _move(
-        self, source: List[Tuple[str, bytes]], target: List[Tuple[str, bytes]], word: str,
-        call: Callable[[bytes], vollikash.Report],
-    ) -> str:
-        """Moves the last action of one list to the other, and makes the call that does or undoes it."""
-        if not source:
-            raise ValueError(f"there is nothing to {word}")
-        what, changes = source[-1]
-        self._ask(lambda: call(changes))
-        target.append(source.pop())
-        self._ask(self.read)
-        return f"{word}: {what}"
-
-    def _ask(self, call: Callable[[], Answer]) -> Answer:
-        """Makes calls of the store. Where the program has ended, or takes no more lines, the store is opened again, so
-        that the next action finds it."""
+    def _ask(self, call: Callable[[], str]) -> str:
+        """Make a call of the store, and read the notes after it. If the program has ended, or takes
+        no more lines, open the store again for the next action.
+        """
         try:
-            return call()
+            answer = call()
+            self.read()
+            return answer
         except (vollikash.ProgramError, vollikash.StoreError) as error:
             if isinstance(error, vollikash.ProgramError) or error.name == "ScriptTooLong":
                 self.store.close()
-                self._open()
+                self.store = self.stack.store = vollikash.open(self.path)
+                self._prepare()
             raise
 
 
@@ -160,7 +141,7 @@ class Editor:
         self.terminal = terminal
         self.chosen = 0
         self.first = 0
-        self.field = None  # type: Optional[Field]
+        self.field: Optional[Field] = None
         self.status = "opened"
         self.error = ""
         self.runs = True
@@ -209,7 +190,7 @@ class Editor:
         before = set(self.notes.rows)
         try:
             self.status = action()
-        except (vollikash.StoreError, ValueError, OSError, MemoryError) as error:
+        except (vollikash.Error, LookupError, ValueError, MemoryError) as error:
             self.error = str(error)
         changed = [place for place, row in enumerate(self.notes.rows) if row not in before]
         self.chosen = changed[0] if changed else self.chosen
@@ -265,7 +246,7 @@ class Editor:
     def title(self, columns: int) -> Line:
         """The first line: the file, and how much there is of everything."""
         notes = self.notes
-        counts = f"notes: {len(notes.rows)}  to undo: {len(notes.done)}  to redo: {len(notes.undone)}"
+        counts = f"notes: {len(notes.rows)}  to undo: {len(notes.stack.done)}  to redo: {len(notes.stack.undone)}"
         name = cut(shown(f"Notes in {notes.path}"), max(1, columns - len(counts) - 2))
         return Line(name + " " * (columns - width_of(name) - len(counts)) + counts, True)
 

@@ -295,20 +295,20 @@ class Notes(unittest.TestCase):
         self.expect_stored()
 
     def test_line_feeds(self):
-        """A line feed that is typed or pasted is spelled, and refused where it would be kept; what was typed stays."""
+        """A line feed that is typed or pasted is spelled, and kept."""
         person = self.person()
-        person.type("a", "one", "\n", "two", ENTER)
-        person.sees(r"new note: one\ntwo", "refused: the text 'one", "has a line feed, which a line cannot hold")
-        person.type(LEFT, LEFT, LEFT, BACKSPACE, " ", ENTER)
-        person.sees("note 1 added", "1  one two", but=["refused"])
-        person.type("a", "\x1b[200~x\ry\x1b[201~")
-        person.sees(r"new note: x\ny")
+        person.type("a", "one", "\n", "two")
+        person.sees(r"new note: one\ntwo")
         person.type(ENTER)
-        person.sees("refused: ")
-        person.type(ESCAPE)
-        person.sees("to undo: 1", but=["new note", "refused"])
+        person.sees("note 1 added", r"1  one\ntwo", but=["refused"])
+        person.type("e", LEFT, LEFT, LEFT, BACKSPACE, " ", ENTER)
+        person.sees("note 1 changed", "1  one two")
+        person.type("a", "\x1b[200~x\ry\x1b[201~", ENTER)
+        person.sees("note 2 added", r"2  x\ny", "to undo: 3")
+        person.type("u", "u", "r", "r")
+        person.sees("redo: note 2 added", "1  one two", r"2  x\ny")
         self.quit(person)
-        self.expect_stored((1, "one two"))
+        self.expect_stored((1, "one two"), (2, "x\ny"))
 
     def test_what_is_no_text(self):
         """Bytes that are not UTF-8 are spelled, and refused; a tab is kept, and spelled."""
@@ -406,7 +406,13 @@ class Notes(unittest.TestCase):
         with vollikash.open(self.path) as store:
             store.create("notes", ["a"], key=["a"])
             store.insert("notes", 1)
-        self.expect_no_editor("notes.py: notes.db: the table notes holds (1,), which is no note\r\n")
+        self.expect_no_editor("notes.py: notes.db: error 30 TableExists\r\n")
+
+    def test_other_rows(self):
+        with vollikash.open(self.path) as store:
+            store.create("notes", ["number", "text"], key=["number"])
+            store.insert("notes", 1, None)
+        self.expect_no_editor("notes.py: notes.db: the table notes holds (1, None), which is no note\r\n")
 
     def test_signals(self):
         """The terminal is given back where the editor is asked to end."""
@@ -421,7 +427,7 @@ class Notes(unittest.TestCase):
         """The picture of the examples' README is the screen."""
         person = self.person(lines=10, columns=72)
         person.type("a", "buy milk", ENTER, "a", "call the plumber", ENTER, "u", "r", "a", "two", "\n", "lines", ENTER)
-        person.sees("refused: ")
+        person.sees("note 3 added")
         picture = "".join(f"{line}\n" for line in person.screen.lines())
         readme = (ROOT / "examples/README.md").read_text()
         self.assertTrue(f"```text\n{picture}```\n" in readme, f"examples/README.md does not have\n{picture}")

@@ -4,29 +4,24 @@
 usage: sync.py [FOLDER]
 
 A shop and an office are ordinary SQLite databases, and a hub is a store. They have a table with a
-key of one column: docs/SQLITE.md says why of one. `tests/sqlite.c` calls SQLite's session extension,
-since Python's sqlite3 does not. Without FOLDER all three are made in a temporary folder.
+key of one column: docs/SQLITE.md says why of one. `vollikash.sqlite` calls SQLite's session
+extension. Without FOLDER all three are made in a temporary folder.
 """
 import contextlib
 import pathlib
-import sqlite3
-import subprocess
 import sys
 import tempfile
-from typing import Dict, List, Tuple, Union
+from typing import Dict, List
 
 ROOT = pathlib.Path(__file__).resolve().parents[2]
 # Where the package is not installed, the one of this repository.
 sys.path.append(str(ROOT / "bindings/python"))
 
 import vollikash  # noqa: E402
+from vollikash import Choice, sqlite  # noqa: E402
 
 TABLE, COLUMNS, KEY = "stock", ["part", "name", "count"], ["part"]
 SCHEMA = "CREATE TABLE stock(part INTEGER PRIMARY KEY, name TEXT, count INTEGER)"
-
-# What SQLite numbers the kinds of conflicts, and what its apply answers that was ended by one.
-KINDS = {"1": "data", "2": "notfound", "3": "conflict"}
-SQLITE_OK, SQLITE_ABORT = 0, 4
 
 # What each kind of conflict means, for a reader.
 MEANINGS = {
@@ -34,87 +29,60 @@ MEANINGS = {
     "conflict": "a row with this key is here",
 }
 
-Rows = List[Tuple[Union[int, str, bytes, None], ...]]
-
-
-class Refused(Exception):
-    """SQLite has met a conflict of the kind that this says, and has changed nothing."""
-
-
-def build(folder: pathlib.Path) -> Tuple[pathlib.Path, str]:
-    """Builds the program by which SQLite's library is asked, and answers it, and why it is not built, or nothing."""
-    program = folder / "sqlite"
-    command = ["cc", "-O2", "-o", str(program), str(ROOT / "tests/sqlite.c"), "-lsqlite3"]
-    try:
-        built = subprocess.run(command, capture_output=True, text=True, check=False)
-    except OSError as error:
-        return program, f"cc: {error.strerror}"
-    return program, built.stderr.strip().split("\n")[-1] if built.returncode else ""
+Rows = List[sqlite.SqliteRow]
 
 
 class Base:
     """An ordinary SQLite database, with the table."""
 
-    def __init__(self, program: pathlib.Path, path: pathlib.Path) -> None:
-        self._program = program
-        self._path = path
-        self._expect_done(self._ask(self._open(), f"do x{SCHEMA.encode().hex()}"))
+    def __init__(self, path: pathlib.Path) -> None:
+        self._base = sqlite.Database(path)
+        self._base.execute(SCHEMA)
 
-    def _open(self) -> str:
-        """The question that opens the database."""
-        return f"open x{bytes(self._path).hex()}"
-
-    def _ask(self, *questions: str) -> List[str]:
-        """What SQLite's library answers."""
-        text = "".join(question + "\n" for question in questions)
-        done = subprocess.run([self._program], input=text, stdout=subprocess.PIPE, text=True, check=True)
-        return done.stdout.split("\n")[: len(questions)]
-
-    @staticmethod
-    def _expect_done(codes: List[str]) -> None:
-        """Asserts that SQLite has done what it was asked."""
-        if any(int(code) != SQLITE_OK for code in codes):
-            raise RuntimeError(f"SQLite answers {', '.join(codes)}")
+    def close(self) -> None:
+        """Close the database."""
+        self._base.close()
 
     def record(self, *statements: str) -> bytes:
-        """Runs statements of SQL, and answers the changeset that SQLite's session extension records of them."""
-        done = [f"do x{statement.encode().hex()}" for statement in statements]
-        *answers, recorded = self._ask(self._open(), "session", *done, "changeset")
-        code, made = recorded.split(" ")
-        self._expect_done([*answers, code])
-        return bytes.fromhex(made)
+        """Run statements of SQL, and return the changeset that SQLite's session extension records."""
+        with self._base.session(TABLE) as session:
+            for statement in statements:
+                self._base.execute(statement)
+            return session.changeset()
 
-    def apply(self, file: bytes, choice: str = "abort") -> List[str]:
-        """Has SQLite apply a changeset, and answers the kinds of the conflicts that it met.
+    def apply(self, file: bytes, choice: Choice = "abort") -> List[str]:
+        """Have SQLite apply a changeset, and return the kinds of its conflicts.
 
-        What is done about a row that differs or is there is "omit", "replace" or "abort": that raises `Refused`, as
-        does a row that is missing.
+        The choice is for a row that differs or exists. "abort" raises `ConflictError`, as does a
+        row that is missing.
         """
-        _, applied = self._ask(self._open(), f"apply {choice[0]}a{choice[0]} x{file.hex()}")
-        code, _, kinds = applied.partition(" ")
-        if int(code) == SQLITE_ABORT:
-            raise Refused(KINDS[kinds[-1]])
-        self._expect_done([code])
-        return [KINDS[kind] for kind in kinds]
+        kinds: List[str] = []
+
+        def decide(conflict: sqlite.PendingConflict) -> Choice:
+            kinds.append(conflict.kind)
+            return choice if conflict.kind in ("data", "conflict") else "abort"
+
+        self._base.apply(file, on_conflict=decide)
+        return kinds
 
     def rows(self) -> Rows:
-        """The rows of the table, as Python's sqlite3 reads them."""
-        with contextlib.closing(sqlite3.connect(str(self._path))) as base:
-            return base.execute("SELECT * FROM stock ORDER BY part").fetchall()
+        """Return the rows of the table."""
+        return self._base.execute("SELECT * FROM stock ORDER BY part")
 
 
 class Sides:
     """The three sides, and what is printed of them."""
 
-    def __init__(self, program: pathlib.Path, folder: pathlib.Path) -> None:
-        self.shop = Base(program, folder / "shop.db")
-        self.office = Base(program, folder / "office.db")
+    def __init__(self, folder: pathlib.Path) -> None:
+        self.shop = Base(folder / "shop.db")
+        self.office = Base(folder / "office.db")
         self.hub = vollikash.open(folder / "hub.db")
         self.hub.create(TABLE, COLUMNS, KEY)
 
     def rows(self) -> Dict[str, Rows]:
         """What each side holds."""
-        return {"shop": self.shop.rows(), "office": self.office.rows(), "hub": list(self.hub.rows(TABLE))}
+        hub: Rows = [*self.hub.rows(TABLE)]
+        return {"shop": self.shop.rows(), "office": self.office.rows(), "hub": hub}
 
     def show(self) -> None:
         """Prints what each side holds, and whether that is the same."""
@@ -199,8 +167,8 @@ def send_back(sides: Sides, changes: bytes) -> None:
     sides.office.apply(changes)
     try:
         sides.shop.apply(changes)
-    except Refused as error:
-        print(f"   The shop refuses it, {error}: {MEANINGS[str(error)]}.")
+    except vollikash.ConflictError as error:
+        print(f"   The shop refuses it, {error.kind}: {MEANINGS[error.kind]}.")
     sides.show()
     print("7. The shop applies it once more, and is to take the hub's rows.")
     for kind in sides.shop.apply(changes, "replace"):
@@ -219,10 +187,10 @@ def undo(sides: Sides, changes: bytes) -> None:
     sides.show()
 
 
-def run(program: pathlib.Path, folder: pathlib.Path) -> None:
-    """Runs each step."""
-    sides = Sides(program, folder)
-    with sides.hub:
+def run(folder: pathlib.Path) -> None:
+    """Run each step."""
+    sides = Sides(folder)
+    with sides.hub, contextlib.closing(sides.shop), contextlib.closing(sides.office):
         begin(sides)
         change_in_hub(sides)
         settled = differ(sides)
@@ -235,17 +203,14 @@ def main(words: List[str]) -> None:
     if len(words) > 1 or words[:1] and words[0].startswith("-"):
         sys.exit("usage: sync.py [FOLDER]")
     with tempfile.TemporaryDirectory() as own:
-        program, why = build(pathlib.Path(own))
-        if why:
-            sys.exit(f"sync.py: SQLite's library with its session extension is not there: {why}")
         folder = pathlib.Path(words[0] if words else own)
         folder.mkdir(parents=True, exist_ok=True)
         made = [name for name in ("shop.db", "office.db", "hub.db") if (folder / name).exists()]
         if made:
             sys.exit(f"sync.py: {folder / made[0]} is there already")
         try:
-            run(program, folder)
-        except vollikash.ProgramError as error:
+            run(folder)
+        except (vollikash.ProgramError, sqlite.SqliteError) as error:
             sys.exit(f"sync.py: {error}")
 
 

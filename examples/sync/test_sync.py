@@ -11,6 +11,7 @@ import subprocess
 import sys
 import tempfile
 import unittest
+import unittest.mock
 
 HERE = pathlib.Path(__file__).resolve().parent
 ROOT = HERE.parents[1]
@@ -101,9 +102,10 @@ class Sync(unittest.TestCase):
 
     def needs_library(self):
         """Skips a test where SQLite's library with its session extension is not there."""
-        _, why = sync.build(self.folder)
-        if why:
-            self.skipTest(f"SQLite's library with its session extension is not there: {why}")
+        try:
+            sync.sqlite.Database(":memory:").close()
+        except sync.sqlite.SqliteError as error:
+            self.skipTest(str(error))
 
     def run_example(self, *words, **changed):
         """Runs the example, and answers its exit status and what it prints to both streams."""
@@ -128,10 +130,11 @@ class Sync(unittest.TestCase):
             self.assertEqual(list(store.rows("stock")), rows)
 
     def test_no_library(self):
-        """Without a compiler, as without SQLite's library, it says so."""
-        status, printed, reported = self.run_example(PATH="")
-        self.assertEqual((status, printed), (1, ""))
-        self.assertRegex(reported, r"^sync\.py: SQLite's library with its session extension is not there: cc: .*\n$")
+        """Without SQLite's library it says so."""
+        missing = sync.sqlite.SqliteError("there is no SQLite library")
+        with unittest.mock.patch.object(sync.sqlite, "_library", side_effect=missing):
+            with self.assertRaisesRegex(SystemExit, "^sync.py: there is no SQLite library$"):
+                sync.main([str(self.folder / "new")])
 
     def test_no_program(self):
         self.needs_library()

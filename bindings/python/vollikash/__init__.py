@@ -1,20 +1,37 @@
-"""SQLite changesets: inverted, concatenated, printed, and applied to stores, with sessions and
-undo.
+"""SQLite changesets: looked into, made, inverted, concatenated, printed, and applied to stores,
+with sessions and undo.
 
 >>> import vollikash
->>> vollikash.dump(b"\\x54\\x01\\x01t\\x00\\x12\\x00\\x03\\x01x")
-"table 't' columns 1 flags 1\\ninsert 0 new 'x'\\n"
+>>> builder = vollikash.Builder()
+>>> builder.table("t", key=[True, False])
+>>> builder.insert("t", 1, "x")
+>>> vollikash.sql(builder.to_bytes())
+'INSERT INTO "t" VALUES(1, \\'x\\');\\n'
 
-`check`, `invert`, `number_keys`, `concat`, `dump` and `sql` call libvollikash.so. `open` opens a
-store, by a `changeset` program that runs next to this one.
+The calls on files use libvollikash.so. `open` opens a store, by a `changeset` program that runs
+next to this one.
 """
-from ._files import ChangesetError, Code, check, concat, dump, invert, number_keys, sql
-from ._lines import Conflict, Report, Value
-from ._process import ProgramError
-from ._store import ConflictError, Session, Store, StoreError, open
+from ._builder import Builder
+from ._changes import Change, changes
+from ._deciding import PendingConflict
+from ._errors import ChangesetError, Code, ConflictError, Error, JsonError, ProgramError, StoreError
+from ._explain import explain
+from ._files import check, dump, invert, number_keys, sql
+from ._json import from_json, read_json, to_json, write_json
+from ._lines import Choice, Conflict, Kind, Report
+from ._merging import concat
+from ._schema import Schema
+from ._session import Session
+from ._store import Store, open
+from ._tables import Counts, select, stat
+from ._undo import UndoStack
+from ._values import UNDEFINED, Field, Op, Undefined, Value
 
 __all__ = [
-    "ChangesetError", "Code", "Conflict", "ConflictError", "ProgramError", "Report", "Session", "Store", "StoreError",
-    "Value", "check", "concat", "dump", "invert", "number_keys", "open", "sql",
+    "Builder", "Change", "ChangesetError", "Choice", "Code", "Conflict", "ConflictError", "Counts",
+    "Error", "Field", "JsonError", "Kind", "Op", "PendingConflict", "ProgramError", "Report",
+    "Schema", "Session", "Store", "StoreError", "UNDEFINED", "Undefined", "UndoStack", "Value",
+    "changes", "check", "concat", "dump", "explain", "from_json", "invert", "number_keys", "open",
+    "read_json", "select", "sql", "stat", "to_json", "write_json",
 ]
 __version__ = "1.0.0"

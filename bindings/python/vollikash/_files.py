@@ -5,64 +5,14 @@ system keeps its libraries. The environment variable VOLLIKASH_LIBRARY names ano
 call loads it. No call keeps state, and several threads can call at once.
 """
 import ctypes
-import enum
 import functools
 import os
 import pathlib
-from typing import Callable, NoReturn, Tuple, Type, Union
+from typing import Callable, NoReturn, Union
+
+from ._errors import ChangesetError, Code
 
 Bytes = Union[bytes, bytearray, memoryview]
-
-
-class Code(enum.IntEnum):
-    """The numbers that the library returns, as in docs/ERRORS.md."""
-
-    OK = 0
-    TRUNCATED = 1
-    NOT_TABLE = 2
-    PATCHSET = 3
-    BAD_VARINT = 4
-    COLUMN_COUNT = 5
-    NO_KEY = 6
-    BAD_NAME = 7
-    DUPLICATE_TABLE = 8
-    EMPTY_GROUP = 9
-    BAD_OP = 10
-    BAD_FLAG = 11
-    BAD_TYPE = 12
-    REAL_VALUE = 13
-    BAD_TEXT = 14
-    UNDEFINED_FIELD = 15
-    UNPAIRED = 16
-    NULL_KEY = 17
-    DUPLICATE_KEY = 18
-    SCHEMA = 43
-    NO_MEMORY = 60
-    NO_ROOM = 80
-
-    @property
-    def title(self) -> str:
-        """The name as in error lines, for example NoMemory."""
-        return "".join(word.capitalize() for word in self.name.split("_"))
-
-
-class ChangesetError(ValueError):
-    """A file is not a changeset, or two files cannot be concatenated.
-
-    `code` and `name` are those of docs/ERRORS.md. `which` is the file at fault: 1 is the first or
-    only one, 2 the second. `place` is a byte offset in it, or for SCHEMA the zero-based index of
-    the table that differs.
-    """
-
-    def __init__(self, code: Code, which: int, place: int) -> None:
-        super().__init__(f"{code.title} at {place} of file {which}")
-        self.code = code
-        self.name = code.title
-        self.which = which
-        self.place = place
-
-    def __reduce__(self) -> Tuple[Type["ChangesetError"], Tuple[Code, int, int]]:
-        return ChangesetError, (self.code, self.which, self.place)
 
 
 class _Fault(ctypes.Structure):
@@ -111,7 +61,7 @@ def _library() -> ctypes.CDLL:
     return library
 
 
-def _bytes(file: Bytes) -> bytes:
+def as_bytes(file: Bytes) -> bytes:
     """Return the bytes of a file, which nobody changes while a call reads them."""
     return file if isinstance(file, bytes) else bytes(memoryview(file))
 
@@ -129,7 +79,8 @@ def _made(call: Callable[..., int], room: int, *files: bytes) -> bytes:
     """
     given = [argument for file in files for argument in (file, len(file))]
     while True:
-        out, written, fault = _new_bytes(None, room), ctypes.c_size_t(), _Fault()
+        out: bytes = _new_bytes(None, room)
+        written, fault = ctypes.c_size_t(), _Fault()
         code = call(*given, out, room, ctypes.byref(written), ctypes.byref(fault))
         if code == Code.OK:
             return out[: written.value]
@@ -140,14 +91,14 @@ def _made(call: Callable[..., int], room: int, *files: bytes) -> bytes:
 
 def check(file: Bytes) -> None:
     """Raise `ChangesetError` if the bytes are not the file of a changeset."""
-    file, fault = _bytes(file), _Fault()
+    file, fault = as_bytes(file), _Fault()
     if _library().vollikash_check(file, len(file), ctypes.byref(fault)) != Code.OK:
         _raise(fault)
 
 
 def invert(file: Bytes) -> bytes:
     """Return the file of the inverse changeset. Raises `ChangesetError`."""
-    file = _bytes(file)
+    file = as_bytes(file)
     return _made(_library().vollikash_invert, len(file), file)
 
 
@@ -157,25 +108,24 @@ def number_keys(file: Bytes) -> bytes:
 
     Do not call it on a file that SQLite recorded. Raises `ChangesetError`.
     """
-    file = _bytes(file)
+    file = as_bytes(file)
     return _made(_library().vollikash_number_keys, len(file), file)
 
 
-def concat(first: Bytes, second: Bytes) -> bytes:
+def concat_two(first: bytes, second: bytes) -> bytes:
     """Return the file that does what the first does, and then what the second does. Raises
     `ChangesetError`.
     """
-    first, second = _bytes(first), _bytes(second)
     return _made(_library().vollikash_concat, len(first) + len(second), first, second)
 
 
 def dump(file: Bytes) -> str:
     """Return a line for each table and each change. Raises `ChangesetError`."""
-    file = _bytes(file)
+    file = as_bytes(file)
     return _made(_library().vollikash_dump, 8 * len(file) + 256, file).decode()
 
 
 def sql(file: Bytes) -> str:
     """Return a readable SQL statement for each change. Raises `ChangesetError`."""
-    file = _bytes(file)
+    file = as_bytes(file)
     return _made(_library().vollikash_sql, 8 * len(file) + 256, file).decode()

@@ -1,11 +1,24 @@
 """The lines of the shell: spelling values and names, and reading replies."""
 import re
-from typing import Iterator, List, NamedTuple, Tuple, Union
+from typing import Iterable, Iterator, List, Literal, NamedTuple, Tuple, cast, get_args
 
-Value = Union[int, str, bytes, None]
+from ._errors import ProgramError
+from ._values import Value
 
-_VALUE = re.compile(r"(?P<integer>-?[0-9]+)|(?P<null>NULL)|X'(?P<blob>[0-9a-fA-F]*)'|'(?P<text>(?:[^']|'')*)'")
-_CONFLICT = re.compile(r"conflict [0-9]+ (?P<kind>[a-z]+) (?P<choice>[a-z]+) (?P<table>'(?:[^']|'')*')\n")
+# What may be the matter when a change is applied, and what can be done about it.
+Kind = Literal["data", "notfound", "conflict", "constraint"]
+Choice = Literal["omit", "replace", "abort"]
+
+CHOICES: Tuple[Choice, ...] = get_args(Choice)
+
+_VALUE = re.compile(
+    r"(?P<integer>-?[0-9]+)|(?P<null>NULL)|X'(?P<blob>(?:[0-9a-f]{2})*)'|'(?P<text>(?:[^']|'')*)'"
+)
+_CONFLICT = re.compile(
+    r"conflict [0-9]+ (?P<kind>data|notfound|conflict|constraint) (?P<choice>omit|replace) "
+    r"(?P<table>'(?:[^']|'')*')\n"
+)
+_DIGITS = re.compile("(?:[0-9a-f]{2})*\n")
 _SKIPPED = re.compile(r"warning 17 skipped (?P<table>'(?:[^']|'')*')\n")
 _APPLIED = re.compile(r"(?:ignored (?P<ignored>[0-9]+)\n)?applied (?P<count>[0-9]+)\n")
 
@@ -13,8 +26,8 @@ _APPLIED = re.compile(r"(?:ignored (?P<ignored>[0-9]+)\n)?applied (?P<count>[0-9
 class Conflict(NamedTuple):
     """A conflict of an apply, and the choice for it."""
 
-    kind: str
-    choice: str
+    kind: Kind
+    choice: Choice
     table: str
 
 
@@ -31,8 +44,13 @@ class Report(NamedTuple):
     ignored: int = 0
 
 
+def is_one_line(values: Iterable[Value]) -> bool:
+    """Return whether no text of some values has a line feed, which no line can hold."""
+    return not any(isinstance(value, str) and "\n" in value for value in values)
+
+
 def _one_line(what: str, text: str) -> str:
-    """A text that a line can hold."""
+    """Return a text that a line can hold."""
     if "\n" in text:
         raise ValueError(f"{what} has a line feed, which a line cannot hold")
     try:
@@ -43,14 +61,14 @@ def _one_line(what: str, text: str) -> str:
 
 
 def spelled_name(name: str) -> str:
-    """The name of a table or a column, as a line has it."""
+    """Return the name of a table or a column, as a line has it."""
     if not isinstance(name, str):
         raise ValueError(f"a name is a str, and not {type(name).__name__}")
     return '"' + _one_line(f"the name {name!r}", name).replace('"', '""') + '"'
 
 
 def spelled(value: Value) -> str:
-    """A value, as a line has it."""
+    """Return a value, as a line has it."""
     if value is None:
         return "NULL"
     if isinstance(value, str):
@@ -65,15 +83,20 @@ def spelled(value: Value) -> str:
 
 
 def read_text(quoted: str) -> str:
-    """The text between quotes."""
+    """Return the text between quotes."""
     return quoted[1:-1].replace("''", "'")
 
 
+def malformed(printed: str, at: int, wanted: str) -> ProgramError:
+    """Return the error for an answer that is not as specified."""
+    return ProgramError(f"the program answered {printed[at:at + 40]!r} in place of a {wanted}")
+
+
 def _read_value(printed: str, at: int) -> Tuple[Value, int]:
-    """The value that is printed at a place, and the place behind it."""
+    """Return the value that is printed at a place, and the place after it."""
     found = _VALUE.match(printed, at)
     if found is None:
-        raise AssertionError(f"{printed[at:at + 40]!r} is no value")
+        raise malformed(printed, at, "value")
     kind = found.lastgroup
     if kind == "integer":
         return int(found["integer"]), found.end()
@@ -83,22 +106,48 @@ def _read_value(printed: str, at: int) -> Tuple[Value, int]:
 
 
 def read_rows(printed: str) -> Iterator[Tuple[Value, ...]]:
-    """The rows that a SELECT prints. A text may have line feeds, since a changeset can put them
-    there.
-    """
-    at, row = 0, []  # type: Tuple[int, List[Value]]
+    """Yield the rows that a SELECT prints. A text may have line feeds."""
+    at = 0
+    row: List[Value] = []
     while at < len(printed):
         value, at = _read_value(printed, at)
         row.append(value)
-        if printed[at] == "\n":
+        end = printed[at:at + 1]
+        if end == "\n":
             yield tuple(row)
             row = []
+        elif end != "|":
+            raise malformed(printed, at, "row's end")
         at += 1
+    if row:
+        raise malformed(printed, at, "value")
+
+
+def read_nothing(printed: str) -> None:
+    """Expect that a line has printed nothing."""
+    if printed:
+        raise malformed(printed, 0, "line that prints nothing")
+
+
+def read_truth(printed: str) -> bool:
+    """Return the 0 or 1 that a line prints."""
+    if printed not in ("0\n", "1\n"):
+        raise malformed(printed, 0, "0 or 1")
+    return printed == "1\n"
+
+
+def read_bytes(printed: str) -> bytes:
+    """Return the bytes whose digits a line prints."""
+    if not _DIGITS.fullmatch(printed):
+        raise malformed(printed, 0, "row of digits")
+    return bytes.fromhex(printed)
 
 
 def read_report(printed: str) -> Report:
-    """What an apply prints."""
-    conflicts, skipped, at = [], [], 0  # type: Tuple[List[Conflict], List[str], int]
+    """Return the report that an apply prints."""
+    conflicts: List[Conflict] = []
+    skipped: List[str] = []
+    at = 0
     while True:
         found = _SKIPPED.match(printed, at)
         if found is not None:
@@ -108,9 +157,10 @@ def read_report(printed: str) -> Report:
         found = _CONFLICT.match(printed, at)
         if found is None:
             break
-        conflicts.append(Conflict(found["kind"], found["choice"], read_text(found["table"])))
+        kind, choice = cast(Kind, found["kind"]), cast(Choice, found["choice"])
+        conflicts.append(Conflict(kind, choice, read_text(found["table"])))
         at = found.end()
     found = _APPLIED.fullmatch(printed, at)
     if found is None:
-        raise AssertionError(f"{printed[at:at + 40]!r} is no report")
+        raise malformed(printed, at, "report")
     return Report(conflicts, skipped, int(found["count"]), int(found["ignored"] or 0))

@@ -1,4 +1,4 @@
-"""A `changeset` program that is run beside this one, and asked line by line."""
+"""A `changeset` program that runs next to this one, and is asked line by line."""
 import os
 import pathlib
 import selectors
@@ -8,28 +8,23 @@ import time
 import weakref
 from typing import Optional, Sequence
 
-# What stands behind each answer: a slot with bytes that nobody guesses is printed.
+from ._errors import ProgramError
+
+# What is printed after each answer: a slot with bytes that nobody guesses.
 _MARK_BYTES = 16
 
-# What is sent behind each line: that slot is printed.
+# What is sent after each line: that slot is printed.
 _BEHIND = "\n.hex m\n"
 
 # How many bytes of lines a program takes.
 _LONGEST = 16777216
 
-
-class ProgramError(OSError):
-    """The program is not there, has ended, or has not answered in time. The store is closed then.
-    `said` is what it said on standard error.
-    """
-
-    def __init__(self, why: str, said: str = "") -> None:
-        super().__init__(why)
-        self.said = said
+# How many bytes a file may have that is loaded by a line. The rest is for lines of other kinds.
+LONGEST_FILE = _LONGEST // 2 - 8192
 
 
 def find_program() -> str:
-    """The program: VOLLIKASH_PROGRAM, the file `changeset` in this folder, the one that the
+    """Return the program: VOLLIKASH_PROGRAM, the file `changeset` in this folder, the one that the
     repository builds, or the one on PATH.
     """
     named = os.environ.get("VOLLIKASH_PROGRAM")
@@ -50,13 +45,34 @@ def find_program() -> str:
 
 
 def _end(process: "subprocess.Popen[bytes]") -> None:
-    """Ends a program, whatever it does."""
+    """End a program, whatever it does."""
     for stream in (process.stdin, process.stdout, process.stderr):
         if stream is not None:
             stream.close()
     if process.poll() is None:
         process.kill()
     process.wait()
+
+
+def run_command(words: Sequence[str], timeout: float) -> "subprocess.CompletedProcess[str]":
+    """Run a command of the program, and return how it has ended."""
+    command = [find_program(), *words]
+    try:
+        return subprocess.run(
+            command, stdin=subprocess.DEVNULL, capture_output=True, encoding="utf-8",
+            timeout=timeout, start_new_session=True, check=False,
+        )
+    except subprocess.TimeoutExpired:
+        raise ProgramError(f"the program has not ended in {timeout} seconds") from None
+    except UnicodeDecodeError as error:
+        raise ProgramError(f"the program answered no UTF-8: {error.reason}") from None
+    except OSError as error:
+        raise ProgramError(f"{command[0]} does not run: {error.strerror}") from error
+
+
+def path_word(path: str) -> str:
+    """Return a path as a word of a command, which is no option."""
+    return f"./{path}" if path.startswith("-") else path
 
 
 class Process:
@@ -67,7 +83,11 @@ class Process:
         program = find_program()
         try:
             self._process = subprocess.Popen(
-                [program, f"./{path}" if path.startswith("-") else path, "shell"], stdin=subprocess.PIPE, stdout=subprocess.PIPE, stderr=subprocess.PIPE, bufsize=0,
+                [program, path_word(path), "shell"],
+                stdin=subprocess.PIPE,
+                stdout=subprocess.PIPE,
+                stderr=subprocess.PIPE,
+                bufsize=0,
                 start_new_session=True,
             )
         except OSError as error:
@@ -81,21 +101,31 @@ class Process:
         self.ask(f".load m {self._mark}")
 
     def fits(self, lines: Sequence[str], kept: int) -> bool:
-        """Whether the program accepts these lines and `kept` more bytes. It accepts 16777216 bytes
-        in all.
+        """Return whether the program accepts these lines and `kept` more bytes. It accepts
+        16777216 bytes in all.
         """
         return sum(len((line + _BEHIND).encode()) for line in lines) + kept <= self.left
 
     def has_half(self) -> bool:
-        """Whether the program takes half of its lines still, so that a session may begin."""
+        """Return whether the program accepts half of its lines still, so that a session may begin.
+        """
         return self.left >= _LONGEST // 2
 
     def ask(self, line: str) -> str:
-        """What the program answers to a line, which fits."""
+        """Return the answer to a line, which fits."""
         return self._send_and_wait((line + _BEHIND).encode())
 
+    def expect_open(self) -> None:
+        """Raise `ProgramError` if the program was ended."""
+        if not self._ends.alive:
+            raise ProgramError("the store is closed")
+
+    def end(self) -> None:
+        """End the program, whatever it does."""
+        self._ends()
+
     def close(self) -> None:
-        """Ends the program, which has answered each line."""
+        """End the program, which has answered each line."""
         process = self._process
         if self._ends.alive and process.stdin is not None:
             process.stdin.close()
@@ -106,21 +136,23 @@ class Process:
         self._ends()
 
     def _send_and_wait(self, sent: bytes) -> str:
-        """Sends lines, of which the last prints the mark, and answers what is printed before it."""
+        """Send a line, and the one that prints the mark. Return what is printed before that."""
         self.left -= len(sent)
         wanted = (self._mark + "\n").encode()
         try:
-            printed = self._exchange(sent, wanted)
+            return self._exchange(sent, wanted)[: -len(wanted)].decode()
+        except UnicodeDecodeError as error:
+            self._ends()
+            raise ProgramError(f"the program answered no UTF-8: {error.reason}") from None
         except BaseException:
             self._ends()
             raise
-        return printed[: -len(wanted)].decode()
 
     def _exchange(self, sent: bytes, wanted: bytes) -> bytearray:
-        """Writes and reads until the bytes that are wanted were read last."""
+        """Write and read until the bytes that are wanted were read last."""
         stdin, stdout = self._process.stdin, self._process.stdout
-        if not self._ends.alive or stdin is None or stdout is None:
-            raise ProgramError("the store is closed")
+        self.expect_open()
+        assert stdin is not None and stdout is not None
         deadline, printed, unsent = time.monotonic() + self.timeout, bytearray(), memoryview(sent)
         with selectors.DefaultSelector() as selector:
             selector.register(stdout, selectors.EVENT_READ)
@@ -139,7 +171,7 @@ class Process:
         return printed
 
     def _read(self, printed: bytearray) -> None:
-        """Reads what there is."""
+        """Read what there is."""
         assert self._process.stdout is not None
         got: Optional[bytes] = self._process.stdout.read(1 << 16)
         if got == b"":
@@ -147,7 +179,7 @@ class Process:
         printed += got or b""
 
     def _write(self, unsent: memoryview) -> int:
-        """Writes what fits."""
+        """Write what fits. Return how much that is."""
         assert self._process.stdin is not None
         try:
             return self._process.stdin.write(unsent[: 1 << 16]) or 0
@@ -155,11 +187,12 @@ class Process:
             raise self._ended() from None
 
     def _ended(self) -> ProgramError:
-        """That the program has ended, and what it said."""
+        """Return the error that the program has ended, with what it said."""
         assert self._process.stderr is not None
         try:
             self._process.wait(self.timeout)
         except subprocess.TimeoutExpired:
             return ProgramError("the program reads and writes no more")
         said = self._process.stderr.read() or b""
-        return ProgramError(f"the program has ended: {said.decode(errors='replace').strip()}", said.decode(errors="replace"))
+        text = said.decode(errors="replace")
+        return ProgramError(f"the program has ended: {text.strip()}", text)

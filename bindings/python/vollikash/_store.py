@@ -1,66 +1,41 @@
-"""Stores and sessions, by a program that runs the lines of the shell."""
+"""Stores, by a program that runs the lines of the shell."""
+import contextlib
 import os
-import re
-import threading
 from types import TracebackType
-from typing import Collection, Iterator, List, Mapping, NoReturn, Optional, Sequence, Tuple, Type, Union
+from typing import (
+    TYPE_CHECKING, Callable, Collection, Iterable, Iterator, List, Mapping, Optional, Sequence,
+    Type, Union,
+)
 
-from ._files import Bytes, ChangesetError, Code
-from ._lines import Report, Value, read_report, read_rows, read_text, spelled, spelled_name
-from ._process import Process, ProgramError
+from . import _exchange
+from ._asking import TIMEOUT, Asker
+from ._deciding import Decider, Handler, PendingConflict, decided
+from ._edits import Edits, Row, TableEdits, refusal
+from ._errors import Code, ConflictError, ProgramError, StoreError
+from ._files import Bytes, as_bytes, invert
+from ._lines import (
+    CHOICES, Choice, Report, is_one_line, read_nothing, read_report, read_rows, spelled,
+    spelled_name,
+)
+from ._process import LONGEST_FILE
+from ._schema import Schema
+from ._session import Session
+from ._undo import UndoStack
+from ._values import Value, shown
 
-_REFUSED = re.compile(r"error (?P<number>[0-9]+) (?P<name>[A-Za-z]+)(?: (?P<rest>.*))?\n", re.DOTALL)
+if TYPE_CHECKING:
+    import sqlite3
 
-_CHOICES = ("omit", "replace", "abort")
+# What a conflict of the changeset of edits is the error of.
+_REFUSALS = {
+    "conflict": Code.KEY_TAKEN, "notfound": Code.NO_ROW, "constraint": Code.NOT_NULL,
+}
 
-# The bytes of lines that are kept for the session's own lines, so that its changeset can be read
-# and undone when the program takes no more edits.
-_KEPT = 4096
-
-# The seconds that a line may take.
-TIMEOUT = 60.0
-
-
-class StoreError(Exception):
-    """A call was refused. It has changed nothing, and the store can be used.
-
-    `number` and `name` are those of docs/ERRORS.md. `detail` is the rest of the error line, such as
-    the index of a table.
-    """
-
-    def __init__(self, number: int, name: str, detail: str = "") -> None:
-        super().__init__(f"error {number} {name} {detail}".rstrip())
-        self.number = number
-        self.name = name
-        self.detail = detail
-
-    def __reduce__(self) -> Tuple[Type["StoreError"], Tuple[int, str, str]]:
-        return type(self), (self.number, self.name, self.detail)
-
-
-class ConflictError(StoreError):
-    """An apply or a revert ended at a conflict, and has changed nothing."""
-
-    @property
-    def kind(self) -> str:
-        """The kind of the conflict: data, notfound, conflict or constraint."""
-        return self.detail.split(" ", 1)[0]
-
-    @property
-    def table(self) -> str:
-        """The table of the entry."""
-        return read_text(self.detail.split(" ", 1)[1])
-
-
-def _raise(number: int, name: str, rest: str) -> NoReturn:
-    """Raise the exception for an error line."""
-    if number == Code.NO_MEMORY:
-        raise MemoryError("the changeset program was refused memory")
-    if name in ("Abort", "Misuse"):
-        raise ConflictError(number, name, rest)
-    if number <= Code.DUPLICATE_KEY or number == Code.SCHEMA:
-        raise ChangesetError(Code(number), 1, int(rest))
-    raise StoreError(number, name, rest)
+# Why a long changeset is refused, and what can be done.
+_TOO_LONG = (
+    f"in memory and in a session a changeset has at most {LONGEST_FILE} bytes: close the session, "
+    "take a store in a file, or apply parts of it"
+)
 
 
 def _assigned(values: Mapping[str, Value], between: str) -> str:
@@ -70,11 +45,12 @@ def _assigned(values: Mapping[str, Value], between: str) -> str:
     return between.join(f"{spelled_name(name)}={spelled(value)}" for name, value in values.items())
 
 
-class Store:
+class Store(Asker):
     """A store in a file, or in memory for the path ":memory:". Made by `open`.
 
-    Several threads can share a store: a lock lets one call through at a time. Each call is one or
-    two lines of the shell.
+    Several threads can share a store: a lock lets one call or one transaction through at a time.
+    Each call is one or two lines of the shell. An edit with a text that no line can hold, and a
+    transaction, is the apply of a changeset.
 
     A refused call raises `StoreError`, `ConflictError` or `ChangesetError`, and changes nothing. A
     value or a name that no line can hold raises ValueError before anything is sent. If the program
@@ -86,42 +62,14 @@ class Store:
     sent.
     """
 
-    def __init__(self, path: Union[str, "os.PathLike[str]"], timeout: float = TIMEOUT) -> None:
-        self._lock = threading.RLock()
-        self._path = os.fspath(path)
-        self._timeout = timeout
-        self._has_session = False
-        self._process = self._start()
-
-    def _start(self) -> Process:
-        """Start the program."""
-        try:
-            return Process(self._path, self._timeout)
-        except ProgramError as error:
-            refused = _REFUSED.fullmatch(error.said)
-            if refused is None:
-                raise
-            _raise(int(refused["number"]), refused["name"], refused["rest"] or "")
-
-    def _make_room(self, lines: Sequence[str], kept: int) -> None:
-        """Start the program again if it takes no such lines any more, and if only the file matters.
-        """
-        if not self._process.fits(lines, kept):
-            self._run_anew()
-        if not self._process.fits(lines, kept):
-            raise StoreError(63, "ScriptTooLong")
-
-    def _run_anew(self) -> None:
-        """Start the program again, if only the file matters."""
-        if not self._has_session and self._path != ":memory:":
-            self._process.close()
-            self._process = self._start()
-
     def __enter__(self) -> "Store":
         return self
 
     def __exit__(
-        self, kind: Optional[Type[BaseException]], error: Optional[BaseException], trace: Optional[TracebackType]
+        self,
+        kind: Optional[Type[BaseException]],
+        error: Optional[BaseException],
+        trace: Optional[TracebackType],
     ) -> None:
         self.close()
 
@@ -130,58 +78,181 @@ class Store:
         with self._lock:
             self._process.close()
 
-    def _ask(self, *lines: str, kept: int = _KEPT) -> str:
-        """Return the reply to the last of some lines, or raise the error of the first that is
-        refused. Keeps bytes of lines.
-        """
-        with self._lock:
-            self._make_room(lines, kept)
-            printed = ""
-            for line in lines:
-                printed = self._process.ask(line)
-                refused = _REFUSED.fullmatch(printed)
-                if refused is not None:
-                    _raise(int(refused["number"]), refused["name"], refused["rest"] or "")
-            return printed
-
-    def create(self, table: str, columns: Sequence[str], key: Sequence[str], refuses: Collection[str] = ()) -> None:
+    def create(
+        self,
+        table: str,
+        columns: Sequence[str],
+        key: Sequence[str],
+        refuses: Collection[str] = (),
+        *,
+        exist_ok: bool = False,
+    ) -> None:
         """Create a table without rows: its columns, those of the key, and those that refuse None.
+
         Key columns refuse None anyway. A name in `refuses` that is not a column raises ValueError
-        before anything is sent.
+        before anything is sent. With `exist_ok` a table that exists with these columns is kept.
         """
-        names, marked = list(columns), list(refuses)
+        names, marked, keys = list(columns), list(refuses), list(key)
         for name in marked:
             if name not in names:
                 raise ValueError(f"refuses has {name!r}, which is no column's name")
-        named = ", ".join(spelled_name(column) + " NOT NULL" * (column in marked) for column in names)
-        keys = ", ".join(spelled_name(column) for column in key)
-        self._ask(f"CREATE TABLE {spelled_name(table)}({named}, PRIMARY KEY({keys}));")
+        named = ", ".join(spelled_name(name) + " NOT NULL" * (name in marked) for name in names)
+        key_names = ", ".join(map(spelled_name, keys))
+        schema = Schema(
+            tuple(names),
+            tuple(name for name in names if name in keys),
+            tuple(name for name in names if name in marked and name not in keys),
+        )
+        line = f"CREATE TABLE {spelled_name(table)}({named}, PRIMARY KEY({key_names}));"
+        with self._lock:
+            try:
+                self._ask(read_nothing, line)
+            except StoreError as error:
+                is_same = error.code == Code.TABLE_EXISTS and self._schemas.get(table) == schema
+                if not (exist_ok and is_same):
+                    raise
+            self._schemas[table] = schema
+
+    def tables(self) -> List[str]:
+        """Return the names of the tables, sorted by their bytes."""
+        with self._lock:
+            return sorted(self._schemas, key=str.encode)
+
+    def schema(self, table: str) -> Schema:
+        """Return the columns of a table, those of its key, and those outside it that refuse None.
+        """
+        with self._lock:
+            schema = self._schemas.get(table)
+        if schema is None:
+            raise refusal(Code.NO_TABLE)
+        return schema
 
     def insert(self, table: str, *values: Value) -> None:
         """Insert one row, with a value for each column."""
-        self._ask(f"INSERT INTO {spelled_name(table)} VALUES({', '.join(map(spelled, values))});")
+        with self._lock:
+            if self._edits is None and is_one_line(values):
+                row = ", ".join(map(spelled, values))
+                self._ask(read_nothing, f"INSERT INTO {spelled_name(table)} VALUES({row});")
+            else:
+                with self._edited(table) as edits:
+                    edits.insert(values)
+
+    def insert_many(self, table: str, rows: Iterable[Sequence[Value]]) -> None:
+        """Insert rows in one transaction. If one is refused, none is, and the error says which."""
+        with self._edited(table) as edits:
+            for number, row in enumerate(rows, 1):
+                try:
+                    edits.insert(row)
+                except StoreError as error:
+                    raise refusal(error.code, f"in row {number}") from None
+                except ValueError as error:
+                    raise ValueError(f"row {number}: {error}") from None
 
     def update(self, table: str, values: Mapping[str, Value], where: Mapping[str, Value]) -> None:
         """Set columns of the row whose key columns have the values of `where`."""
-        self._ask(f"UPDATE {spelled_name(table)} SET {_assigned(values, ', ')} WHERE {_assigned(where, ' AND ')};")
+        with self._lock:
+            if self._edits is None and is_one_line((*values.values(), *where.values())):
+                row, key = _assigned(values, ", "), _assigned(where, " AND ")
+                self._ask(read_nothing, f"UPDATE {spelled_name(table)} SET {row} WHERE {key};")
+            else:
+                with self._edited(table) as edits:
+                    edits.update(values, where)
 
     def delete(self, table: str, where: Mapping[str, Value]) -> None:
         """Delete the row whose key columns have the values of `where`."""
-        self._ask(f"DELETE FROM {spelled_name(table)} WHERE {_assigned(where, ' AND ')};")
+        with self._lock:
+            if self._edits is None and is_one_line(where.values()):
+                key = _assigned(where, " AND ")
+                self._ask(read_nothing, f"DELETE FROM {spelled_name(table)} WHERE {key};")
+            else:
+                with self._edited(table) as edits:
+                    edits.delete(where)
 
-    def rows(self, table: str) -> Iterator[Tuple[Value, ...]]:
+    def rows(self, table: str) -> Iterator[Row]:
         """Return an iterator over the current rows of a table, by the bytes of their keys."""
-        return read_rows(self._ask(f"SELECT * FROM {spelled_name(table)};"))
+        with self._lock:
+            if self._edits is None:
+                return self._select(table)
+            return iter(list(self._edits.table(table).rows()))
+
+    def get(self, table: str, *key: Value) -> Optional[Row]:
+        """Return the row of a key, or None. The values of the key are in the order of its columns.
+
+        The program prints all rows for that.
+        """
+        with self._lock:
+            edits = self._edits or Edits(self.schema, self._select)
+            return edits.table(table).get(key)
+
+    def _select(self, table: str) -> Iterator[Row]:
+        """Return an iterator over the rows of a table as they are without a transaction."""
+        return read_rows(self._ask_at_once(str, f"SELECT * FROM {spelled_name(table)};"))
+
+    @contextlib.contextmanager
+    def transaction(self) -> Iterator[None]:
+        """Carry out the edits of the `with` block in one transaction at its end.
+
+        If the block raises an exception, none is carried out. An edit that needs a row to exist or
+        not to exist may be refused only at the end of the block. Then all of them are. In the block
+        `rows` and `get` see its edits. Other calls raise RuntimeError.
+        """
+        with self._lock:
+            self._expect_no_transaction()
+            self._edits = edits = Edits(self.schema, self._select)
+            try:
+                yield
+            finally:
+                self._edits = None
+            self._carry_out(edits)
+
+    @contextlib.contextmanager
+    def _edited(self, table: str) -> Iterator[TableEdits]:
+        """Yield the edits of a table in the open transaction, or in one of the block."""
+        with self._lock:
+            if self._edits is not None:
+                yield self._edits.table(table)
+                return
+            edits = Edits(self.schema, self._select)
+            yield edits.table(table)
+            self._carry_out(edits)
+
+    def _carry_out(self, edits: Edits) -> None:
+        """Apply the changeset of edits."""
+        file = edits.to_bytes()
+        if not file:
+            return
+        try:
+            report = self.apply(file, data="replace")
+        except ConflictError as error:
+            raise refusal(_REFUSALS[error.kind], self._culprit(file)) from None
+        if report.skipped:
+            raise ProgramError("the file has other tables than when the store was opened")
+
+    def _culprit(self, file: bytes) -> str:
+        """Return the table and the key of the first edit that is refused, as text."""
+        found: List[str] = []
+
+        def note(conflict: PendingConflict) -> Choice:
+            if conflict.kind == "data":
+                return "replace"
+            change = conflict.change
+            found.append(f"in table {shown(change.table)}, key {change.key!r:.80}")
+            return "abort"
+
+        with contextlib.suppress(ConflictError):
+            decided(file, self._schemas, self._select, Decider(note, False))
+        return "".join(found)
 
     def apply(
         self,
         file: Bytes,
         *,
-        data: str = "abort",
-        notfound: str = "abort",
-        conflict: str = "abort",
-        constraint: str = "abort",
+        data: Choice = "abort",
+        notfound: Choice = "abort",
+        conflict: Choice = "abort",
+        constraint: Choice = "abort",
         ignore_noop: bool = False,
+        on_conflict: Optional[Handler] = None,
     ) -> Report:
         """Apply a changeset in one transaction, and return a report.
 
@@ -191,89 +262,101 @@ class Store:
         replaced. "abort", and "replace" where it is not possible, raise `ConflictError`, and
         nothing is changed. With `ignore_noop` an entry that has a conflict and would change nothing
         is ignored. docs/COMMAND.md has the details.
+
+        With `on_conflict` that function is called in place of these choices, once for each conflict
+        in the order of the file, with a `PendingConflict`. It returns the choice. Nothing is
+        written before its last call.
         """
-        choices = {"data": data, "notfound": notfound, "conflict": conflict, "constraint": constraint}
+        choices = {
+            "data": data, "notfound": notfound, "conflict": conflict, "constraint": constraint
+        }
         for kind, choice in choices.items():
-            if choice not in _CHOICES:
-                raise ValueError(f"{kind} is one of {', '.join(_CHOICES)}, and not {choice!r}")
-        said = " ".join(f"{kind}={choice}" for kind, choice in choices.items()) + (" noop=ignore" if ignore_noop else "")
-        return read_report(self._ask(f".load f {bytes(file).hex()}", f".apply f {said}"))
+            if choice not in CHOICES:
+                raise ValueError(f"{kind} is one of {', '.join(CHOICES)}, and not {choice!r}")
+            if on_conflict is not None and choice != "abort":
+                raise ValueError(f"{kind} is chosen, and on_conflict too")
+        if on_conflict is not None:
+            return self._apply_decided(as_bytes(file), on_conflict, ignore_noop)
+        words = [f"{kind}={choice}" for kind, choice in choices.items()]
+        line = " ".join([".apply f", *words, *["noop=ignore"] * ignore_noop])
+        options = [f"--{word}" for word in words] + ["--ignore-noop"] * ignore_noop
+        given = as_bytes(file)
+        return self._apply(given, line, lambda: self._apply_by_command(given, options))
+
+    def _apply_decided(self, file: bytes, handler: Handler, ignore_noop: bool) -> Report:
+        """Apply a changeset whose conflicts a function decides."""
+        with self._lock:
+            self._expect_no_transaction()
+            decider = Decider(handler, ignore_noop)
+            kept = decided(file, self._schemas, self._select, decider)
+            report = self.apply(
+                kept, data="replace", conflict="replace", ignore_noop=ignore_noop
+            )
+            return report._replace(conflicts=decider.conflicts, skipped=decider.skipped)
+
+    def _apply(self, file: bytes, line: str, by_command: Callable[[], Report]) -> Report:
+        """Apply a changeset by a line. If it is too long for one, apply it while the store is
+        closed.
+        """
+        with self._lock:
+            self._expect_no_transaction()
+            if len(file) <= LONGEST_FILE:
+                return self._ask(read_report, f".load f {file.hex()}", line)
+            if self._path == ":memory:" or self._has_session:
+                raise refusal(Code.SCRIPT_TOO_LONG, _TOO_LONG)
+            self._process.expect_open()
+            self._process.close()
+            try:
+                return by_command()
+            finally:
+                self._process = self._start()
 
     def revert(self, file: Bytes) -> Report:
         """Apply the inverse of a changeset. A conflict raises `ConflictError`, and nothing is
         changed.
         """
-        return read_report(self._ask(f".load f {bytes(file).hex()}", ".revert f"))
+        given = as_bytes(file)
+        return self._apply(given, ".revert f", lambda: self._apply_by_command(invert(given), []))
 
-    def session(self, *tables: str) -> "Session":
+    def load_from(self, connection: "sqlite3.Connection", table: str) -> None:
+        """Copy a table of an ordinary SQLite database into the store, in one transaction.
+
+        The table is created, with its primary key and its NOT NULL columns, if the store does not
+        have it. A float, and a table without a primary key, raise ValueError, and nothing is
+        copied.
+        """
+        schema = _exchange.read_schema(connection, table)
+        rows = list(_exchange.read_rows(connection, table, schema.columns))
+        with self._lock:
+            self.create(table, *schema, exist_ok=True)
+            self.insert_many(table, rows)
+
+    def save_to(self, connection: "sqlite3.Connection", table: str) -> None:
+        """Copy a table into an ordinary SQLite database, in one transaction.
+
+        The table is created, without types, if the database does not have it.
+        """
+        schema = self.schema(table)
+        _exchange.write_rows(connection, table, schema, self.rows(table))
+
+    def undo_stack(
+        self,
+        *tables: str,
+        limit: int = 100,
+        path: Optional[Union[str, "os.PathLike[str]"]] = None,
+    ) -> UndoStack:
+        """Return a stack of the last actions on some tables, which can be undone and done again.
+
+        It has at most `limit` actions of each kind. If a path is given, they are kept in that file,
+        and read from it if it exists.
+        """
+        return UndoStack(self, tables, limit, path)
+
+    def session(self, *tables: str) -> Session:
         """Open a session that records these tables. There is one at a time: a second one raises
         StoreError.
         """
         return Session(self, tables)
-
-
-class Session:
-    """The changes of the attached tables of a store since they were attached. Made by
-    `Store.session`.
-
-    While a session is open, it records each call of the store.
-    """
-
-    def __init__(self, store: Store, tables: Sequence[str]) -> None:
-        self._store = store
-        names = [spelled_name(table) for table in tables]
-        with store._lock:
-            if not store._process.has_half():
-                store._run_anew()
-            store._ask(".session open")
-            store._has_session = True
-        try:
-            for name in names:
-                store._ask(f".session attach {name}")
-        except BaseException:
-            self._forget()
-            raise
-
-    def __enter__(self) -> "Session":
-        return self
-
-    def __exit__(
-        self, kind: Optional[Type[BaseException]], error: Optional[BaseException], trace: Optional[TracebackType]
-    ) -> None:
-        self._forget()
-
-    def _forget(self) -> None:
-        """Close the session, if the store still has it."""
-        try:
-            self.close()
-        except (ProgramError, StoreError):
-            pass
-
-    def attach(self, table: str) -> None:
-        """Attach one more table."""
-        self._store._ask(f".session attach {spelled_name(table)}")
-
-    def changeset(self) -> bytes:
-        """Return the changeset file of the net changes of the attached tables."""
-        return bytes.fromhex(self._store._ask(".session changeset c", ".hex c", kept=0).strip())
-
-    def is_empty(self) -> bool:
-        """Return whether no row of the attached tables was written."""
-        return self._store._ask(".session isempty", kept=0) == "1\n"
-
-    def undo(self) -> Report:
-        """Restore the attached tables to their rows when they were attached."""
-        return read_report(self._store._ask(".session undo", kept=0))
-
-    def close(self) -> None:
-        """Close the session, and change no row."""
-        try:
-            self._store._ask(".session close", kept=0)
-        except StoreError as error:
-            # The program takes no more lines: the next one starts it again, without the session.
-            if error.name != "ScriptTooLong":
-                raise
-        self._store._has_session = False
 
 
 def open(path: Union[str, "os.PathLike[str]"], *, timeout: float = TIMEOUT) -> Store:

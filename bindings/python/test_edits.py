@@ -1,0 +1,761 @@
+#!/usr/bin/env python3
+"""Tests of edits that are changesets, and of reads of a store: texts with line feeds, many rows,
+transactions, schemas and single rows. The program is the one that is built.
+
+usage: bindings/python/test_edits.py [PROGRAM]
+"""
+import contextlib
+import itertools
+import os
+import pathlib
+import random
+import sqlite3
+import subprocess
+import sys
+import tempfile
+import threading
+import time
+import unittest
+
+import vollikash
+from vollikash import UNDEFINED, ChangesetError, ConflictError, Schema, StoreError
+
+HERE = pathlib.Path(__file__).resolve().parent
+PROGRAM = HERE.parents[1] / "crates/changeset/out/changeset"
+sys.path.insert(0, str(HERE.parents[1] / "tests"))
+
+from support import model, reader, stores  # noqa: E402
+from support.making import Maker  # noqa: E402
+
+# Tables of a store: the columns, those of the key, and those outside it that refuse None.
+SCHEMAS = {
+    "t": Schema(("a", "b"), ("a",), ()),
+    "u": Schema(("a", "b", "c"), ("a", "c"), ("b",)),
+    "k": Schema(("a",), ("a",), ()),
+}
+
+# The few values of made-up edits. A tilde becomes a line feed in one of two stores.
+VALUES = (0, 1, -1, "x", "x~", "~", "1", b"1", None)
+
+# How many seeds are tried, and how many edits of each.
+SEEDS, EDITS = 25, 40
+
+
+def with_feeds(value):
+    """A value with line feeds for its tildes, in whatever it is."""
+    if isinstance(value, str):
+        return value.replace("~", "\n")
+    if isinstance(value, dict):
+        return {name: with_feeds(one) for name, one in value.items()}
+    return tuple(map(with_feeds, value)) if isinstance(value, tuple) else value
+
+
+def made_up_edit(chance):
+    """A method of a store, a table and arguments, which may be refused."""
+    table = chance.choice(list(SCHEMAS))
+    schema = SCHEMAS[table]
+    row = dict(zip(schema.columns, (chance.choice(VALUES) for _ in schema.columns)))
+    where = {name: chance.choice(VALUES[:6]) for name in schema.key}
+    if chance.random() < 0.03:
+        where = chance.choice(({"a": 1, "z": 1}, {"b": 1}, {**where, schema.key[0]: None}))
+    method = chance.choice(("insert", "insert", "insert", "update", "update", "delete"))
+    if method == "insert":
+        values = tuple(row.values())
+        return method, table, *(values if chance.random() < 0.95 else values[:-1])
+    if method == "delete":
+        return method, table, where
+    names = chance.sample(schema.columns, chance.randint(1, len(schema.columns)))
+    values = {name: row[name] for name in names}
+    return method, table, values if chance.random() < 0.97 else {"z": "~"}, where
+
+
+def made(store, edit):
+    """Makes an edit. Returns the name of the error for which it is refused, or none."""
+    method, *arguments = edit
+    try:
+        getattr(store, method)(*arguments)
+    except StoreError as error:
+        return error.name
+    return None
+
+
+def rows_of(store):
+    """The rows of each table, in no order."""
+    return {table: set(store.rows(table)) for table in SCHEMAS}
+
+
+class Folder(unittest.TestCase):
+    """A folder for each test, with stores."""
+
+    def setUp(self):
+        folder = tempfile.TemporaryDirectory()
+        self.addCleanup(folder.cleanup)
+        self.folder = pathlib.Path(folder.name)
+
+    def store(self, path=":memory:"):
+        """An open store with the tables."""
+        store = vollikash.open(path)
+        self.addCleanup(store.close)
+        for name, schema in SCHEMAS.items():
+            store.create(name, *schema)
+        return store
+
+    def expect(self, name, call, *arguments):
+        """Expect that a call is refused by an error of this name."""
+        with self.subTest(name, arguments=arguments), self.assertRaises(StoreError) as caught:
+            call(*arguments)
+        self.assertEqual(caught.exception.name, name)
+
+
+class Texts(Folder):
+    """Every text can be stored, edited and read."""
+
+    def test_line_feeds(self):
+        with self.store() as store:
+            store.insert("t", "a\nb", "\n")
+            store.insert("t", 1, "one\ntwo\n\nfour\n")
+            store.insert("t", "zero\0", "\0\n\r\t'\"")
+            store.update("t", {"b": "\n\n"}, where={"a": 1})
+            store.update("t", {"b": 7}, where={"a": "a\nb"})
+            store.update("t", {"a": "moved\n"}, where={"a": "zero\0"})
+            store.insert("t", "gone\n", None)
+            store.delete("t", where={"a": "gone\n"})
+            self.assertEqual(
+                set(store.rows("t")), {(1, "\n\n"), ("a\nb", 7), ("moved\n", "\0\n\r\t'\"")}
+            )
+            self.assertEqual(store.get("t", "a\nb"), ("a\nb", 7))
+
+    def test_refusals(self):
+        """They are those of edits without line feeds, in the same order."""
+        with self.store() as store:
+            store.insert("t", 1, "\n")
+            store.insert("u", 1, "\n", 2)
+            self.expect("KeyTaken", store.insert, "t", 1, "x\n")
+            self.expect("NoTable", store.insert, "v", "\n")
+            self.expect("RowWidth", store.insert, "t", "\n")
+            self.expect("NullInKey", store.insert, "t", None, "\n")
+            self.expect("NotNull", store.insert, "u", 1, None, "\n")
+            self.expect("NotNull", store.update, "u", {"b": None, "c": "\n"}, {"a": 1, "c": 2})
+            self.expect("NoRow", store.update, "t", {"b": "\n"}, {"a": 2})
+            self.expect("NoRow", store.update, "t", {"a": "\n"}, {"a": 2})
+            self.expect("NoRow", store.delete, "t", {"a": "\n"})
+            self.expect("UnknownColumn", store.update, "t", {"z": "\n"}, {"a": 1})
+            self.expect("UnknownColumn", store.update, "t", {"b": "\n"}, {"b": 1})
+            self.expect("UnknownColumn", store.delete, "t", {"a": 1, "b": "\n"})
+            self.expect("NullInKey", store.update, "t", {"b": "\n"}, {"a": None})
+            store.insert("t", 2, 2)
+            self.expect("KeyTaken", store.update, "t", {"a": 2, "b": "\n"}, {"a": 1})
+            for value in (1.5, True, 1 << 63, "\ud800", [1]):
+                with self.subTest(value=value), self.assertRaises(ValueError):
+                    store.insert("t", "\n", value)
+            self.assertEqual(set(store.rows("t")), {(1, "\n"), (2, 2)})
+
+    def test_each_edit(self):
+        """Edits with line feeds do what the same edits without do."""
+        for seed in range(SEEDS):
+            chance = random.Random(seed)
+            with self.subTest(seed), self.store() as plain, self.store() as fed:
+                for _ in range(EDITS):
+                    edit = made_up_edit(chance)
+                    self.assertEqual(made(fed, with_feeds(edit)), made(plain, edit), edit)
+                rows = {name: set(map(with_feeds, rows)) for name, rows in rows_of(plain).items()}
+                self.assertEqual(rows_of(fed), rows)
+
+    def test_session(self):
+        """A session records them."""
+        with self.store(self.folder / "store") as store:
+            store.insert("t", 1, "before\n")
+            with store.session("t") as session:
+                store.insert("t", 2, "new\n")
+                store.update("t", {"b": "after\n"}, where={"a": 1})
+                changes = session.changeset()
+                self.assertEqual(
+                    [(change.op, change.old, change.new) for change in vollikash.changes(changes)],
+                    [("insert", None, (2, "new\n")),
+                     ("update", (1, "before\n"), (vollikash.UNDEFINED, "after\n"))],
+                )
+                session.undo()
+            self.assertEqual(list(store.rows("t")), [(1, "before\n")])
+
+    def test_names(self):
+        """No line can make a table with a line feed in a name."""
+        with self.store() as store:
+            for name in ("a\nb", "\n"):
+                with self.assertRaises(ValueError):
+                    store.create(name, ["a"], key=["a"])
+                with self.assertRaises(ValueError):
+                    store.create("v", ["a", name], key=["a"])
+            self.assertEqual(store.tables(), ["k", "t", "u"])
+
+
+class Reads(Folder):
+    """Tables, schemas and single rows."""
+
+    def test_schemas(self):
+        path = self.folder / "store"
+        odd = 'a "b"', ("é", "'", 'x"y'), ("'", "é"), ('x"y',)
+        with self.store(path) as store:
+            store.create(odd[0], odd[1], key=odd[2], refuses=(*odd[3], "'"))
+        for target in (path, str(path)):
+            with vollikash.open(target) as store:
+                self.assertEqual(store.tables(), ['a "b"', "k", "t", "u"])
+                for name, schema in SCHEMAS.items():
+                    self.assertEqual(store.schema(name), schema)
+                self.assertEqual(store.schema(odd[0]), (odd[1], ("é", "'"), ('x"y',)))
+                self.expect("NoTable", store.schema, "v")
+        with vollikash.open(":memory:") as store:
+            self.assertEqual(store.tables(), [])
+            store.create("b", ["x"], key=["x"])
+            store.create("A", *SCHEMAS["u"])
+            self.assertEqual((store.tables(), store.schema("A")), (["A", "b"], SCHEMAS["u"]))
+
+    def test_many_columns(self):
+        columns = [f"column {number}" for number in range(300)]
+        with vollikash.open(self.folder / "store") as store:
+            store.create("n" * 300, columns, key=columns[200:], refuses=columns[:100])
+        with vollikash.open(self.folder / "store") as store:
+            schema = store.schema("n" * 300)
+        self.assertEqual(schema, (tuple(columns), tuple(columns[200:]), tuple(columns[:100])))
+
+    def test_exist_ok(self):
+        with self.store(self.folder / "store") as store:
+            store.insert("t", 1, 2)
+        with vollikash.open(self.folder / "store") as store:
+            for name, schema in SCHEMAS.items():
+                store.create(name, *schema, exist_ok=True)
+            store.create("u", ["a", "b", "c"], key=["c", "a"], refuses=["b", "a"], exist_ok=True)
+            for columns, key, refuses in (
+                (("a", "b"), ("a",), ("b",)), (("a", "b"), ("b",), ()), (("a", "c"), ("a",), ()),
+                (("b", "a"), ("a",), ()), (("a",), ("a",), ()),
+            ):
+                with self.subTest(columns=columns), self.assertRaises(StoreError) as caught:
+                    store.create("t", columns, key, refuses, exist_ok=True)
+                self.assertEqual(caught.exception.name, "TableExists")
+            self.expect("TableExists", store.create, "t", ["a", "b"], ["a"])
+            store.create("v", ["a"], key=["a"], exist_ok=True)
+            self.assertEqual(list(store.rows("t")), [(1, 2)])
+
+    def test_get(self):
+        with self.store() as store:
+            store.insert("u", 1, "x", b"1")
+            store.insert("u", 1, "y", "1")
+            self.assertEqual(store.get("u", 1, "1"), (1, "y", "1"))
+            self.assertEqual(store.get("u", 1, bytearray(b"1")), (1, "x", b"1"))
+            self.assertIsNone(store.get("u", "1", 1))
+            self.expect("NoTable", store.get, "v", 1)
+            for key in ((1,), (1, 2, 3), (), (1, 1.0), (True, "1")):
+                with self.subTest(key=key), self.assertRaises(ValueError):
+                    store.get("u", *key)
+
+    def test_programs_that_stopped(self):
+        """What a killed program has left is read by the next one first."""
+        path = self.folder / "store"
+        store = self.store(path)
+        store.insert("t", 1, "x")
+        os.kill(store._process._process.pid, 9)
+        store.close()
+        with vollikash.open(path) as store:
+            self.assertEqual((store.tables(), list(store.rows("t"))), (["k", "t", "u"], [(1, "x")]))
+        self.assertEqual([name for name in os.listdir(self.folder) if name.endswith("-shm")], [])
+
+    def test_other_files(self):
+        """A file that is no store is refused as before."""
+        for content in (b"", b"text" * 999):
+            path = self.folder / "file"
+            path.write_bytes(content)
+            with contextlib.suppress(StoreError), vollikash.open(path) as store:
+                self.assertEqual((content, store.tables()), (b"", []))
+        with sqlite3.connect(self.folder / "other") as base:
+            base.execute("CREATE TABLE rec(tab, keyb, rowb)")
+            base.execute("INSERT INTO rec VALUES('', 7, 'x')")
+        base.close()
+        self.expect("DamagedStore", vollikash.open, self.folder / "other")
+        with self.store(self.folder / "open"):
+            self.expect("StoreFault", vollikash.open, self.folder / "open")
+
+
+class Transactions(Folder):
+    """Edits that are carried out together."""
+
+    def test_block(self):
+        with self.store(self.folder / "store") as store:
+            store.insert("t", 1, "x")
+            with store.transaction():
+                store.insert("t", 2, "y\n")
+                store.update("t", {"b": "z"}, where={"a": 1})
+                store.insert("k", 1)
+                self.assertEqual(list(store.rows("t")), [(1, "z"), (2, "y\n")])
+                self.assertEqual((store.get("t", 1), store.get("t", 3)), ((1, "z"), None))
+            self.assertEqual(list(store.rows("t")), [(1, "z"), (2, "y\n")])
+            self.assertEqual(list(store.rows("k")), [(1,)])
+
+    def test_exceptions(self):
+        """Nothing is carried out."""
+        with self.store() as store:
+            with self.assertRaises(KeyError), store.transaction():
+                store.insert("t", 1, "x")
+                raise KeyError
+            with self.assertRaises(StoreError), store.transaction():
+                store.insert("t", 1, "x")
+                store.insert("t", 1, "y")
+            self.assertEqual(list(store.rows("t")), [])
+            store.insert("t", 1, "x")
+            with store.transaction():
+                store.insert("t", 2, "y")
+                self.expect("KeyTaken", store.insert, "t", 2, "z")
+            self.assertEqual(list(store.rows("t")), [(1, "x"), (2, "y")])
+
+    def test_each_block(self):
+        """A block does what its edits do one by one, or nothing if one is refused."""
+        refused = 0
+        for seed in range(8 * SEEDS):
+            chance = random.Random(seed)
+            before = [made_up_edit(chance) for _ in range(12)]
+            before = [edit for edit in before if edit[0] == "insert"]
+            edits = [made_up_edit(chance) for _ in range(chance.randint(1, 5))]
+            with self.subTest(seed), self.store() as single, self.store() as block:
+                for edit in before:
+                    self.assertEqual(made(block, edit), made(single, edit))
+                former = rows_of(block)
+                wanted = next(filter(None, (made(single, edit) for edit in edits)), None)
+                self.assertEqual(self.ended(block, edits, single), wanted is None)
+                self.assertEqual(rows_of(block), former if wanted else rows_of(single))
+                refused += wanted is not None
+        self.assertGreater(refused, SEEDS)
+        self.assertLess(refused, 7 * SEEDS)
+
+    def ended(self, store, edits, single):
+        """Makes edits in a transaction. Returns whether it was carried out."""
+        try:
+            with store.transaction():
+                for method, *arguments in edits:
+                    getattr(store, method)(*arguments)
+                seen = rows_of(store)
+        except StoreError:
+            return False
+        self.assertEqual(seen, rows_of(single))
+        return True
+
+    def test_what_is_not_in_a_block(self):
+        with self.store() as store:
+            with store.transaction():
+                for call in (
+                    lambda: store.create("v", ["a"], key=["a"]), lambda: store.apply(b""),
+                    lambda: store.revert(b""), lambda: store.session("t"),
+                    lambda: store.transaction().__enter__(), lambda: store.apply(bytes(9_000_000)),
+                ):
+                    with self.assertRaises(RuntimeError):
+                        call()
+                store.insert("t", 1, 1)
+            self.assertEqual(list(store.rows("t")), [(1, 1)])
+
+    def test_session(self):
+        with self.store() as store, store.session("t", "k") as session:
+            with store.transaction():
+                store.insert("t", 1, "x")
+                store.insert("k", 2)
+            self.assertEqual(vollikash.stat(session.changeset()), {"t": (1, 0, 0), "k": (1, 0, 0)})
+            session.undo()
+            self.assertEqual(rows_of(store), {"t": set(), "k": set(), "u": set()})
+
+    def test_threads(self):
+        """Another thread waits for the end of a block."""
+        with self.store() as store:
+            with store.transaction():
+                other = threading.Thread(target=store.insert, args=("t", 2, "other"))
+                other.start()
+                other.join(0.2)
+                self.assertTrue(other.is_alive())
+                store.insert("t", 1, "block")
+            other.join(60)
+            self.assertEqual(list(store.rows("t")), [(1, "block"), (2, "other")])
+
+
+class Stacks(Folder):
+    """Actions that are undone and done again."""
+
+    def test_actions(self):
+        with self.store(self.folder / "store") as store:
+            stack = store.undo_stack("t", "k")
+            with stack.action("add"):
+                store.insert("t", 1, "x\ny")
+                store.insert("k", 1)
+            with stack.action("change"):
+                store.update("t", {"b": 2}, where={"a": 1})
+            with stack.action("nothing"):
+                store.update("t", {"b": 2}, where={"a": 1})
+            self.assertEqual((stack.done, stack.undone), (["add", "change"], []))
+            self.assertEqual((stack.undo(), stack.undo()), ("change", "add"))
+            self.assertEqual((stack.can_undo, stack.can_redo), (False, True))
+            self.assertEqual(rows_of(store), {"t": set(), "k": set(), "u": set()})
+            self.assertEqual((stack.redo(), stack.undone), ("add", ["change"]))
+            self.assertEqual(rows_of(store), {"t": {(1, "x\ny")}, "k": {(1,)}, "u": set()})
+            with stack.action("other"):
+                store.insert("t", 2, 2)
+            self.assertEqual((stack.done, stack.undone), (["add", "other"], []))
+            with self.assertRaises(IndexError):
+                stack.redo()
+            stack.undo()
+            stack.undo()
+            with self.assertRaises(IndexError):
+                stack.undo()
+
+    def test_exceptions(self):
+        """What a block has done is undone. An action that has conflicts stays where it is."""
+        with self.store() as store:
+            stack = store.undo_stack("t")
+            with self.assertRaises(KeyError), stack.action("part"):
+                store.insert("t", 1, "x")
+                raise KeyError
+            self.assertEqual((list(store.rows("t")), stack.done), ([], []))
+            with stack.action("add"):
+                store.insert("t", 1, "x")
+            store.update("t", {"b": "y"}, where={"a": 1})
+            with self.assertRaises(ConflictError):
+                stack.undo()
+            self.assertEqual((stack.done, stack.undone), (["add"], []))
+            store.update("t", {"b": "x"}, where={"a": 1})
+            stack.undo()
+            store.insert("t", 1, "z")
+            with self.assertRaises(ConflictError):
+                stack.redo()
+            self.assertEqual((stack.done, stack.undone), ([], ["add"]))
+            self.expect("NoTable", store.undo_stack("v").action("x").__enter__)
+
+    def test_limit(self):
+        with self.store() as store:
+            stack = store.undo_stack("t", limit=3)
+            for key in range(5):
+                with stack.action(str(key)):
+                    store.insert("t", key, key)
+            self.assertEqual(stack.done, ["2", "3", "4"])
+            for limit in (0, -1):
+                with self.assertRaises(ValueError):
+                    store.undo_stack("t", limit=limit)
+
+    def test_files(self):
+        """The actions are kept over a restart."""
+        path, kept = self.folder / "store", self.folder / "actions"
+        with self.store(path) as store:
+            stack = store.undo_stack("t", path=kept)
+            for key in range(3):
+                with stack.action(f"é {key}"):
+                    store.insert("t", key, key)
+            stack.undo()
+        with vollikash.open(path) as store:
+            stack = store.undo_stack("t", path=str(kept))
+            self.assertEqual((stack.done, stack.undone), (["é 0", "é 1"], ["é 2"]))
+            stack.redo()
+            self.assertEqual([stack.undo() for _ in range(3)], ["é 2", "é 1", "é 0"])
+            self.assertEqual(list(store.rows("t")), [])
+            self.assertEqual(store.undo_stack("t", path=kept).undone, ["é 2", "é 1", "é 0"])
+            self.assertEqual(sorted(os.listdir(self.folder))[:2], ["actions", "store"])
+            for text in (
+                "", "[]", "{}", '{"done": [["x", "00"]], "undone": []}', '{"done": [[1, ""]]}',
+                '{"done": [["x", "zz"]], "undone": []}', '{"done": 1, "undone": 1}', "[" * 99999,
+            ):
+                kept.write_text(text)
+                with self.subTest(text[:40]), self.assertRaisesRegex(ValueError, "has no actions"):
+                    store.undo_stack("t", path=kept)
+
+    def test_changesets_for_sqlite(self):
+        with self.store() as store, store.session("u") as session:
+            store.insert("u", 1, 2, 3)
+            flags = [
+                next(vollikash.changes(session.changeset(for_sqlite=is_wanted))).flags
+                for is_wanted in (False, True)
+            ]
+            self.assertEqual(flags, [b"\x01\x00\x01", b"\x01\x00\x02"])
+
+
+class Asking(model.Applying):
+    """The model of an apply, with a choice for each conflict in turn."""
+
+    def __init__(self, tables, chance, noop):
+        super().__init__(tables, {b"noop": noop})
+        self.chance = chance
+
+    def ask(self, name, kind):
+        choice = choose(self.chance, kind.decode())
+        self.choices[kind] = choice.encode()
+        return super().ask(name, kind)
+
+
+def choose(chance, kind):
+    """A choice that mostly does not end the apply."""
+    if chance.random() < 0.05:
+        return chance.choice(("abort", "replace"))
+    return "omit" if kind in ("notfound", "constraint") else chance.choice(("omit", "replace"))
+
+
+def values_of(table):
+    """The rows of a table of the model, as values."""
+    return [tuple(stores.take_value(field, 0)[0] for field in row) for row in table.rows.values()]
+
+
+class Conflicts(Folder):
+    """Conflicts that a function decides."""
+
+    def filled(self, tables):
+        """A store with the tables of the model."""
+        store = vollikash.open(":memory:")
+        self.addCleanup(store.close)
+        for name, table in tables.items():
+            columns = [column.decode() for column in table.columns]
+            key = [column for column, flag in zip(columns, table.flags) if flag]
+            refuses = [column for column, mark in zip(columns, table.refuses) if mark]
+            store.create(name.decode(), columns, key, refuses)
+            store.insert_many(name.decode(), values_of(table))
+        return store
+
+    def tables(self, maker):
+        """Made-up tables of the model, with rows."""
+        tables = {}
+        for name, flags in maker.tables():
+            refuses = [bool(flag) or maker.is_one_in(3) for flag in flags]
+            columns = [b"c%d" % place for place in range(len(flags))]
+            table = model.Table(columns, list(map(bool, flags)), refuses)
+            for row in (tuple(maker.row(flags)) for _ in range(6)):
+                if not table.has_null(row):
+                    table.rows[table.key(row)] = row
+            tables[name] = table
+        return tables
+
+    def test_each_file(self):
+        """Reports and rows are those of the model, with another choice for each conflict."""
+        maker, asked, refused = Maker(random.Random("conflicts")), 0, 0
+        for number in range(8 * SEEDS):
+            tables = self.tables(maker)
+            file = reader.write(maker.changeset_of(tables))
+            noop = maker.pick((b"report", b"ignore"))
+            with self.subTest(number), self.filled(tables) as store:
+                wanted = self.wanted(tables, file, random.Random(number), noop)
+                chance, conflicts = random.Random(number), []
+
+                def decide(conflict):
+                    conflicts.append(conflict)
+                    return choose(chance, conflict.kind)
+
+                self.assertEqual(self.told(store, file, decide, noop == b"ignore"), wanted)
+                for name, table in tables.items():
+                    self.assertEqual(set(store.rows(name.decode())), set(values_of(table)))
+                asked += len(conflicts)
+                refused += isinstance(wanted, str)
+        self.assertGreater(asked, 100)
+        self.assertGreater(refused, 5)
+
+    def wanted(self, tables, file, chance, noop):
+        """What the model reports, as text, or why it refuses."""
+        try:
+            return Asking(tables, chance, noop).run(reader.Reader(file).groups())
+        except model.Refusal as refusal:
+            return refusal.line.decode()
+
+    def told(self, store, file, decide, ignore_noop):
+        """What the store reports, in the same way."""
+        try:
+            report = store.apply(file, on_conflict=decide, ignore_noop=ignore_noop)
+        except StoreError as error:
+            return str(error)
+        lines = [b"warning 17 skipped " + model.quoted(name.encode()) for name in report.skipped]
+        for conflict in report.conflicts:
+            kind, choice, table = map(str.encode, conflict)
+            parts = model.NUMBERS[kind], kind, choice, model.quoted(table)
+            lines.append(b"conflict %d %s %s %s" % parts)
+        if report.ignored:
+            lines.append(b"ignored %d" % report.ignored)
+        return [*lines, b"applied %d" % report.applied]
+
+    def test_what_is_asked(self):
+        with self.store() as store:
+            store.insert_many("t", [(1, "x"), (2, "y")])
+            store.insert("u", 1, 2, 3)
+            builder = vollikash.Builder()
+            builder.table("t", key=[True, False])
+            builder.table("u", key=[True, False, True])
+            builder.insert("t", 1, "new\n")
+            builder.delete("t", 3, "gone")
+            builder.update("t", old=(2, "other"), new=(UNDEFINED, "z"))
+            builder.update("u", old=(1, 4, 3), new=(UNDEFINED, None, UNDEFINED))
+            file, asked = builder.to_bytes(), []
+            choices = ["omit", "omit", "replace", "replace", "omit"]
+
+            def decide(conflict):
+                change = conflict.change
+                asked.append((conflict.kind, change.table, change.key, conflict.current))
+                self.assertEqual(store.get("t", 2), (2, "y"))
+                return choices[len(asked) - 1]
+
+            report = store.apply(file, on_conflict=decide)
+            self.assertEqual(asked, [
+                ("conflict", "t", (1,), (1, "x")), ("notfound", "t", (3,), None),
+                ("data", "t", (2,), (2, "y")), ("data", "u", (1, 3), (1, 2, 3)),
+                ("constraint", "u", (1, 3), (1, 2, 3)),
+            ])
+            self.assertEqual([conflict.choice for conflict in report.conflicts], choices)
+            self.assertEqual((report.applied, list(store.rows("t"))), (1, [(1, "x"), (2, "z")]))
+
+    def test_refusals(self):
+        """Nothing is written."""
+        with self.store() as store:
+            store.insert("t", 1, "x")
+            builder = vollikash.Builder()
+            builder.table("t", key=[True, False])
+            builder.insert("t", 2, "new")
+            builder.insert("t", 1, "y")
+            file = builder.to_bytes()
+            for handler, error in (
+                (lambda conflict: "abort", ConflictError), (lambda conflict: None, ValueError),
+                (lambda conflict: 1 // 0, ZeroDivisionError), (lambda: "omit", TypeError),
+            ):
+                with self.assertRaises(error):
+                    store.apply(file, on_conflict=handler)
+            with self.assertRaises(ValueError):
+                store.apply(file, on_conflict=lambda conflict: "omit", data="omit")
+            with self.assertRaises(ChangesetError):
+                store.apply(file[:-1], on_conflict=lambda conflict: "omit")
+            self.assertEqual(list(store.rows("t")), [(1, "x")])
+
+    def test_tables_that_are_not_known(self):
+        """Nothing is carried out that was not asked for."""
+        with self.store() as store:
+            store.insert("t", 1, "x")
+            del store._schemas["t"]
+            file = stores.header("t", 1, 0) + stores.insert(1, "y")
+            report = store.apply(file, on_conflict=lambda conflict: "replace")
+            self.assertEqual(report, ([], ["t"], 0, 0))
+            self.assertEqual(list(store.rows("t")), [(1, "x")])
+
+    def test_session(self):
+        """What was decided is recorded."""
+        with self.store() as store, store.session("t") as session:
+            file = vollikash.invert(b"".join((stores.header("t", 1, 0), stores.insert(1, "x"))))
+            store.apply(file, on_conflict=lambda conflict: "omit")
+            self.assertTrue(session.is_empty())
+            store.apply(vollikash.invert(file), on_conflict=lambda conflict: "omit")
+            self.assertFalse(session.is_empty())
+
+
+class Exchanges(Folder):
+    """Tables of ordinary SQLite databases."""
+
+    def database(self, *texts):
+        """An ordinary database in memory, with these statements run."""
+        base = sqlite3.connect(":memory:")
+        self.addCleanup(base.close)
+        base.executescript(";".join(texts))
+        return base
+
+    def test_there_and_back(self):
+        base = self.database(
+            'CREATE TABLE "a ""b"""(x TEXT, y INTEGER NOT NULL, z, PRIMARY KEY(y, x))',
+            """INSERT INTO "a ""b\""" VALUES('one' || char(10), 1, x'00ff'), ('', -5, NULL)""",
+        )
+        with self.store(self.folder / "store") as store:
+            store.load_from(base, 'a "b"')
+            self.assertEqual(store.schema('a "b"'), (("x", "y", "z"), ("x", "y"), ()))
+            rows = {("one\n", 1, b"\x00\xff"), ("", -5, None)}
+            self.assertEqual(set(store.rows('a "b"')), rows)
+            other = self.database()
+            store.save_to(other, 'a "b"')
+            self.assertEqual(set(other.execute('SELECT * FROM "a ""b"""')), rows)
+            self.assertFalse(other.in_transaction)
+            with self.assertRaises(sqlite3.IntegrityError):
+                store.save_to(other, 'a "b"')
+            self.expect("KeyTaken", store.load_from, base, 'a "b"')
+            self.expect("NoTable", store.save_to, other, "v")
+
+    def test_refusals(self):
+        """A float is refused by row and column, and nothing is made."""
+        base = self.database(
+            "CREATE TABLE f(a PRIMARY KEY, b, c)", "INSERT INTO f VALUES(1, 1, 1), (2, 2, 2.5)",
+            "CREATE TABLE g(a)", "CREATE TABLE n(a PRIMARY KEY)", "INSERT INTO n VALUES(NULL)",
+        )
+        with self.store() as store:
+            with self.assertRaisesRegex(ValueError, "table 'f', row 2, column 'c': a float"):
+                store.load_from(base, "f")
+            with self.assertRaisesRegex(ValueError, "table 'g': it has no primary key"):
+                store.load_from(base, "g")
+            with self.assertRaisesRegex(ValueError, "table 'nowhere': the database has no such"):
+                store.load_from(base, "nowhere")
+            self.assertEqual(store.tables(), ["k", "t", "u"])
+            self.expect("NullInKey", store.load_from, base, "n")
+
+    def test_many_rows(self):
+        base = self.database("CREATE TABLE m(a INTEGER PRIMARY KEY, b NOT NULL)")
+        rows = [(key, f"row {key}") for key in range(100_000)]
+        base.executemany("INSERT INTO m VALUES(?, ?)", rows)
+        with self.store(self.folder / "store") as store:
+            started = time.perf_counter()
+            store.load_from(base, "m")
+            other = self.database()
+            store.save_to(other, "m")
+            self.assertLess(time.perf_counter() - started, 60)
+            self.assertEqual(other.execute("SELECT * FROM m ORDER BY a").fetchall(), rows)
+
+
+class Sizes(Folder):
+    """Many rows, and long changesets."""
+
+    def test_insert_many(self):
+        with self.store(self.folder / "store") as store:
+            count = 100_000
+            started = time.perf_counter()
+            store.insert_many("t", ((key, f"row\n{key}") for key in range(count)))
+            self.assertLess(time.perf_counter() - started, 60)
+            self.assertEqual(sum(1 for _ in store.rows("t")), count)
+            self.expect("KeyTaken", store.insert_many, "t", [(count, 1), (0, 1)])
+            with self.assertRaisesRegex(StoreError, "33 KeyTaken in table 't', key \\(7,\\)$"):
+                store.insert_many("t", [(count, 1), (7, 1), (8, 1)])
+            with self.assertRaisesRegex(StoreError, "35 RowWidth in row 2$"):
+                store.insert_many("t", [(count, 1), (count + 1,)])
+            with self.assertRaisesRegex(ValueError, "row 2: table 't', column 2: a float"):
+                store.insert_many("t", [(count, 1), (count + 1, 1.5)])
+            self.expect("KeyTaken", store.insert_many, "t", [(count, 1), (count, 1)])
+            self.expect("RowWidth", store.insert_many, "t", [(count, 1), (count + 1,)])
+            with self.assertRaises(ValueError):
+                store.insert_many("t", [(count, 1.5)])
+            store.insert_many("t", [])
+            self.assertIsNone(store.get("t", count))
+
+    def test_long_changesets(self):
+        """One that no program takes as a line is applied by a command, and reverted."""
+        rows = [(key, os.urandom(1 << 20)) for key in range(20)]
+        with self.store(self.folder / "store") as store:
+            store.insert_many("t", rows)
+            self.assertEqual(list(store.rows("t")), rows)
+            builder = vollikash.Builder()
+            builder.table("t", key=[True, False])
+            for row in rows:
+                builder.delete("t", *row)
+            deletes = builder.to_bytes()
+            self.assertEqual(store.apply(deletes).applied, 20)
+            with self.assertRaises(ConflictError) as caught:
+                store.apply(deletes)
+            self.assertEqual((caught.exception.kind, caught.exception.table), ("notfound", "t"))
+            report = store.apply(deletes, notfound="omit")
+            self.assertEqual((len(report.conflicts), report.applied), (20, 0))
+            self.assertEqual(store.apply(deletes, ignore_noop=True).ignored, 20)
+            self.assertEqual(store.revert(deletes).applied, 20)
+            with self.assertRaises(ConflictError):
+                store.revert(deletes)
+            with self.assertRaises(ChangesetError):
+                store.apply(deletes[:-1])
+            self.assertEqual(list(store.rows("t")), rows)
+            with store.session("t"):
+                self.expect("ScriptTooLong", store.apply, deletes)
+            self.assertEqual(list(store.rows("t")), rows)
+            store.close()
+            with self.assertRaises(vollikash.ProgramError):
+                store.apply(deletes)
+        with self.store() as store:
+            self.expect("ScriptTooLong", store.apply, deletes)
+            self.expect("ScriptTooLong", store.insert_many, "t", rows)
+            self.assertEqual(list(store.rows("t")), [])
+
+
+if __name__ == "__main__":
+    if sys.argv[1:2] and not sys.argv[1].startswith("-"):
+        PROGRAM = pathlib.Path(sys.argv.pop(1)).resolve()
+    os.environ.setdefault("VOLLIKASH_PROGRAM", str(PROGRAM))
+    unittest.main()
