@@ -170,7 +170,8 @@ class TableEdits:
         absent = {key for key, (op, _) in self._edits.items() if op == _ABSENT}
         for row in self._rows(self._name) if absent else ():
             if self._key(self._spelled(row)) in absent:
-                raise refusal(Code.KEY_TAKEN)
+                key = tuple(row[place] for place in self._keys)
+                raise refusal(Code.KEY_TAKEN, f"in table {shown(self._name)}, key {key!r:.80}")
 
     def parts(self) -> Iterator[bytes]:
         """Yield the bytes of the table in a changeset, in parts."""

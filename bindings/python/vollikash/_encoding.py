@@ -132,9 +132,9 @@ class Encoder:
         name: str,
     ) -> List[bytes]:
         """Return the bytes of each field of the one record of an INSERT or a DELETE."""
+        fields = self._record(record, name)
         if other is not None:
             raise Unfit(f"it has two records, and not only `{name}`")
-        fields = self._record(record, name)
         if UNDEFINED in fields:
             raise Unfit("UNDEFINED outside an update", fields.index(UNDEFINED) + 1)
         return fields
@@ -176,7 +176,7 @@ class Encoder:
             if old[place] == UNDEFINED:
                 raise Unfit("UNDEFINED in a key column of `old`", place + 1)
             if new[place] != UNDEFINED:
-                raise Unfit("a key column of `new` is UNDEFINED", place + 1)
+                raise Unfit("a value in a key column of `new`, which has UNDEFINED there", place + 1)
         for place in self._others:
             if (old[place] == UNDEFINED) != (new[place] == UNDEFINED):
                 raise Unfit("UNDEFINED in only one of `old` and `new`", place + 1)

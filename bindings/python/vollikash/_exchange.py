@@ -1,4 +1,5 @@
 """Tables of ordinary SQLite databases, read and written by a connection of Python's `sqlite3`."""
+import contextlib
 from typing import TYPE_CHECKING, Iterable, Iterator, List, Tuple
 
 from ._edits import Row
@@ -40,6 +41,21 @@ def read_rows(
         yield tuple(row)
 
 
+@contextlib.contextmanager
+def _savepoint(connection: "sqlite3.Connection") -> Iterator[None]:
+    """Take back what the block does if it fails. A transaction that is open stays open."""
+    connection.execute("SAVEPOINT vollikash")
+    try:
+        yield
+    except BaseException:
+        # SQLite ends the transaction itself after some errors.
+        if connection.in_transaction:
+            connection.execute("ROLLBACK TO vollikash")
+            connection.execute("RELEASE vollikash")
+        raise
+    connection.execute("RELEASE vollikash")
+
+
 def write_rows(
     connection: "sqlite3.Connection", table: str, schema: Schema, rows: Iterable[Row]
 ) -> None:
@@ -48,7 +64,7 @@ def write_rows(
     declared: List[str] = [_quoted(name) + marks.get(name, "") for name in schema.columns]
     declared.append(f"PRIMARY KEY({', '.join(map(_quoted, schema.key))})")
     names, places = ", ".join(map(_quoted, schema.columns)), ", ".join("?" * len(schema.columns))
-    with connection:
+    with _savepoint(connection):
         connection.execute(f"CREATE TABLE IF NOT EXISTS {_quoted(table)}({', '.join(declared)})")
         insert = f"INSERT INTO {_quoted(table)}({names}) VALUES({places})"
         connection.executemany(insert, rows)

@@ -78,7 +78,7 @@ def spelled(value: Value) -> str:
     if isinstance(value, int) and not isinstance(value, bool):
         if not -(1 << 63) <= value < 1 << 63:
             raise ValueError(f"{value} has more than 64 bits")
-        return str(value)
+        return int.__repr__(value)
     raise ValueError(f"a value is an int of 64 bits, a str, bytes or None, and not {value!r}")
 
 

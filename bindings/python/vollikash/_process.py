@@ -195,4 +195,5 @@ class Process:
             return ProgramError("the program reads and writes no more")
         said = self._process.stderr.read() or b""
         text = said.decode(errors="replace")
-        return ProgramError(f"the program has ended: {text.strip()}", text)
+        why = text.strip() or f"exit status {self._process.returncode}"
+        return ProgramError(f"the program has ended: {why}", text)

@@ -45,6 +45,19 @@ def _assigned(values: Mapping[str, Value], between: str) -> str:
     return between.join(f"{spelled_name(name)}={spelled(value)}" for name, value in values.items())
 
 
+def _insert_each(edits: TableEdits, rows: Iterable[Sequence[Value]]) -> None:
+    """Insert rows. An error says which one is refused."""
+    for number, row in enumerate(rows, 1):
+        if isinstance(row, (str, bytes, Mapping)):
+            raise ValueError(f"row {number}: a row has its values in order, and is no {type(row).__name__}")
+        try:
+            edits.insert(row)
+        except StoreError as error:
+            raise refusal(error.code, f"in row {number}") from None
+        except ValueError as error:
+            raise ValueError(f"row {number}: {error}") from None
+
+
 class Store(Asker):
     """A store in a file, or in memory for the path ":memory:". Made by `open`.
 
@@ -93,6 +106,8 @@ class Store(Asker):
         before anything is sent. With `exist_ok` a table that exists with these columns is kept.
         """
         names, marked, keys = list(columns), list(refuses), list(key)
+        if not (names and keys):
+            raise refusal(Code.BAD_SCHEMA)
         for name in marked:
             if name not in names:
                 raise ValueError(f"refuses has {name!r}, which is no column's name")
@@ -140,13 +155,7 @@ class Store(Asker):
     def insert_many(self, table: str, rows: Iterable[Sequence[Value]]) -> None:
         """Insert rows in one transaction. If one is refused, none is, and the error says which."""
         with self._edited(table) as edits:
-            for number, row in enumerate(rows, 1):
-                try:
-                    edits.insert(row)
-                except StoreError as error:
-                    raise refusal(error.code, f"in row {number}") from None
-                except ValueError as error:
-                    raise ValueError(f"row {number}: {error}") from None
+            _insert_each(edits, rows)
 
     def update(self, table: str, values: Mapping[str, Value], where: Mapping[str, Value]) -> None:
         """Set columns of the row whose key columns have the values of `where`."""
@@ -302,14 +311,19 @@ class Store(Asker):
             self._expect_no_transaction()
             if len(file) <= LONGEST_FILE:
                 return self._ask(read_report, f".load f {file.hex()}", line)
-            if self._path == ":memory:" or self._has_session:
-                raise refusal(Code.SCRIPT_TOO_LONG, _TOO_LONG)
+            self._expect_fit(file)
             self._process.expect_open()
             self._process.close()
             try:
                 return by_command()
             finally:
                 self._process = self._start()
+
+    def _expect_fit(self, file: bytes) -> None:
+        """Raise the error of a changeset that is too long for this store as it is."""
+        is_kept = self._path == ":memory:" or self._has_session
+        if is_kept and len(file) > LONGEST_FILE:
+            raise refusal(Code.SCRIPT_TOO_LONG, _TOO_LONG)
 
     def revert(self, file: Bytes) -> Report:
         """Apply the inverse of a changeset. A conflict raises `ConflictError`, and nothing is
@@ -322,19 +336,23 @@ class Store(Asker):
         """Copy a table of an ordinary SQLite database into the store, in one transaction.
 
         The table is created, with its primary key and its NOT NULL columns, if the store does not
-        have it. A float, and a table without a primary key, raise ValueError, and nothing is
-        copied.
+        have it. Generated columns are left out. A float, and a table without a primary key, raise
+        ValueError, and nothing is copied.
         """
         schema = _exchange.read_schema(connection, table)
-        rows = list(_exchange.read_rows(connection, table, schema.columns))
+        edits = Edits(lambda name: schema, lambda name: iter(()))
+        _insert_each(edits.table(table), _exchange.read_rows(connection, table, schema.columns))
         with self._lock:
+            self._expect_no_transaction()
+            self._expect_fit(edits.to_bytes())
             self.create(table, *schema, exist_ok=True)
-            self.insert_many(table, rows)
+            self._carry_out(edits)
 
     def save_to(self, connection: "sqlite3.Connection", table: str) -> None:
         """Copy a table into an ordinary SQLite database, in one transaction.
 
-        The table is created, without types, if the database does not have it.
+        The table is created, without types, if the database does not have it. Else the rows are
+        added to it. A transaction that is open stays open.
         """
         schema = self.schema(table)
         _exchange.write_rows(connection, table, schema, self.rows(table))

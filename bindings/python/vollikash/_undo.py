@@ -44,6 +44,7 @@ class UndoStack:
         self.store = store
         self._tables, self._limit = tables, limit
         self._path = None if path is None else os.fspath(path)
+        self._is_acting = False
         self._done: List[_Action] = []
         self._undone: List[_Action] = []
         if self._path is not None and os.path.exists(self._path):
@@ -73,10 +74,14 @@ class UndoStack:
     def action(self, name: str = "") -> Iterator[None]:
         """Make what the block does an action. What was undone before cannot be done again then.
 
-        If the block raises an exception, what it has done is undone. If it changes nothing, there
-        is no action.
+        If the block raises an exception, what it has done to the tables of the stack is undone. If
+        it changes nothing, there is no action. In the block `undo` and `redo` raise RuntimeError.
+        If the file of the stack cannot be written, that is OSError after the action is done.
         """
+        if not isinstance(name, str):
+            raise ValueError(f"the name of an action is a str, and not a {type(name).__name__}")
         with self.store.session(*self._tables) as session:
+            self._is_acting = True
             try:
                 yield
                 changes = session.changeset()
@@ -85,6 +90,8 @@ class UndoStack:
                 with contextlib.suppress(Error):
                     session.undo()
                 raise
+            finally:
+                self._is_acting = False
         if changes:
             self._done.append((name, changes))
             self._undone.clear()
@@ -95,6 +102,7 @@ class UndoStack:
 
         If other edits were made to its rows, that is `ConflictError`, and nothing is changed.
         """
+        self._expect_no_action()
         if not self._done:
             raise IndexError("there is nothing to undo")
         name, changes = self._done[-1]
@@ -107,6 +115,7 @@ class UndoStack:
         """Do the action again that was undone last, and return its name. Raises IndexError if there
         is none, and `ConflictError` as `undo`.
         """
+        self._expect_no_action()
         if not self._undone:
             raise IndexError("there is nothing to redo")
         name, changes = self._undone[-1]
@@ -114,6 +123,11 @@ class UndoStack:
         self._done.append(self._undone.pop())
         self._keep()
         return name
+
+    def _expect_no_action(self) -> None:
+        """Raise RuntimeError in the block of an action."""
+        if self._is_acting:
+            raise RuntimeError("an action is open, which can only be ended")
 
     def _keep(self) -> None:
         """Drop the oldest actions, and write the others into the file."""

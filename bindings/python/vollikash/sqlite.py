@@ -49,6 +49,8 @@ _CALLS = {
     "sqlite3_open_v2": (_I, (ctypes.c_char_p, _out(_P), _I, ctypes.c_char_p)),
     "sqlite3_close_v2": (_I, (_P,)),
     "sqlite3_errmsg": (ctypes.c_char_p, (_P,)),
+    "sqlite3_errcode": (_I, (_P,)),
+    "sqlite3_errstr": (ctypes.c_char_p, (_I,)),
     "sqlite3_free": (None, (_P,)),
     "sqlite3_prepare_v2": (_I, (_P, ctypes.c_char_p, _I, _out(_P), _out(_P))),
     "sqlite3_step": (_I, (_P,)),
@@ -151,6 +153,13 @@ def _value(prefix: str, *where: Any) -> SqliteValue:
     return content.decode() if kind == _TEXT else content
 
 
+def _c_text(what: str, text: str) -> bytes:
+    """Return a text as C has it."""
+    if "\0" in text:
+        raise ValueError(f"{what} has a zero character")
+    return text.encode()
+
+
 def _record(call: Callable[..., int], cursor: int, count: int) -> Tuple[Any, ...]:
     """Return the fields that a call returns for each column of a change."""
     fields: List[Any] = []
@@ -222,7 +231,7 @@ class Database:
     def __init__(self, path: Union[str, "os.PathLike[str]"]) -> None:
         self._base = _P()
         self._sessions: List["Session"] = []
-        name = os.fspath(path).encode()
+        name = _c_text("the path", os.fspath(path))
         code = _library().sqlite3_open_v2(name, ctypes.byref(self._base), _READ_WRITE_CREATE, None)
         try:
             self._expect(code)
@@ -257,23 +266,47 @@ class Database:
     def _expect(self, code: int) -> None:
         """Raise `SqliteError` for a result code that is not SQLITE_OK."""
         if code != _OK:
-            why = (_library().sqlite3_errmsg(self._base) or b"").decode(errors="replace")
+            library = _library()
+            # A call that does not go by the connection leaves no message there.
+            is_told = self._base.value is not None and library.sqlite3_errcode(self._base) == code
+            said = library.sqlite3_errmsg(self._base) if is_told else library.sqlite3_errstr(code)
+            why = (said or b"").decode(errors="replace")
             raise SqliteError(f"SQLite's result code {code}: {why}", code)
 
     def execute(self, statement: str, parameters: Sequence[SqliteValue] = ()) -> List[SqliteRow]:
         """Run one SQL statement, with a value for each `?`, and return its rows."""
-        library, query, rest = _library(), _P(), _P()
-        text = ctypes.create_string_buffer(statement.encode())
-        self._expect(library.sqlite3_prepare_v2(
-            self._open(), text, -1, ctypes.byref(query), ctypes.byref(rest)
-        ))
+        if isinstance(parameters, (str, bytes)) or not isinstance(parameters, Sequence):
+            raise ValueError("the parameters are a sequence, with a value for each `?`")
+        query, rest = self._prepared(_c_text("the statement", statement))
         try:
-            if ctypes.string_at(rest).strip():
-                raise ValueError("execute runs one statement")
+            self._expect_none(rest)
+            if query.value is None:
+                return []
             self._bind(query, parameters)
             return self._rows(query)
         finally:
-            library.sqlite3_finalize(query)
+            _library().sqlite3_finalize(query)
+
+    def _expect_none(self, text: bytes) -> None:
+        """Raise ValueError if a text has a statement."""
+        try:
+            query, _ = self._prepared(text)
+            is_blank = query.value is None
+            _library().sqlite3_finalize(query)
+        except SqliteError:
+            is_blank = False
+        if not is_blank:
+            raise ValueError("execute runs one statement")
+
+    def _prepared(self, text: bytes) -> Tuple[ctypes.c_void_p, bytes]:
+        """Return the first statement of a text, or a null pointer if it has none, and the text after
+        it.
+        """
+        query, rest, given = _P(), _P(), ctypes.create_string_buffer(text)
+        self._expect(_library().sqlite3_prepare_v2(
+            self._open(), given, -1, ctypes.byref(query), ctypes.byref(rest)
+        ))
+        return query, ctypes.string_at(rest) if rest.value else b""
 
     def _bind(self, query: ctypes.c_void_p, parameters: Sequence[SqliteValue]) -> None:
         """Bind the parameters of a statement."""
@@ -291,8 +324,9 @@ class Database:
             elif isinstance(value, str):
                 data = value.encode()
                 self._expect(library.sqlite3_bind_text(query, number, data, _size(data), _COPY))
-            elif isinstance(value, bytes):
-                self._expect(library.sqlite3_bind_blob(query, number, value, _size(value), _COPY))
+            elif isinstance(value, (bytes, bytearray, memoryview)):
+                data = bytes(value)
+                self._expect(library.sqlite3_bind_blob(query, number, data, _size(data), _COPY))
             elif value is not None:
                 raise ValueError(f"parameter {number}: a {type(value).__name__}")
 
@@ -350,7 +384,7 @@ class Session:
         database._expect(code)
         database._sessions.append(self)
         for table in tables or (None,):
-            name = None if table is None else table.encode()
+            name = None if table is None else _c_text("the name", table)
             database._expect(library.sqlite3session_attach(self._session, name))
 
     def __enter__(self) -> "Session":

@@ -34,16 +34,16 @@ returns-in-Invert g c = rw c.in-Invert.is (works_on_slots _ (state g.S.Store c.a
 pub returns-in-Concat : goal.returns-in-Concat
 returns-in-Concat g c = rw c.in-Concat.is (works_on_slots _ (state g.S.Store c.args.store.now) c.args.work.now.slots c.join.new.slots c.args.work.now.session _ (rw (c.as_bytes-in-Concat.ensures.value, c.as_bytes-in-Concat-2.ensures.value, c.as_bytes-in-Concat-3.ensures.value) at c.join.ensures))
 
-pub returns-in_err-get-in-Apply : goal.returns-in_err-get-in-Apply
-returns-in_err-get-in-Apply g c =
+pub returns-in_err-file-in-Apply : goal.returns-in_err-file-in-Apply
+returns-in_err-file-in-Apply g c =
     let p = err_from_is_err_and c.from_residual.result c.from_residual.ensures.1 in
-    rw (c.in-Apply.is, p.1, p.2, c.in_err-get-in-Apply.ensures.0)
-    (on_apply_empty (state g.S.Store c.args.store.now) c.args.work.now.slots c.args.work.now.session _ _ _ _ _ _ (rw c.as_bytes-in-Apply.ensures.value at c.in_err-get-in-Apply.ensures.1))
+    rw (c.in-Apply.is, p.1, p.2, c.in_err-file-in-Apply.ensures.0)
+    (on_apply_empty (state g.S.Store c.args.store.now) c.args.work.now.slots c.args.work.now.session _ _ _ _ _ _ (rw c.as_bytes-in-Apply.ensures.value at c.in_err-file-in-Apply.ensures.1))
 
-pub returns-in_ok-get-in-Apply : goal.returns-in_ok-get-in-Apply
-returns-in_ok-get-in-Apply g c =
+pub returns-in_ok-file-in-Apply : goal.returns-in_ok-file-in-Apply
+returns-in_ok-file-in-Apply g c =
     rw c.in-Apply.is
-    (on_apply (state g.S.Store c.args.store.now) (state g.S.Store c.apply_file.new.store) c.args.work.now.slots c.args.work.now.session c.apply_file.new.session _ _ _ _ _ _ _ _ (rw c.as_bytes-in-Apply.ensures.value at c.in_ok-get-in-Apply.ensures) c.apply_file.ensures)
+    (on_apply (state g.S.Store c.args.store.now) (state g.S.Store c.apply_file.new.store) c.args.work.now.slots c.args.work.now.session c.apply_file.new.session _ _ _ _ _ _ _ _ (rw c.as_bytes-in-Apply.ensures.value at c.in_ok-file-in-Apply.ensures) c.apply_file.ensures)
 
 pub returns-in_err-get-in-Revert : goal.returns-in_err-get-in-Revert
 returns-in_err-get-in-Revert g c =
