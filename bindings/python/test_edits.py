@@ -5,6 +5,7 @@ transactions, schemas and single rows. The program is the one that is built.
 usage: bindings/python/test_edits.py [PROGRAM]
 """
 import contextlib
+import enum
 import itertools
 import os
 import pathlib
@@ -176,6 +177,18 @@ class Texts(Folder):
                 )
                 session.undo()
             self.assertEqual(list(store.rows("t")), [(1, "before\n")])
+
+    def test_kinds_of_integers(self):
+        """An int is its number, whatever its text is."""
+
+        class Number(int, enum.Enum):
+            ONE = 1
+
+        with self.store() as store:
+            store.insert("t", Number.ONE, Number.ONE)
+            store.update("t", {"b": 2}, where={"a": Number.ONE})
+            store.insert_many("k", [(Number.ONE,)])
+            self.assertEqual([*store.rows("t"), *store.rows("k")], [(1, 2), (1,)])
 
     def test_names(self):
         """No line can make a table with a line feed in a name."""
@@ -421,6 +434,35 @@ class Stacks(Folder):
                 stack.redo()
             self.assertEqual((stack.done, stack.undone), ([], ["add"]))
             self.expect("NoTable", store.undo_stack("v").action("x").__enter__)
+
+    def test_what_is_not_in_an_action(self):
+        """An action is not undone in its own block, and has a text as its name."""
+        with self.store() as store:
+            stack = store.undo_stack("t", path=self.folder / "actions")
+            with stack.action("one"):
+                store.insert("t", 1, "x")
+            for call in (stack.undo, stack.redo):
+                with self.assertRaises(RuntimeError), stack.action("two"):
+                    store.insert("t", 2, "x")
+                    call()
+                self.assertEqual((stack.done, stack.undone), (["one"], []))
+            with self.assertRaises(ValueError), stack.action(b"two"):
+                store.insert("t", 2, "x")
+            self.assertEqual(list(store.rows("t")), [(1, "x")])
+            self.assertEqual((stack.undo(), list(store.rows("t"))), ("one", []))
+
+    def test_closed_sessions(self):
+        """A closed session leaves the next one alone."""
+        with self.store() as store:
+            with store.session("t") as first:
+                pass
+            with store.session("t") as second:
+                store.insert("t", 1, "x")
+                for call in (first.undo, first.changeset, first.is_empty, lambda: first.attach("u")):
+                    self.expect("NoSession", call)
+                first.close()
+                self.assertFalse(second.is_empty())
+            self.assertEqual(list(store.rows("t")), [(1, "x")])
 
     def test_limit(self):
         with self.store() as store:
@@ -678,8 +720,23 @@ class Exchanges(Folder):
                 store.load_from(base, "g")
             with self.assertRaisesRegex(ValueError, "table 'nowhere': the database has no such"):
                 store.load_from(base, "nowhere")
-            self.assertEqual(store.tables(), ["k", "t", "u"])
             self.expect("NullInKey", store.load_from, base, "n")
+            self.assertEqual(store.tables(), ["k", "t", "u"])
+
+    def test_open_transactions(self):
+        """A transaction of the database stays open, with what was done before a refusal."""
+        base = self.database("CREATE TABLE own(a)")
+        with self.store() as store:
+            store.insert("k", 1)
+            for rows in (1, 1):
+                base.execute("INSERT INTO own VALUES(1)")
+                with contextlib.suppress(sqlite3.IntegrityError):
+                    store.save_to(base, "k")
+                self.assertTrue(base.in_transaction)
+                self.assertEqual(base.execute("SELECT count(*) FROM k").fetchone(), (rows,))
+            base.rollback()
+            self.assertEqual(base.execute("SELECT name FROM sqlite_schema").fetchall(), [("own",)])
+            self.assertEqual(base.execute("SELECT count(*) FROM own").fetchone(), (0,))
 
     def test_many_rows(self):
         base = self.database("CREATE TABLE m(a INTEGER PRIMARY KEY, b NOT NULL)")
@@ -715,6 +772,9 @@ class Sizes(Folder):
             self.expect("RowWidth", store.insert_many, "t", [(count, 1), (count + 1,)])
             with self.assertRaises(ValueError):
                 store.insert_many("t", [(count, 1.5)])
+            for row in ({"a": 1, "b": 2}, "ab", b"ab"):
+                with self.assertRaisesRegex(ValueError, "row 1: a row has its values in order"):
+                    store.insert_many("t", [row])
             store.insert_many("t", [])
             self.assertIsNone(store.get("t", count))
 

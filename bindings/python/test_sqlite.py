@@ -68,6 +68,9 @@ class Databases(unittest.TestCase):
                 self.assertEqual(base.execute("INSERT INTO t VALUES(?, ?)", (number, value)), [])
             self.assertEqual(base.execute("SELECT b FROM t ORDER BY a"), [(it,) for it in values])
             self.assertEqual(base.execute("SELECT 1 WHERE 0;  "), [])
+            self.assertEqual(base.execute("SELECT 1; -- a comment"), [(1,)])
+            self.assertEqual(base.execute("SELECT ?", [bytearray(b"x")]), [(b"x",)])
+            self.assertEqual(base.execute(" -- a comment"), [])
 
     def test_refusals(self):
         with opened("CREATE TABLE t(a PRIMARY KEY)", "INSERT INTO t VALUES(1)") as base:
@@ -77,10 +80,14 @@ class Databases(unittest.TestCase):
                 self.assertEqual(caught.exception.code, code)
             for statement, parameters in (
                 ("SELECT ?", ()), ("SELECT 1", (1,)), ("SELECT ?", (1 << 63,)), ("SELECT ?", ([],)),
-                ("SELECT 1; SELECT 2", ()),
+                ("SELECT 1; SELECT 2", ()), ("SELECT 1; SELEKT", ()), ("SELECT :a", {"a": 1}),
+                ("SELECT ?", "x"), ("SELECT ?", {1}), ("SELECT 1 WHERE 0\0", ()),
             ):
                 with self.subTest(statement), self.assertRaises(ValueError):
                     base.execute(statement, parameters)
+            for call in (Database, base.session):
+                with self.assertRaises(ValueError):
+                    call("a\0b")
             with self.assertRaises(SqliteError):
                 Database("nowhere/at/all")
         with self.assertRaises(SqliteError):

@@ -176,7 +176,7 @@ class Encoder:
             if old[place] == UNDEFINED:
                 raise Unfit("UNDEFINED in a key column of `old`", place + 1)
             if new[place] != UNDEFINED:
-                raise Unfit("a value in a key column of `new`, which has UNDEFINED there", place + 1)
+                raise Unfit("a key column of `new` has a value, and not UNDEFINED", place + 1)
         for place in self._others:
             if (old[place] == UNDEFINED) != (new[place] == UNDEFINED):
                 raise Unfit("UNDEFINED in only one of `old` and `new`", place + 1)

@@ -323,8 +323,8 @@ class _Reader:
         value = self._text.value()
         try:
             if name == "flags":
-                if not isinstance(value, list) or any(isinstance(flag, bool) for flag in value):
-                    raise Unfit('"flags" is not an array of numbers')
+                if not isinstance(value, list):
+                    raise Unfit('"flags" is not an array')
                 return flags_of(value)
             header(value, b"")
             if value in self._names:

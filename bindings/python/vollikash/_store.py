@@ -106,8 +106,6 @@ class Store(Asker):
         before anything is sent. With `exist_ok` a table that exists with these columns is kept.
         """
         names, marked, keys = list(columns), list(refuses), list(key)
-        if not (names and keys):
-            raise refusal(Code.BAD_SCHEMA)
         for name in marked:
             if name not in names:
                 raise ValueError(f"refuses has {name!r}, which is no column's name")
