@@ -458,8 +458,9 @@ class Stacks(Folder):
                 pass
             with store.session("t") as second:
                 store.insert("t", 1, "x")
-                for call in (first.undo, first.changeset, first.is_empty, lambda: first.attach("u")):
+                for call in (first.undo, first.changeset, first.is_empty):
                     self.expect("NoSession", call)
+                self.expect("NoSession", first.attach, "u")
                 first.close()
                 self.assertFalse(second.is_empty())
             self.assertEqual(list(store.rows("t")), [(1, "x")])
