@@ -1,5 +1,5 @@
 #!/usr/bin/env python3
-"""Times how a store in a file is opened, beside SQLite's own check of the file.
+"""Times how a store in a file is opened, and SQLite's own check of the file.
 
 Opening a store checks every record, and first the whole database as `PRAGMA integrity_check` and
 `PRAGMA foreign_key_check` do. The time is that of a whole process that opens the store, applies an

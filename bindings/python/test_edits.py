@@ -452,7 +452,7 @@ class Stacks(Folder):
             self.assertEqual((stack.undo(), list(store.rows("t"))), ("one", []))
 
     def test_closed_sessions(self):
-        """A closed session leaves the next one alone."""
+        """A closed session does nothing to the next one."""
         with self.store() as store:
             with store.session("t") as first:
                 pass
