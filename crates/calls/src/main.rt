@@ -1,5 +1,5 @@
-//! Calls of the libraries that hosts make, most of which no line of a script does, for tests that refuse memory: each word
-//! names some, and they are made in turn. A line says what each answers, as a number, or that memory was refused.
+//! Calls of the libraries that hosts make, most of which no line of a script does, for tests that refuse memory: each
+//! word names some, and they are made in turn. A line says what each answers, as a number, or that memory was refused.
 #![tactic(auto)]
 
 mod changes;

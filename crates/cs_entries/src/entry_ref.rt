@@ -169,8 +169,8 @@ impl<'a> EntryRef<'a> {
         self.indirect
     }
 
-    /// Returns the old record, or None for an insert. In an update, columns that are neither modified nor of the key are
-    /// undefined.
+    /// Returns the old record, or None for an insert. In an update, columns that are neither modified nor of the key
+    /// are undefined.
     pub fn old_fields(&self) -> Option<Fields<'a>>
         ensures fields { result ≡ before_image self.now.entry.change }
         ensures width { IfSome result (λ fields. length fields ≡ length self.now.flags) }
@@ -203,8 +203,8 @@ impl<'a> EntryRef<'a> {
         }
     }
 
-    /// Returns the new record with the key, or None for a delete. In an update, columns that are neither modified nor of
-    /// the key are undefined.
+    /// Returns the new record with the key, or None for a delete. In an update, columns that are neither modified nor
+    /// of the key are undefined.
     pub fn fields_after(&self) -> Option<Fields<'a>>
         ensures fields { result ≡ after_image self.now.flags self.now.entry.change }
         ensures width { IfSome result (λ fields. length fields ≡ length self.now.flags) }
@@ -232,7 +232,8 @@ impl<'a> EntryRef<'a> {
         }
     }
 
-    /// Returns the field of a column in the new record, or None for a delete, as [`EntryRef::old`] does for the old one.
+    /// Returns the field of a column in the new record, or None for a delete, as [`EntryRef::old`] does for the old
+    /// one.
     pub fn new(&self, column: usize) -> Option<Field<'a>>
         requires { column < length self.now.flags }
         ensures field { option_map field_of result ≡ field_after self.now.entry.change column }

@@ -9,9 +9,9 @@
 //! let owned = entry.to_entry(alloc)?;
 //! ```
 //!
-//! An `entry` is owned. An `entry_ref` is borrowed, and has the `fields` of a `record_ref`, which is `spelled` in a file
-//! or owned. `reader` and `writer` go from bytes to an entry and back. `inverse` inverts entries. `fault` has why a file is
-//! refused, and `format` the bytes of the format.
+//! An `entry` is owned. An `entry_ref` is borrowed, and has the `fields` of a `record_ref`, which is `spelled` in a
+//! file or owned. `reader` and `writer` go from bytes to an entry and back. `inverse` inverts entries. `fault` has why
+//! a file is refused, and `format` the bytes of the format.
 //!
 //! `cs_wire`, the crate above, has the headers, and the changesets that entries make. `invert_entries`, `rest_from`,
 //! `fault_at`, `fault_behind`, `undo_refused`, `TABLE` and `PATCHSET` are for it.

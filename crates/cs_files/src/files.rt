@@ -18,13 +18,13 @@ use cs_wire::ReadError;
 use std::alloc::Global;
 use std::io::Write;
 
-/// Returns the file of the inverse changeset. It has the same tables and entries in the same order, and the same length.
-/// Inserts and deletes are exchanged, and so are the two values of each modified column of an update.
+/// Returns the file of the inverse changeset. It has the same tables and entries in the same order, and the same
+/// length. Inserts and deletes are exchanged, and so are the two values of each modified column of an update.
 ///
 /// # Errors
 ///
-/// `Fault` if the bytes are not the file of a changeset, with the fault's kind and byte offset. `NoMemory` if memory runs
-/// out.
+/// `Fault` if the bytes are not the file of a changeset, with the fault's kind and byte offset. `NoMemory` if memory
+/// runs out.
 pub fn invert_bytes(alloc: Global, file: &[u8]) -> Result<Vec<u8>, ReadError>
     ensures inverted { IfOk result (λ out. Inverts file.now out.items) }
     ensures length { IfOk result (λ out. length out.items ≡ length file.now) }
@@ -36,14 +36,14 @@ pub fn invert_bytes(alloc: Global, file: &[u8]) -> Result<Vec<u8>, ReadError>
     Ok(out)
 }
 
-/// Returns the file of the changeset with the flags of key columns numbered, as [`cs_group::number_keys`] numbers them. It
-/// says and does the same, and has the same length. It allocates that many bytes, what reading allocates, and the flags of
-/// one table at a time.
+/// Returns the file of the changeset with the flags of key columns numbered, as [`cs_group::number_keys`] numbers them.
+/// It says and does the same, and has the same length. It allocates that many bytes, what reading allocates, and the
+/// flags of one table at a time.
 ///
 /// # Errors
 ///
-/// `Fault` if the bytes are not the file of a changeset, with the fault's kind and byte offset. `NoMemory` if memory runs
-/// out.
+/// `Fault` if the bytes are not the file of a changeset, with the fault's kind and byte offset. `NoMemory` if memory
+/// runs out.
 pub fn number_keys_bytes(alloc: Global, file: &[u8]) -> Result<Vec<u8>, ReadError>
     ensures numbered { IfOk result (λ out. Numbers file.now out.items) }
     ensures length { IfOk result (λ out. length out.items ≡ length file.now) }
@@ -56,14 +56,15 @@ pub fn number_keys_bytes(alloc: Global, file: &[u8]) -> Result<Vec<u8>, ReadErro
 }
 
 /// Returns the file of the concatenation: it does what the first file does, and then what the second does, as
-/// [`cs_group::concat`]. It is at most as long as both together. The call allocates as many bytes as both files have, what
-/// reading allocates, the names of all tables, and the keys of one table of the second file at a time.
+/// [`cs_group::concat`]. It is at most as long as both together. The call allocates as many bytes as both files have,
+/// what reading allocates, the names of all tables, and the keys of one table of the second file at a time.
 ///
 /// # Errors
 ///
 /// - `First` if the first file is not the file of a changeset, with the fault's kind and byte offset.
 /// - `Second` if only the second file is not.
-/// - `Schema` if a table has other columns or another key in the second file, with the zero-based index of its group there.
+/// - `Schema` if a table has other columns or another key in the second file, with the zero-based index of its group
+///   there.
 /// - `NoMemory` if memory runs out.
 pub fn concat_bytes(alloc: Global, first: &[u8], second: &[u8]) -> Result<Vec<u8>, ToolFault>
     ensures joined { IfOk result (λ out. Joins first.now second.now out.items) }
@@ -75,7 +76,8 @@ pub fn concat_bytes(alloc: Global, first: &[u8], second: &[u8]) -> Result<Vec<u8
     Ok(join_tables(alloc, firsts, seconds, first.len() + second.len())?)
 }
 
-/// Reads a file to its end, and then writes it as text, as [`dump_text`](crate::dump_text) does. Only reading allocates.
+/// Reads a file to its end, and then writes it as text, as [`dump_text`](crate::dump_text) does. Only reading
+/// allocates.
 ///
 /// # Errors
 ///
@@ -130,8 +132,8 @@ fn print_file<W: Write>(
 ///
 /// # Errors
 ///
-/// `First` if the bytes are not the file of a changeset, with the fault's kind and byte offset. `NoMemory` if memory runs
-/// out.
+/// `First` if the bytes are not the file of a changeset, with the fault's kind and byte offset. `NoMemory` if memory
+/// runs out.
 pub fn dump_file(alloc: Global, file: &[u8]) -> Result<Vec<u8>, ToolFault>
     ensures printed { IfOk result (λ text. Prints dump_of file.now text.items) }
     ensures refused { IfErr result (Refuses (FirstFails file.now)) }
@@ -147,8 +149,8 @@ pub fn dump_file(alloc: Global, file: &[u8]) -> Result<Vec<u8>, ToolFault>
 ///
 /// # Errors
 ///
-/// `First` if the bytes are not the file of a changeset, with the fault's kind and byte offset. `NoMemory` if memory runs
-/// out.
+/// `First` if the bytes are not the file of a changeset, with the fault's kind and byte offset. `NoMemory` if memory
+/// runs out.
 pub fn sql_file(alloc: Global, file: &[u8]) -> Result<Vec<u8>, ToolFault>
     ensures printed { IfOk result (λ text. Prints sql_of file.now text.items) }
     ensures refused { IfErr result (Refuses (FirstFails file.now)) }

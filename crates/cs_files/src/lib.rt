@@ -8,8 +8,8 @@
 //! assert_eq!(rt; text, b"DELETE FROM \"t\" WHERE c1='x';\n");
 //! ```
 //!
-//! `files` has the calls on files. `inverting` writes an inverse, `joining` a concatenation, and `numbering` a file whose
-//! key columns are numbered. `fault` has the faults.
+//! `files` has the calls on files. `inverting` writes an inverse, `joining` a concatenation, and `numbering` a file
+//! whose key columns are numbered. `fault` has the faults.
 //!
 //! The names of `cs_texts` are passed on: the texts of changesets, the streams that they are written to, and the pieces
 //! of lines.

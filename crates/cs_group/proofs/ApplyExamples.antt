@@ -340,7 +340,8 @@ any_mark_is_compatible mark = refl
 abbrev key : List ℕ
 key = 0x01 ∷ 0 ∷ 0 ∷ 0 ∷ 0 ∷ 0 ∷ 0 ∷ 0 ∷ 1 ∷ []
 
--- the columns of t, t with this row alone, under the key 1, and the state of that table alone, where these columns refuse NULL
+-- the columns of t, t with this row alone, under the key 1, and the state of that table alone, where these columns
+-- refuse NULL
 abbrev schema_by : List Bool → SchemaData
 schema_by rules = record { columns = codes "a" ∷ codes "b" ∷ []; flags = flags; refuses = rules }
 

@@ -177,8 +177,8 @@ pub record AreApplied (old : State) (entries : List PlacedEntry) (choose : Choic
   pub others : (table key : List ℕ) → All (λ p. IsElsewhere p table key) entries
       → row_at new table key ≡ row_at old table key
 
--- the state after the changeset: the rows at the keys of compatible groups are the results, and where an entry is ignored
--- the row that stood there
+-- the state after the changeset: the rows at the keys of compatible groups are the results, and where an entry is
+-- ignored the row that stood there
 abbrev pub IsAppliedUnder : Noop → State → List GroupData → Choices → State → Type 0
 IsAppliedUnder noop old changeset choose new = AreApplied old (heeded noop old changeset) choose new
 

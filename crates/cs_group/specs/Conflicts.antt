@@ -44,8 +44,8 @@ kind_between None (Some row) = Some Conflict
 kind_between (Some image) None = Some NotFound
 kind_between (Some image) (Some row) = if has_values row image then None else Some Data
 
--- a change would leave NULL in a column that refuses it: since no row that stands has it there, this says whether the row
--- afterwards would
+-- a change would leave NULL in a column that refuses it: since no row that stands has it there, this says whether the
+-- row afterwards would
 abbrev pub is_refused : List Bool → List ℕ → Change → Bool
 is_refused refuses flags change = unwrap_or (option_map (has_null refuses) (after_image flags change)) false
 
@@ -66,9 +66,9 @@ agrees None (Some row) = false
 agrees (Some image) None = false
 agrees (Some image) (Some row) = has_values row image
 
--- a change is idle at a row, or none, where it meets a conflict and what stands there already agrees with what it leaves:
--- the changes for which SQLite does not call the conflict handler under SQLITE_CHANGESETAPPLY_IGNORENOOP (its "Flags for
--- sqlite3changeset_apply_v2")
+-- a change is idle at a row, or none, where it meets a conflict and what stands there already agrees with what it
+-- leaves: the changes for which SQLite does not call the conflict handler under SQLITE_CHANGESETAPPLY_IGNORENOOP (its
+-- "Flags for sqlite3changeset_apply_v2")
 abbrev pub is_idle : Bool → List ℕ → Change → Option (List OwnedValue) → Bool
 is_idle refused flags change row = is_some (conflict_kind refused change row) && agrees (after_image flags change) row
 
@@ -98,8 +98,8 @@ is_overcome Constraint Replace = false
 is_overcome kind Omit = false
 is_overcome kind Abort = false
 
--- a conflict ends all where the choice says so, where a row is to be replaced that is not there, and where a change is to
--- be carried out that the rule of a column refuses
+-- a conflict ends all where the choice says so, where a row is to be replaced that is not there, and where a change is
+-- to be carried out that the rule of a column refuses
 abbrev pub ends : Kind → Choice → Bool
 ends kind Omit = false
 ends kind Abort = true

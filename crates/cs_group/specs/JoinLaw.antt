@@ -9,8 +9,8 @@ use Rattle.cs_group.specs.Joining.{entry_key, table_name, with_text, key_places,
 use Rattle.cs_group.specs.Net.{net_row_change}
 use Rattle.cs_group.specs.Applying.{Choices, IsClean, IsApplied}
 
--- of each state, in which no row breaks a rule of its table, where the first applies without a conflict, and the second to what the first makes of it, the join makes
--- what both make, without a conflict
+-- of each state, in which no row breaks a rule of its table, where the first applies without a conflict, and the second
+-- to what the first makes of it, the join makes what both make, without a conflict
 abbrev pub DoesBoth : List GroupData → List GroupData → List GroupData → Type 0
 DoesBoth first second join = (old mid new : State) (choose again : Choices)
     → IsState old → IsClean old first → IsApplied old first choose mid → IsClean mid second → IsApplied mid second again new
@@ -49,8 +49,8 @@ pub record IsNetOf (old new : State) (changeset : List GroupData) : Type 0 where
   pub entries : (name key : List ℕ) (schema : SchemaData) → schema_at old name ≡ Some schema
       → entry_at changeset name key ≡ net_entry schema.flags (row_at old name key) (row_at new name key)
 
--- where the two have the net changes from a state to a second and from there to a third, of the same tables, the join has
--- those from the first to the third
+-- where the two have the net changes from a state to a second and from there to a third, of the same tables, the join
+-- has those from the first to the third
 abbrev pub NetsBoth : List GroupData → List GroupData → List GroupData → Type 0
 NetsBoth first second join = (old mid new : State) → IsState old → IsState mid → IsState new
     → ((table : List ℕ) → schema_at mid table ≡ schema_at old table) → ((table : List ℕ) → schema_at new table ≡ schema_at old table)

@@ -19,8 +19,8 @@ abbrev pub AppliedOnce : Type 0
 AppliedOnce = (noop : Noop) (old : State) (changeset : List GroupData) (choose : Choices) (new other : State)
     → IsAppliedUnder noop old changeset choose new → IsAppliedUnder noop old changeset choose other → new ≡ other
 
--- after a changeset that met no conflict in a state, in which no row breaks a rule of its table, its inverse meets none,
--- and gives the state back
+-- after a changeset that met no conflict in a state, in which no row breaks a rule of its table, its inverse meets
+-- none, and gives the state back
 abbrev pub AppliedReverts : Type 0
 AppliedReverts = (old : State) (changeset inverse : List GroupData) (choose again : Choices) (new : State)
     → IsState old → IsChangeset changeset → IsInverse changeset inverse → IsClean old changeset
@@ -36,8 +36,8 @@ abbrev pub WrittenTells : Type 0
 WrittenTells = (noop : Noop) (old : State) (changeset : List GroupData) (choose : Choices) (new : State)
     → IsAppliedUnder noop old changeset choose new → TellsFormer old new (written_under noop old changeset choose)
 
--- which changes are idle: a delete where no row stands, an insert where its row stands, and an update where the row with
--- its key has the new values in the modified columns, and not all of the old ones
+-- which changes are idle: a delete where no row stands, an insert where its row stands, and an update where the row
+-- with its key has the new values in the modified columns, and not all of the old ones
 pub record IdleCases : Type 0 where
   pub deleted : (refused : Bool) (flags : List ℕ) (old : List OwnedValue) (row : Option (List OwnedValue))
       → (is_idle refused flags (Delete old) row ≡ true) ↔ (row ≡ None)

@@ -1,5 +1,5 @@
--- Which things of a second list have the text of one of a first, as a join marks them while it goes through the first. No
--- public contract names this: what a join makes is said by Joining.
+-- Which things of a second list have the text of one of a first, as a join marks them while it goes through the first.
+-- No public contract names this: what a join makes is said by Joining.
 use Rattle.std.specs.Prelude.{◌≡◌, ◌≢◌, ℕ, ◌<◌, not, Bool, false, List, AllPairs, length, get_or}
 use Rattle.cs_wire.specs.Entry.{key_of}
 use Rattle.cs_wire.specs.Keyed.{KeyedData}

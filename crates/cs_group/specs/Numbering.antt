@@ -46,8 +46,8 @@ abbrev pub as_numbered : Choices → Choices
 as_numbered choose p = choose (numbered_entry p)
 
 -- what one changeset does to every state the other, which is the first one numbered, does to it: each table is judged
--- alike, the same ones are passed over, and with the same choices the same conflicts are met and, where nothing is ignored,
--- the same keys are written and the same states are made
+-- alike, the same ones are passed over, and with the same choices the same conflicts are met and, where nothing is
+-- ignored, the same keys are written and the same states are made
 pub record DoesAlike (changeset other : List GroupData) : Type 0 where
   pub judged : (state : State) → map (judged state) other ≡ map (judged state) changeset
   pub skipped : (state : State) → skipped state other ≡ skipped state changeset

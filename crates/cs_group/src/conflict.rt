@@ -139,8 +139,8 @@ fn is_null(field: Field<'_>) -> bool
     matches!(field, Field::Defined(Value::Null))
 }
 
-/// Returns whether the current row of the key is already the new row of the entry. If such an entry has a conflict, it is
-/// a no-op. It allocates nothing.
+/// Returns whether the current row of the key is already the new row of the entry. If such an entry has a conflict, it
+/// is a no-op. It allocates nothing.
 pub fn agrees(entry: &EntryRef<'_>, row: Option<&Row>) -> bool
     ensures { result ≡ agrees_with (after_image entry.now.flags entry.now.entry.change) (option_map (λ r. r.now) row.entry) }
 {
@@ -176,8 +176,9 @@ fn has_value(value: &OwnedValue, field: Field<'_>) -> bool
     }
 }
 
-/// Returns the new row of an entry that is carried out, or None for a delete. Columns that the entry leaves undefined keep
-/// their current values. For an update without a row, which is a conflict, the result has the defined columns only.
+/// Returns the new row of an entry that is carried out, or None for a delete. Columns that the entry leaves undefined
+/// keep their current values. For an update without a row, which is a conflict, the result has the defined columns
+/// only.
 pub fn row_after(
     alloc: Global,
     entry: &EntryRef<'_>,

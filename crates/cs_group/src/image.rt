@@ -39,8 +39,8 @@ pub(crate) fn after_image<'a>(
     }
 }
 
-/// Returns one image laid over another: its defined fields, and else those of the other. If the first has no row, neither
-/// does the result.
+/// Returns one image laid over another: its defined fields, and else those of the other. If the first has no row,
+/// neither does the result.
 pub(crate) fn known<'a>(
     alloc: Global,
     upper: Option<Vec<Field<'a>>>,

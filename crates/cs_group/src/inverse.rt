@@ -7,8 +7,8 @@ use cs_value::NoMemory;
 use cs_wire::{Changeset, entry_inverses_law};
 use std::alloc::Global;
 
-/// Returns the inverse of a changeset, as SQLite's `sqlite3changeset_invert` does. Inserts and deletes are exchanged, and
-/// so are the two values of each modified column. All else is kept, and the file has the same length.
+/// Returns the inverse of a changeset, as SQLite's `sqlite3changeset_invert` does. Inserts and deletes are exchanged,
+/// and so are the two values of each modified column. All else is kept, and the file has the same length.
 pub fn invert(alloc: Global, changeset: Changeset) -> Result<Changeset, NoMemory>
     ensures inverse { IfOk result (IsInverse changeset) }
     ensures well_formed { IfOk result IsChangeset }

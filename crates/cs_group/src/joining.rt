@@ -25,8 +25,8 @@ use std::alloc::Global;
 /// one.
 ///
 /// The tables of `first` come first, in their order and with their headers, and then those that only `second` has. The
-/// same goes for the keys of a table. Two entries of one key are merged ([`merge`]). Entries and tables of which nothing
-/// remains are left out. The file is at most as long as both files.
+/// same goes for the keys of a table. Two entries of one key are merged ([`merge`]). Entries and tables of which
+/// nothing remains are left out. The file is at most as long as both files.
 ///
 /// # Errors
 ///
@@ -109,8 +109,8 @@ fn add_new_groups(
     Ok(())
 }
 
-/// Appends a group of the first changeset, merged with the one of its table in the second. Returns the index of that one,
-/// if there is one.
+/// Appends a group of the first changeset, merged with the one of its table in the second. Returns the index of that
+/// one, if there is one.
 fn join_group(
     alloc: Global,
     group: &Group,

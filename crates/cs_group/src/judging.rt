@@ -15,7 +15,8 @@ pub enum Judgement {
     Compatible,
 }
 
-/// Returns whether a group with these flags fits the table of its name, by the flags of that table. It allocates nothing.
+/// Returns whether a group with these flags fits the table of its name, by the flags of that table. It allocates
+/// nothing.
 pub fn judge(flags: &[u8], table: Option<&[u8]>) -> Judgement
     ensures { result ≡ judgement flags.now (option_map (λ t. t.now) table.entry) }
 {

@@ -1,5 +1,5 @@
-//! Laws of all states and changesets. These functions do nothing. Each has a law as its contract, and a proof uses the law
-//! by calling the function.
+//! Laws of all states and changesets. These functions do nothing. Each has a law as its contract, and a proof uses the
+//! law by calling the function.
 ghost use Rattle.cs_group.specs.Laws.{AppliedOnce, AppliedReverts, WrittenTells, IdleCases, IgnoredStand};
 
 /// A changeset has one result on a state, with the same choices for its conflicts.
@@ -7,8 +7,8 @@ pub fn applied_once_law()
     ensures { AppliedOnce }
 {}
 
-/// If a changeset has no conflict on a state, whose rows have NULL only where that is allowed, its inverse has none on the
-/// result, and restores the state.
+/// If a changeset has no conflict on a state, whose rows have NULL only where that is allowed, its inverse has none on
+/// the result, and restores the state.
 pub fn applied_reverts_law()
     ensures { AppliedReverts }
 {}

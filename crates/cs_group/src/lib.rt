@@ -10,12 +10,14 @@
 //! ```
 //!
 //! `inverse` inverts a changeset, `numbering` numbers its key columns as SQLite does, and `joining` concatenates two:
-//! `columns` decides whether their tables agree, `entries` goes through the keys of a table, `keyed` finds groups by name
-//! and entries by key, `joined` collects the result, and `merging` merges two entries. `net` has the change from one row
-//! to another, `image` the rows of entries before and after, and `fault` why two changesets are not concatenated.
+//! `columns` decides whether their tables agree, `entries` goes through the keys of a table, `keyed` finds groups by
+//! name and entries by key, `joined` collects the result, and `merging` merges two entries. `net` has the change from
+//! one row to another, `image` the rows of entries before and after, and `fault` why two changesets are not
+//! concatenated.
 //!
-//! For applies, `judging` decides whether a group fits its table, `conflict` has the conflicts of entries and the rows that
-//! they leave, and `laws` what holds of all states and changesets. `CALLING.md`, next to this folder, shows a caller.
+//! For applies, `judging` decides whether a group fits its table, `conflict` has the conflicts of entries and the rows
+//! that they leave, and `laws` what holds of all states and changesets. `CALLING.md`, next to this folder, shows a
+//! caller.
 #![tactic(auto)]
 
 mod columns;

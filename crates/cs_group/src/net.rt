@@ -81,11 +81,11 @@ fn update_between(
     })
 }
 
-/// Returns the change from one row to another, or None if they are equal. Each is given by its fields, one for each flag,
-/// or is absent.
+/// Returns the change from one row to another, or None if they are equal. Each is given by its fields, one for each
+/// flag, or is absent.
 ///
-/// A row that appears is an insert, and one that disappears a delete. Else the columns outside the key that differ are an
-/// update, with the key of the row before.
+/// A row that appears is an insert, and one that disappears a delete. Else the columns outside the key that differ are
+/// an update, with the key of the row before.
 pub fn net_change(
     alloc: Global,
     flags: &[u8],
@@ -106,8 +106,8 @@ pub fn net_change(
     })
 }
 
-/// Returns the change from one row to another, or None if they are equal, as [`net_change`] does for fields. Each may be
-/// absent, and has a value for each flag.
+/// Returns the change from one row to another, or None if they are equal, as [`net_change`] does for fields. Each may
+/// be absent, and has a value for each flag.
 pub fn net_row_change(
     alloc: Global,
     flags: &[u8],

@@ -1,5 +1,5 @@
--- The commands that lines ask for, and the tokens and words of each. The grammar is this project's own: of SQL and of the
--- shell of SQLite it has the few forms that tables, rows and changesets need.
+-- The commands that lines ask for, and the tokens and words of each. The grammar is this project's own: of SQL and of
+-- the shell of SQLite it has the few forms that tables, rows and changesets need.
 use Rattle.std.specs.Prelude.{◌≡◌, ◌≢◌, ◌⊎◌, ℕ, Bool, List, [], ◌∷◌, ◌++◌, length, map, true, false, codes, AllPairs, Contains, IsUtf8, string_bytes}
 use Rattle.cs_value.specs.declared.value.OwnedValue.{OwnedValue}
 use Rattle.cs_value.specs.declared.value.OwnedValue.TheVariants.{Null}
@@ -131,7 +131,8 @@ abbrev pub IsChosen : {X : Type 0} → (X → Setting) → X → List Setting �
 IsChosen {X} option default settings value = Contains settings (option value)
     ⊎ ((value ≡ default) × ((other : X) → Contains settings (option other) → ⊥))
 
--- the words are the dot line's, of which digits are any text; `.session attach`, which a name follows, is no matter of words alone
+-- the words are the dot line's, of which digits are any text; `.session attach`, which a name follows, is no matter of
+-- words alone
 abbrev pub IsDotLine : List (List ℕ) → CommandData → Type 0
 IsDotLine words (Load slot digits) = IsSlot slot × IsUtf8 digits
     × ((words ≡ codes ".load" ∷ slot ∷ digits ∷ []) ⊎ ((words ≡ codes ".load" ∷ slot ∷ []) × (digits ≡ [])))

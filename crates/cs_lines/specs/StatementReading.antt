@@ -1,4 +1,5 @@
--- Statements as functions on lists of tokens, which the code computes: what contracts of this crate's own functions say.
+-- Statements as functions on lists of tokens, which the code computes: what contracts of this crate's own functions
+-- say.
 use Rattle.std.specs.Prelude.{ℕ, zero, suc, List, [], ◌∷◌, ◌++◌, length, map, Option, None, Some, option_map, string_bytes}
 use Rattle.std.specs.Prelude.{Bool, true, false, if◌then◌else◌}
 use Rattle.cs_value.specs.declared.value.OwnedValue.{OwnedValue}

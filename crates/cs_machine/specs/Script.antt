@@ -1,5 +1,5 @@
--- What lines are answered, and what they leave. The lines and the printed texts are this project's own; what a line asks
--- for is what SQLite's session extension and this project's stores have.
+-- What lines are answered, and what they leave. The lines and the printed texts are this project's own; what a line
+-- asks for is what SQLite's session extension and this project's stores have.
 use Rattle.std.specs.Prelude.{◌≡◌, ◌≢◌, ◌⊎◌, ℕ, ◌+◌, ◌≤◌, List, [], ◌∷◌, ◌++◌, length, map, if◌then◌else◌, All, Any, codes}
 use Rattle.std.specs.Prelude.{Bool, Option, None, Some, Result, Ok, Err, IsUtf8}
 use Rattle.std.specs.FinMap as map
@@ -238,7 +238,8 @@ CloseGives old session reply new = (reply ≡ Silent) × (new ≡ with_session o
 abbrev pub IsResource : Refusal → Type 0
 IsResource why = (why ≡ NoMemory) ⊎ (why ≡ refusal.Store StoreFault)
 
--- the reply to a command, and what it leaves; any may be refused for memory or by the database, and then changes nothing
+-- the reply to a command, and what it leaves; any may be refused for memory or by the database, and then changes
+-- nothing
 pub data CommandGives (old : ShellState) : CommandData → Reply → ShellState → Type 0 where
   created : (name : List ℕ) (columns : List (List ℕ)) (refuses : List Bool) (keys : List (List ℕ)) (reply : Reply) (new : ShellState)
       → CreateGives old name columns refuses keys reply new → CommandGives old (Create name columns refuses keys) reply new
@@ -272,8 +273,8 @@ pub data CommandGives (old : ShellState) : CommandData → Reply → ShellState 
 
 -- ---- lines
 
--- the reply to a line, and what it leaves: the column of Syntax may be any of the line's or the next, and any line may be
--- refused for memory or by the database, and then changes nothing
+-- the reply to a line, and what it leaves: the column of Syntax may be any of the line's or the next, and any line may
+-- be refused for memory or by the database, and then changes nothing
 pub data LineGives : ShellState → List ℕ → Reply → ShellState → Type 0 where
   not_text : (old : ShellState) (line : List ℕ) → (IsUtf8 line → ⊥) → LineGives old line (Refused LineText) old
   nothing : (old : ShellState) (line : List ℕ) → IsUtf8 line → IsNothing line → LineGives old line Silent old

@@ -1,6 +1,6 @@
--- What the lines of a script are run on: tables, slots, and at most one session. A session is the one of SQLite's session
--- extension, said over whole tables: of each that is attached it has the rows as they stood then, and which keys were
--- written since.
+-- What the lines of a script are run on: tables, slots, and at most one session. A session is the one of SQLite's
+-- session extension, said over whole tables: of each that is attached it has the rows as they stood then, and which
+-- keys were written since.
 use Rattle.std.specs.Prelude.{bytes_eq, ℕ, if◌then◌else◌, List, [], ◌∷◌, ◌++◌, length, map, filter_map, Option, option_map}
 use Rattle.std.specs.List.{flat_map, list_any}
 use Rattle.std.specs.FinMap as map
@@ -15,8 +15,8 @@ use Rattle.cs_session.specs.FirstImages.{group_of, writes_of}
 abbrev pub SlotMap : Type 0
 SlotMap = ByBytes (List ℕ)
 
--- a table that is attached: its rows as they stood then, and the keys that were written since, each once, in the order of
--- the first write
+-- a table that is attached: its rows as they stood then, and the keys that were written since, each once, in the order
+-- of the first write
 pub record SessionTable : Type 0 where
   pub name : List ℕ
   pub schema : SchemaData

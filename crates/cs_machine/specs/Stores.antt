@@ -7,8 +7,8 @@ use Rattle.sqlite.specs.State.{HasCleanDisk}
 use Rattle.cs_value.specs.State.{State}
 use Rattle.cs_store.specs.Store.{IsAtRest, tables_in}
 
--- a store shows these tables while its connection is open, whatever batch is; one whose connection a failure of the disk
--- has shut shows none, and any are said to be shown
+-- a store shows these tables while its connection is open, whatever batch is; one whose connection a failure of the
+-- disk has shut shows none, and any are said to be shown
 abbrev pub Shows : sqlite.State → State → Type 0
 Shows store tables = IsTrue store.is_open → tables_in store.now ≡ tables
 

@@ -48,8 +48,8 @@ abbrev pub Known : Bool → sqlite.State → State → Type 0
 Known true store tables = Stands store tables
 Known false store tables = Shows store tables
 
--- what is known of a store with some tables before is known of it with others after, and of both this holds, if the disk has
--- returned what was written
+-- what is known of a store with some tables before is known of it with others after, and of both this holds, if the
+-- disk has returned what was written
 pub record TurnsBetween (old new : sqlite.State) (Before After : State → Type 0) (Holds : State → State → Type 0) : Type 0 where
   pub disk : TellsFailures old new
   pub done : HasCleanDisk new → (before : State) → Before before → (after : State) × After after × Holds before after

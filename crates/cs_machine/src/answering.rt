@@ -110,8 +110,8 @@ fn run_command<S: Alter>(
     }
 }
 
-/// Carries out a line, and returns its reply. No batch is open in the store: see [`settle_once`]. A refused line changes
-/// nothing.
+/// Carries out a line, and returns its reply. No batch is open in the store: see [`settle_once`]. A refused line
+/// changes nothing.
 pub fn answer_line<S: Alter>(
     alloc: Global,
     store: &mut Store<S>,

@@ -9,9 +9,9 @@
 //! assert!(matches!(reply, Err(Refusal::EmptySlot)));
 //! ```
 //!
-//! `answering` reads a line as a command and carries it out. Before the first line it makes sure that no batch is open in
-//! the store. `workspace` has the `slots`, which are bytes with names, and the session, if one is open. `statements` has
-//! the lines on tables, `changesets` those on slots, `applying` the applies and `sessions` the lines of a session.
+//! `answering` reads a line as a command and carries it out. Before the first line it makes sure that no batch is open
+//! in the store. `workspace` has the `slots`, which are bytes with names, and the session, if one is open. `statements`
+//! has the lines on tables, `changesets` those on slots, `applying` the applies and `sessions` the lines of a session.
 //! [`cs_replies`] has the replies.
 #![tactic(auto)]
 

@@ -1,4 +1,5 @@
--- Texts that ask for nothing but rows: a call of one changes nothing, and a failure of one leaves the database or takes it back.
+-- Texts that ask for nothing but rows: a call of one changes nothing, and a failure of one leaves the database or takes
+-- it back.
 use Rattle.std.proofs.Common.{◌≡◌, inl, inr, ℕ, List, Option, Some, None, Result, Ok, Err, IsSome, IfOk, OnErr, subst}
 use Rattle.sqlite_value.specs.Order.{Row}
 use Rattle.sqlite_schema.specs.declared.command.Returning.{Returning}

@@ -194,9 +194,9 @@ MayBeAdded name = IsTrue (same_name name table_name) ⊎ (name ≡ codes "sqlite
 abbrev pub IsApartFrom : Schema → Index → Type 0
 IsApartFrom schema index = (table : Table) → Has schema.tables table → IsOther table → index.table ≢ table.tree
 
--- Each other table, each index and each view is declared as it was, each other table has its rows, and so has what SQL does
--- not understand. Nothing is added but the tables of records and of counts, with indexes of their own; and nothing at all
--- if the table of records was declared.
+-- Each other table, each index and each view is declared as it was, each other table has its rows, and so has what SQL
+-- does not understand. Nothing is added but the tables of records and of counts, with indexes of their own; and nothing
+-- at all if the table of records was declared.
 pub record KeepsOthers (old new : Database) : Type 0 where
   pub tables : (table : Table) → Has old.schema.tables table → IsOther table
       → Has new.schema.tables table × (new.trees table.tree ≡ old.trees table.tree)

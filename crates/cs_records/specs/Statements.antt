@@ -73,7 +73,8 @@ plain_query tree filter project order = record {
 abbrev pub equals : Term → Term → Term
 equals a b = op2 (Compare Eq Binary) a b
 
--- the terms that are compared with those of a compiled statement: a column of the row is in slot 1, a parameter in slot 0
+-- the terms that are compared with those of a compiled statement: a column of the row is in slot 1, a parameter in slot
+-- 0
 abbrev pub expected_term : Expected → Term
 expected_term expected.Null = lit value.Null
 expected_term (expected.Column slot at) = col slot at

@@ -37,8 +37,8 @@ pub record ReportData : Type 0 where
   pub ignored : ℕ
   pub applied : ℕ
 
--- a line for each table that was passed over, then one for each conflict, one with the count of entries that were ignored
--- where there are some, and one with the count of those that were carried out
+-- a line for each table that was passed over, then one for each conflict, one with the count of entries that were
+-- ignored where there are some, and one with the count of those that were carried out
 abbrev pub told_text : ReportData → List ℕ
 told_text told = flat_map skip_text told.skipped
     ++ (flat_map met_text told.conflicts ++ (ignored_text told.ignored ++ count_text told.applied))

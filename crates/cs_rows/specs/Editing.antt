@@ -28,8 +28,8 @@ either [] others = others
 either (mark ∷ marks) [] = []
 either (mark ∷ marks) (other ∷ others) = (mark || other) ∷ either marks others
 
--- the names, the marks of the key columns and those of the columns that refuse NULL, which the key columns do, as a schema
--- has them
+-- the names, the marks of the key columns and those of the columns that refuse NULL, which the key columns do, as a
+-- schema has them
 abbrev pub schema_of : List (String Global) → List Bool → List Bool → SchemaData
 schema_of columns keys refuses = record {
   columns = map string_bytes columns;

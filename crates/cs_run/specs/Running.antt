@@ -1,5 +1,5 @@
--- What a run over rows does with a file: the interface of SQLite's session extension, under "sqlite3changeset_apply". The
--- order of refusals, and that a table may not be wider, are this project's own.
+-- What a run over rows does with a file: the interface of SQLite's session extension, under "sqlite3changeset_apply".
+-- The order of refusals, and that a table may not be wider, are this project's own.
 use Rattle.std.specs.Prelude.{◌≡◌, ◌⊎◌, ◌∷◌, ◌++◌, ℕ, true, false, List, map, All, string_bytes}
 use Rattle.cs_value.specs.State.{State, IsState}
 use Rattle.cs_wire.specs.Changeset.{GroupData, IsChangeset, file_bytes}
@@ -51,8 +51,8 @@ pub record Applies (chooses : Handler) (noop : Noop) (file : List ℕ) (directio
   pub written : map written_of report.written.items ≡ written_under noop old changeset choose
   pub ignored : report.ignored ≡ ignored noop old changeset
 
--- the conflict is one that a changeset meets under some choices, and this is the choice for it; for each conflict before it
--- the handler chose what stands there, and the run went on
+-- the conflict is one that a changeset meets under some choices, and this is the choice for it; for each conflict
+-- before it the handler chose what stands there, and the run went on
 pub record IsReached (chooses : Handler) (noop : Noop) (old : State) (changeset : List GroupData) (last : Met) : Type 0 where
   pub choose : Choices
   pub earlier : List Met

@@ -101,8 +101,8 @@ pub(crate) fn apply_entry<B: Rows, H: Fn(&Conflict) -> Choice>(
     }
 }
 
-/// Decides about an entry of a table whose columns with these marks refuse NULL. Reports a conflict and the choice, unless
-/// the run ends there or the entry is ignored.
+/// Decides about an entry of a table whose columns with these marks refuse NULL. Reports a conflict and the choice,
+/// unless the run ends there or the entry is ignored.
 fn settle<H: Fn(&Conflict) -> Choice>(
     alloc: Global,
     table: &str,

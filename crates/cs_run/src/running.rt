@@ -25,10 +25,10 @@ pub enum Direction {
 /// Applies the changeset of a file to rows, or its inverse, as SQLite's `sqlite3changeset_apply` has it.
 ///
 /// A group is skipped if its table does not exist, has fewer columns or has another key. The handler is
-/// asked about each conflict. With [`Noop::Ignore`] it is not asked about a no-op: a delete whose row does not exist, an
-/// insert whose row exists in all columns, and an update whose row has the new values. An entry that would leave NULL
-/// in a column that refuses it has a conflict. If the handler chose to replace a row, that is a second conflict of the
-/// entry. The report has the conflicts, the skipped tables and the written keys in the order of the file, and the
+/// asked about each conflict. With [`Noop::Ignore`] it is not asked about a no-op: a delete whose row does not exist,
+/// an insert whose row exists in all columns, and an update whose row has the new values. An entry that would leave
+/// NULL in a column that refuses it has a conflict. If the handler chose to replace a row, that is a second conflict of
+/// the entry. The report has the conflicts, the skipped tables and the written keys in the order of the file, and the
 /// number of ignored entries.
 ///
 /// # Errors

@@ -87,8 +87,8 @@ all_attached m (n ∷ later) run = rows_attached m n run.0 ++ all_attached n lat
 
 -- ---- the law
 
--- at the end of a run the rows from before are those of its start, and for each table that was attached since those as it
--- was attached
+-- at the end of a run the rows from before are those of its start, and for each table that was attached since those as
+-- it was attached
 pub record KeepsBefore (m : Moment) (later : List Moment) (run : Run m later) : Type 0 where
   pub is_moment : IsMoment (ending m later)
   pub before : rewound (ending m later).notes (ending m later).state ≡ rewound m.notes m.state ++ all_attached m later run

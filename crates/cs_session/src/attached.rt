@@ -84,8 +84,8 @@ pub(crate) fn cut_back_at(tables: &mut [Attached], places: &[usize])
     }
 }
 
-/// Adds the place of a table in which something is about to be noted, unless it is the last of them. [`NoMemory`] changes
-/// nothing.
+/// Adds the place of a table in which something is about to be noted, unless it is the last of them. [`NoMemory`]
+/// changes nothing.
 pub(crate) fn open_at(
     tables: &[Attached],
     places: &mut Vec<usize>,

@@ -11,10 +11,10 @@
 //!
 //! `session` has the calls. `tables` has the tables that are attached, by their names, `attached` one of
 //! them, and `first_images` the keys of each that were written, with the rows that stood there first.
-//! `editing` and `applying` carry out what is noted, in a batch that is committed; `changes` makes the net changeset, and `undoing` applies its
-//! inverse. `checking` tells whether a store has the tables as they were attached, `laws` what holds over
-//! all that is done with a session, and `fault` why it refuses. `CALLING.md`, beside this folder, shows a
-//! caller.
+//! `editing` and `applying` carry out what is noted, in a batch that is committed; `changes` makes the net changeset,
+//! and `undoing` applies its inverse. `checking` tells whether a store has the tables as they were attached, `laws`
+//! what holds over all that is done with a session, and `fault` why it refuses. `CALLING.md`, beside this folder, shows
+//! a caller.
 #![tactic(auto)]
 
 mod applying;

@@ -1,4 +1,5 @@
--- Scripts of lines on slots, and what is printed for them, worked as examples. The changesets are of a table `t` of two columns, of which the first is the key.
+-- Scripts of lines on slots, and what is printed for them, worked as examples. The changesets are of a table `t` of two
+-- columns, of which the first is the key.
 use Rattle.std.proofs.Common.{◌≡◌, ℕ, false, List, [], ◌∷◌, Option, Some}
 use Rattle.std.proofs.Common.{◌==◌, codes, refl, arith}
 use Rattle.std.specs.List.{list_any}

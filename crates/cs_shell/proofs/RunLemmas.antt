@@ -215,7 +215,8 @@ Runs-told remaining contents gives one status start final a b x y same runs =
 
 -- ---- states that are seen otherwise
 
--- what was answered from the one state to the other, and what holds of any two states between which the same is answered
+-- what was answered from the one state to the other, and what holds of any two states between which the same is
+-- answered
 pub record Answered {S T : Type 0} (gives : S → List ℕ → Reply → S → Type 0) (shows : T → List ℕ → Reply → T → Type 0) (start final : S) (Holds : T → T → Type 0) : Type 0 where
   pub lines : List (List ℕ)
   pub replies : List Reply

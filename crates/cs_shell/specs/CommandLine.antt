@@ -30,8 +30,8 @@ ReportsStatus errors TooLong before after = after ≡ before
 ReportsStatus errors InputFault before after = Reports errors Input before after
 ReportsStatus errors OutputFault before after = (fault : Fault) × Reports errors (Output fault) before after
 
--- the input was run as a script on a store in memory, or there was no memory for one, which is told, and then nothing was
--- read, and nothing written on the output
+-- the input was run as a script on a store in memory, or there was no memory for one, which is told, and then nothing
+-- was read, and nothing written on the output
 abbrev pub RunsInMemory : {R W E : Type 0} → (R → Option (List ℕ)) → (W → Option (List ℕ)) → (E → Option (List ℕ)) → ℕ
     → Told R → Told R → Told W → Told W → Told E → Told E → Type 0
 RunsInMemory remaining contents errors exit input_before input_after before after err_before err_after =

@@ -1,5 +1,5 @@
-//! The `changeset` tool as a library: scripts, and the command line. The names of [`cs_files`] and [`cs_lines`] are passed
-//! on.
+//! The `changeset` tool as a library: scripts, and the command line. The names of [`cs_files`] and [`cs_lines`] are
+//! passed on.
 //!
 //! ```rust
 //! // An INSERT of ('x') into the table t of one column, and the DELETE of that row.
@@ -12,8 +12,8 @@
 //! ```
 //!
 //! `script` reads lines by a `reader`, passes each to a machine, and prints the replies. `shell` is the machine over a
-//! store, by [`cs_machine`]. `words` has the command line, whose words [`cs_words`] reads. `command` has the commands on
-//! files and stores, and `output` writes a file. [`cs_replies`] has the replies and how they are printed.
+//! store, by [`cs_machine`]. `words` has the command line, whose words [`cs_words`] reads. `command` has the commands
+//! on files and stores, and `output` writes a file. [`cs_replies`] has the replies and how they are printed.
 #![tactic(auto)]
 
 mod command;

@@ -106,10 +106,10 @@ fn write_missing(rt: &HostRuntime, path: &str, bytes: &[u8]) -> io::Result<()> {
     }
 }
 
-/// Writes bytes into the file at a path, and creates it if it does not exist. If this fails or the machine stops, the file
-/// has its previous content or these bytes: they are written into a new file in the same folder, which is then renamed.
-/// Links are followed, and permissions are kept. If a link leads to a missing file and the machine stops, an empty file may
-/// remain. To a standard stream, and to anything that is not a plain file, the bytes are appended.
+/// Writes bytes into the file at a path, and creates it if it does not exist. If this fails or the machine stops, the
+/// file has its previous content or these bytes: they are written into a new file in the same folder, which is then
+/// renamed. Links are followed, and permissions are kept. If a link leads to a missing file and the machine stops, an
+/// empty file may remain. To a standard stream, and to anything that is not a plain file, the bytes are appended.
 pub(crate) fn write_file(rt: &HostRuntime, path: &str, bytes: &[u8]) -> io::Result<()> {
     if is_open_stream(path) {
         return append(rt, path, bytes);

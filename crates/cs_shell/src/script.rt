@@ -254,9 +254,9 @@ impl Script {
 }
 
 /// Runs a script by a machine: reads its lines, answers them, and prints the replies. The lines that were read are
-/// answered before more is read. A line is refused if memory runs out for it. After 16777216 bytes one byte more ends the
-/// script: the lines that end before it are run, and an error line is printed. The script also ends if a read or a write
-/// fails. What its lines did remains.
+/// answered before more is read. A line is refused if memory runs out for it. After 16777216 bytes one byte more ends
+/// the script: the lines that end before it are run, and an error line is printed. The script also ends if a read or a
+/// write fails. What its lines did remains.
 pub(crate) fn run_machine<M: Machine, R: Read, W: Write>(
     alloc: Global,
     machine: &mut M,

@@ -66,16 +66,16 @@ fn run_shell<S: Alter, R: Read, W: Write>(
     run_machine(alloc, shell, input, out)
 }
 
-/// Runs a script on a store: reads its lines, answers them, and prints the replies. The lines that were read are answered
-/// before more is read.
+/// Runs a script on a store: reads its lines, answers them, and prints the replies. The lines that were read are
+/// answered before more is read.
 ///
-/// A line changes nothing if memory or the database refuses it. Once a failure of the disk has shut the store, each line
-/// that asks for a table is refused. Before the first line an empty batch is begun and dropped. If that fails, because a
-/// batch was left open in the store, the line is refused, and the next line tries again.
+/// A line changes nothing if memory or the database refuses it. Once a failure of the disk has shut the store, each
+/// line that asks for a table is refused. Before the first line an empty batch is begun and dropped. If that fails,
+/// because a batch was left open in the store, the line is refused, and the next line tries again.
 ///
-/// After 16777216 bytes one byte more ends the script: the lines that end before it are run, and an error line is printed.
-/// The script also ends if a read or a write fails. The store keeps what the lines did. The slots and the session end with
-/// the script.
+/// After 16777216 bytes one byte more ends the script: the lines that end before it are run, and an error line is
+/// printed. The script also ends if a read or a write fails. The store keeps what the lines did. The slots and the
+/// session end with the script.
 pub fn run_script<S: Alter, R: Read, W: Write>(
     alloc: Global,
     store: &mut Store<S>,

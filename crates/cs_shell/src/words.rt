@@ -55,8 +55,8 @@ fn end_script<E: Write>(err: &mut Told<E>, status: Status) -> u8
     1
 }
 
-/// Runs the input as a script on a store in memory, and returns the exit status. If there is no memory for the store, that
-/// is reported, and nothing is read.
+/// Runs the input as a script on a store in memory, and returns the exit status. If there is no memory for the store,
+/// that is reported, and nothing is read.
 fn run_input<R: Read, W: Write, E: Write>(
     alloc: Global,
     input: &mut Told<R>,
@@ -77,8 +77,8 @@ fn run_input<R: Read, W: Write, E: Write>(
     }
 }
 
-/// Writes the usage text, and returns the exit status of words that fit no command. If a write fails or accepts no byte, a
-/// prefix of the text is written, and the flag of the stream is set.
+/// Writes the usage text, and returns the exit status of words that fit no command. If a write fails or accepts no
+/// byte, a prefix of the text is written, and the flag of the stream is set.
 pub fn print_usage<E: Write>(err: &mut Told<E>) -> u8
     ensures status { result ≡ 2 }
     ensures front { AppendsFront (known E.contents err.old) (known E.contents err.new) USAGE.now }
@@ -167,8 +167,8 @@ fn run_action<R: Read, W: Write, E: Write>(
     end_command(err, done)
 }
 
-/// Carries out the words of a command line, the program's name first. Returns the exit status: 0 if the command is done, 1
-/// if it failed, and 2 if the words fit no command.
+/// Carries out the words of a command line, the program's name first. Returns the exit status: 0 if the command is
+/// done, 1 if it failed, and 2 if the words fit no command.
 ///
 /// - No word after the name, and `:memory: shell`: runs the input as a script on a store in memory, as [`run_script`].
 /// - `FILE shell`: runs it on the store in FILE. Creates the file if it does not exist.
@@ -182,9 +182,9 @@ fn run_action<R: Read, W: Write, E: Write>(
 ///
 /// A file has at most 1073741824 bytes. OUT is replaced once all of its bytes are made, so it can be one of the inputs.
 ///
-/// Errors of a command, and the usage text for words that fit no command, are written to `err`. Then OUT is unchanged if
-/// it is a plain file or does not exist. Errors of the lines of a script are written to `out`. If the report of an apply
-/// cannot be written, the command fails, but FILE is applied.
+/// Errors of a command, and the usage text for words that fit no command, are written to `err`. Then OUT is unchanged
+/// if it is a plain file or does not exist. Errors of the lines of a script are written to `out`. If the report of an
+/// apply cannot be written, the command fails, but FILE is applied.
 pub fn run_words<R: Read, W: Write, E: Write>(
     rt: &HostRuntime,
     words: &[String],

@@ -1,5 +1,5 @@
--- The columns that statements name. The statements are this project's own: of SQL they have the few forms that tables and
--- rows need.
+-- The columns that statements name. The statements are this project's own: of SQL they have the few forms that tables
+-- and rows need.
 use Rattle.std.specs.Prelude.{bytes_eq, ◌≡◌, ◌≢◌, ℕ, List, map, Bool, All, Any, AllPairs}
 use Rattle.std.specs.List.{list_any}
 use Rattle.cs_value.specs.Key.{key_columns}

@@ -29,7 +29,8 @@ pub record OpensFiles (image : Image) (new : State) : Type 0 where
   pub others : KeepsOthers db new.now
   pub at_rest : IsAtRest new
 
--- a database was found that is refused, and is still shown: it is damaged, or memory was refused, or the database refused
+-- a database was found that is refused, and is still shown: it is damaged, or memory was refused, or the database
+-- refused
 pub record RefusesFound (image : Image) (e : StoreError) (shown : State) : Type 0 where
   pub db : Database
   pub found : IsFoundIn image db

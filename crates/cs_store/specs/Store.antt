@@ -46,8 +46,8 @@ HoldsNone db = (held : tables.State) → ¬ HoldsTables db held
 abbrev pub IsDamaged : Database → Type 0
 IsDamaged db = IsDeclaredOtherwise db.schema ⊎ (DeclaresRecords db.schema × HoldsNone db)
 
--- while the connection is open, it shows a state, and a state was committed last, which it shows outside a transaction; all
--- but the records is as it was committed
+-- while the connection is open, it shows a state, and a state was committed last, which it shows outside a transaction;
+-- all but the records is as it was committed
 pub record IsStore (s : State) : Type 0 where
   pub open_inside : IsTrue s.in_transaction → IsTrue s.is_open
   pub settled : s.in_transaction ≡ false → IsTrue s.is_open → s.now ≡ s.committed
@@ -116,7 +116,8 @@ pub record IsAtRest (s : State) : Type 0 where
   pub autocommit : s.in_transaction ≡ false
   pub committed : s.committed ≡ s.now
 
--- a store is adopted: no transaction was open, and the tables that the database held are committed, and nothing else is changed
+-- a store is adopted: no transaction was open, and the tables that the database held are committed, and nothing else is
+-- changed
 pub record Adopts (old new : State) : Type 0 where
   pub was_clean : HasCleanDisk old
   pub outside : old.in_transaction ≡ false

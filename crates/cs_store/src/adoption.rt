@@ -193,8 +193,8 @@ fn check_empty<S: Alter>(conn: &mut Connection<S>, alloc: Global) -> Result<(), 
     }
 }
 
-/// Checks a store of this version: its declarations, and that each other record is a row of a table. Then the version of
-/// stores replaces the former one.
+/// Checks a store of this version: its declarations, and that each other record is a row of a table. Then the version
+/// of stores replaces the former one.
 fn check_tables<S: Alter>(
     conn: &mut Connection<S>,
     alloc: Global,

@@ -33,8 +33,8 @@ pub enum Unopened<D: Disk> {
 impl<D: Disk + Drop> Store<FileStore<D>> {
     /// Opens the store in the files of a database, a log and the database file.
     ///
-    /// Empty files become a new store, with checksums of its pages if `new_has_sums` is set. What a crash left of a store
-    /// is opened with its tables. A store of the former version gets the current one.
+    /// Empty files become a new store, with checksums of its pages if `new_has_sums` is set. What a crash left of a
+    /// store is opened with its tables. A store of the former version gets the current one.
     ///
     /// # Errors
     ///
@@ -67,8 +67,8 @@ impl<D: Disk + Drop> Store<FileStore<D>> {
         }
     }
 
-    /// Returns the files of the store, as a program leaves them that stops. A transaction that is open is rolled back, and
-    /// nothing is copied back.
+    /// Returns the files of the store, as a program leaves them that stops. A transaction that is open is rolled back,
+    /// and nothing is copied back.
     ///
     /// If a crash leaves only the store with some tables, whatever these files then have holds that store: opening it
     /// returns these tables ([`open_files`](Store::open_files)).
@@ -82,8 +82,8 @@ impl<D: Disk + Drop> Store<FileStore<D>> {
 }
 
 impl<S: Start> Store<FileStore<FileFrom<S>>> {
-    /// Opens the store in the database file at a path, as [`open_from`](Store::open_from) does. An error comes with what is
-    /// left of the files, once they were opened.
+    /// Opens the store in the database file at a path, as [`open_from`](Store::open_from) does. An error comes with
+    /// what is left of the files, once they were opened.
     ///
     /// # Errors
     ///

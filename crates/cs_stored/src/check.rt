@@ -91,8 +91,8 @@ pub fn read_version(listed: &[Keyed]) -> Result<Option<Version>, StoreError>
     }
 }
 
-/// The schemas of the tables that these records declare, in this version. The key of each is the name of a table, and its
-/// value a declaration. The version's own record, whose key is empty, is not looked at.
+/// The schemas of the tables that these records declare, in this version. The key of each is the name of a table, and
+/// its value a declaration. The version's own record, whose key is empty, is not looked at.
 pub fn read_schemas(
     alloc: Global,
     version: Version,

@@ -10,11 +10,11 @@ use cs_value::NoMemory;
 use cs_wire::{EntryRef, has_entry, read_entry, read_header};
 use std::alloc::Global;
 
-/// Whether the quick check accepts a file. A file that it accepts is the file of a changeset. A file that it rejects can
-/// still be one, if two names or two keys have the same number.
+/// Whether the quick check accepts a file. A file that it accepts is the file of a changeset. A file that it rejects
+/// can still be one, if two names or two keys have the same number.
 ///
-/// It allocates eight bytes for each table and for each entry of one table at a time, and a copy of each key whose columns
-/// are not adjacent. It takes the time of reading the file and of sorting these numbers.
+/// It allocates eight bytes for each table and for each entry of one table at a time, and a copy of each key whose
+/// columns are not adjacent. It takes the time of reading the file and of sorting these numbers.
 ///
 /// # Errors
 ///
@@ -34,8 +34,8 @@ pub(crate) fn is_changeset(alloc: Global, file: &[u8]) -> Result<bool, NoMemory>
     Ok(take_distinct(&mut names))
 }
 
-/// The end of the table at a byte offset, if its header and entries are well formed and no two of its keys have the same
-/// number. Appends the number of the table's name.
+/// The end of the table at a byte offset, if its header and entries are well formed and no two of its keys have the
+/// same number. Appends the number of the table's name.
 fn pass_table(
     alloc: Global,
     file: &[u8],

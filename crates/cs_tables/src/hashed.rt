@@ -9,8 +9,8 @@ use std::alloc::Global;
 use std::borrow::CowSlice;
 use std::marker::Model;
 
-/// The places of distinct texts, which are lists of bytes. Contracts see the map from text to place. A look-up takes time
-/// proportional to the length of the text, unless the texts were chosen to have the same hash.
+/// The places of distinct texts, which are lists of bytes. Contracts see the map from text to place. A look-up takes
+/// time proportional to the length of the text, unless the texts were chosen to have the same hash.
 #[derive(Debug, Drop)]
 pub(crate) struct HashedPlaces<'a> {
     places: IndexMap<CowSlice<'a, u8>, usize>,

@@ -22,8 +22,8 @@ struct ListedTable<'a> {
     start: usize,
 }
 
-/// The tables of a changeset's file, in the order of the file, indexed by their names. Contracts see the file, the headers,
-/// and the byte offset of each table's first entry.
+/// The tables of a changeset's file, in the order of the file, indexed by their names. Contracts see the file, the
+/// headers, and the byte offset of each table's first entry.
 #[derive(Debug, Drop)]
 pub struct NamedTables<'a> {
     file: &'a [u8],

@@ -33,14 +33,14 @@ impl<'a> Model for Tables<'a> {
 impl<'a> Tables<'a> {
     /// Reads a file to its end, and returns its tables from the first one on.
     ///
-    /// The quick check accepts most files of changesets. It allocates eight bytes for each table and for each entry of one
-    /// table at a time, and a copy of each key whose columns are not adjacent. If the quick check fails, a [`Cursor`]
-    /// decides, and finds the fault.
+    /// The quick check accepts most files of changesets. It allocates eight bytes for each table and for each entry of
+    /// one table at a time, and a copy of each key whose columns are not adjacent. If the quick check fails, a
+    /// [`Cursor`] decides, and finds the fault.
     ///
     /// # Errors
     ///
-    /// `Fault` if the file is not the file of a changeset: the first fault, in the order of the file. `NoMemory` if memory
-    /// runs out.
+    /// `Fault` if the file is not the file of a changeset: the first fault, in the order of the file. `NoMemory` if
+    /// memory runs out.
     pub fn read(alloc: Global, file: &'a [u8]) -> Result<Tables<'a>, ReadError>
         ensures found { IfOk result (λ tables. (groups : List GroupData) × IsFileOf file.now groups × AreLeft tables [] groups) }
         ensures refused { IfErr result (Refuses (λ f. ReadFails file.now f.kind f.place)) }

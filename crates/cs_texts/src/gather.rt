@@ -44,8 +44,8 @@ impl Gather {
     ///
     /// # Errors
     ///
-    /// [`OutputFault`] if a write fails or accepts no byte. Then a prefix of the buffered bytes is written, and the flag
-    /// of `out` is set.
+    /// [`OutputFault`] if a write fails or accepts no byte. Then a prefix of the buffered bytes is written, and the
+    /// flag of `out` is set.
     pub fn flush<W: Write>(&mut self, out: &mut Told<W>) -> Result<(), OutputFault>
         ensures written { Writes W.contents result out.old out.new self.old }
         ensures emptied { self.new ≡ [] }

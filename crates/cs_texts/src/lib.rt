@@ -8,8 +8,8 @@
 //! assert_eq!(rt; text.into_inner(), b"INSERT INTO \"t\" VALUES('x');\n");
 //! ```
 //!
-//! `texts` prints changesets, owned ones and those in a file. `gather` buffers what is printed. `told` wraps a reader or
-//! a writer and remembers whether a call failed. `fault` is a failed write.
+//! `texts` prints changesets, owned ones and those in a file. `gather` buffers what is printed. `told` wraps a reader
+//! or a writer and remembers whether a call failed. `fault` is a failed write.
 //!
 //! A crate above writes lines of its own by [`add_pieces`], and then [`Gather::flush`]. `Form` and `write_tables` are
 //! for `cs_files`, which prints files.

@@ -26,9 +26,9 @@ pub use piece::{Piece, add_pieces};
 use std::io::Write;
 use tables::add_tables;
 
-/// Writes the changeset as readable text. Each table has a line with its name, the number of its columns and their flags.
-/// After it each entry has a line with the change, the indirect flag and the fields of its records. A line feed in a text
-/// or a name is printed as it is. The call allocates nothing, and writes some thousands of bytes at a time.
+/// Writes the changeset as readable text. Each table has a line with its name, the number of its columns and their
+/// flags. After it each entry has a line with the change, the indirect flag and the fields of its records. A line feed
+/// in a text or a name is printed as it is. The call allocates nothing, and writes some thousands of bytes at a time.
 ///
 /// # Errors
 ///
@@ -40,8 +40,8 @@ pub fn dump_text<W: Write>(changeset: &Changeset, out: &mut Told<W>) -> Result<(
     write_groups(Form::Dump, changeset.groups(), out)
 }
 
-/// Writes the changeset as readable SQL, a statement for each entry. The format has no names of columns, so they are c1,
-/// c2 and so on. The call allocates nothing, and writes some thousands of bytes at a time.
+/// Writes the changeset as readable SQL, a statement for each entry. The format has no names of columns, so they are
+/// c1, c2 and so on. The call allocates nothing, and writes some thousands of bytes at a time.
 ///
 /// # Errors
 ///

@@ -10,8 +10,8 @@ use crate::fault::OutputFault;
 use std::io;
 use std::io::{Read, Write};
 
-/// A reader or a writer with a flag. The flag is set once a `read` or a `write` fails, or a `write` of some bytes accepts
-/// none.
+/// A reader or a writer with a flag. The flag is set once a `read` or a `write` fails, or a `write` of some bytes
+/// accepts none.
 #[derive(Debug, Drop)]
 pub struct Told<T> {
     inner: T,
@@ -45,8 +45,8 @@ impl<T> Told<T> {
     }
 }
 
-/// A reader, with what one call of it does. Every reader is one. A wrapper that is generic over this trait is proved to call
-/// the reader, since nothing else shows what a call does.
+/// A reader, with what one call of it does. Every reader is one. A wrapper that is generic over this trait is proved to
+/// call the reader, since nothing else shows what a call does.
 pub trait ReadCall: Read {
     // What a call returns, leaves in the buffer, and leaves of the reader.
     ghost reads: { Self → Result ℕ IoError → List ℕ → List ℕ → Self → Type 0 };

@@ -89,8 +89,8 @@ abbrev pub onto_text : List ℕ → Option Unquoted → Option Unquoted
 onto_text front None = None
 onto_text front (Some u) = Some (record { text = front ++ u.text; rest = u.rest })
 
--- what stands behind the first quote of a text, where a quote in it is still held or none is: the next byte says whether
--- a held quote is doubled or ends the text
+-- what stands behind the first quote of a text, where a quote in it is still held or none is: the next byte says
+-- whether a held quote is doubled or ends the text
 unfoldable pub unquoted : ℕ → Bool → List ℕ → Option Unquoted
 unquoted quote held [] = if held then Some (record { text = []; rest = [] }) else None
 unquoted quote held (b ∷ bytes) =

@@ -74,8 +74,8 @@ pub data Token : Type 0 where
 
 -- ---- how it is spelled
 
--- Each of these says that the bytes spell something where the rest follows. As a token takes as many bytes as it can, the
--- rest does not go on with it.
+-- Each of these says that the bytes spell something where the rest follows. As a token takes as many bytes as it can,
+-- the rest does not go on with it.
 
 -- a letter or `_`, and then letters, digits and `_`; where it is an X, no quote follows, since a blob begins so
 pub record IsWord (bytes rest : List ℕ) : Type 0 where

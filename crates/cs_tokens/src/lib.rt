@@ -7,8 +7,8 @@
 //! ```
 //!
 //! A line is read from its front. `token` takes the first token: a `symbol`, which is a keyword or a sign, a word or an
-//! integer (`piece`), a `quoted` text or name, or a `blob`. `words` takes the first word, which ends at a blank. `byte` has
-//! the classes of bytes. `stop` says where a line does not fit, or that memory ran out.
+//! integer (`piece`), a `quoted` text or name, or a `blob`. `words` takes the first word, which ends at a blank. `byte`
+//! has the classes of bytes. `stop` says where a line does not fit, or that memory ran out.
 #![tactic(auto)]
 
 mod blob;

@@ -1,5 +1,5 @@
--- Lemmas on lists and options that std does not have: what holds of each element of a list, or of each two; a list that a loop goes through, one element further on;
--- and a list that is written over.
+-- Lemmas on lists and options that std does not have: what holds of each element of a list, or of each two; a list that
+-- a loop goes through, one element further on; and a list that is written over.
 use Rattle.std.proofs.Common.{◌≡◌, ℕ, zero, suc, ◌+◌, ◌<◌, ◌≤◌, Bool, true, false, cond, if◌then◌else◌, List, [], ◌∷◌, ◌++◌, length, get_or, take, drop, map, filter, filter_map, All, AllPairs, Any, Option, Some, None, option_map, refl, sym, ap, ◌∙◌, subst, append_assoc, arith}
 use Rattle.std.specs.Prelude.{IfSome, option_to_list}
 use Rattle.std.specs.List.{AllByRecursion, cons_option, flat_map}

@@ -12,8 +12,9 @@ use std::alloc::Global;
 use std::marker::Model;
 
 /// Goes through a file, and hands out its tables and entries where they stand, one after another. It knows the names of
-/// the tables and the keys of the one that is open where they lie in the file, but copies a key whose columns do not stand
-/// side by side. Contracts see the file, the place behind what was handed out, and how the cursor ended, if it did.
+/// the tables and the keys of the one that is open where they lie in the file, but copies a key whose columns do not
+/// stand side by side. Contracts see the file, the place behind what was handed out, and how the cursor ended, if it
+/// did.
 #[derive(Debug, Drop)]
 pub struct Cursor<'a> {
     walk: Walk<'a>,

@@ -148,7 +148,8 @@ impl HeaderRef<'_> {
         })
     }
 
-    /// Appends the header's bytes. Its name and its flags make one ([`Header::fits`]). [`NoMemory`] leaves `out` as it was.
+    /// Appends the header's bytes. Its name and its flags make one ([`Header::fits`]). [`NoMemory`] leaves `out` as it
+    /// was.
     pub fn write_to(&self, out: &mut Vec<u8>) -> Result<(), NoMemory>
         requires { IsHeader (header_of self.now) }
         ensures ok { OnOk result (out.new.items ≡ out.old.items ++ header_bytes (header_of self.now)) }

@@ -24,9 +24,9 @@
 //!
 //! `header`, `group` and `changeset` are what a file holds besides its entries, which `cs_entries` has. `reader` and
 //! `writer` go from bytes to that and back. A `cursor` goes through a file by a `walk`, until its `ending`, and returns
-//! each `item` borrowed from the file; a name or a key that it has `seen` before is a fault. `draft` collects the tables
-//! that `reader` reads. `places` indexes entries and groups, and `laws` has what holds of all changesets. The names of
-//! `cs_entries` are passed on. `CALLING.md`, next to this folder, shows a caller.
+//! each `item` borrowed from the file; a name or a key that it has `seen` before is a fault. `draft` collects the
+//! tables that `reader` reads. `places` indexes entries and groups, and `laws` has what holds of all changesets. The
+//! names of `cs_entries` are passed on. `CALLING.md`, next to this folder, shows a caller.
 //!
 //! `read_header`, `has_entry`, `read_entry` and `word_of` are for the crate above, `cs_tables`.
 #![tactic(auto)]

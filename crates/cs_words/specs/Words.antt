@@ -1,5 +1,5 @@
--- What the words of a command line ask for, over what `clap` says that a command takes from words. The commands and their
--- arguments are those of SQLite's `changeset` utility; the options and `shell` are this project's own.
+-- What the words of a command line ask for, over what `clap` says that a command takes from words. The commands and
+-- their arguments are those of SQLite's `changeset` utility; the options and `shell` are this project's own.
 use Rattle.std.specs.Prelude.{◌≡◌, ◌⊎◌, true, List, [], ◌∷◌, codes, if◌then◌else◌}
 use Rattle.std.specs.Prelude.{Option, Some, None, option_and_then, option_map, unwrap_or}
 use Rattle.std.specs.Str.{bytes_eq}
@@ -147,8 +147,8 @@ pub record AskNothing (words : List Text) : Type 0 where
   pub asked : asked words ≡ None
   pub taken : takes command_app words ≡ true → asked_by (matches_of command_app words) ≡ None
 
--- words are refused where they ask for nothing, or for memory: for help where `clap` says so, and for usage where it says
--- something else, or finds no fault, but they fit no command
+-- words are refused where they ask for nothing, or for memory: for help where `clap` says so, and for usage where it
+-- says something else, or finds no fault, but they fit no command
 abbrev pub Refuses : List Text → WordsFault → Type 0
 Refuses words fault.NoMemory = Unit {0}
 Refuses words fault.Help = AskNothing words × Tells words fault.Help

@@ -25,11 +25,12 @@ const NARROWER: &[u8] = b"T\x01\x01t\x00\x12\x00\x01\x00\x00\x00\x00\x00\x00\x00
 const KEY_TWICE: &[u8] = b"T\x02\x01\x00t\x00\x12\x00\x01\x00\x00\x00\x00\x00\x00\x00\x01\x03\x01x\
 \x09\x00\x01\x00\x00\x00\x00\x00\x00\x00\x01\x03\x01x";
 
-/// The code of a refusal, or 0, and the numbers of conflicts, of ignored entries, of skipped tables and of written keys.
+/// The code of a refusal, or 0, and the numbers of conflicts, of ignored entries, of skipped tables and of written
+/// keys.
 type Answer = [usize; 5];
 
-/// A file, the direction in which it runs, what is done about entries that change nothing, the choice for each conflict,
-/// and the answer.
+/// A file, the direction in which it runs, what is done about entries that change nothing, the choice for each
+/// conflict, and the answer.
 type Step = (&'static [u8], Direction, Noop, Choice, Answer);
 
 const FORWARD: Direction = Direction::Forward;

@@ -133,7 +133,8 @@ fn applied_in<S: Alter>(
     code_of(session.apply_recorded(rt.alloc(), store, FORTH, Noop::Report, &handler))
 }
 
-/// Has a session carry out that edit, or apply that file. It has noted something if that is carried out, and else nothing.
+/// Has a session carry out that edit, or apply that file. It has noted something if that is carried out, and else
+/// nothing.
 fn call_session<S: Alter>(
     rt: &(impl Abort + AllocGlobal),
     store: &mut Store<S>,
@@ -366,8 +367,8 @@ fn hold<D: Disk + Drop>(
     has(rt, &mut store, after) || (!is_done && has(rt, &mut store, FIRST))
 }
 
-/// Whether a call is carried out on the store in fused files. What the disks hold then, and what a crash leaves of that,
-/// is a store with what the call leaves or what it finds.
+/// Whether a call is carried out on the store in fused files. What the disks hold then, and what a crash leaves of
+/// that, is a store with what the call leaves or what it finds.
 fn is_carried_out(rt: &(impl Abort + AllocGlobal), files: Files<Fuse<Memory>>, case: Case) -> bool {
     let (action, _) = case;
     let (is_done, mut files) = called_on(rt, files, action);
@@ -382,8 +383,8 @@ fn is_carried_out(rt: &(impl Abort + AllocGlobal), files: Files<Fuse<Memory>>, c
     is_done
 }
 
-/// Returns the number of calls that the log, or else the database, has to answer so that a call is carried out. The disk
-/// stops after this many calls, and after each number from the least on.
+/// Returns the number of calls that the log, or else the database, has to answer so that a call is carried out. The
+/// disk stops after this many calls, and after each number from the least on.
 fn count_calls(
     rt: &(impl Abort + AllocGlobal),
     files: &Files<Memory>,

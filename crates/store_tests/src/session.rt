@@ -38,8 +38,8 @@ pub(crate) fn edited<S: Alter>(
     code_of(session.edit(rt.alloc(), store, &edit_of(rt, call)))
 }
 
-/// A store without t, with tables t of other columns, another key or other rules, and with t: the name of the table, its
-/// second column, its key, the columns that refuse NULL, and the code that a session with t returns.
+/// A store without t, with tables t of other columns, another key or other rules, and with t: the name of the table,
+/// its second column, its key, the columns that refuse NULL, and the code that a session with t returns.
 const OTHERS: &[(&str, &str, &[bool], &[bool], u8)] = &[
     ("u", "b", &[true, false], &[false, false], 51),
     ("t", "c", &[true, false], &[false, false], 51),
@@ -66,8 +66,8 @@ fn store_with(
     store
 }
 
-/// Asserts the code that a session returns for its changeset, an undo and an edit of t, which is refused for its NULL too
-/// where the store is refused.
+/// Asserts the code that a session returns for its changeset, an undo and an edit of t, which is refused for its NULL
+/// too where the store is refused.
 fn expect_code<S: Alter>(
     rt: &(impl Abort + AllocGlobal),
     session: &mut Session,

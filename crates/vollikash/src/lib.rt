@@ -98,8 +98,8 @@ pub extern "C" fn vollikash_concat(
     hand_out(concat_bytes(alloc, first, second), out, written, fault)
 }
 
-/// Puts the file of the changeset of this file with the columns of each key numbered, as SQLite numbers them, into `out`,
-/// and its length, which is that of the file, into `written`.
+/// Puts the file of the changeset of this file with the columns of each key numbered, as SQLite numbers them, into
+/// `out`, and its length, which is that of the file, into `written`.
 ///
 /// It answers `OK`, `NO_ROOM`, or the number of what is wrong with the file, or that memory was refused.
 #[unsafe(no_mangle)]

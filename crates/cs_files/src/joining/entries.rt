@@ -91,7 +91,8 @@ fn unmarked(alloc: Global, count: usize) -> Result<Vec<bool>, NoMemory>
     Ok(Vec::from_elem(alloc, false, count)?)
 }
 
-/// Appends an entry, merged with the one of its key in the second table. Returns the index of that one, if there is one.
+/// Appends an entry, merged with the one of its key in the second table. Returns the index of that one, if there is
+/// one.
 fn write_outcome<'a>(
     alloc: Global,
     out: &mut Vec<u8>,

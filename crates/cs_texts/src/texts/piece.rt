@@ -44,8 +44,8 @@ impl Print for Piece<'_> {
 ///
 /// # Errors
 ///
-/// [`OutputFault`] if a write fails or accepts no byte. Then a prefix of the buffer and the pieces is written, the rest is
-/// lost, and the flag of `out` is set.
+/// [`OutputFault`] if a write fails or accepts no byte. Then a prefix of the buffer and the pieces is written, the rest
+/// is lost, and the flag of `out` is set.
 pub fn add_pieces<W: Write>(
     gather: &mut Gather,
     out: &mut Told<W>,

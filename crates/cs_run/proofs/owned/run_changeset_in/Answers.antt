@@ -1,4 +1,5 @@
--- `owned::run_changeset_in`: the invariant of the loop at `group`, the clauses `applied`, `refused`, `named` and `read`.
+-- `owned::run_changeset_in`: the invariant of the loop at `group`, the clauses `applied`, `refused`, `named` and
+-- `read`.
 use Rattle.std.proofs.Common.{◌≡◌, ◌<◌, ◌+◌, ℕ, List, length, get_or, refl, ap, ◌∙◌}
 use Rattle.std.specs.Fn.{FnReturnsAt}
 use Rattle.std.proofs.lemmas.List.{take_all}

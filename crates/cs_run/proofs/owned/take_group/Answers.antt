@@ -1,4 +1,5 @@
--- `owned::take_group`: the invariant of the loop at `entry`, what `take_entry` asks for, the clauses `behind` and `kept`.
+-- `owned::take_group`: the invariant of the loop at `entry`, what `take_entry` asks for, the clauses `behind` and
+-- `kept`.
 use Rattle.std.proofs.Common.{◌≡◌, ◌<◌, [], List, ℕ, length, take, get_or, refl, sym, ap, ap₂, ◌∙◌}
 use Rattle.std.specs.Fn.{FnReturnsAt}
 use Rattle.std.specs.Rc.{rc_str_bytes}

@@ -1,4 +1,5 @@
--- `running::run_in`: the invariant of the loop, what `take_entry` asks for, the clauses `applied`, `refused` and `named`.
+-- `running::run_in`: the invariant of the loop, what `take_entry` asks for, the clauses `applied`, `refused` and
+-- `named`.
 use Rattle.std.proofs.Common.{Option, Ok, refl, ap, ◌∙◌, arith}
 use Rattle.std.specs.Fn.{FnReturnsAt}
 use Rattle.cs_wire.specs.declared.item.Item.{Item}

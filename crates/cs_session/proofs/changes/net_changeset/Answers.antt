@@ -1,4 +1,5 @@
--- `changes::net_changeset`: what `table_changes` and `push` ask for, the invariant of the loop at `table`, the clause `kept`.
+-- `changes::net_changeset`: what `table_changes` and `push` ask for, the invariant of the loop at `table`, the clause
+-- `kept`.
 use Rattle.std.proofs.Common.{◌≡◌, ◌≢◌, ◌++◌, option_to_list, sym, ◌∙◌}
 use Rattle.std.proofs.lemmas.List.{append-nil}
 use Rattle.cs_wire.specs.Changeset.{GroupData}

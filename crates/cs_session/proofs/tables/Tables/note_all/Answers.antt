@@ -1,4 +1,5 @@
--- `tables::Tables::note_all`: what `place_for` and `note_at` ask for, the invariant of the loop at `one`, the clause `refused`.
+-- `tables::Tables::note_all`: what `place_for` and `note_at` ask for, the invariant of the loop at `one`, the clause
+-- `refused`.
 use Rattle.std.proofs.Common.{[], ◌∷◌, map, refl, ap, ◌∙◌}
 use Rattle.std.proofs.lemmas.Result.{err_from_is_err_and}
 use Rattle.cs_value.specs.State.{WrittenData}
