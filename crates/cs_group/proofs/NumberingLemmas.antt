@@ -373,10 +373,12 @@ heeded_of_numbered Ignore state (p ∷ ps) = rw (idle_stays state p, heeded_of_n
     at true = refl
     at false = refl
 
+heeded_numbered : (noop : Noop) (state : State) (changeset : List GroupData) → heeded noop state (numbered changeset) ≡ map numbered_entry (heeded noop state changeset)
+heeded_numbered noop state changeset = ap (heeded_of noop state) (applicable_numbered state changeset) ∙ heeded_of_numbered noop state (applicable state changeset)
+
 met_stay : (noop : Noop) (state : State) (changeset : List GroupData) (choose : Choices) → met_under noop state (numbered changeset) choose ≡ met_under noop state changeset (as_numbered choose)
 met_stay noop state changeset choose =
-    ap (λ (ps : List PlacedEntry). flat_map (met_at state choose) (heeded_of noop state ps)) (applicable_numbered state changeset)
-    ∙ ap (flat_map (met_at state choose)) (heeded_of_numbered noop state (applicable state changeset))
+    ap (flat_map (met_at state choose)) (heeded_numbered noop state changeset)
     ∙ flat_map_numbered (met_at state choose) (met_at state (as_numbered choose)) (met_stays state choose) (heeded noop state changeset)
 
 abbrev MeetsNone : State → PlacedEntry → Type 0
@@ -414,10 +416,11 @@ does_alike changeset = record {
     λ is. record { none_wider = none_wider state changeset is.none_wider; no_conflict = none_meets state changeset is.no_conflict },
     λ is. record { none_wider = wider_none state changeset is.none_wider; no_conflict = meets_none state changeset is.no_conflict },
   );
-  written = λ state choose.
-      ap (filter_map (written_for state choose)) (applicable_numbered state changeset) ∙ filter_map_numbered (written_for state choose) (written_for state (as_numbered choose)) (written_stays state choose) (applicable state changeset);
-  applied = λ old new choose. (
-    λ is. rw (applicable_numbered old changeset) (applied_numbered old new choose (applicable old changeset) is),
-    λ is. numbered_applied old new choose (applicable old changeset) (rw (applicable_numbered old changeset) at is),
+  written = λ noop state choose.
+      ap (filter_map (written_for state choose)) (heeded_numbered noop state changeset)
+      ∙ filter_map_numbered (written_for state choose) (written_for state (as_numbered choose)) (written_stays state choose) (heeded noop state changeset);
+  applied = λ noop old new choose. (
+    λ is. rw (heeded_numbered noop old changeset) (applied_numbered old new choose (heeded noop old changeset) is),
+    λ is. numbered_applied old new choose (heeded noop old changeset) (rw (heeded_numbered noop old changeset) at is),
   );
 }

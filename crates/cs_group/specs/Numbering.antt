@@ -7,7 +7,7 @@ use Rattle.cs_wire.specs.Changeset.{HeaderData, GroupData}
 use Rattle.cs_group.specs.Inverse.{IsInverse}
 use Rattle.cs_group.specs.Judging.{judged}
 use Rattle.cs_group.specs.declared.conflict.Noop.{Noop}
-use Rattle.cs_group.specs.Applying.{PlacedEntry, skipped, met_under, IsClean, Choices, written, IsApplied}
+use Rattle.cs_group.specs.Applying.{PlacedEntry, skipped, met_under, IsClean, Choices, written_under, IsAppliedUnder}
 
 -- the number of a column of the key behind those that have numbers up to this one: one byte has no more than 255
 abbrev pub next_number : ℕ → ℕ
@@ -45,14 +45,16 @@ numbered_entry p = record { table = p.table; flags = numbered_flags p.flags; ent
 abbrev pub as_numbered : Choices → Choices
 as_numbered choose p = choose (numbered_entry p)
 
--- what one changeset does to every state the other, which is the first one numbered, does to it: each table is judged
--- alike, the same ones are passed over, and with the same choices the same conflicts are met and, where nothing is
--- ignored, the same keys are written and the same states are made
+-- The second changeset is the first with its keys numbered, and does to every state what the first does: each table is
+-- judged alike, and the same ones are skipped. With the same choices the same conflicts are encountered, the same keys
+-- are written and the same states are made, whether no-ops are reported or ignored.
 pub record DoesAlike (changeset other : List GroupData) : Type 0 where
   pub judged : (state : State) → map (judged state) other ≡ map (judged state) changeset
   pub skipped : (state : State) → skipped state other ≡ skipped state changeset
   pub met : (noop : Noop) (state : State) (choose : Choices)
       → met_under noop state other choose ≡ met_under noop state changeset (as_numbered choose)
   pub clean : (state : State) → IsClean state changeset ↔ IsClean state other
-  pub written : (state : State) (choose : Choices) → written state other choose ≡ written state changeset (as_numbered choose)
-  pub applied : (old new : State) (choose : Choices) → IsApplied old changeset (as_numbered choose) new ↔ IsApplied old other choose new
+  pub written : (noop : Noop) (state : State) (choose : Choices)
+      → written_under noop state other choose ≡ written_under noop state changeset (as_numbered choose)
+  pub applied : (noop : Noop) (old new : State) (choose : Choices)
+      → IsAppliedUnder noop old changeset (as_numbered choose) new ↔ IsAppliedUnder noop old other choose new
