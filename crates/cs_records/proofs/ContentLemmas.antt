@@ -1,10 +1,9 @@
 -- What calls keep of a connection: its content, and what a crash leaves.
-use Rattle.std.proofs.Common.{◌≡◌, Bool, true, false, not, IsTrue, inl, inr, refl, sym, subst, ◌∙◌, true≢false, arith}
+use Rattle.std.proofs.Common.{◌≡◌, Bool, true, false, not, IsTrue, inl, inr, refl, sym, ◌∙◌, true≢false, arith}
 use Rattle.sqlite_trees.specs.Tree.{Trees}
-use Rattle.sqlite.specs.Effect.{Database, IsDatabase}
 use Rattle.sqlite.specs.State.{State, KeepsCommit, Survives}
 use Rattle.sqlite.proofs.StateLemmas.{survives_weaker, survives_then}
-use Rattle.cs_records.specs.Records.{DeclaresRecords, Rests, GoesOn, IsUndone, KeepsContent, KeepsCrash, KeepsOthers, by_one, by_each}
+use Rattle.cs_records.specs.Records.{Rests, GoesOn, IsUndone, KeepsContent, KeepsCrash}
 
 -- ---- nothing is done
 
@@ -75,36 +74,3 @@ in_transaction false e = absurd (true≢false (sym e))
 pub in_autocommit : (b : Bool) → true ≡ not b → b ≡ false
 in_autocommit true e = absurd (true≢false e)
 in_autocommit false e = refl
-
--- ---- what else the database has
-
--- it is kept by one call after another, and by doing nothing
-pub others_then : (a b c : Database) → IsDatabase b → KeepsOthers a b → KeepsOthers b c → KeepsOthers a c
-others_then a b c sound one two = record {
-  tables = λ table has other.
-      let first = one.tables table has other in
-      let second = two.tables table first.0 other in
-      (second.0, second.1 ∙ first.1);
-  indexes = λ index has. two.indexes index (one.indexes index has);
-  views = two.views ∙ one.views;
-  frozen = by_each a b c one.frozen sound two.frozen;
-  no_table = λ table has. elim (two.no_table table has) [ inl there ↦ one.no_table table there | inr added ↦ inr added ];
-  no_index = λ index has. elim (two.no_index index has) [
-    | inl there ↦ one.no_index index there
-    | inr apart ↦ inr (λ table has other. apart table (one.tables table has other).0 other)
-  ];
-  same = λ declares.
-      let first = one.same declares in
-      two.same (subst DeclaresRecords (sym first) declares) ∙ first;
-}
-
-pub others_itself : (db : Database) → KeepsOthers db db
-others_itself db = record {
-  tables = λ table has other. (has, refl);
-  indexes = λ index has. has;
-  views = refl;
-  frozen = by_one db db (record { rows = λ t catalog version frozen. refl; texts = λ row has foreign. has; version = refl });
-  no_table = λ table has. inl has;
-  no_index = λ index has. inl has;
-  same = λ declares. refl;
-}

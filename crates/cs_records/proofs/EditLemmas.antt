@@ -233,15 +233,9 @@ edit_sets db after tab key here holds same sound frozen edit =
       change = changed_records (record_rows db) (record_rows after) tab key here (are_records after next)
           (subst (λ l. Changes (record_rows db) l tab key here) (sym rows) (replaced db holds tab key here (after.trees tree) put));
       others = record {
-        tables = λ table has other. (
-          subst (λ (s : Schema). Has s.tables table) (sym same) has,
-          all_has (λ t. t.tree ≢ tree → after.trees t.tree ≡ db.trees t.tree) db.schema.tables table edit.spares has (elsewhere_is db.schema table holds.declares has other),
-        );
-        indexes = λ index has. subst (λ (s : Schema). Has s.indexes index) (sym same) has;
-        views = ap (λ (s : Schema). s.views) same;
+        rows = λ table has other.
+            all_has (λ t. t.tree ≢ tree → after.trees t.tree ≡ db.trees t.tree) db.schema.tables table edit.spares has (elsewhere_is db.schema table holds.declares has other);
+        schema = inl same;
         frozen = by_one db after frozen;
-        no_table = λ table has. inl (subst (λ (s : Schema). Has s.tables table) same has);
-        no_index = λ index has. inl (subst (λ (s : Schema). Has s.indexes index) same has);
-        same = λ declares. same;
       };
     }

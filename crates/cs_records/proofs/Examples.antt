@@ -1,5 +1,5 @@
 -- The table that its text makes, schemas that declare it, and schemas that do not, worked as examples.
-use Rattle.std.proofs.Common.{◌≡◌, ◌≢◌, inl, inr, ℕ, Bool, true, false, List, [], ◌∷◌, ◌++◌, codes, Some, None, Result, Ok, Err, slice_get, true≢false, refl, ap, arith}
+use Rattle.std.proofs.Common.{◌≡◌, ◌≢◌, inl, ℕ, true, false, List, [], ◌∷◌, ◌++◌, codes, None, Result, Ok, Err, true≢false, refl, ap, arith}
 use Rattle.std.proofs.lemmas.List.Elements.{All-from_recursion}
 use Rattle.sqlite_value.specs.Keys.{plain}
 use Rattle.sqlite_schema.specs.declared.schema.Kind.TheVariants as kind
@@ -10,18 +10,13 @@ use Rattle.sqlite_schema.specs.Names.{same_name}
 use Rattle.sqlite_schema.specs.declared.command.Command.{Command}
 use Rattle.sqlite_sql.specs.Query.{Query}
 use Rattle.sqlite_catalog.specs.Change.{automatics}
-use Rattle.sqlite_resolve.specs.Compile.{first, compiled, table_defined_by}
+use Rattle.sqlite_resolve.specs.Compile.{first, compiled}
 use Rattle.sqlite_resolve.specs.declared.compiled.Compiled.{Compiled}
 use Rattle.sqlite_resolve.specs.declared.error.CompileError.{CompileError}
 use Rattle.sqlite_tied.specs.Compute.{everything}
-use Rattle.cs_records.specs.Records.{required, records_table, records_tree, IsApart, IsOfKey, DeclaresRecords, IsDeclaredOtherwise, LacksRecords}
-use Rattle.cs_records.specs.Meaning.{AreWrites, AreStatements}
-use Rattle.cs_records.specs.Statements.{create_text, find_text, find_query, list_text, list_query, scan_text, scan_query, put_text, put_command, remove_text, remove_command, alone, IsStatement, IsSelect, IsCommand, IsSelectOf}
-
--- the text of the table makes it
-pub create_defines : table_defined_by create_text ≡ Ok (records_table 0)
-unfolding table_defined_by first everything
-create_defines = refl
+use Rattle.cs_records.specs.Records.{required, records_table, IsApart, IsOfKey, DeclaresRecords, IsDeclaredOtherwise, LacksRecords}
+use Rattle.cs_records.specs.Meaning.{AreStatements}
+use Rattle.cs_records.specs.Statements.{find_text, find_query, list_text, list_query, scan_text, scan_query, put_text, put_command, remove_text, remove_command, alone, IsStatement, IsSelectOf}
 
 -- ---- schemas
 

@@ -1,26 +1,24 @@
 -- What CREATE TABLE makes where nothing has the name of the table of records.
-use Rattle.std.proofs.Common.{◌≡◌, ◌⊎◌, ◌||◌, inl, inr, ℕ, ◌+◌, codes, List, [], ◌∷◌, ◌++◌, Bool, true, false, is_some, Option, Some, None, slice_get, Result, Ok, Err, IsTrue, length, refl, sym, ap, subst, ◌∙◌, arith}
+use Rattle.std.proofs.Common.{◌≡◌, ◌⊎◌, ◌||◌, inl, inr, ℕ, codes, List, [], ◌∷◌, ◌++◌, Bool, true, false, is_some, Option, Some, None, slice_get, Result, Ok, Err, IsTrue, length, refl, sym, ap, subst, ◌∙◌, arith}
 use Rattle.std.proofs.lemmas.Bool.{or_parts, true≢false}
 use Rattle.sqlite_value.specs.Order.{Row}
 use Rattle.sqlite_schema.specs.declared.schema.Table.{Table}
-use Rattle.sqlite_schema.specs.declared.schema.Index.{Index}
 use Rattle.sqlite_schema.specs.declared.schema.Schema.{Schema}
 use Rattle.sqlite_schema.specs.Names.{same_name, table_named, index_named, view_named}
 use Rattle.sqlite_schema.specs.declared.command.Command.TheVariants.{CreateTable}
 use Rattle.sqlite_rules.specs.Lists.{Has}
-use Rattle.sqlite_rules.proofs.ListLemmas.{all_has, has_left, has_either, has_got}
+use Rattle.sqlite_rules.proofs.ListLemmas.{all_has, has_left, has_right, has_either, has_got}
 use Rattle.sqlite_resolve.specs.Compile.{first, table_defined_by}
 use Rattle.sqlite_resolve.specs.declared.error.CompileError.{CompileError}
-use Rattle.sqlite_catalog.specs.Change.{is_used, next_tree, automatics}
+use Rattle.sqlite_catalog.specs.Change.{is_used, next_tree, created}
 use Rattle.sqlite_catalog.specs.Calls.{CreatesTable}
 use Rattle.sqlite_catalog.proofs.ListFacts.{none_placed}
-use Rattle.sqlite_catalog.proofs.StepLemmas.{table_below}
 use Rattle.sqlite_tied.specs.Compute.{everything}
-use Rattle.sqlite.specs.Effect.{Database}
+use Rattle.sqlite.specs.Effect.{Database, IsDatabase}
 use Rattle.sqlite.specs.Does.{Tally, lacks_sequence, sequence_text, MakesSequence}
 use Rattle.sqlite.specs.State.{State, HasCleanDisk, Survives, Writes, Executes, CommitsBy}
 use Rattle.sqlite.proofs.Callers.{statement_of, runs_as}
-use Rattle.cs_records.specs.Records.{records_table, records_tree, record_rows, table_name, LacksRecords, IsDeclaredOtherwise, DeclaresRecords, HoldsRecords, AreNumbered, Adds, Makes, KeepsOthers, MayBeAdded, IsApartFrom, by_one, GoesOn, KeepsCrash}
+use Rattle.cs_records.specs.Records.{records_table, records_tree, record_rows, table_name, LacksRecords, IsDeclaredOtherwise, DeclaresRecords, HoldsRecords, AreNumbered, Adds, Makes, IsOther, with_records, AddsCounts, AddsRecords, KeepsOthers, by_one, by_each, GoesOn, KeepsCrash}
 use Rattle.cs_records.specs.Statements.{create_text, Creates}
 use Rattle.cs_records.proofs.QueryTexts.{understood_is, plainly, commands}
 use Rattle.cs_records.proofs.StatementLemmas.{went, same_value, inside_keeps_crash, write_goes_on}
@@ -41,8 +39,9 @@ adds : (text : List ℕ) (old new : Database) → CreatesTable old.schema text o
 adds text old new made = record { table = made.table; defined = made.defined; free = made.free; schema = made.is; empty = made.empty; others = made.others }
 
 -- and one in which SQL counts, where a table wants it and there is none
-counted : (first new : Database) (lacks : Bool) → lacks_sequence first.schema ≡ lacks → MakesSequence first (Ok new) → (new ≡ first) ⊎ Adds sequence_text first new
-counted first new true lacks h = inr (adds sequence_text first new (rw lacks at h))
+counted : (first new : Database) (lacks : Bool) → lacks_sequence first.schema ≡ lacks → MakesSequence first (Ok new)
+    → (new ≡ first) ⊎ (IsTrue (lacks_sequence first.schema) × Adds sequence_text first new)
+counted first new true lacks h = inr (lacks, adds sequence_text first new (rw lacks at h))
 counted first new false has h = inl (same_value (rw has at h))
 
 -- so the text makes the table
@@ -56,7 +55,7 @@ makes old new count creates h =
       sound = w.sound;
       first = parts.0;
       adds = adds create_text old.now parts.0 parts.1;
-      counts = subst (λ (d : Database). (d ≡ parts.0) ⊎ Adds sequence_text parts.0 d) now (counted parts.0 all.0 (lacks_sequence parts.0.schema) refl parts.2);
+      counts = subst (λ (d : Database). (d ≡ parts.0) ⊎ (IsTrue (lacks_sequence parts.0.schema) × Adds sequence_text parts.0 d)) now (counted parts.0 all.0 (lacks_sequence parts.0.schema) refl parts.2);
       frozen = w.frozen;
     }
 
@@ -81,27 +80,17 @@ abbrev name_of : Result Table CompileError → List ℕ
 name_of (Ok table) = table.name
 name_of (Err e) = []
 
-create_name : (table : Table) → table_defined_by create_text ≡ Ok table → table.name ≡ table_name
+-- the text of the table makes it
+pub create_defines : table_defined_by create_text ≡ Ok (records_table 0)
 unfolding table_defined_by first everything
-create_name table defined = sym (ap name_of defined)
+create_defines = refl
+
+create_is : (table : Table) → table_defined_by create_text ≡ Ok table → table ≡ records_table 0
+create_is table defined = let both = sym create_defines ∙ defined in cc
 
 sequence_name : (table : Table) → table_defined_by sequence_text ≡ Ok table → table.name ≡ codes "sqlite_sequence"
 unfolding table_defined_by first everything
 sequence_name table defined = sym (ap name_of defined)
-
--- each is one that may be added
-create_may : (table : Table) → table_defined_by create_text ≡ Ok table → MayBeAdded table.name
-unfolding same_name
-create_may table defined = inl (rw (create_name table defined) refl)
-
-sequence_may : (table : Table) → table_defined_by sequence_text ≡ Ok table → MayBeAdded table.name
-sequence_may table defined = inr (sequence_name table defined)
-
--- an index that is made for the keys of a table is on it
-made_on : (table : Table) (keys : List (List ℕ)) (at tree : ℕ) (index : Index) → Has (automatics table at tree keys) index → index.table ≡ table.tree
-made_on table [] at tree index has = absurd has
-made_on table (key ∷ keys) at tree index (inl same) = ap (λ (i : Index). i.table) same
-made_on table (key ∷ keys) at tree index (inr later) = made_on table keys (at + 1) (tree + 1) index later
 
 -- ---- all else stays
 
@@ -113,26 +102,6 @@ module _ (text : List ℕ) (old new : Database) (added : Adds text old new) wher
     all_has (λ t. new.trees t.tree ≡ old.trees t.tree) old.schema.tables table added.others has,
   )
 
-  -- and so is each index
-  index_stays : (index : Index) → Has old.schema.indexes index → Has new.schema.indexes index
-  index_stays index has = subst (λ (s : Schema). Has s.indexes index) (sym added.schema) (has_left old.schema.indexes _ index has)
-
-  -- each table was there, or is the one that the text defines
-  table_was : (may : MayBeAdded added.table.name) (table : Table) → Has new.schema.tables table → Has old.schema.tables table ⊎ MayBeAdded table.name
-  table_was may table has = elim (has_either old.schema.tables _ table (subst (λ (s : Schema). Has s.tables table) added.schema has)) [
-    | inl there ↦ inl there
-    | inr here ↦ elim here [ inl same ↦ inr (subst MayBeAdded (sym (ap (λ (t : Table). t.name) same)) may) | inr nothing ↦ absurd nothing ]
-  ]
-
-  -- each index was there, or is on no table that was
-  index_was : (index : Index) → Has new.schema.indexes index → Has old.schema.indexes index ⊎ IsApartFrom old.schema index
-  index_was index has = elim (has_either old.schema.indexes _ index (subst (λ (s : Schema). Has s.indexes index) added.schema has)) [
-    | inl there ↦ inl there
-    | inr here ↦ inr (λ table listed other same.
-        let on : index.table ≡ next_tree old.schema = made_on (record added.table { tree = next_tree old.schema }) added.table.uniques 0 (next_tree old.schema + 1) index here in
-        let below = table_below old.schema table listed in
-        absurd (omega arith))
-  ]
 
 -- ---- the table has no row
 
@@ -157,41 +126,126 @@ unlisted schema table lacks is has =
 pub not_lacking : (schema : Schema) → LacksRecords schema → DeclaresRecords schema → ⊥
 not_lacking schema lacks declares = unlisted schema _ lacks refl (has_got schema.tables declares.place _ declares.table)
 
--- one that is made was not declared
-undeclared : (old new : Database) → Adds create_text old new → {X : Type 0} → DeclaresRecords old.schema → X
-undeclared old new added declares = absurd (not_lacking old.schema (subst (λ (name : List ℕ). is_used old.schema name ≡ false) (create_name added.table added.defined) added.free) declares)
-
 -- all else stays
+made_schema : (old new : Database) → Adds create_text old new → (LacksRecords old.schema) × (new.schema ≡ with_records old.schema)
+made_schema old new added =
+    let is = create_is added.table added.defined in
+    (
+      subst (λ (t : Table). is_used old.schema t.name ≡ false) is added.free,
+      added.schema ∙ ap (created old.schema) is,
+    )
+
 pub made_keeps : (old new : Database) → Makes old new → KeepsOthers old new
-made_keeps old new made = elim made.counts [
-  | inl same ↦ record {
-    tables = λ table has other. subst (λ (d : Database). Has d.schema.tables table × (d.trees table.tree ≡ old.trees table.tree)) (sym same) (table_stays create_text old made.first made.adds table has);
-    indexes = λ index has. subst (λ (d : Database). Has d.schema.indexes index) (sym same) (index_stays create_text old made.first made.adds index has);
-    views = ap (λ (d : Database). d.schema.views) same ∙ ap (λ (s : Schema). s.views) made.adds.schema;
-    frozen = by_one old new made.frozen;
-    no_table = λ table has. table_was create_text old made.first made.adds (create_may made.adds.table made.adds.defined) table (subst (λ (d : Database). Has d.schema.tables table) same has);
-    no_index = λ index has. index_was create_text old made.first made.adds index (subst (λ (d : Database). Has d.schema.indexes index) same has);
-    same = undeclared old made.first made.adds;
-  }
-  | inr more ↦ record {
-    tables = λ table has other.
-        let one = table_stays create_text old made.first made.adds table has in
-        let two = table_stays sequence_text made.first new more table one.0 in
-        (two.0, two.1 ∙ one.1);
-    indexes = λ index has. index_stays sequence_text made.first new more index (index_stays create_text old made.first made.adds index has);
-    views = ap (λ (s : Schema). s.views) more.schema ∙ ap (λ (s : Schema). s.views) made.adds.schema;
-    frozen = by_one old new made.frozen;
-    no_table = λ table has. elim (table_was sequence_text made.first new more (sequence_may more.table more.defined) table has) [
-      | inl there ↦ table_was create_text old made.first made.adds (create_may made.adds.table made.adds.defined) table there
-      | inr may ↦ inr may
-    ];
-    no_index = λ index has. elim (index_was sequence_text made.first new more index has) [
-      | inl there ↦ index_was create_text old made.first made.adds index there
-      | inr apart ↦ inr (λ table listed other. apart table (table_stays create_text old made.first made.adds table listed).0 other)
-    ];
-    same = undeclared old made.first made.adds;
-  }
+made_keeps old new made =
+    let one = made_schema old made.first made.adds in
+    record {
+      rows = λ table has other. elim made.counts [
+        | inl same ↦ subst (λ (d : Database). d.trees table.tree ≡ old.trees table.tree) (sym same) (table_stays create_text old made.first made.adds table has).1
+        | inr more ↦
+          let first = table_stays create_text old made.first made.adds table has in
+          (table_stays sequence_text made.first new more.1 table first.0).1 ∙ first.1
+      ];
+      schema = inr (record {
+        lacks = one.0;
+        adds = elim made.counts [
+          | inl same ↦ inl (ap (λ (d : Database). d.schema) same ∙ one.1)
+          | inr more ↦ inr (subst (λ (s : Schema). AddsCounts s new) one.1 (record {
+            lacks = more.0;
+            table = more.1.table;
+            defined = more.1.defined;
+            is = more.1.schema;
+            empty = more.1.empty;
+          }))
+        ];
+      });
+      frozen = by_one old new made.frozen;
+    }
+
+-- ---- one call after another
+
+-- a table that was declared is declared
+pub tables_stay : (old new : Database) → KeepsOthers old new → (table : Table) → Has old.schema.tables table → Has new.schema.tables table
+tables_stay old new keeps table has = elim keeps.schema [
+  | inl same ↦ subst (λ (s : Schema). Has s.tables table) (sym same) has
+  | inr added ↦
+    let more : Has (with_records old.schema).tables table = has_left old.schema.tables _ table has in
+    elim added.adds [
+      | inl one ↦ subst (λ (s : Schema). Has s.tables table) (sym one) more
+      | inr two ↦ subst (λ (s : Schema). Has s.tables table) (sym two.is) (has_left (with_records old.schema).tables _ table more)
+    ]
 ]
+
+-- the table of records is not added twice
+added_once : (old new : Database) → AddsRecords old new → LacksRecords new.schema → ⊥
+added_once old new added lacks = unlisted new.schema made lacks refl (elim added.adds [
+  | inl one ↦ subst (λ (s : Schema). Has s.tables made) (sym one) listed
+  | inr two ↦ subst (λ (s : Schema). Has s.tables made) (sym two.is) (has_left (with_records old.schema).tables _ made listed)
+])
+  where
+    made : Table
+    made = records_table (next_tree old.schema)
+
+    listed : Has (with_records old.schema).tables made
+    listed = has_right old.schema.tables (made ∷ []) made (inl refl)
+
+-- the table in which SQL counts is another one than that of records
+counts_other : (table : Table) → table_defined_by sequence_text ≡ Ok table → IsOther table
+unfolding same_name
+counts_other table defined = rw (sequence_name table defined) refl
+
+-- and still has no row
+counts_stay : (old mid new : Database) → AddsCounts (with_records old.schema) mid → KeepsOthers mid new → mid.schema ≡ new.schema → AddsCounts (with_records old.schema) new
+counts_stay old mid new counts keeps same = record {
+  lacks = counts.lacks;
+  table = counts.table;
+  defined = counts.defined;
+  is = sym same ∙ counts.is;
+  empty = keeps.rows made (subst (λ (s : Schema). Has s.tables made) (sym counts.is) listed) (counts_other counts.table counts.defined) ∙ counts.empty;
+}
+  where
+    made : Table
+    made = record counts.table { tree = next_tree (with_records old.schema) }
+
+    listed : Has (created (with_records old.schema) counts.table).tables made
+    listed = has_right (with_records old.schema).tables (made ∷ []) made (inl refl)
+
+schema_then : (old mid new : Database) → KeepsOthers old mid → KeepsOthers mid new → (new.schema ≡ old.schema) ⊎ AddsRecords old new
+schema_then old mid new one two = elim one.schema [
+  | inl same ↦ elim two.schema [
+    | inl still ↦ inl (still ∙ same)
+    | inr added ↦ inr (record {
+      lacks = subst LacksRecords same added.lacks;
+      adds = subst (λ s. (new.schema ≡ with_records s) ⊎ AddsCounts (with_records s) new) same added.adds;
+    })
+  ]
+  | inr added ↦ elim two.schema [
+    | inl still ↦ inr (record {
+      lacks = added.lacks;
+      adds = elim added.adds [
+        | inl is ↦ inl (still ∙ is)
+        | inr counts ↦ inr (counts_stay old mid new counts two (sym still))
+      ];
+    })
+    | inr again ↦ absurd (added_once old mid added again.lacks)
+  ]
+]
+
+pub others_then : (old mid new : Database) → IsDatabase mid → KeepsOthers old mid → KeepsOthers mid new → KeepsOthers old new
+others_then old mid new sound one two = record {
+  rows = λ table has other. two.rows table (tables_stay old mid one table has) other ∙ one.rows table has other;
+  schema = schema_then old mid new one two;
+  frozen = by_each old mid new one.frozen sound two.frozen;
+}
+
+-- and doing nothing keeps all
+pub others_itself : (db : Database) → KeepsOthers db db
+others_itself db = record {
+  rows = λ table has other. refl;
+  schema = inl refl;
+  frozen = by_one db db (record { rows = λ t catalog version frozen. refl; texts = λ row has foreign. has; version = refl });
+}
+
+-- ---- what is declared otherwise
 
 -- what is declared otherwise is not that table, and does not lack its name
 pub not_declared : (schema : Schema) → IsDeclaredOtherwise schema → DeclaresRecords schema → ⊥
@@ -224,7 +278,7 @@ first_empty old new added lacks table is has =
 made_empty : (old new : Database) → Makes old new → LacksRecords old.schema → (table : Table) → table.name ≡ table_name → Has new.schema.tables table → new.trees table.tree ≡ []
 made_empty old new made lacks table is has = elim made.counts [
   | inl same ↦ subst (λ (d : Database). d.trees table.tree ≡ []) (sym same) (first_empty old made.first made.adds lacks table is (subst (λ (d : Database). Has d.schema.tables table) same has))
-  | inr more ↦ of_two more
+  | inr more ↦ of_two more.1
 ]
   where
     of_two : Adds sequence_text made.first new → new.trees table.tree ≡ []

@@ -24,7 +24,7 @@ use Rattle.sqlite_schema.specs.Names.{same_name, table_named, view_named}
 use Rattle.sqlite_rules.specs.Lists.{Has}
 use Rattle.sqlite_catalog.specs.Change.{is_used, created, next_tree, KeepsRows}
 use Rattle.sqlite_resolve.specs.Compile.{table_defined_by}
-use Rattle.sqlite.specs.Does.{sequence_text}
+use Rattle.sqlite.specs.Does.{sequence_text, lacks_sequence}
 use Rattle.sqlite_resolve.specs.declared.compiled.Compiled.{Compiled}
 use Rattle.sqlite_resolve.specs.declared.error.CompileError.{CompileError}
 use Rattle.sqlite.specs.Effect.{Database, IsDatabase, SparesFrozen}
@@ -186,33 +186,36 @@ pub data IsSpared : Database → Database → Type 0 where
 abbrev pub IsOther : Table → Type 0
 IsOther table = same_name table.name table_name ≡ false
 
--- the name of a table that may be added: that of records, or the one in which SQL counts
-abbrev pub MayBeAdded : List ℕ → Type 0
-MayBeAdded name = IsTrue (same_name name table_name) ⊎ (name ≡ codes "sqlite_sequence")
+-- the schema, and at its end the table of records with the index of its key
+abbrev pub with_records : Schema → Schema
+with_records schema = created schema (records_table 0)
 
--- the index is on no other table of the schema
-abbrev pub IsApartFrom : Schema → Index → Type 0
-IsApartFrom schema index = (table : Table) → Has schema.tables table → IsOther table → index.table ≢ table.tree
+-- A table of the schema counts its rows, and the table in which SQL counts is missing: it is added, without a row.
+pub record AddsCounts (schema : Schema) (new : Database) : Type 0 where
+  pub lacks : IsTrue (lacks_sequence schema)
+  pub table : Table
+  pub defined : table_defined_by sequence_text ≡ Ok table
+  pub is : new.schema ≡ created schema table
+  pub empty : new.trees (next_tree schema) ≡ []
 
--- Each other table, each index and each view is declared as it was, each other table has its rows, and so has what SQL
--- does not understand. Nothing is added but the tables of records and of counts, with indexes of their own; and nothing
--- at all if the table of records was declared.
+-- the table of records is added where nothing has its name, and then that of counts if SQL misses it
+pub record AddsRecords (old new : Database) : Type 0 where
+  pub lacks : LacksRecords old.schema
+  pub adds : (new.schema ≡ with_records old.schema) ⊎ AddsCounts (with_records old.schema) new
+
+-- Each other table has its rows, and what SQL here does not understand is spared. Every table, index and view is
+-- declared as it was, and nothing is added but the table of records and that of counts.
 pub record KeepsOthers (old new : Database) : Type 0 where
-  pub tables : (table : Table) → Has old.schema.tables table → IsOther table
-      → Has new.schema.tables table × (new.trees table.tree ≡ old.trees table.tree)
-  pub indexes : (index : Index) → Has old.schema.indexes index → Has new.schema.indexes index
-  pub views : new.schema.views ≡ old.schema.views
+  pub rows : (table : Table) → Has old.schema.tables table → IsOther table → new.trees table.tree ≡ old.trees table.tree
+  pub schema : (new.schema ≡ old.schema) ⊎ AddsRecords old new
   pub frozen : IsSpared old new
-  pub no_table : (table : Table) → Has new.schema.tables table → Has old.schema.tables table ⊎ MayBeAdded table.name
-  pub no_index : (index : Index) → Has new.schema.indexes index → Has old.schema.indexes index ⊎ IsApartFrom old.schema index
-  pub same : DeclaresRecords old.schema → new.schema ≡ old.schema
 
--- a table is added that the text for the table of records defines, and may be the one in which SQL counts
+-- the table is added that the text for the table of records defines, and then that of counts if SQL misses it
 pub record Makes (old new : Database) : Type 0 where
   pub sound : IsDatabase new
   pub first : Database
   pub adds : Adds create_text old first
-  pub counts : (new ≡ first) ⊎ Adds sequence_text first new
+  pub counts : (new ≡ first) ⊎ (IsTrue (lacks_sequence first.schema) × Adds sequence_text first new)
   pub frozen : SparesFrozen old new
 
 -- the records are as before but for this one, and so is all else

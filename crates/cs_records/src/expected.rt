@@ -13,7 +13,7 @@ use sqlite_value::keys::Collation;
 use sqlite_value::value::ValueRef;
 
 /// A term of a statement on records.
-#[derive(Clone, Copy, Debug)]
+#[derive(Clone, Copy)]
 pub(crate) enum Expected {
     Null,
     /// A column of the row in a slot.
@@ -23,7 +23,7 @@ pub(crate) enum Expected {
 }
 
 /// What a query on one table tests, shows and sorts by.
-#[derive(Clone, Copy, Debug)]
+#[derive(Clone, Copy)]
 pub(crate) struct Shape<'a> {
     pub filter: &'a [Expected],
     pub project: &'a [Expected],

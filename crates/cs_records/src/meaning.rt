@@ -26,11 +26,16 @@ fn plain_statement(
 ) -> Result<Option<Compiled>, RecordsError>
     ensures { IfOk result (λ found. IfSome found (IsPlainStatement schema.now sql.now)) }
 {
-    match compile(alloc, schema, sql.as_bytes()) {
-        Ok(it) if it.returning.is_none() && it.formats.is_empty() => Ok(Some(it)),
-        Err(CompileError::OutOfMemory) => Err(RecordsError::NoMemory),
-        _ => Ok(None),
+    let it = match compile(alloc, schema, sql.as_bytes()) {
+        Ok(it) => it,
+        Err(CompileError::OutOfMemory) => return Err(RecordsError::NoMemory),
+        Err(_) => return Ok(None),
+    };
+    if it.returning.is_some() || !it.formats.is_empty() {
+        drop(it);
+        return Ok(None);
     }
+    Ok(Some(it))
 }
 
 /// Whether the program is the query of that shape on the table with this tree.
@@ -151,7 +156,7 @@ fn is_remove(
 }
 
 /// What a statement on records is meant to be.
-#[derive(Clone, Copy, Debug)]
+#[derive(Clone, Copy)]
 enum Meant<'a> {
     Select(&'a Shape<'a>),
     Insert,

@@ -1,5 +1,5 @@
 -- Worked examples: a table of two columns, and a state of two tables.
-use Rattle.std.proofs.Common.{bytes_eq, ◌≡◌, ◌≢◌, ℕ, ℤ, zero, suc, pos, Bool, true, false, cond, List, [], ◌∷◌, Option, Some, None, unwrap_or, get_or, codes, refl, ap, ◌∙◌, arith}
+use Rattle.std.proofs.Common.{bytes_eq, ◌≡◌, ◌≢◌, ℕ, zero, suc, pos, Bool, true, false, cond, List, [], ◌∷◌, Some, None, unwrap_or, get_or, codes, refl, ap, ◌∙◌, arith}
 use Rattle.std.specs.Char.{encode_utf8}
 use Rattle.std.specs.Str.{chars, is_utf8}
 use Rattle.std.specs.Option.{option_map}

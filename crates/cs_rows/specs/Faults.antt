@@ -1,5 +1,6 @@
 -- What stores refuse with: this project's own numbers and names, and the result codes of SQLite.
 use Rattle.std.specs.Prelude.{◌≡◌, ◌⊎◌, ℕ, List, codes}
+use Rattle.cs_rows.specs.declared.fault.Cause.{Cause}
 use Rattle.cs_rows.specs.declared.fault.StoreError.{StoreError}
 use Rattle.cs_rows.specs.declared.fault.StoreError.TheVariants.{TableExists, NoTable, BadSchema, KeyTaken, NoRow}
 use Rattle.cs_rows.specs.declared.fault.StoreError.TheVariants.{RowWidth, NullInKey, NotNull}
@@ -14,7 +15,7 @@ code_of NoRow = 34
 code_of RowWidth = 35
 code_of NullInKey = 36
 code_of DamagedStore = 37
-code_of StoreFault = 38
+code_of (StoreFault cause) = 38
 code_of NotNull = 39
 code_of NoMemory = 60
 
@@ -34,13 +35,17 @@ name_of NoRow = codes "NoRow"
 name_of RowWidth = codes "RowWidth"
 name_of NullInKey = codes "NullInKey"
 name_of DamagedStore = codes "DamagedStore"
-name_of StoreFault = codes "StoreFault"
+name_of (StoreFault cause) = codes "StoreFault"
 name_of NotNull = codes "NotNull"
 name_of NoMemory = codes "NoMemory"
 
--- memory was refused, or the database refused
+-- the database refused
+pub data IsStoreFault : StoreError → Type 0 where
+  refused_for : (cause : Cause) → IsStoreFault (StoreFault cause)
+
+-- memory ran out, or the database refused
 abbrev pub IsResource : StoreError → Type 0
-IsResource e = (e ≡ NoMemory) ⊎ (e ≡ StoreFault)
+IsResource e = (e ≡ NoMemory) ⊎ IsStoreFault e
 
 -- what a read may refuse with, whatever the disk returns
 abbrev pub IsReadRefusal : StoreError → Type 0

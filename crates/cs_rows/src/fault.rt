@@ -5,6 +5,21 @@ use cs_value::{Fault, NoMemory};
 use std::alloc::{AllocError, AllocFailed};
 use thiserror::Error;
 
+/// Why the database of a store refuses a call.
+#[derive(Clone, Copy, Debug, PartialEq, Eq, Error)]
+pub enum Cause {
+    #[error("another connection has it open")]
+    Busy,
+    #[error("it is not a database that can be read")]
+    NotADatabase,
+    #[error("the disk is full")]
+    Full,
+    #[error("a file cannot be read or written")]
+    InputOutput,
+    #[error("it does not carry out the call")]
+    Other,
+}
+
 /// Why a store refuses a call.
 #[derive(Clone, Copy, Debug, PartialEq, Eq, Error)]
 pub enum StoreError {
@@ -26,8 +41,8 @@ pub enum StoreError {
     NotNull,
     #[error("what is stored is not valid")]
     DamagedStore,
-    #[error("the database refused")]
-    StoreFault,
+    #[error("the database refused: {0}")]
+    StoreFault(Cause),
     #[error("out of memory")]
     NoMemory,
 }
@@ -49,7 +64,7 @@ impl Fault for StoreError {
             StoreError::RowWidth => 35,
             StoreError::NullInKey => 36,
             StoreError::DamagedStore => 37,
-            StoreError::StoreFault => 38,
+            StoreError::StoreFault(_) => 38,
             StoreError::NotNull => 39,
             StoreError::NoMemory => NoMemory.code(),
         }
@@ -74,7 +89,7 @@ impl Fault for StoreError {
             StoreError::RowWidth => "RowWidth",
             StoreError::NullInKey => "NullInKey",
             StoreError::DamagedStore => "DamagedStore",
-            StoreError::StoreFault => "StoreFault",
+            StoreError::StoreFault(_) => "StoreFault",
             StoreError::NotNull => "NotNull",
             StoreError::NoMemory => NoMemory.name(),
         }

@@ -22,7 +22,7 @@ mod schema;
 
 pub use edit::{Edit, Written};
 pub use editing::edit_in;
-pub use fault::StoreError;
+pub use fault::{Cause, StoreError};
 pub use memory::MemRows;
 pub use rows::Rows;
 pub use schema::Schema;

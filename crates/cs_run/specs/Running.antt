@@ -4,7 +4,9 @@ use Rattle.std.specs.Prelude.{◌≡◌, ◌⊎◌, ◌∷◌, ◌++◌, ℕ, tr
 use Rattle.cs_value.specs.State.{State, IsState}
 use Rattle.cs_wire.specs.Changeset.{GroupData, IsChangeset, file_bytes}
 use Rattle.cs_wire.specs.ReadFaults.{ReadFails}
-use Rattle.cs_rows.specs.declared.fault.StoreError.TheVariants.{DamagedStore, StoreFault}
+use Rattle.cs_rows.specs.declared.fault.StoreError.{StoreError}
+use Rattle.cs_rows.specs.declared.fault.StoreError.TheVariants.{DamagedStore}
+use Rattle.cs_rows.specs.Faults.{IsStoreFault}
 use Rattle.cs_rows.specs.Editing.{written_of}
 use Rattle.cs_group.specs.declared.conflict.Choice.{Choice}
 use Rattle.cs_group.specs.declared.conflict.Choice.TheVariants as choice
@@ -86,16 +88,21 @@ Refuses chooses noop file direction old (Abort conflict) =
     EndsAt chooses noop file direction old (record { conflict = conflict; choice = choice.Abort })
 Refuses chooses noop file direction old (Misuse conflict) =
     EndsAt chooses noop file direction old (record { conflict = conflict; choice = choice.Replace })
-Refuses chooses noop file direction old (Store error) = error ≡ StoreFault
+Refuses chooses noop file direction old (Store error) = IsStoreFault error
 Refuses chooses noop file direction old NoMemory = Unit {0}
 
--- memory was refused, or the database refused
+-- the store refused, for such a reason
+abbrev pub IsOfStore : (StoreError → Type 0) → ApplyFault → Type 0
+IsOfStore Is (Store error) = Is error
+IsOfStore Is fault = ⊥
+
+-- memory ran out, or the database refused
 abbrev pub IsResource : ApplyFault → Type 0
-IsResource fault = (fault ≡ NoMemory) ⊎ (fault ≡ Store StoreFault)
+IsResource fault = (fault ≡ NoMemory) ⊎ IsOfStore IsStoreFault fault
 
 -- what a run may be refused with by the store, whatever the disk returns
 abbrev pub IsNamed : ApplyFault → Type 0
-IsNamed (Store error) = (error ≡ DamagedStore) ⊎ (error ≡ StoreFault)
+IsNamed (Store error) = (error ≡ DamagedStore) ⊎ IsStoreFault error
 IsNamed fault = Unit {0}
 
 -- it is no fault of reading

@@ -15,7 +15,8 @@ use Rattle.cs_rows.specs.declared.fault.StoreError.TheVariants.{DamagedStore}
 use Rattle.cs_rows.specs.Faults.{IsResource}
 use Rattle.cs_records.specs.Records.{RecordData, record_of, HoldsRecords, AreNumbered, Pass, ListsTable, Sets, GoesOn, KeepsContent, KeepsCrash, changed, records_of, records_in, record_rows, DeclaresRecords, LacksRecords, KeepsOthers}
 use Rattle.cs_records.proofs.TableLemmas.{not_lacking, not_declared, otherwise_used}
-use Rattle.cs_records.proofs.ContentLemmas.{crash_then, others_then, others_itself}
+use Rattle.cs_records.proofs.ContentLemmas.{crash_then}
+use Rattle.cs_records.proofs.TableLemmas.{others_then, others_itself}
 use Rattle.cs_stored.specs.Stored.{version, stored_under, StoresIn}
 use Rattle.cs_stored.specs.Valid.{AreValid, AreDeclared, IsGoodRow, Schemas}
 use Rattle.sqlite_trees.specs.View.{doubt}

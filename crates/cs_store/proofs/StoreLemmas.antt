@@ -4,7 +4,8 @@ use Rattle.sqlite.specs.State.{State, HasCleanDisk, KeepsCommit, Shows, IsUnchan
 use Rattle.cs_records.specs.Records.{Rests, GoesOn, IsUndone, KeepsContent, KeepsCrash, KeepsOthers}
 use Rattle.cs_store.specs.Store.{HoldsState, IsStore, IsSound, Adopts, Begins, KeepsStore}
 use Rattle.cs_store.specs.Laws.{was_clean}
-use Rattle.cs_records.proofs.ContentLemmas.{rests_keeps_content, rests_commit, others_then, others_itself}
+use Rattle.cs_records.proofs.ContentLemmas.{rests_keeps_content, rests_commit}
+use Rattle.cs_records.proofs.TableLemmas.{others_then, others_itself}
 
 -- what is shown and was committed last is as it was, or one database
 others_same : (old new : State) → new.now ≡ old.now → new.committed ≡ old.committed → KeepsOthers old.committed old.now → KeepsOthers new.committed new.now
