@@ -15,6 +15,7 @@ use Rattle.cs_wire.specs.Laws.{ChangesetFiles}
 use Rattle.cs_rows.specs.declared.edit.Edit.{Edit}
 use Rattle.cs_rows.specs.declared.fault.StoreError.{StoreError}
 use Rattle.cs_rows.specs.declared.fault.StoreError.TheVariants as store
+use Rattle.cs_store.specs.Faults.{IsResource}
 use Rattle.cs_store.specs.Editing.{Edited, Declares, edited, written_of}
 use Rattle.cs_group.specs.declared.conflict.Noop.{Noop}
 use Rattle.cs_group.specs.declared.conflict.Noop.TheVariants as noop
@@ -100,7 +101,7 @@ edit_refused edit state e is = subst (λ (outcome : Result Edited StoreError). E
 abbrev Edits : Edit → ShellState → Reply → ShellState → Type 0
 Edits edit old = EditGives old (edited old.tables edit)
 
-pub store_refuses_edit : (old : State) (edit : Edit) (session : Option Notes) (e : StoreError) → (edited old edit ≡ Err e) ⊎ ((e ≡ store.NoMemory) ⊎ (e ≡ store.StoreFault))
+pub store_refuses_edit : (old : State) (edit : Edit) (session : Option Notes) (e : StoreError) → (edited old edit ≡ Err e) ⊎ IsResource e
     → (slots : SlotMap) → OrUnable (λ s. EditGives s (edited s.tables edit)) (seen old slots session) (Refused (of_store e)) (seen old slots session)
 store_refuses_edit old edit session e (inl is) slots = or_store (Edits edit) (seen old slots session) e (inl (edit_refused edit (seen old slots session) e is))
 store_refuses_edit old edit session e (inr resource) slots = or_store (Edits edit) (seen old slots session) e (inr resource)

@@ -94,7 +94,7 @@ refused_here : (Gives : ShellState → Reply → ShellState → Type 0) (tables 
     → OrUnable Gives (seen tables slots (Some notes)) (Refused (of_session e)) (seen tables slots (Some notes))
 refused_here Gives tables slots notes e (inl lacks) here = absurd (lacks_no_table tables notes here.has lacks.1)
 refused_here Gives tables slots notes e (inr (inl is)) here = rw is (no_memory Gives (seen tables slots (Some notes)))
-refused_here Gives tables slots notes e (inr (inr is)) here = rw is (unable_as Gives (seen tables slots (Some notes)) (refusal.Store store.StoreFault) (inr refl))
+refused_here Gives tables slots notes e (inr (inr is)) here = unable_as Gives (seen tables slots (Some notes)) (of_session e) (resource_of_session e (inr is))
 
 -- ---- the net changeset
 

@@ -8,19 +8,22 @@ use Rattle.cs_value.specs.State as tables
 use Rattle.cs_rows.specs.declared.fault.StoreError.{StoreError}
 use Rattle.cs_rows.specs.declared.fault.StoreError.TheVariants as store
 use Rattle.cs_store.specs.Faults as faults
+use Rattle.cs_store.specs.Faults.{refused_for}
 use Rattle.cs_store.specs.Laws.{was_clean}
 use Rattle.cs_store.specs.Records.{KeepsContent, KeepsCrash, IsUndone}
 use Rattle.cs_store.specs.Store.{Begins, IsAtRest, KeepsStore, tables_in}
 use Rattle.cs_run.specs.declared.fault.ApplyFault.{ApplyFault}
+use Rattle.cs_run.specs.declared.fault.ApplyFault.TheVariants as apply
 use Rattle.cs_run.specs.Running as applies
 use Rattle.cs_session.specs.declared.fault.SessionFault.{SessionFault}
+use Rattle.cs_session.specs.declared.fault.SessionFault.TheVariants as session
 use Rattle.cs_session.specs.Changes as sessions
 use Rattle.cs_session.specs.FirstImages.{Notes}
 use Rattle.cs_replies.specs.declared.refusal.Refusal.{Refusal}
 use Rattle.cs_replies.specs.declared.refusal.Refusal.TheVariants.{NoMemory, Store}
 use Rattle.cs_replies.specs.ErrorLines.{of_store, of_apply, of_session}
 use Rattle.cs_replies.specs.Replies.{Reply, Refused}
-use Rattle.cs_machine.specs.Script.{IsResource}
+use Rattle.cs_machine.specs.Script.{IsResource, IsOfStore}
 use Rattle.cs_machine.specs.ShellState.{SlotMap, ShellState}
 use Rattle.cs_machine.specs.Stores.{Shows, TellsFailures}
 use Rattle.cs_machine.specs.Turns.{Stands, Known, TurnsBetween, AreSame, Turns, Reads, OrUnable, Gave, Works, IsHere, seen}
@@ -225,19 +228,38 @@ of_store_cases store.RowWidth = inl refl
 of_store_cases store.NullInKey = inl refl
 of_store_cases store.NotNull = inl refl
 of_store_cases store.DamagedStore = inl refl
-of_store_cases store.StoreFault = inl refl
+of_store_cases (store.StoreFault cause) = inl refl
+
+-- and the database refuses as that of a store
+fault_of_store : (e : StoreError) → faults.IsStoreFault e → IsOfStore faults.IsStoreFault (of_store e)
+fault_of_store e (refused_for cause) = refused_for cause
+
+fault_of_apply : (e : ApplyFault) → applies.IsOfStore faults.IsStoreFault e → IsOfStore faults.IsStoreFault (of_apply e)
+fault_of_apply (apply.Read fault) none = absurd none
+fault_of_apply (apply.Wider place) none = absurd none
+fault_of_apply (apply.Abort conflict) none = absurd none
+fault_of_apply (apply.Misuse conflict) none = absurd none
+fault_of_apply (apply.Store e) is = fault_of_store e is
+fault_of_apply apply.NoMemory none = absurd none
+
+fault_of_session : (e : SessionFault) → sessions.IsOfStore faults.IsStoreFault e → IsOfStore faults.IsStoreFault (of_session e)
+fault_of_session (session.Store e) is = fault_of_store e is
+fault_of_session (session.Apply fault) none = absurd none
+fault_of_session session.AlreadyAttached none = absurd none
+fault_of_session session.WrongStore none = absurd none
+fault_of_session session.NoMemory none = absurd none
 
 pub resource_of_store : (e : StoreError) → faults.IsResource e → IsResource (of_store e)
 resource_of_store e (inl is) = rw is (inl refl)
-resource_of_store e (inr is) = rw is (inr refl)
+resource_of_store e (inr is) = inr (fault_of_store e is)
 
 pub resource_of_apply : (e : ApplyFault) → applies.IsResource e → IsResource (of_apply e)
 resource_of_apply e (inl is) = rw is (inl refl)
-resource_of_apply e (inr is) = rw is (inr refl)
+resource_of_apply e (inr is) = inr (fault_of_apply e is)
 
 pub resource_of_session : (e : SessionFault) → sessions.IsResource e → IsResource (of_session e)
 resource_of_session e (inl is) = rw is (inl refl)
-resource_of_session e (inr is) = rw is (inr refl)
+resource_of_session e (inr is) = inr (fault_of_session e is)
 
 -- a command that a store refuses
 pub or_store : (Gives : ShellState → Reply → ShellState → Type 0) (state : ShellState) (e : StoreError) → Gives state (Refused (Store e)) state ⊎ faults.IsResource e

@@ -15,7 +15,8 @@ use Rattle.cs_group.specs.declared.conflict.Choice.{Choice}
 use Rattle.cs_group.specs.declared.conflict.Noop.{Noop}
 use Rattle.cs_group.specs.declared.conflict.Noop.TheVariants as noop
 use Rattle.cs_rows.specs.declared.fault.StoreError.{StoreError}
-use Rattle.cs_rows.specs.declared.fault.StoreError.TheVariants.{NoTable, NullInKey, NoRow, StoreFault}
+use Rattle.cs_rows.specs.declared.fault.StoreError.TheVariants.{NoTable, NullInKey, NoRow}
+use Rattle.cs_rows.specs.Faults.{IsStoreFault}
 use Rattle.cs_store.specs.Editing.{either, Edited, Declares, inserted, updated, deleted, written_of}
 use Rattle.cs_run.specs.declared.report.Report.{Report}
 use Rattle.cs_run.specs.declared.running.Direction.{Direction}
@@ -234,9 +235,14 @@ CloseGives old session reply new = (reply ≡ Silent) × (new ≡ with_session o
 
 -- ---- commands
 
--- memory was refused, or the database refused
+-- the store refused, for such a reason
+abbrev pub IsOfStore : (StoreError → Type 0) → Refusal → Type 0
+IsOfStore Is (refusal.Store error) = Is error
+IsOfStore Is why = ⊥
+
+-- memory ran out, or the database refused
 abbrev pub IsResource : Refusal → Type 0
-IsResource why = (why ≡ NoMemory) ⊎ (why ≡ refusal.Store StoreFault)
+IsResource why = (why ≡ NoMemory) ⊎ IsOfStore IsStoreFault why
 
 -- the reply to a command, and what it leaves; any may be refused for memory or by the database, and then changes
 -- nothing

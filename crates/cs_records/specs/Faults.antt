@@ -7,4 +7,4 @@ use Rattle.cs_records.specs.declared.fault.RecordsError.TheVariants.{NoMemory, D
 
 abbrev pub refusal_of : Error → RecordsError
 refusal_of (SqliteFailure OutOfMemory) = NoMemory
-refusal_of _ = Database
+refusal_of error = Database error

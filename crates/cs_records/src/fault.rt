@@ -9,7 +9,7 @@ pub enum RecordsError {
     #[error("out of memory")]
     NoMemory,
     #[error("the database refused")]
-    Database,
+    Database(Error),
 }
 
 impl From<Error> for RecordsError {
@@ -21,7 +21,7 @@ impl From<Error> for RecordsError {
     fn from(error: Error) -> RecordsError {
         match error {
             Error::SqliteFailure(ErrorCode::OutOfMemory) => RecordsError::NoMemory,
-            _ => RecordsError::Database,
+            error => RecordsError::Database(error),
         }
     }
 }

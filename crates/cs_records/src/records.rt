@@ -15,7 +15,7 @@ use crate::layout::{Declaration, declaration_of};
 use crate::meaning::creates;
 use crate::texts;
 use sqlite::types::ValueRef;
-use sqlite::{Alter, Connection, Row, params};
+use sqlite::{Alter, Connection, Error, Row, params};
 use std::alloc::Global;
 use std::marker::Model;
 
@@ -181,7 +181,7 @@ fn create_table<S: Alter>(conn: &mut Connection<S>, alloc: Global) -> Result<(),
         → KeepsCrash (state S.Store conn.old) (state S.Store conn.new) }
 {
     if !creates(alloc, conn.schema())? {
-        return Err(RecordsError::Database);
+        return Err(RecordsError::Database(Error::InvalidQuery));
     }
     conn.execute(texts::CREATE, &[])?;
     Ok(())
@@ -203,6 +203,6 @@ pub fn make_table<S: Alter>(conn: &mut Connection<S>, alloc: Global) -> Result<(
     create_table(conn, alloc)?;
     match declaration_of(alloc, conn.schema())? {
         Declaration::Records => Ok(()),
-        _ => Err(RecordsError::Database),
+        _ => Err(RecordsError::Database(Error::InvalidQuery)),
     }
 }

@@ -9,7 +9,7 @@ ghost use Rattle.cs_records.specs.Records.{Rests, KeepsCrash};
 use crate::fault::RecordsError;
 use crate::texts;
 use sqlite::types::ValueRef;
-use sqlite::{Alter, Connection, Row};
+use sqlite::{Alter, Connection, Error, Row};
 use std::alloc::{AllocError, Global};
 
 /// A test of one record.
@@ -106,5 +106,5 @@ pub fn all_pass<S: Alter, T: RecordTest>(
         }
         last = Some(number);
     }
-    Err(RecordsError::Database)
+    Err(RecordsError::Database(Error::InvalidQuery))
 }

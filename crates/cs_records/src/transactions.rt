@@ -5,9 +5,9 @@ ghost use Rattle.sqlite.specs.Held.{state};
 ghost use Rattle.cs_records.specs.Records.{IsUndone, KeepsContent, KeepsCrash};
 
 use crate::fault::RecordsError;
-use sqlite::{Alter, Connection};
+use sqlite::{Alter, Connection, Error, ErrorCode};
 
-/// Begins a transaction. It is refused where one is open.
+/// Begins a transaction. It is refused if one is open.
 pub fn begin<S: Alter>(conn: &mut Connection<S>) -> Result<(), RecordsError>
     ensures begun { HasCleanDisk (state S.Store conn.new)
         → OnOk result (((state S.Store conn.old).in_transaction ≡ false)
@@ -20,14 +20,15 @@ pub fn begin<S: Alter>(conn: &mut Connection<S>) -> Result<(), RecordsError>
     ensures survives { KeepsCrash (state S.Store conn.old) (state S.Store conn.new) }
 {
     if !conn.is_autocommit() {
-        return Err(RecordsError::Database);
+        return Err(RecordsError::Database(Error::SqliteFailure(
+            ErrorCode::TransactionState,
+        )));
     }
     conn.execute("BEGIN", &[])?;
     Ok(())
 }
 
-/// Commits the transaction. It is refused where none is open; where it fails, the transaction is
-/// rolled back.
+/// Commits the transaction. It is refused if none is open. If it fails, the transaction is rolled back.
 pub fn commit<S: Alter>(conn: &mut Connection<S>) -> Result<(), RecordsError>
     ensures committed { HasCleanDisk (state S.Store conn.new)
         → OnOk result (IsTrue (state S.Store conn.old).in_transaction
@@ -39,13 +40,15 @@ pub fn commit<S: Alter>(conn: &mut Connection<S>) -> Result<(), RecordsError>
         (λ db. (db ≡ (state S.Store conn.old).now.trees) × IsTrue (state S.Store conn.old).in_transaction) }
 {
     if conn.is_autocommit() {
-        return Err(RecordsError::Database);
+        return Err(RecordsError::Database(Error::SqliteFailure(
+            ErrorCode::TransactionState,
+        )));
     }
     conn.execute("COMMIT", &[])?;
     Ok(())
 }
 
-/// Takes the database back to the last commit, where a transaction is open.
+/// Takes the database back to the last commit if a transaction is open.
 pub fn roll_back<S: Alter>(conn: &mut Connection<S>)
     ensures undone { HasCleanDisk (state S.Store conn.new)
         → IsUndone (state S.Store conn.old) (state S.Store conn.new) }

@@ -2,7 +2,8 @@
 use Rattle.std.specs.Prelude.{◌≡◌, ◌≢◌, ◌⊎◌, ℕ, List, [], ◌∷◌, ◌++◌, All, Any, None, Some}
 use Rattle.cs_value.specs.Table.{IsName}
 use Rattle.cs_value.specs.State.{SchemaData, State, schema_at}
-use Rattle.cs_rows.specs.declared.fault.StoreError.TheVariants.{NoTable, DamagedStore, StoreFault}
+use Rattle.cs_rows.specs.declared.fault.StoreError.TheVariants.{NoTable, DamagedStore}
+use Rattle.cs_rows.specs.Faults.{IsStoreFault}
 use Rattle.cs_session.specs.declared.fault.SessionFault.{SessionFault}
 use Rattle.cs_session.specs.declared.fault.SessionFault.TheVariants.{Store, Apply, AlreadyAttached, WrongStore, NoMemory}
 use Rattle.cs_session.specs.FirstImages.{Notes}
@@ -23,7 +24,7 @@ pub record Attaches (state : State) (name : List ℕ) (old new : Notes) : Type 0
 abbrev pub RefusesAttach : State → List ℕ → Notes → SessionFault → Type 0
 RefusesAttach state name notes AlreadyAttached = Any (λ t. t.name ≡ name) notes
 RefusesAttach state name notes (Store error) =
-    (IsNewTable notes name × (error ≡ NoTable) × ((schema_at state name ≡ None) ⊎ (IsName name → ⊥))) ⊎ (error ≡ StoreFault)
+    (IsNewTable notes name × (error ≡ NoTable) × ((schema_at state name ≡ None) ⊎ (IsName name → ⊥))) ⊎ IsStoreFault error
 RefusesAttach state name notes NoMemory = Unit {0}
 RefusesAttach state name notes (Apply fault) = ⊥
 RefusesAttach state name notes WrongStore = ⊥
@@ -31,7 +32,7 @@ RefusesAttach state name notes WrongStore = ⊥
 -- what it may be refused with, whatever the disk returns
 abbrev pub IsAttachRefusal : SessionFault → Type 0
 IsAttachRefusal AlreadyAttached = Unit {0}
-IsAttachRefusal (Store error) = (error ≡ NoTable) ⊎ (error ≡ DamagedStore) ⊎ (error ≡ StoreFault)
+IsAttachRefusal (Store error) = (error ≡ NoTable) ⊎ (error ≡ DamagedStore) ⊎ IsStoreFault error
 IsAttachRefusal NoMemory = Unit {0}
 IsAttachRefusal (Apply fault) = ⊥
 IsAttachRefusal WrongStore = ⊥

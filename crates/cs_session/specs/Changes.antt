@@ -1,7 +1,9 @@
 -- Whether a store has the tables that are attached, and why it does not give their net changeset.
 use Rattle.std.specs.Prelude.{◌≡◌, ◌⊎◌, ℕ, List, All, Any}
 use Rattle.cs_value.specs.State.{State}
-use Rattle.cs_rows.specs.declared.fault.StoreError.TheVariants.{DamagedStore, StoreFault}
+use Rattle.cs_rows.specs.declared.fault.StoreError.{StoreError}
+use Rattle.cs_rows.specs.declared.fault.StoreError.TheVariants.{DamagedStore}
+use Rattle.cs_rows.specs.Faults.{IsStoreFault}
 use Rattle.cs_session.specs.declared.fault.SessionFault.{SessionFault}
 use Rattle.cs_session.specs.declared.fault.SessionFault.TheVariants.{Store, WrongStore, NoMemory}
 use Rattle.cs_session.specs.FirstImages.{AttachedTable, Notes, HasAttached}
@@ -22,9 +24,14 @@ HasNamed state name notes = All (λ t. t.name ≡ name → HasAttached state t) 
 abbrev pub LacksNamed : State → List ℕ → Notes → Type 0
 LacksNamed state name notes = Any (λ t. (t.name ≡ name) × (¬ HasAttached state t)) notes
 
--- memory was refused, or the database refused
+-- the store refused, for such a reason
+abbrev pub IsOfStore : (StoreError → Type 0) → SessionFault → Type 0
+IsOfStore Is (Store error) = Is error
+IsOfStore Is fault = ⊥
+
+-- memory ran out, or the database refused
 abbrev pub IsResource : SessionFault → Type 0
-IsResource fault = (fault ≡ NoMemory) ⊎ (fault ≡ Store StoreFault)
+IsResource fault = (fault ≡ NoMemory) ⊎ IsOfStore IsStoreFault fault
 
 -- a table is not there as it was attached, or memory was refused, or the database refused
 abbrev pub RefusesTable : State → AttachedTable → SessionFault → Type 0

@@ -3,7 +3,8 @@ use Rattle.std.specs.Prelude.{◌≡◌, ◌⊎◌, ℕ, List, map, Ok, Err, str
 use Rattle.cs_value.specs.State.{State, WrittenData}
 use Rattle.cs_rows.specs.declared.edit.Edit.{Edit}
 use Rattle.cs_rows.specs.declared.edit.Edit.TheVariants.{Insert, Update, Delete}
-use Rattle.cs_rows.specs.declared.fault.StoreError.TheVariants.{DamagedStore, StoreFault}
+use Rattle.cs_rows.specs.declared.fault.StoreError.TheVariants.{DamagedStore}
+use Rattle.cs_rows.specs.Faults.{IsStoreFault}
 use Rattle.cs_store.specs.Editing.{written_of, edited}
 use Rattle.cs_store.specs.Faults as store
 use Rattle.cs_run.specs.declared.report.Report.{Report}
@@ -34,7 +35,7 @@ pub record Records (old : State) (edit : Edit) (notes : Notes) (new : State) (af
 abbrev pub RefusesEdit : State → Edit → Notes → SessionFault → Type 0
 RefusesEdit old edit notes WrongStore = LacksNamed old (table_of edit) notes
 RefusesEdit old edit notes (Store error) =
-    (HasNamed old (table_of edit) notes × (edited old edit ≡ Err error)) ⊎ (error ≡ StoreFault)
+    (HasNamed old (table_of edit) notes × (edited old edit ≡ Err error)) ⊎ IsStoreFault error
 RefusesEdit old edit notes NoMemory = Unit {0}
 RefusesEdit old edit notes AlreadyAttached = ⊥
 RefusesEdit old edit notes (Apply fault) = ⊥
@@ -58,7 +59,7 @@ pub record RecordsApply (chooses : Handler) (noop : Noop) (file : List ℕ) (old
 abbrev pub RefusesApply : Handler → Noop → List ℕ → State → Notes → SessionFault → Type 0
 RefusesApply chooses noop file old notes WrongStore = LacksTable old notes
 RefusesApply chooses noop file old notes (Apply fault) = HasTables old notes × Refuses chooses noop file Forward old fault
-RefusesApply chooses noop file old notes (Store error) = error ≡ StoreFault
+RefusesApply chooses noop file old notes (Store error) = IsStoreFault error
 RefusesApply chooses noop file old notes NoMemory = Unit {0}
 RefusesApply chooses noop file old notes AlreadyAttached = ⊥
 
@@ -72,6 +73,6 @@ IsOfChangeset fault = Unit {0}
 abbrev pub IsApplyRefusal : SessionFault → Type 0
 IsApplyRefusal WrongStore = Unit {0}
 IsApplyRefusal (Apply fault) = IsOfChangeset fault
-IsApplyRefusal (Store error) = (error ≡ DamagedStore) ⊎ (error ≡ StoreFault)
+IsApplyRefusal (Store error) = (error ≡ DamagedStore) ⊎ IsStoreFault error
 IsApplyRefusal NoMemory = Unit {0}
 IsApplyRefusal AlreadyAttached = ⊥

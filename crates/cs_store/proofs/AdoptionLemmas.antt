@@ -22,7 +22,7 @@ use Rattle.cs_stored.specs.Valid.{AreValid, AreDeclared, IsGoodRow, Schemas}
 use Rattle.sqlite_trees.specs.View.{doubt}
 use Rattle.cs_store.specs.Store.{HoldsState, HoldsNone, HoldsTables, IsDamaged, Adopts, SetsUp, MemoryIsHonest, tables_in}
 use Rattle.cs_store.specs.Opening.{IsFoundIn, OpensFiles, RefusesFound}
-use Rattle.cs_store.specs.Crash.{MayLeave}
+use Rattle.cs_store.specs.Crash.{MayLeave, LeavesTakenOver}
 use Rattle.cs_store.specs.Laws.{was_clean}
 use Rattle.cs_stored.specs.declared.version.Version.{Version}
 use Rattle.cs_stored.specs.Versions.{bytes_of}
@@ -218,10 +218,12 @@ opens_files image found new finds opens live adopts = record {
 
 -- and one that is refused shows what they held
 pub refuses_found : (image : Image) (found shown : State) (e : StoreError) → FindsIn image found → Opens found → IsLive found → ((e ≡ DamagedStore) × IsDamaged found.now) ⊎ IsResource e
-    → KeepsContent found shown → RefusesFound image e shown
-refuses_found image found shown e finds opens live why kept = record {
+    → KeepsContent found shown → LeavesTakenOver found shown → HasCleanDisk shown → RefusesFound image e shown
+refuses_found image found shown e finds opens live why kept leaves clean = record {
   db = found.now;
   found = found_in image found finds opens live opens.is_open;
   why = why;
-  kept = kept.now;
+  outside = kept.mode ∙ opens.autocommit;
+  kept = λ is_open. (kept.now is_open, kept.committed is_open ∙ sym opens.clean);
+  leaves = λ trees may. subst (λ (d : Database). (trees ≡ d.trees) ⊎ MayLeave (HoldsTables found.now) trees) (sym opens.clean) (leaves.opened opens.is_open clean trees may);
 }

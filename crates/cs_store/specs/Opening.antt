@@ -1,17 +1,24 @@
 -- How the files of a database are opened as a store, or refused.
-use Rattle.std.specs.Prelude.{◌≡◌, ◌⊎◌, IsTrue, Option, None, Some}
+use Rattle.std.specs.Prelude.{◌≡◌, ◌⊎◌, false, IsTrue, Option, None, Some}
 use Rattle.sqlite_disk.specs.declared.Disk.{Ghosts}
+use Rattle.sqlite_disk.specs.declared.Files.{Files}
 use Rattle.sqlite_trees.specs.Tree.{Trees}
 use Rattle.sqlite_wal.specs.Recovery.{Image}
 use Rattle.sqlite.specs.Effect.{Database, IsDatabase}
-use Rattle.sqlite.specs.Files.{HoldsDatabase, AreFoundIn, file_state}
+use Rattle.sqlite.specs.declared.error.Error.{Error}
+use Rattle.sqlite.specs.declared.error.Error.TheVariants.{SqliteFailure}
+use Rattle.sqlite.specs.declared.error.ErrorCode.TheVariants as code
+use Rattle.sqlite.specs.declared.file.Leftover.{Leftover}
+use Rattle.sqlite.specs.Files.{HoldsDatabase, AreFoundIn, IsCleanLeft, FailsToOpenFiles, LeavesFiles, image_of, file_state}
 use Rattle.sqlite.specs.State.{State, HasCleanDisk}
 use Rattle.cs_rows.specs.declared.fault.StoreError.{StoreError}
 use Rattle.cs_rows.specs.declared.fault.StoreError.TheVariants.{DamagedStore}
 use Rattle.cs_rows.specs.Faults.{IsResource}
 use Rattle.cs_records.specs.Records.{KeepsOthers}
 use Rattle.cs_store.specs.declared.opening.Unopened.{Unopened}
-use Rattle.cs_store.specs.declared.opening.Unopened.TheVariants.{Files, Database as Shown}
+use Rattle.cs_store.specs.declared.opening.Unopened.TheVariants as unopened
+use Rattle.cs_store.specs.Refusals.{refusal_for}
+use Rattle.cs_store.specs.Crash.{MayLeave}
 use Rattle.cs_store.specs.Store.{HoldsState, HoldsTables, IsAtRest, IsDamaged, tables_in}
 
 -- the database is the one that the files held
@@ -20,7 +27,8 @@ pub record IsFoundIn (image : Image) (db : Database) : Type 0 where
   pub holds : (trees : Trees) → HoldsDatabase image trees → db.trees ≡ trees
   pub reads : AreFoundIn image db.trees
 
--- files are opened as a store: the database that they held, whose tables the store holds, with all else as it was
+-- Files are opened as a store: the database that they held. The store has its tables, and the other tables are as they
+-- were.
 pub record OpensFiles (image : Image) (new : State) : Type 0 where
   pub db : Database
   pub found : IsFoundIn image db
@@ -29,28 +37,44 @@ pub record OpensFiles (image : Image) (new : State) : Type 0 where
   pub others : KeepsOthers db new.now
   pub at_rest : IsAtRest new
 
--- a database was found that is refused, and is still shown: it is damaged, or memory was refused, or the database
--- refused
+-- A database was found that is refused, and is still shown as it was found: it is damaged, or memory ran out, or the
+-- database refused. No transaction is open, and a crash leaves that database or a store with its tables.
 pub record RefusesFound (image : Image) (e : StoreError) (shown : State) : Type 0 where
   pub db : Database
   pub found : IsFoundIn image db
   pub why : ((e ≡ DamagedStore) × IsDamaged db) ⊎ IsResource e
-  pub kept : IsTrue shown.is_open → shown.now ≡ db
+  pub outside : shown.in_transaction ≡ false
+  pub kept : IsTrue shown.is_open → (shown.now ≡ db) × (shown.committed ≡ db)
+  pub leaves : (trees : Trees) → shown.may_leave trees → (trees ≡ db.trees) ⊎ MayLeave (HoldsTables db) trees
+
+-- Files are not opened as a database. The error has its cause in what the files hold, in a fault or in memory, and they
+-- are left so that the next opening finds what this one did.
+pub record IsUnopened {D : Type 0} {g : Ghosts D} (files : Files D) (e : StoreError) (left : Leftover D g) : Type 0 where
+  pub error : Error
+  pub is : e ≡ refusal_for error
+  pub cause : IsCleanLeft left → FailsToOpenFiles files left error
+  pub unharmed : IsCleanLeft left → LeavesFiles files left
 
 -- files are refused: they are not opened as a database, or their database is refused
-abbrev pub RefusesFiles : {D : Type 0} {g : Ghosts D} → Image → StoreError → Unopened D g → Type 0
-RefusesFiles image e (Files left) = IsResource e
-RefusesFiles image e (Shown conn) = HasCleanDisk (file_state conn) → RefusesFound image e (file_state conn)
+abbrev pub RefusesFiles : {D : Type 0} {g : Ghosts D} → Files D → StoreError → Unopened D g → Type 0
+RefusesFiles files e (unopened.Files left) = IsUnopened files e left
+RefusesFiles {g = g} files e (unopened.Database conn) = HasCleanDisk (file_state conn) → RefusesFound (image_of g files) e (file_state conn)
 
--- or there were none
-abbrev pub RefusesPath : {D : Type 0} {g : Ghosts D} → Image → StoreError → Option (Unopened D g) → Type 0
-RefusesPath image e None = IsResource e
-RefusesPath image e (Some rest) = RefusesFiles image e rest
+-- the files at a path cannot be opened or are open already, or memory ran out
+abbrev pub CannotOpenPath : Error → Type 0
+CannotOpenPath error =
+    (error ≡ SqliteFailure code.CannotOpen) ⊎ ((error ≡ SqliteFailure code.OutOfMemory) ⊎ (error ≡ SqliteFailure code.DatabaseBusy))
+
+-- a path is refused: it has no files, or they are refused, which were such files when they were opened
+abbrev pub RefusesPath : {D : Type 0} {g : Ghosts D} → (Files D → Type 0) → Image → StoreError → Option (Unopened D g) → Type 0
+RefusesPath Were image e None = (error : Error) × (e ≡ refusal_for error) × CannotOpenPath error
+RefusesPath {D = D} Were image e (Some (unopened.Files left)) = (files : Files D) × Were files × IsUnopened files e left
+RefusesPath Were image e (Some (unopened.Database conn)) = HasCleanDisk (file_state conn) → RefusesFound image e (file_state conn)
 
 -- what is left of a database has returned what was written
 abbrev pub IsHonestRest : {D : Type 0} {g : Ghosts D} → Unopened D g → Type 0
-IsHonestRest (Files left) = Unit {0}
-IsHonestRest (Shown conn) = HasCleanDisk (file_state conn)
+IsHonestRest (unopened.Files left) = Unit {0}
+IsHonestRest (unopened.Database conn) = HasCleanDisk (file_state conn)
 
 abbrev pub IsHonestLeft : {D : Type 0} {g : Ghosts D} → Option (Unopened D g) → Type 0
 IsHonestLeft None = Unit {0}

@@ -18,7 +18,7 @@ use cs_records::{
     Declaration, Keyed, RecordTest, all_pass, declaration_of, list_records, make_table, put_record,
     transactions,
 };
-use cs_rows::StoreError;
+use cs_rows::{Cause, StoreError};
 use cs_stored::{VERSION, Version, read_schemas, read_version};
 use sqlite::{Alter, Connection};
 use std::alloc::{AllocError, Global};
@@ -69,7 +69,7 @@ fn set_up<S: Alter>(conn: &mut Connection<S>, alloc: Global) -> Result<(), Store
         Ok(Declaration::Missing) => make_store(conn, alloc),
         Ok(Declaration::Records) => check_store(conn, alloc),
         Ok(Declaration::Other) => Err(StoreError::DamagedStore),
-        Ok(Declaration::Unsupported) => Err(StoreError::StoreFault),
+        Ok(Declaration::Unsupported) => Err(StoreError::StoreFault(Cause::Other)),
         Err(error) => Err(refused(error)),
     }
 }

@@ -13,7 +13,7 @@ ghost use Rattle.sqlite.specs.State.{HasCleanDisk};
 ghost use Rattle.sqlite.specs.Held.{state};
 
 use crate::tables;
-use cs_rows::{Schema, StoreError};
+use cs_rows::{Cause, Schema, StoreError};
 use cs_value::{Key, Row};
 use sqlite::{Alter, Connection};
 use std::alloc::Global;
@@ -161,7 +161,7 @@ pub(crate) fn put_row<S: Alter>(
     ensures kept { KeepsStore (state S.Store conn.old) (state S.Store conn.new) }
 {
     if conn.is_autocommit() {
-        return Err(StoreError::StoreFault);
+        return Err(StoreError::StoreFault(Cause::Other));
     }
     let is_new = is_free(known, name, key);
     match tables::put_row(conn, alloc, name, key, row, is_new) {
@@ -194,7 +194,7 @@ pub(crate) fn remove_row<S: Alter>(
     ensures kept { KeepsStore (state S.Store conn.old) (state S.Store conn.new) }
 {
     if conn.is_autocommit() {
-        return Err(StoreError::StoreFault);
+        return Err(StoreError::StoreFault(Cause::Other));
     }
     match tables::remove_row(conn, name, key) {
         Ok(()) => {
@@ -256,7 +256,7 @@ fn put_table<S: Alter>(
 {
     *known = None;
     if conn.is_autocommit() {
-        return Err(StoreError::StoreFault);
+        return Err(StoreError::StoreFault(Cause::Other));
     }
     tables::put_table(conn, alloc, name, schema)
 }

@@ -25,7 +25,7 @@ mod store;
 mod tables;
 
 pub use batch::SqlBatch;
-pub use cs_rows::{Edit, MemRows, Rows, Schema, StoreError, Written, edit_in};
+pub use cs_rows::{Cause, Edit, MemRows, Rows, Schema, StoreError, Written, edit_in};
 pub use laws::memory_law;
 pub use opening::Unopened;
 pub use store::Store;

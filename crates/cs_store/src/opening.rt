@@ -1,15 +1,19 @@
 //! How the files of a database are opened as a store.
-ghost use Rattle.std.specs.Prelude.{◌≡◌, ◌⊎◌, IsTrue, IfOk, IfErr, MatchResult};
+ghost use Rattle.std.specs.Prelude.{◌≡◌, ◌⊎◌, true, false, IsTrue, IfOk, IfErr, MatchResult};
 ghost use Rattle.cs_value.specs.State as tables;
 ghost use Rattle.cs_rows.specs.Faults.{IsResource, IsReadRefusal};
 ghost use Rattle.sqlite.specs.State.{HasCleanDisk};
-ghost use Rattle.sqlite.specs.Files.{image_of, file_state};
+ghost use Rattle.sqlite.specs.Files.{image_of, file_state, IsClosed, FailsToClose};
+ghost use Rattle.sqlite.specs.Closing.{IsCopied};
+ghost use Rattle.sqlite_std_file.specs.File.{IsFresh};
 ghost use Rattle.sqlite_wal.specs.Files.{image_at};
 ghost use Rattle.sqlite_wal.specs.Recovery.{Image};
-ghost use Rattle.sqlite_trees.specs.View.{IsClean};
-ghost use Rattle.sqlite_store.specs.FileStore.{state as files_state, view};
+ghost use Rattle.sqlite_wal.specs.Reads.{AreClean};
+ghost use Rattle.sqlite_trees.specs.View.{IsClean, IsQuiet};
+ghost use Rattle.sqlite_store.specs.FileStore.{state as files_state, view, faults, recovers, is_shielded};
 ghost use Rattle.cs_store.specs.Crash.{IsLeftIn, LeavesOnly};
 ghost use Rattle.cs_store.specs.Store.{tables_in};
+ghost use Rattle.cs_store.specs.Refusals.{refusal_for};
 ghost use Rattle.cs_store.specs.Opening.{OpensFiles, RefusesFiles, RefusesPath, IsHonestRest, IsHonestLeft};
 
 use crate::refusal::refused;
@@ -50,7 +54,7 @@ impl<D: Disk + Drop> Store<FileStore<D>> {
         requires db { IsTrue (D.Disk.is_usable files.db) }
         ensures opened { IfOk result (λ s. HasCleanDisk (file_state s)
             → OpensFiles (image_of D.Disk files) (file_state s)) }
-        ensures refused { IfErr result (λ e. RefusesFiles (image_of D.Disk files) e.0 e.1) }
+        ensures refused { IfErr result (λ e. RefusesFiles files e.0 e.1) }
         ensures recovers { (held : tables.State) → IsLeftIn held (image_of D.Disk files) → MatchResult result
             (λ s. HasCleanDisk (file_state s) → tables_in (file_state s).now ≡ held)
             (λ e. IsHonestRest e.1 → IsResource e.0) }
@@ -73,11 +77,32 @@ impl<D: Disk + Drop> Store<FileStore<D>> {
     /// If a crash leaves only the store with some tables, whatever these files then have holds that store: opening it
     /// returns these tables ([`open_files`](Store::open_files)).
     pub fn into_files(self) -> FileStore<D>
+        ensures quiet { IsQuiet view faults recovers is_shielded self.store result }
         ensures left { (held : tables.State) → IsClean (view result)
             → LeavesOnly (λ left. left ≡ held) (file_state self)
             → (image : Image) → (files_state result).may_leave image → IsLeftIn held image }
     {
         self.into_connection().into_store()
+    }
+
+    /// Closes the store, and returns its files: rolls back a transaction that is open, and copies the log into the
+    /// database file.
+    ///
+    /// # Errors
+    ///
+    /// They come with what is left of the files, where a crash leaves nothing else than before. `StoreFault` if the
+    /// database refuses, and `NoMemory` if out of memory.
+    pub fn close_files(self) -> Result<Files<D>, (StoreError, FileStore<D>)>
+        ensures usable { IfOk result (λ files. IsTrue (D.Disk.is_usable files.log) × IsTrue (D.Disk.is_usable files.db)) }
+        ensures copied { IfOk result (λ files. AreClean D.Disk files.log files.db → IsCopied self files) }
+        ensures refused { IfErr result (λ e. IsClosed self e.1 × (IsClean (view e.1)
+            → (error : _) × (e.0 ≡ refusal_for error) × FailsToClose self e.1 error)) }
+        ensures named { IfErr result (λ e. IsResource e.0) }
+    {
+        match self.into_connection().close_files() {
+            Ok(files) => Ok(files),
+            Err((error, left)) => Err((refused(RecordsError::from(error)), left)),
+        }
     }
 }
 
@@ -96,7 +121,8 @@ impl<S: Start> Store<FileStore<FileFrom<S>>> {
     ) -> Result<Store<FileStore<FileFrom<S>>>, (StoreError, Option<Unopened<FileFrom<S>>>)>
         ensures opened { IfOk result (λ s. HasCleanDisk (file_state s)
             → OpensFiles (image_at S.Start) (file_state s)) }
-        ensures refused { IfErr result (λ e. RefusesPath (image_at S.Start) e.0 e.1) }
+        ensures refused { IfErr result (λ e. RefusesPath (λ files. IsFresh true files.log × IsFresh false files.db)
+            (image_at S.Start) e.0 e.1) }
         ensures recovers { (held : tables.State) → IsLeftIn held (image_at S.Start) → MatchResult result
             (λ s. HasCleanDisk (file_state s) → tables_in (file_state s).now ≡ held)
             (λ e. IsHonestLeft e.1 → IsResource e.0) }
@@ -134,6 +160,9 @@ impl<S: Start> Store<FileStore<FileFrom<S>>> {
     ) -> Result<Store<FileStore<FileFrom<S>>>, StoreError>
         ensures opened { IfOk result (λ s. HasCleanDisk (file_state s)
             → OpensFiles (image_at S.Start) (file_state s)) }
+        ensures refused { IfErr result (λ e. (left : _) × RefusesPath
+            (λ files. IsFresh true files.log × IsFresh false files.db) (image_at S.Start) e left
+            × ((held : tables.State) → IsLeftIn held (image_at S.Start) → IsHonestLeft left → IsResource e)) }
         ensures recovers { (held : tables.State) → IsLeftIn held (image_at S.Start) → IfOk result
             (λ s. HasCleanDisk (file_state s) → tables_in (file_state s).now ≡ held) }
         ensures named { IfErr result IsReadRefusal }
@@ -149,13 +178,17 @@ impl<S: Start> Store<FileStore<FileFrom<S>>> {
     ///
     /// # Errors
     ///
-    /// `StoreFault` if the database refuses, and `NoMemory` if out of memory.
+    /// `StoreFault` if the database refuses, and `NoMemory` if out of memory. What was committed is kept
+    /// ([`close_files`](Store::close_files)).
     pub fn close(self) -> Result<(), StoreError>
         ensures named { IfErr result IsResource }
     {
-        match self.into_connection().close() {
-            Ok(()) => Ok(()),
-            Err(error) => Err(refused(RecordsError::from(error))),
+        match self.close_files() {
+            Ok(_files) => Ok(()),
+            Err((error, files)) => {
+                drop(files.close());
+                Err(error)
+            }
         }
     }
 }
