@@ -116,8 +116,8 @@ pub record IsAtRest (s : State) : Type 0 where
   pub autocommit : s.in_transaction ≡ false
   pub committed : s.committed ≡ s.now
 
--- a store is adopted: no transaction was open, and the tables that the database held are committed, and nothing else is
--- changed
+-- a store is adopted: no transaction was open, and the tables that the database held are committed; the other tables
+-- are as they were
 pub record Adopts (old new : State) : Type 0 where
   pub was_clean : HasCleanDisk old
   pub outside : old.in_transaction ≡ false

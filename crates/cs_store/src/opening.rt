@@ -160,9 +160,6 @@ impl<S: Start> Store<FileStore<FileFrom<S>>> {
     ) -> Result<Store<FileStore<FileFrom<S>>>, StoreError>
         ensures opened { IfOk result (λ s. HasCleanDisk (file_state s)
             → OpensFiles (image_at S.Start) (file_state s)) }
-        ensures refused { IfErr result (λ e. (left : _) × RefusesPath
-            (λ files. IsFresh true files.log × IsFresh false files.db) (image_at S.Start) e left
-            × ((held : tables.State) → IsLeftIn held (image_at S.Start) → IsHonestLeft left → IsResource e)) }
         ensures recovers { (held : tables.State) → IsLeftIn held (image_at S.Start) → IfOk result
             (λ s. HasCleanDisk (file_state s) → tables_in (file_state s).now ≡ held) }
         ensures named { IfErr result IsReadRefusal }

@@ -1,4 +1,4 @@
--- `opening::Store+FileStore+D::into_files`: the clause `left`.
+-- `opening::Store+FileStore+D::into_files`: the clauses `quiet` and `left`.
 use Rattle.std.proofs.Common.{◌≡◌, arith}
 use Rattle.sqlite.specs.Files.{file_state}
 use Rattle.sqlite.specs.State.{HasCleanDisk}
@@ -8,6 +8,7 @@ use Rattle.cs_store.proofs.opening.Store+FileStore+D.into_files.Goals as goal
 
 pub returns : goal.returns
 returns g c = record {
+  quiet = rw c.into_connection.ensures at c.into_store.ensures.quiet;
   left = λ held clean leaves image may.
       let conn = c.into_connection.result in
       let leaves_conn : LeavesOnly (λ left. left ≡ held) (file_state conn) = rw c.into_connection.ensures leaves in

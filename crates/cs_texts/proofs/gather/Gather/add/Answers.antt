@@ -9,4 +9,4 @@ returns-in_err-make_room g c =
 
 pub returns-then-piece-gt-ROOM_LEN : goal.returns-then-piece-gt-ROOM_LEN
 returns-then-piece-gt-ROOM_LEN g c =
-    Gathers-then _ refl c.in_ok-make_room.ensures.gathered.gathered (Gathers-written (c.in_ok-make_room.ensures.emptied c.if-piece-gt-ROOM_LEN.true) c.write_whole.ensures)
+    Gathers-then _ refl c.in_ok-make_room.ensures.gathered.gathered (Gathers-written (c.in_ok-make_room.ensures.emptied c.if-piece-gt-ROOM_LEN.true) c.write_whole.ensures.writes)
