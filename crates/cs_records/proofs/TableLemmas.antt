@@ -102,7 +102,6 @@ module _ (text : List ℕ) (old new : Database) (added : Adds text old new) wher
     all_has (λ t. new.trees t.tree ≡ old.trees t.tree) old.schema.tables table added.others has,
   )
 
-
 -- ---- the table has no row
 
 -- the table in which SQL counts has another name
@@ -129,8 +128,7 @@ not_lacking schema lacks declares = unlisted schema _ lacks refl (has_got schema
 -- all else stays
 made_schema : (old new : Database) → Adds create_text old new → (LacksRecords old.schema) × (new.schema ≡ with_records old.schema)
 made_schema old new added =
-    let is = create_is added.table added.defined in
-    (
+    let is = create_is added.table added.defined in (
       subst (λ (t : Table). is_used old.schema t.name ≡ false) is added.free,
       added.schema ∙ ap (created old.schema) is,
     )
@@ -142,8 +140,8 @@ made_keeps old new made =
       rows = λ table has other. elim made.counts [
         | inl same ↦ subst (λ (d : Database). d.trees table.tree ≡ old.trees table.tree) (sym same) (table_stays create_text old made.first made.adds table has).1
         | inr more ↦
-          let first = table_stays create_text old made.first made.adds table has in
-          (table_stays sequence_text made.first new more.1 table first.0).1 ∙ first.1
+            let first = table_stays create_text old made.first made.adds table has in
+            (table_stays sequence_text made.first new more.1 table first.0).1 ∙ first.1
       ];
       schema = inr (record {
         lacks = one.0;
@@ -168,11 +166,11 @@ pub tables_stay : (old new : Database) → KeepsOthers old new → (table : Tabl
 tables_stay old new keeps table has = elim keeps.schema [
   | inl same ↦ subst (λ (s : Schema). Has s.tables table) (sym same) has
   | inr added ↦
-    let more : Has (with_records old.schema).tables table = has_left old.schema.tables _ table has in
-    elim added.adds [
-      | inl one ↦ subst (λ (s : Schema). Has s.tables table) (sym one) more
-      | inr two ↦ subst (λ (s : Schema). Has s.tables table) (sym two.is) (has_left (with_records old.schema).tables _ table more)
-    ]
+      let more : Has (with_records old.schema).tables table = has_left old.schema.tables _ table has in
+      elim added.adds [
+        | inl one ↦ subst (λ (s : Schema). Has s.tables table) (sym one) more
+        | inr two ↦ subst (λ (s : Schema). Has s.tables table) (sym two.is) (has_left (with_records old.schema).tables _ table more)
+      ]
 ]
 
 -- the table of records is not added twice

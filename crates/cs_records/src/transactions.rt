@@ -20,9 +20,7 @@ pub fn begin<S: Alter>(conn: &mut Connection<S>) -> Result<(), RecordsError>
     ensures survives { KeepsCrash (state S.Store conn.old) (state S.Store conn.new) }
 {
     if !conn.is_autocommit() {
-        return Err(RecordsError::Database(Error::SqliteFailure(
-            ErrorCode::TransactionState,
-        )));
+        return Err(RecordsError::Database(Error::SqliteFailure(ErrorCode::TransactionState)));
     }
     conn.execute("BEGIN", &[])?;
     Ok(())
@@ -40,9 +38,7 @@ pub fn commit<S: Alter>(conn: &mut Connection<S>) -> Result<(), RecordsError>
         (λ db. (db ≡ (state S.Store conn.old).now.trees) × IsTrue (state S.Store conn.old).in_transaction) }
 {
     if conn.is_autocommit() {
-        return Err(RecordsError::Database(Error::SqliteFailure(
-            ErrorCode::TransactionState,
-        )));
+        return Err(RecordsError::Database(Error::SqliteFailure(ErrorCode::TransactionState)));
     }
     conn.execute("COMMIT", &[])?;
     Ok(())

@@ -1,8 +1,10 @@
--- `known::put_row`: the clauses `knows` and `kept`.
-use Rattle.std.proofs.Common.{ap, Option}
+-- `known::put_row`: the clauses `refused`, `knows` and `kept`.
+use Rattle.std.proofs.Common.{ap, inr, Option}
 use Rattle.std.specs.Option.{is_some}
 use Rattle.std.specs.FinMap.{insert}
 use Rattle.sqlite.specs.Held.{state}
+use Rattle.cs_rows.specs.declared.fault.Cause.TheVariants as cause
+use Rattle.cs_rows.specs.Faults.{refused_for}
 use Rattle.cs_value.specs.State.{TableData, rows_at}
 use Rattle.cs_store.specs.Store.{tables_in}
 use Rattle.cs_store.specs.Laws.{was_clean}
@@ -31,3 +33,6 @@ put_row-requires-clause-new g c = λ new clean.
     let old = state g.S.Store c.args.conn.now in
     let inside = in_transaction _ c.if-is_autocommit.ensures.value in
     (shows_state old c.requires.sound inside clean, known_free old c.args.known.now c.args.name.now c.args.key.now (c.is_free-is_new.ensures new) c.requires.knows clean)
+
+pub returns-then-is_autocommit-clause-refused : goal.returns-then-is_autocommit-clause-refused
+returns-then-is_autocommit-clause-refused g c = inr (refused_for cause.Other)

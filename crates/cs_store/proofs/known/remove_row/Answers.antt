@@ -1,6 +1,9 @@
--- `known::remove_row`: the clauses `knows` and `kept`.
+-- `known::remove_row`: the clauses `refused`, `knows` and `kept`.
+use Rattle.std.proofs.Common.{inr}
 use Rattle.std.specs.FinMap.{remove}
 use Rattle.sqlite.specs.Held.{state}
+use Rattle.cs_rows.specs.declared.fault.Cause.TheVariants as cause
+use Rattle.cs_rows.specs.Faults.{refused_for}
 use Rattle.cs_value.specs.State.{rows_at}
 use Rattle.cs_store.specs.Store.{tables_in}
 use Rattle.cs_store.specs.Laws.{was_clean}
@@ -22,3 +25,6 @@ returns-in-Ok-clause-kept g c = c.remove_row.ensures.kept c.requires.sound (in_t
 
 pub returns-in-Err-clause-kept : goal.returns-in-Err-clause-kept
 returns-in-Err-clause-kept g c = c.remove_row.ensures.kept c.requires.sound (in_transaction _ c.if-is_autocommit.ensures.value)
+
+pub returns-then-is_autocommit-clause-refused : goal.returns-then-is_autocommit-clause-refused
+returns-then-is_autocommit-clause-refused g c = inr (refused_for cause.Other)

@@ -1,10 +1,13 @@
 -- `opening::Store+FileStore+FileFrom+S::open_path`: the clauses `opened`, `refused` and `recovers`.
+use Rattle.std.proofs.Common.{◌≡◌, ap, ◌∙◌}
 use Rattle.sqlite.specs.Files.{file_state}
 use Rattle.sqlite_wal.specs.Files.{image_at}
 use Rattle.cs_store.specs.Laws.{was_clean}
+use Rattle.cs_store.specs.Refusals.{refusal_of, refusal_for}
 use Rattle.cs_store.proofs.AdoptionLemmas.{opens_files, refuses_found}
 use Rattle.cs_store.proofs.LeftLemmas.{left_opens, left_refuses}
 use Rattle.cs_store.proofs.opening.Store+FileStore+FileFrom+S.open_path.Goals as goal
+use Rattle.cs_store.proofs.opening.Store+FileStore+FileFrom+S.open_path.Goals.{in-Some, in-None}
 
 pub returns-in-Ok-adopt-clause-opened : goal.returns-in-Ok-adopt-clause-opened
 returns-in-Ok-adopt-clause-opened g c clean =
@@ -25,3 +28,22 @@ returns-in-Ok-adopt-clause-recovers g c held left clean = left_opens held _ _ le
 
 pub returns-in-Err-adopt-clause-recovers : goal.returns-in-Err-adopt-clause-recovers
 returns-in-Err-adopt-clause-recovers g c held left clean = left_refuses held _ _ _ left (returns-in-Err-adopt-clause-refused g c clean)
+
+pub returns-after-left-clause-refused : goal.returns-after-left-clause-refused
+returns-after-left-clause-refused g c =
+    let is : c.refused.result ≡ refusal_for c.in-Err.error = c.refused.ensures.is ∙ ap refusal_of c.from.ensures in
+    elim c.match-left.branch [
+      | in-Some w ↦
+          let it = rw w.in-Some.is at c.in-Err.ensures.cause in
+          rw w.rest-is (
+            it.0,
+            (it.1, it.2),
+            record {
+              error = c.in-Err.error;
+              is = is;
+              cause = λ clean. (it.3 clean).0;
+              unharmed = λ clean. (it.3 clean).1;
+            },
+          )
+      | in-None w ↦ rw w.rest-is (c.in-Err.error, is, c.in-Err.ensures.unopened w.in-None.is)
+    ]

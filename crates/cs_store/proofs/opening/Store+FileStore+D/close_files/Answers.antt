@@ -1,0 +1,9 @@
+-- `opening::Store+FileStore+D::close_files`: the clause `refused`.
+use Rattle.std.proofs.Common.{ap, ◌∙◌}
+use Rattle.cs_store.specs.Refusals.{refusal_of}
+use Rattle.cs_store.proofs.opening.Store+FileStore+D.close_files.Goals as goal
+
+pub returns-in-Err-clause-refused : goal.returns-in-Err-clause-refused
+returns-in-Err-clause-refused g c =
+    let err = rw c.into_connection.ensures at c.in-Err.ensures.err in
+    (err.0, λ clean. (c.in-Err.error, c.refused.ensures.is ∙ ap refusal_of c.from.ensures, err.1 clean))
