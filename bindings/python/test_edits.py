@@ -6,6 +6,7 @@ usage: bindings/python/test_edits.py [PROGRAM]
 """
 import contextlib
 import enum
+import functools
 import itertools
 import os
 import pathlib
@@ -465,6 +466,91 @@ class Stacks(Folder):
                 self.assertFalse(second.is_empty())
             self.assertEqual(list(store.rows("t")), [(1, "x")])
 
+    def test_conflicts(self):
+        """A function decides the conflicts of an undo or a redo, and what it did is undone again."""
+        for choice in ("omit", "replace"):
+            with self.subTest(choice), self.store() as store:
+                store.insert_many("t", [(1, "x"), (2, "x")])
+                stack = store.undo_stack("t")
+                with stack.action("change"):
+                    store.update("t", {"b": "y"}, where={"a": 1})
+                    store.update("t", {"b": "y"}, where={"a": 2})
+                store.update("t", {"b": "elsewhere"}, where={"a": 2})
+                before = list(store.rows("t"))
+                for _ in range(2):
+                    with self.assertRaises(ConflictError) as caught:
+                        stack.undo()
+                    self.assertEqual((caught.exception.kind, caught.exception.key), ("data", (2,)))
+                    self.assertEqual((stack.done, stack.undone), (["change"], []))
+                self.assertEqual(stack.undo(on_conflict=lambda conflict: choice), "change")
+                second = {"omit": "elsewhere", "replace": "x"}[choice]
+                self.assertEqual(list(store.rows("t")), [(1, "x"), (2, second)])
+                self.assertEqual((stack.done, stack.undone), ([], ["change"]))
+                self.assertEqual((stack.redo(), list(store.rows("t"))), ("change", before))
+                stack.undo()
+                store.update("t", {"b": "again"}, where={"a": 1})
+                with self.assertRaises(ConflictError) as caught:
+                    stack.redo()
+                self.assertEqual((caught.exception.table, caught.exception.key), ("t", (1,)))
+                stack.redo(on_conflict=lambda conflict: choice)
+                self.assertEqual(stack.can_undo, choice == "replace")
+                if stack.can_undo:
+                    stack.undo()
+                self.assertEqual(list(store.rows("t")), [(1, "again"), (2, second)])
+
+    def test_conflicts_that_leave_nothing(self):
+        """An action of which nothing is undone is forgotten; one that is refused remains."""
+        with self.store() as store:
+            stack = store.undo_stack("t")
+            with stack.action("first"):
+                store.insert("t", 1, "x")
+            with stack.action("second"):
+                store.update("t", {"b": "y"}, where={"a": 1})
+            store.delete("t", where={"a": 1})
+            for choice, error in (("abort", ConflictError), ("replace", ConflictError), ("", ValueError)):
+                with self.assertRaises(error):
+                    stack.undo(on_conflict=lambda conflict: choice)
+                self.assertEqual((stack.done, stack.undone), (["first", "second"], []))
+            self.assertEqual(stack.undo(on_conflict=lambda conflict: "omit"), "second")
+            self.assertEqual((stack.done, stack.undone), (["first"], []))
+
+    def test_forgetting(self):
+        """An action is forgotten, and no row changes."""
+        kept = self.folder / "actions"
+        with self.store() as store:
+            stack = store.undo_stack("t", path=kept)
+            for key in range(3):
+                with stack.action(str(key)):
+                    store.insert("t", key, "x")
+            store.update("t", {"b": "y"}, where={"a": 2})
+            before = list(store.rows("t"))
+            self.assertEqual((stack.forget_undo(), stack.done, stack.undone), ("2", ["0", "1"], []))
+            self.assertEqual(list(store.rows("t")), before)
+            self.assertEqual((stack.undo(), stack.undo()), ("1", "0"))
+            self.assertEqual((stack.forget_redo(), stack.undone), ("0", ["1"]))
+            self.assertEqual(store.undo_stack("t", path=kept).undone, ["1"])
+            self.assertEqual((stack.redo(), stack.done, stack.undone), ("1", ["1"], []))
+            self.assertEqual(list(store.rows("t")), [(1, "x"), (2, "y")])
+            with self.assertRaisesRegex(IndexError, "nothing to redo"):
+                stack.forget_redo()
+            stack.forget_undo()
+            with self.assertRaisesRegex(IndexError, "nothing to undo"):
+                stack.forget_undo()
+            for call in (stack.forget_undo, stack.forget_redo):
+                with self.assertRaises(RuntimeError), stack.action():
+                    call()
+
+    def test_sessions_that_undo(self):
+        """The undo of a session has no conflicts, whatever was written before it."""
+        with self.store() as store, store.session("t") as session:
+            store.insert("t", 1, "x")
+            with store.transaction():
+                store.delete("t", where={"a": 1})
+                store.insert("t", 1, None)
+            store.apply(stores.header("t", 1, 0) + stores.insert(1, "y"), conflict="replace")
+            self.assertEqual(session.undo().applied, 1)
+            self.assertEqual(list(store.rows("t")), [])
+
     def test_limit(self):
         with self.store() as store:
             stack = store.undo_stack("t", limit=3)
@@ -521,6 +607,23 @@ class Asking(model.Applying):
     def ask(self, name, kind):
         choice = choose(self.chance, kind.decode())
         self.choices[kind] = choice.encode()
+        return super().ask(name, kind)
+
+
+class Naming(model.Applying):
+    """The model of an apply, with the kind, the table and the key of each conflict."""
+
+    def __init__(self, tables, choices):
+        super().__init__(tables, choices)
+        self.asked, self.key = [], None
+
+    def carry_out(self, name, entry):
+        marked = zip(self.tables[name].flags, entry[2][0])
+        self.key = tuple(stores.take_value(field, 0)[0] for flag, field in marked if flag)
+        super().carry_out(name, entry)
+
+    def ask(self, name, kind):
+        self.asked.append((kind.decode(), name.decode(), self.key))
         return super().ask(name, kind)
 
 
@@ -599,15 +702,65 @@ class Conflicts(Folder):
         try:
             report = store.apply(file, on_conflict=decide, ignore_noop=ignore_noop)
         except StoreError as error:
-            return str(error)
+            return f"error {error.number} {error.name} {error.detail}".rstrip()
         lines = [b"warning 17 skipped " + model.quoted(name.encode()) for name in report.skipped]
         for conflict in report.conflicts:
-            kind, choice, table = map(str.encode, conflict)
+            kind, choice, table = map(str.encode, conflict[:3])
             parts = model.NUMBERS[kind], kind, choice, model.quoted(table)
             lines.append(b"conflict %d %s %s %s" % parts)
         if report.ignored:
             lines.append(b"ignored %d" % report.ignored)
         return [*lines, b"applied %d" % report.applied]
+
+    def test_rows(self):
+        """The rows that are named are those of the model, with a choice for each kind."""
+        maker, named, refused = Maker(random.Random("rows")), 0, 0
+        for number in range(8 * SEEDS):
+            tables = self.tables(maker)
+            file, chance = reader.write(maker.changeset_of(tables)), random.Random(number)
+            choices = {kind.decode(): choose(chance, kind.decode()) for kind in model.NUMBERS}
+            noop = maker.pick((b"report", b"ignore"))
+            spelled = {kind.encode(): choice.encode() for kind, choice in choices.items()}
+            with self.subTest(number), self.filled(tables) as store:
+                wanted, ended = self.ended(Naming(tables, {**spelled, b"noop": noop}), file)
+                found = self.found(store.apply, file, ignore_noop=noop == b"ignore", **choices)
+                self.assertEqual(found, (wanted[-1:] if ended else wanted, ended))
+                for name, table in tables.items():
+                    self.assertEqual(set(store.rows(name.decode())), set(values_of(table)))
+                named += len(wanted)
+                refused += ended is not None
+        self.assertGreater(named, 100)
+        self.assertGreater(refused, 5)
+
+    def test_reverts(self):
+        """The row at which a revert ends is that of the model."""
+        maker, refused = Maker(random.Random("reverts")), 0
+        for number in range(2 * SEEDS):
+            tables = self.tables(maker)
+            groups = maker.changeset_of(tables)
+            file = reader.write(groups)
+            with self.subTest(number), self.filled(tables) as store:
+                wanted, ended = self.ended(Naming(tables, model.ABORTS), vollikash.invert(file))
+                self.assertEqual(self.found(store.revert, file), (wanted, ended))
+                refused += ended is not None
+        self.assertGreater(refused, 5)
+
+    def ended(self, applying, file):
+        """The conflicts of the model, and the number of the error that ends it, or None."""
+        try:
+            applying.run(reader.Reader(file).groups())
+        except model.Refusal as refusal:
+            return applying.asked, int(refusal.line.split()[1])
+        return applying.asked, None
+
+    def found(self, call, *arguments, **given):
+        """The conflicts of a store, and the number of the error that ends it, or None."""
+        try:
+            return [(it.kind, it.table, it.key) for it in call(*arguments, **given).conflicts], None
+        except ConflictError as error:
+            return [(error.kind, error.table, error.key)], error.number
+        except StoreError as error:
+            return [], error.number
 
     def test_what_is_asked(self):
         with self.store() as store:
@@ -794,8 +947,10 @@ class Sizes(Folder):
             with self.assertRaises(ConflictError) as caught:
                 store.apply(deletes)
             self.assertEqual((caught.exception.kind, caught.exception.table), ("notfound", "t"))
+            self.assertIsNone(caught.exception.key)
             report = store.apply(deletes, notfound="omit")
             self.assertEqual((len(report.conflicts), report.applied), (20, 0))
+            self.assertIsNone(report.conflicts[0].key)
             self.assertEqual(store.apply(deletes, ignore_noop=True).ignored, 20)
             self.assertEqual(store.revert(deletes).applied, 20)
             with self.assertRaises(ConflictError):
@@ -804,15 +959,48 @@ class Sizes(Folder):
                 store.apply(deletes[:-1])
             self.assertEqual(list(store.rows("t")), rows)
             with store.session("t"):
-                self.expect("ScriptTooLong", store.apply, deletes)
+                self.expect_unsent(store, store.apply, deletes)
+                self.expect_unsent(store, store.revert, deletes)
+                self.expect_unsent(store, store.insert, "t", 20, b"x" * 9_000_000)
             self.assertEqual(list(store.rows("t")), rows)
             store.close()
             with self.assertRaises(vollikash.ProgramError):
                 store.apply(deletes)
         with self.store() as store:
-            self.expect("ScriptTooLong", store.apply, deletes)
-            self.expect("ScriptTooLong", store.insert_many, "t", rows)
+            for choices in ({}, {"notfound": "omit"}, {"on_conflict": lambda conflict: "omit"}):
+                self.expect_unsent(store, functools.partial(store.apply, **choices), deletes)
+            self.expect_unsent(store, store.revert, deletes)
+            self.expect_unsent(store, store.insert_many, "t", rows)
             self.assertEqual(list(store.rows("t")), [])
+
+    def expect_unsent(self, store, call, *arguments):
+        """Expect that a call is refused before a line is sent, with the reason and the way out."""
+        left, why = store._process.left, "a changeset has at most [0-9]+ bytes: close the session, "
+        with self.assertRaisesRegex(StoreError, f"error 63 ScriptTooLong in memory .*{why}take a "):
+            call(*arguments)
+        self.assertEqual(store._process.left, left)
+
+    def test_long_values(self):
+        """A value that no line can hold is stored in a file, edited and deleted."""
+        long = b"\x07" * 9_000_000
+        with self.store(self.folder / "store") as store:
+            store.insert("t", 1, long)
+            store.update("t", {"b": long[1:]}, where={"a": 1})
+            store.insert("t", long, 2)
+            self.assertEqual(list(store.rows("t")), [(1, long[1:]), (long, 2)])
+            store.delete("t", where={"a": long})
+            self.assertEqual(store.get("t", 1), (1, long[1:]))
+
+    def test_conflicts_of_long_changesets(self):
+        """The changeset of a conflict is sent once, and a program in memory takes it."""
+        with self.store() as store:
+            store.insert_many("t", [(1, "x"), (2, "x")])
+            builder = vollikash.Builder()
+            builder.table("t", key=[True, False])
+            builder.insert("t", 2, b"\x07" * 6_000_000)
+            report = store.apply(builder.to_bytes(), conflict="replace")
+            self.assertEqual(report.conflicts, [("conflict", "replace", "t", (2,))])
+            self.assertEqual(store.get("t", 2), (2, b"\x07" * 6_000_000))
 
 
 if __name__ == "__main__":

@@ -1,9 +1,9 @@
 """The lines of the shell: spelling values and names, and reading replies."""
 import re
-from typing import Iterable, Iterator, List, Literal, NamedTuple, Tuple, cast, get_args
+from typing import Iterable, Iterator, List, Literal, NamedTuple, Optional, Tuple, cast, get_args
 
 from ._errors import ProgramError
-from ._values import Value
+from ._values import Key, Value
 
 # What may be the matter when a change is applied, and what can be done about it.
 Kind = Literal["data", "notfound", "conflict", "constraint"]
@@ -24,11 +24,15 @@ _APPLIED = re.compile(r"(?:ignored (?P<ignored>[0-9]+)\n)?applied (?P<count>[0-9
 
 
 class Conflict(NamedTuple):
-    """A conflict of an apply, and the choice for it."""
+    """A conflict of an apply, the choice for it, and the row: its table, and the values of its key.
+
+    The key is None if it is not known, as after the apply of a changeset of more than 8 MB.
+    """
 
     kind: Kind
     choice: Choice
     table: str
+    key: Optional[Key] = None
 
 
 class Report(NamedTuple):
@@ -52,7 +56,8 @@ def is_one_line(values: Iterable[Value]) -> bool:
 def _one_line(what: str, text: str) -> str:
     """Return a text that a line can hold."""
     if "\n" in text:
-        raise ValueError(f"{what} has a line feed, which a line cannot hold")
+        why = "has a line feed, which no line of the shell can hold: take another"
+        raise ValueError(f"{what} {why}")
     try:
         text.encode()
     except UnicodeEncodeError as error:

@@ -16,11 +16,13 @@ _MARK_BYTES = 16
 # What is sent after each line: that slot is printed.
 _BEHIND = "\n.hex m\n"
 
-# How many bytes of lines a program takes.
-_LONGEST = 16777216
+# How many bytes of lines a program takes, and how many one line has at most. The rest is for other
+# lines.
+LONGEST = 16777216
+LONGEST_LINE = LONGEST - 16384
 
-# How many bytes a file may have that is loaded by a line. The rest is for lines of other kinds.
-LONGEST_FILE = _LONGEST // 2 - 8192
+# How many bytes a file may have that is loaded by a line.
+LONGEST_FILE = LONGEST_LINE // 2
 
 
 def find_program() -> str:
@@ -75,6 +77,12 @@ def path_word(path: str) -> str:
     return f"./{path}" if path.startswith("-") else path
 
 
+def fits_program(line: str) -> bool:
+    """Return whether a program that has taken no other line takes this one."""
+    # No character takes more than four bytes.
+    return 4 * len(line) <= LONGEST_LINE or len(line.encode()) <= LONGEST_LINE
+
+
 class Process:
     """A program that runs a shell on a file."""
 
@@ -96,7 +104,7 @@ class Process:
         for stream in (self._process.stdin, self._process.stdout):
             assert stream is not None
             os.set_blocking(stream.fileno(), False)
-        self.left = _LONGEST
+        self.left = LONGEST
         self._mark = os.urandom(_MARK_BYTES).hex()
         self.ask(f".load m {self._mark}")
 
@@ -109,7 +117,7 @@ class Process:
     def has_half(self) -> bool:
         """Return whether the program accepts half of its lines still, so that a session may begin.
         """
-        return self.left >= _LONGEST // 2
+        return self.left >= LONGEST // 2
 
     def ask(self, line: str) -> str:
         """Return the answer to a line, which fits."""

@@ -15,7 +15,7 @@ from ._changes import Change
 from ._errors import Code, ConflictError, Error
 from ._files import Bytes, as_bytes, check
 from ._lines import CHOICES, Choice
-from ._values import UNDEFINED, Op, Record
+from ._values import UNDEFINED, Op, Record, defined
 
 # What ordinary tables hold.
 SqliteValue = Union[int, float, str, bytes, None]
@@ -215,10 +215,11 @@ class _Deciding:
         if choice not in CHOICES:
             raise ValueError(f"a choice is one of {', '.join(CHOICES)}, and not {choice!r}")
         table = "" if change is None else change.table.replace("'", "''")
+        key = None if change is None else defined(change.key)
         if choice == "abort":
-            raise ConflictError(Code.ABORT, Code.ABORT.title, f"{kind} '{table}'")
+            raise ConflictError(Code.ABORT, Code.ABORT.title, f"{kind} '{table}'", key)
         if choice == "replace" and kind not in ("data", "conflict"):
-            raise ConflictError(Code.MISUSE, Code.MISUSE.title, f"{kind} '{table}'")
+            raise ConflictError(Code.MISUSE, Code.MISUSE.title, f"{kind} '{table}'", key)
         return choice
 
 
