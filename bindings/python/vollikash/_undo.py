@@ -27,6 +27,16 @@ def _read_action(pair: Any) -> _Action:
     return name, changes
 
 
+class Action:
+    """What the block of an action does. `changes` is its changeset after the block, and empty if it
+    changes nothing.
+    """
+
+    def __init__(self, name: str) -> None:
+        self.name = name
+        self.changes = b""
+
+
 class UndoStack:
     """The last actions on some tables of a store. Made by `Store.undo_stack`.
 
@@ -73,8 +83,9 @@ class UndoStack:
         return bool(self._undone)
 
     @contextlib.contextmanager
-    def action(self, name: str = "") -> Iterator[None]:
-        """Make what the block does an action. What was undone before cannot be done again then.
+    def action(self, name: str = "") -> Iterator[Action]:
+        """Make what the block does an action, which is yielded. What was undone before cannot be
+        done again then.
 
         If the block raises an exception, what it has done to the tables of the stack is undone. If
         it changes nothing, there is no action. In the block `undo` and `redo` raise RuntimeError.
@@ -82,11 +93,12 @@ class UndoStack:
         """
         if not isinstance(name, str):
             raise ValueError(f"the name of an action is a str, and not a {type(name).__name__}")
+        action = Action(name)
         with self.store.session(*self._tables) as session:
             self._is_acting = True
             try:
-                yield
-                changes = session.changeset()
+                yield action
+                action.changes = session.changeset()
             except BaseException:
                 # If that fails, the program has ended, and has left what was done.
                 with contextlib.suppress(Error):
@@ -94,8 +106,8 @@ class UndoStack:
                 raise
             finally:
                 self._is_acting = False
-        if changes:
-            self._done.append((name, changes))
+        if action.changes:
+            self._done.append((name, action.changes))
             self._undone.clear()
             self._keep()
 
