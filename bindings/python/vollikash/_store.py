@@ -70,9 +70,10 @@ def _declared(
 
 
 def _named(error: ConflictError, found: Optional[ConflictError]) -> ConflictError:
-    """Return an error of the program with the row that was found for it."""
-    is_same = found is not None and (found.number, found.detail) == (error.number, error.detail)
-    return found if found is not None and is_same else error
+    """Return an error of the program with the key that was found for it."""
+    if found is None or (found.number, found.detail) != (error.number, error.detail):
+        return error
+    return ConflictError(error.number, error.name, error.detail, found.key)
 
 
 def _insert_each(edits: TableEdits, rows: Iterable[Sequence[Value]]) -> None:
