@@ -5,6 +5,7 @@ usage: bindings/python/test_store.py [PROGRAM]
 """
 import concurrent.futures
 import contextlib
+import fcntl
 import gc
 import importlib.util
 import os
@@ -449,7 +450,10 @@ class Causes(Folder):
     def test_content(self):
         path = str(self.folder / "text")
         self.write(path)
-        self.expect("not_a_database", f"{path!r} is not a SQLite database", vollikash.open, path)
+        with open(path, "rb") as file:
+            # SQLite and the program take no notice of such a lock.
+            fcntl.flock(file, fcntl.LOCK_EX)
+            self.expect("not_a_database", f"{path!r} is not a SQLite database", vollikash.open, path)
         self.assertEqual(pathlib.Path(path).read_text(), "This is no database.\n" * 99)
         other = self.folder / "other.db"
         with contextlib.closing(sqlite3.connect(other)) as base:

@@ -26,14 +26,14 @@ from ._schema import Schema
 from ._session import Session
 from ._store import Store, open
 from ._tables import Counts, select, stat
-from ._undo import UndoStack
+from ._undo import Action, UndoStack
 from ._values import UNDEFINED, Field, Op, Undefined, Value
 
 __all__ = [
-    "Builder", "Cause", "Change", "ChangesetError", "Choice", "Code", "Conflict", "ConflictError",
-    "Counts", "Error", "Field", "JsonError", "Kind", "Op", "PendingConflict", "ProgramError",
-    "Report", "Schema", "Session", "Store", "StoreError", "UNDEFINED", "Undefined", "UndoStack",
-    "Value", "changes", "check", "concat", "dump", "explain", "from_json", "invert", "number_keys",
-    "open", "read_json", "select", "sql", "stat", "to_json", "write_json",
+    "Action", "Builder", "Cause", "Change", "ChangesetError", "Choice", "Code", "Conflict",
+    "ConflictError", "Counts", "Error", "Field", "JsonError", "Kind", "Op", "PendingConflict",
+    "ProgramError", "Report", "Schema", "Session", "Store", "StoreError", "UNDEFINED", "Undefined",
+    "UndoStack", "Value", "changes", "check", "concat", "dump", "explain", "from_json", "invert",
+    "number_keys", "open", "read_json", "select", "sql", "stat", "to_json", "write_json",
 ]
 __version__ = "1.0.0"

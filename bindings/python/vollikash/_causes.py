@@ -64,20 +64,19 @@ def _holders(path: str) -> Iterator[int]:
     it = os.stat(path)
     device = f"{os.major(it.st_dev):02x}:{os.minor(it.st_dev):02x}"
     for line in pathlib.Path("/proc/locks").read_text().splitlines():
-        words = line.split()
-        holder, where, first, last = words[-4:]
+        kind, _, _, holder, where, first, last = line.split()[-7:]
         # Some file systems without a device list another one than they report.
         is_same = where == f"{device}:{it.st_ino}" or (
             device.startswith("00:") and where.endswith(f":{it.st_ino}")
         )
-        if is_same and words[-6] != "FLOCK" and int(first) <= _LOCKED_LAST:
+        if is_same and kind in ("POSIX", "OFDLCK") and int(first) <= _LOCKED_LAST:
             if last == "EOF" or int(last) >= _LOCKED_FIRST:
                 yield int(holder)
 
 
 def _of_locks(path: str) -> Optional[Found]:
     """Return the cause if another connection has the file."""
-    with contextlib.suppress(IndexError, OSError, ValueError):
+    with contextlib.suppress(OSError, ValueError):
         for holder in _holders(path):
             who = f"process {holder}" if holder > 0 else "another program"
             if holder == os.getpid():
