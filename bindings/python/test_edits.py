@@ -18,6 +18,7 @@ import tempfile
 import threading
 import time
 import unittest
+import unittest.mock
 
 import vollikash
 from vollikash import UNDEFINED, ChangesetError, ConflictError, Schema, StoreError
@@ -561,6 +562,8 @@ class Stacks(Folder):
             for limit in (0, -1):
                 with self.assertRaises(ValueError):
                     store.undo_stack("t", limit=limit)
+            with self.assertRaisesRegex(ValueError, "the names of the tables"):
+                store.undo_stack()
 
     def test_files(self):
         """The actions are kept over a restart."""
@@ -811,6 +814,48 @@ class Conflicts(Folder):
             with self.assertRaises(ChangesetError):
                 store.apply(file[:-1], on_conflict=lambda conflict: "omit")
             self.assertEqual(list(store.rows("t")), [(1, "x")])
+
+    def test_a_session(self):
+        """What is looked for in a session is not recorded."""
+        with self.store() as store:
+            store.insert_many("t", [(1, "x"), (2, "x")])
+            file = stores.header("t", 1, 0) + stores.insert(2, "y")
+            with store.session("t") as session:
+                report = store.apply(file, conflict="omit")
+                self.assertEqual(report, ([("conflict", "omit", "t", (2,))], [], 0, 0))
+                with self.assertRaises(ConflictError):
+                    store.apply(file, constraint="replace")
+                self.assertTrue(session.is_empty())
+                store.apply(file, conflict="replace")
+                self.assertEqual(len(list(vollikash.changes(session.changeset()))), 1)
+
+    def test_programs_that_are_run_anew(self):
+        """The changeset is sent again if another program has to carry it out."""
+        with self.store(self.folder / "store") as store:
+            store.insert("t", 1, "x")
+            expected = store._expected
+
+            def found_anew(*arguments):
+                found = expected(*arguments)
+                store._run_anew()
+                return found
+
+            with unittest.mock.patch.object(store, "_expected", found_anew):
+                report = store.apply(stores.header("t", 1, 0) + stores.insert(1, "y"), conflict="replace")
+            self.assertEqual(report, ([("conflict", "replace", "t", (1,))], [], 1, 0))
+            self.assertEqual(list(store.rows("t")), [(1, "y")])
+
+    def test_rows_that_are_not_found(self):
+        """What the rows do not show is not named, and the apply is done all the same."""
+        with self.store() as store:
+            store.insert("t", 1, "x")
+            del store._schemas["t"]
+            file = stores.header("t", 1, 0) + stores.insert(1, "y")
+            with self.assertRaises(ConflictError) as caught:
+                store.apply(file)
+            self.assertEqual((caught.exception.key, caught.exception.detail), (None, "conflict 't'"))
+            report = store.apply(file, conflict="replace")
+            self.assertEqual(report, ([("conflict", "replace", "t", None)], [], 1, 0))
 
     def test_tables_that_are_not_known(self):
         """Nothing is carried out that was not asked for."""

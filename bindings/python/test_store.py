@@ -194,7 +194,7 @@ class Stores(Folder):
             error = pickle.loads(pickle.dumps(caught.exception))
             self.assertEqual((error.number, error.name, error.kind, error.table), (41, "Abort", "conflict", "t"))
             self.assertEqual((error.key, error.detail), ((1,), "conflict 't'"))
-            self.assertEqual(str(error), "error 41 Abort conflict 't': key (1,)")
+            self.assertEqual(str(error), "error 41 Abort conflict 't', key (1,)")
             report = store.apply(bytearray(FILE), conflict="replace")
             self.assertEqual(report, ([("conflict", "replace", "t", (1,))], [], 1, 0))
             again = store.apply(FILE, ignore_noop=True)

@@ -142,8 +142,10 @@ class ConflictError(StoreError):
     def __init__(
         self, number: int, name: str, detail: str, key: Optional[Key] = None
     ) -> None:
-        super().__init__(number, name, detail, None, "" if key is None else f"key {key!r:.80}")
+        super().__init__(number, name, detail)
         self.key = key
+        if key is not None:
+            self.args = (f"{self}, key {key!r:.80}",)
 
     def __reduce__(self) -> Tuple[Any, ...]:
         return type(self), (self.number, self.name, self.detail, self.key)

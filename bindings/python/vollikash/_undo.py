@@ -51,6 +51,8 @@ class UndoStack:
         limit: int,
         path: Optional[Union[str, "os.PathLike[str]"]],
     ) -> None:
+        if not tables:
+            raise ValueError("a stack has the names of the tables that it is for")
         if limit < 1:
             raise ValueError(f"a stack of {limit} actions has none")
         self.store = store
