@@ -360,8 +360,8 @@ class Store(Asker):
         """Return the conflicts that an apply will have, and the error that will end it."""
         try:
             return expected(file, self._schemas, self._select, choices, ignore_noop)
-        except StoreError:
-            # The program takes no more lines, or the tables are not those that were declared.
+        except (StoreError, ValueError):
+            # The program takes no more lines, or the rows cannot be asked for.
             return [], None
 
     def _apply_chosen(
