@@ -258,6 +258,8 @@ class Reads(Folder):
             self.assertEqual(store.get("u", 1, bytearray(b"1")), (1, "x", b"1"))
             self.assertIsNone(store.get("u", "1", 1))
             self.expect("NoTable", store.get, "v", 1)
+            with self.assertRaisesRegex(ValueError, "table 'u': the key is a, c, and 1 values are given"):
+                store.get("u", 1)
             for key in ((1,), (1, 2, 3), (), (1, 1.0), (True, "1")):
                 with self.subTest(key=key), self.assertRaises(ValueError):
                     store.get("u", *key)

@@ -141,7 +141,9 @@ class TableEdits:
     def get(self, values: Sequence[Value]) -> Optional[Row]:
         """Return the row of a key, by its values in the order of the columns."""
         if len(values) != len(self._keys):
-            raise ValueError(f"table {shown(self._name)} has {len(self._keys)} key columns")
+            names = [column for column, place in self._places.items() if place in self._keys]
+            why = f"the key is {', '.join(names):.80}, and {len(values)} values are given"
+            raise ValueError(f"table {shown(self._name)}: {why}")
         row: List[Field] = [LEFT_OUT] * len(self._places)
         for place, value in zip(self._keys, values):
             row[place] = value
