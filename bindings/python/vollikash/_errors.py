@@ -91,8 +91,8 @@ class ChangesetError(Error, ValueError):
 class JsonError(Error, ValueError):
     """A text is not the JSON of a changeset.
 
-    `line` and `column` are one-based. They are the place of a mistake in JSON, or else of the value
-    that is wrong.
+    `line` and `column` are one-based. They are the place of a mistake in JSON, or else of the
+    change, the name or the flags that are wrong.
     """
 
     def __init__(self, why: str, line: int, column: int) -> None:
