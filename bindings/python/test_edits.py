@@ -232,6 +232,18 @@ class Reads(Folder):
             schema = store.schema("n" * 300)
         self.assertEqual(schema, (tuple(columns), tuple(columns[200:]), tuple(columns[:100])))
 
+    def test_widths(self):
+        """Rows of few and of many columns are read."""
+        values = (0, -1, 1 << 62, None, b"", b"\0\xff", "", "'", "''", "a\nb", "|", "x|'\n'|", "NULL", "X'00'")
+        with vollikash.open(":memory:") as store:
+            for width in (1, 2, 63, 64, 65, 66, 130):
+                columns = [f"c{place}" for place in range(width)]
+                store.create(f"t{width}", columns, key=columns[:1])
+                given = itertools.cycle(values)
+                rows = {(key, *itertools.islice(given, width - 1)) for key in range(5)}
+                store.insert_many(f"t{width}", rows)
+                self.assertEqual(set(store.rows(f"t{width}")), rows)
+
     def test_exist_ok(self):
         with self.store(self.folder / "store") as store:
             store.insert("t", 1, 2)
