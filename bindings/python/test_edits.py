@@ -514,7 +514,7 @@ class Stacks(Folder):
                 self.assertEqual(list(store.rows("t")), [(1, "again"), (2, second)])
 
     def test_conflicts_that_leave_nothing(self):
-        """An action of which nothing is undone is forgotten; one that is refused remains."""
+        """An action is forgotten if nothing of it is undone. One that is refused remains."""
         with self.store() as store:
             stack = store.undo_stack("t")
             with stack.action("first"):

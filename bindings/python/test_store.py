@@ -167,7 +167,7 @@ class Stores(Folder):
             self.assertEqual(list(store.rows("t")), [(1, "z")])
 
     def test_declarations(self):
-        """What makes no table is told before anything is sent."""
+        """What makes no table is refused before anything is sent."""
         with vollikash.open(":memory:") as store:
             left = store._process.left
             for columns, key, refuses, why in (

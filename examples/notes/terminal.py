@@ -140,12 +140,12 @@ def _first_key(typed: str) -> Tuple[Optional[Key], str]:
 
 
 def _stop(*_: object) -> NoReturn:
-    """Ends the program by its way out, so that the terminal is given back."""
+    """Ends the program by its way out, so that the terminal is restored."""
     raise SystemExit(1)
 
 
 class Terminal:
-    """The terminal of standard input and output, from `with` to its end. What ends the program gives it back."""
+    """The terminal of standard input and output, from `with` to its end. A signal that ends the program restores it."""
 
     def __init__(self) -> None:
         self._decoder = codecs.getincrementaldecoder("utf-8")("surrogateescape")
