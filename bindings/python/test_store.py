@@ -60,6 +60,14 @@ def is_running(process):
         return False
 
 
+def lists_locks():
+    """Whether the system lists the locks of this process."""
+    with tempfile.NamedTemporaryFile() as file:
+        fcntl.lockf(file, fcntl.LOCK_EX)
+        listed = pathlib.Path("/proc/locks")
+        return listed.exists() and f":{os.fstat(file.fileno()).st_ino} " in listed.read_text()
+
+
 class Folder(unittest.TestCase):
     """A folder for each test."""
 
@@ -464,6 +472,7 @@ class Causes(Folder):
         self.expect("other", "", vollikash.open, other)
         self.assertEqual(other.read_bytes(), before)
 
+    @unittest.skipUnless(lists_locks(), "the system does not list locks")
     def test_holders(self):
         """A connection keeps its locks while it is looked for."""
         path = str(self.folder / "held.db")
@@ -485,6 +494,7 @@ class Causes(Folder):
         with vollikash.open(store) as again:
             self.assertEqual(again.tables(), ["t"])
 
+    @unittest.skipUnless(lists_locks(), "the system does not list locks")
     def test_other_processes(self):
         path = str(self.folder / "held.db")
         text = (
