@@ -487,10 +487,12 @@ class Causes(Folder):
             base.execute("SELECT * FROM x").fetchall()
             for _ in range(2):
                 self.expect("busy", own, vollikash.open, path)
-        store = self.folder / "store.db"
+        store, link = self.folder / "store.db", self.folder / "link.db"
+        link.symlink_to(store)
         with store_with_table(store):
-            for _ in range(2):
-                self.expect("busy", f"{str(store)!r} is in use by another program", vollikash.open, store)
+            for path in (store, link):
+                why = f"{str(path)!r} is in use by another store of this process"
+                self.expect("busy", why, vollikash.open, path)
         with vollikash.open(store) as again:
             self.assertEqual(again.tables(), ["t"])
 
@@ -506,6 +508,14 @@ class Causes(Folder):
             holder.stdout.readline()
             why = f"{path!r} is in use by process {holder.pid}"
             self.expect("busy", why, vollikash.open, path)
+        store_with_table(self.folder / "store.db").close()
+        text = "import sys, vollikash; store = vollikash.open('store.db'); print(flush=True); sys.stdin.read()"
+        environment = {**os.environ, "PYTHONPATH": str(HERE)}
+        command = [sys.executable, "-c", text]
+        with subprocess.Popen(command, cwd=self.folder, env=environment, **pipes) as holder:
+            holder.stdout.readline()
+            path = str(self.folder / "store.db")
+            self.expect("busy", f"{path!r} is in use by another program", vollikash.open, path)
 
     def test_journals(self):
         """What a program has left that stopped."""

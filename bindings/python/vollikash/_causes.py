@@ -10,6 +10,7 @@ import stat
 from typing import Iterator, NamedTuple, Optional
 
 from ._errors import Cause
+from ._process import is_open_here
 
 # The bytes of a file that SQLite locks.
 _LOCKED_FIRST, _LOCKED_LAST = 0x40000000, 0x400001FF
@@ -81,6 +82,8 @@ def _of_locks(path: str) -> Optional[Found]:
             who = f"process {holder}" if holder > 0 else "another program"
             if holder == os.getpid():
                 who = "another connection of this process"
+            elif is_open_here(path):
+                who = "another store of this process"
             return Found("busy", f"{path!r} is in use by {who}")
     return None
 

@@ -4,6 +4,7 @@ import pathlib
 import selectors
 import shutil
 import subprocess
+import threading
 import time
 import weakref
 from typing import Optional, Sequence
@@ -77,6 +78,18 @@ def path_word(path: str) -> str:
     return f"./{path}" if path.startswith("-") else path
 
 
+# The programs that were started and have answered. The lock is for reading and writing them.
+_STARTED: "weakref.WeakSet[Process]" = weakref.WeakSet()
+_STARTING = threading.Lock()
+
+
+def is_open_here(path: str) -> bool:
+    """Return whether a program of this process runs on the file at a path."""
+    with _STARTING:
+        started = list(_STARTED)
+    return any(process.has_file(path) for process in started)
+
+
 def fits_program(line: str) -> bool:
     """Return whether a program that has taken no other line takes this one."""
     # No character takes more than four bytes.
@@ -107,6 +120,14 @@ class Process:
         self.left = LONGEST
         self._mark = os.urandom(_MARK_BYTES).hex()
         self.ask(f".load m {self._mark}")
+        self._path = path
+        with _STARTING:
+            _STARTED.add(self)
+
+    def has_file(self, path: str) -> bool:
+        """Return whether the program runs on the file at a path."""
+        is_file = self._ends.alive and self._path != ":memory:"
+        return is_file and os.path.samefile(self._path, path)
 
     def fits(self, lines: Sequence[str], kept: int) -> bool:
         """Return whether the program accepts these lines and `kept` more bytes. It accepts
