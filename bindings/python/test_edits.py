@@ -859,6 +859,20 @@ class Conflicts(Folder):
             self.assertEqual(report, ([("conflict", "replace", "t", (1,))], [], 1, 0))
             self.assertEqual(list(store.rows("t")), [(1, "y")])
 
+    def test_large_stores(self):
+        """No row is looked for where that takes long."""
+        with self.store(self.folder / "store") as store:
+            store.insert("t", 1, "x")
+            file = stores.header("t", 1, 0) + stores.insert(1, "y")
+            for largest, key in ((1 << 24, (1,)), (1, None)):
+                with unittest.mock.patch("vollikash._store.LARGEST_SEARCHED", largest):
+                    for call in (store.apply, lambda file: store.revert(vollikash.invert(file))):
+                        with self.assertRaises(ConflictError) as caught:
+                            call(file)
+                        self.assertEqual(caught.exception.key, key)
+                    report = store.apply(file, conflict="omit")
+                    self.assertEqual(report, ([("conflict", "omit", "t", key)], [], 0, 0))
+
     def test_rows_that_are_not_found(self):
         """What the rows do not show is not named, and the apply is done all the same."""
         with self.store() as store:

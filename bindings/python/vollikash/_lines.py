@@ -31,7 +31,7 @@ _APPLIED = re.compile(r"(?:ignored (?P<ignored>[0-9]+)\n)?applied (?P<count>[0-9
 class Conflict(NamedTuple):
     """A conflict of an apply, the choice for it, and the row: its table, and the values of its key.
 
-    The key is None if it is not known, as after the apply of a changeset of more than 8 MB.
+    The key is None if it is not known, as in the apply of a changeset of more than 8 MB.
     """
 
     kind: Kind

@@ -31,6 +31,9 @@ _ABORTS: Mapping[Kind, Choice] = {
     "data": "abort", "notfound": "abort", "conflict": "abort", "constraint": "abort",
 }
 
+# How many bytes the file of a store has at most in which the rows of conflicts are looked for.
+LARGEST_SEARCHED = 1 << 24
+
 # What a conflict of the changeset of edits is the error of.
 _REFUSALS = {
     "conflict": Code.KEY_TAKEN, "notfound": Code.NO_ROW, "constraint": Code.NOT_NULL,
@@ -339,7 +342,7 @@ class Store(Asker):
 
         They are looked for after an apply that has ended at the first one, and has changed nothing.
         """
-        if len(file) > LONGEST_FILE:
+        if not self._is_searched(file):
             return self._apply_chosen(file, choices, ignore_noop)
         try:
             return self._apply_chosen(file, _ABORTS, ignore_noop)
@@ -353,6 +356,15 @@ class Store(Asker):
             raise _named(error, ending) from None
         is_same = [it[:3] for it in conflicts] == [it[:3] for it in report.conflicts]
         return report._replace(conflicts=conflicts) if is_same else report
+
+    def _is_searched(self, file: bytes) -> bool:
+        """Return whether the rows of conflicts are looked for, which reads whole tables."""
+        if len(file) > LONGEST_FILE or self._path == ":memory:":
+            # What is in memory has come by the lines of one program.
+            return len(file) <= LONGEST_FILE
+        path = os.path.realpath(self._path)
+        files = [name for name in (path, f"{path}-wal") if os.path.exists(name)]
+        return sum(map(os.path.getsize, files)) <= LARGEST_SEARCHED
 
     def _expected(
         self, file: bytes, choices: Mapping[Kind, Choice], ignore_noop: bool
@@ -430,7 +442,7 @@ class Store(Asker):
                     given, ".revert f", lambda: self._apply_by_command(invert(given), [])
                 )
             except ConflictError as error:
-                if len(given) > LONGEST_FILE:
+                if not self._is_searched(given):
                     raise
                 _, ending = self._expected(invert(given), _ABORTS, False)
                 raise _named(error, ending) from None
