@@ -73,11 +73,15 @@ class TableEdits:
 
     def _current(self, key: bytes) -> Optional[List[bytes]]:
         """Return the fields of the row of a key as it is without the edits."""
+        wanted, _ = record_at(key, 0, len(self._keys))
         for row in self._rows(self._name):
-            fields = self._spelled(row)
-            if self._key(fields) == key:
-                return fields
+            if self._key_values(row) == wanted:
+                return self._spelled(row)
         return None
+
+    def _key_values(self, row: Row) -> Row:
+        """Return the values of a row's key."""
+        return tuple([row[place] for place in self._keys])
 
     def _row(self, key: bytes) -> Optional[List[bytes]]:
         """Return the fields of the row of a key as it is with the edits."""
@@ -169,10 +173,12 @@ class TableEdits:
         """Raise the error of an INSERT if a key has a row that an edit inserted and another one
         deleted. No change of a changeset says that.
         """
-        absent = {key for key, (op, _) in self._edits.items() if op == _ABSENT}
+        count = len(self._keys)
+        keys = [key for key, (op, _) in self._edits.items() if op == _ABSENT]
+        absent = {record_at(key, 0, count)[0] for key in keys}
         for row in self._rows(self._name) if absent else ():
-            if self._key(self._spelled(row)) in absent:
-                key = tuple(row[place] for place in self._keys)
+            key = self._key_values(row)
+            if key in absent:
                 raise refusal(Code.KEY_TAKEN, f"in table {shown(self._name)}, key {key!r:.80}")
 
     def parts(self) -> Iterator[bytes]:
