@@ -14,10 +14,7 @@ import json
 import pathlib
 import pickle
 import random
-import shutil
-import subprocess
 import sys
-import tempfile
 import time
 import unittest
 
@@ -833,17 +830,6 @@ class Errors(unittest.TestCase):
     def test_exports(self):
         for name in vollikash.__all__:
             self.assertTrue(hasattr(vollikash, name), name)
-
-
-class Types(unittest.TestCase):
-    """The package is typed."""
-
-    @unittest.skipUnless(shutil.which("mypy"), "mypy is not installed")
-    def test_strictly(self):
-        with tempfile.TemporaryDirectory() as folder:
-            command = ["mypy", "--strict", "--cache-dir", folder, "vollikash"]
-            ran = subprocess.run(command, cwd=HERE, capture_output=True, text=True, check=False)
-        self.assertEqual((ran.stdout.splitlines()[:-1], ran.returncode), ([], 0), ran.stderr)
 
 
 if __name__ == "__main__":

@@ -6,6 +6,7 @@ usage: bindings/python/test_edits.py [PROGRAM]
 """
 import contextlib
 import enum
+import functools
 import itertools
 import os
 import pathlib
@@ -17,6 +18,7 @@ import tempfile
 import threading
 import time
 import unittest
+import unittest.mock
 
 import vollikash
 from vollikash import UNDEFINED, ChangesetError, ConflictError, Schema, StoreError
@@ -230,6 +232,18 @@ class Reads(Folder):
             schema = store.schema("n" * 300)
         self.assertEqual(schema, (tuple(columns), tuple(columns[200:]), tuple(columns[:100])))
 
+    def test_widths(self):
+        """Rows of few and of many columns are read."""
+        values = (0, -1, 1 << 62, None, b"", b"\0\xff", "", "'", "''", "a\nb", "|", "x|'\n'|", "NULL", "X'00'")
+        with vollikash.open(":memory:") as store:
+            for width in (1, 2, 63, 64, 65, 66, 130):
+                columns = [f"c{place}" for place in range(width)]
+                store.create(f"t{width}", columns, key=columns[:1])
+                given = itertools.cycle(values)
+                rows = {(key, *itertools.islice(given, width - 1)) for key in range(5)}
+                store.insert_many(f"t{width}", rows)
+                self.assertEqual(set(store.rows(f"t{width}")), rows)
+
     def test_exist_ok(self):
         with self.store(self.folder / "store") as store:
             store.insert("t", 1, 2)
@@ -256,6 +270,8 @@ class Reads(Folder):
             self.assertEqual(store.get("u", 1, bytearray(b"1")), (1, "x", b"1"))
             self.assertIsNone(store.get("u", "1", 1))
             self.expect("NoTable", store.get, "v", 1)
+            with self.assertRaisesRegex(ValueError, "table 'u': the key is a, c, and 1 values are given"):
+                store.get("u", 1)
             for key in ((1,), (1, 2, 3), (), (1, 1.0), (True, "1")):
                 with self.subTest(key=key), self.assertRaises(ValueError):
                     store.get("u", *key)
@@ -465,6 +481,91 @@ class Stacks(Folder):
                 self.assertFalse(second.is_empty())
             self.assertEqual(list(store.rows("t")), [(1, "x")])
 
+    def test_conflicts(self):
+        """A function decides the conflicts of an undo or a redo, and what it did is undone again."""
+        for choice in ("omit", "replace"):
+            with self.subTest(choice), self.store() as store:
+                store.insert_many("t", [(1, "x"), (2, "x")])
+                stack = store.undo_stack("t")
+                with stack.action("change"):
+                    store.update("t", {"b": "y"}, where={"a": 1})
+                    store.update("t", {"b": "y"}, where={"a": 2})
+                store.update("t", {"b": "elsewhere"}, where={"a": 2})
+                before = list(store.rows("t"))
+                for _ in range(2):
+                    with self.assertRaises(ConflictError) as caught:
+                        stack.undo()
+                    self.assertEqual((caught.exception.kind, caught.exception.key), ("data", (2,)))
+                    self.assertEqual((stack.done, stack.undone), (["change"], []))
+                self.assertEqual(stack.undo(on_conflict=lambda conflict: choice), "change")
+                second = {"omit": "elsewhere", "replace": "x"}[choice]
+                self.assertEqual(list(store.rows("t")), [(1, "x"), (2, second)])
+                self.assertEqual((stack.done, stack.undone), ([], ["change"]))
+                self.assertEqual((stack.redo(), list(store.rows("t"))), ("change", before))
+                stack.undo()
+                store.update("t", {"b": "again"}, where={"a": 1})
+                with self.assertRaises(ConflictError) as caught:
+                    stack.redo()
+                self.assertEqual((caught.exception.table, caught.exception.key), ("t", (1,)))
+                stack.redo(on_conflict=lambda conflict: choice)
+                self.assertEqual(stack.can_undo, choice == "replace")
+                if stack.can_undo:
+                    stack.undo()
+                self.assertEqual(list(store.rows("t")), [(1, "again"), (2, second)])
+
+    def test_conflicts_that_leave_nothing(self):
+        """An action is forgotten if nothing of it is undone. One that is refused remains."""
+        with self.store() as store:
+            stack = store.undo_stack("t")
+            with stack.action("first"):
+                store.insert("t", 1, "x")
+            with stack.action("second"):
+                store.update("t", {"b": "y"}, where={"a": 1})
+            store.delete("t", where={"a": 1})
+            for choice, error in (("abort", ConflictError), ("replace", ConflictError), ("", ValueError)):
+                with self.assertRaises(error):
+                    stack.undo(on_conflict=lambda conflict: choice)
+                self.assertEqual((stack.done, stack.undone), (["first", "second"], []))
+            self.assertEqual(stack.undo(on_conflict=lambda conflict: "omit"), "second")
+            self.assertEqual((stack.done, stack.undone), (["first"], []))
+
+    def test_forgetting(self):
+        """An action is forgotten, and no row changes."""
+        kept = self.folder / "actions"
+        with self.store() as store:
+            stack = store.undo_stack("t", path=kept)
+            for key in range(3):
+                with stack.action(str(key)):
+                    store.insert("t", key, "x")
+            store.update("t", {"b": "y"}, where={"a": 2})
+            before = list(store.rows("t"))
+            self.assertEqual((stack.forget_undo(), stack.done, stack.undone), ("2", ["0", "1"], []))
+            self.assertEqual(list(store.rows("t")), before)
+            self.assertEqual((stack.undo(), stack.undo()), ("1", "0"))
+            self.assertEqual((stack.forget_redo(), stack.undone), ("0", ["1"]))
+            self.assertEqual(store.undo_stack("t", path=kept).undone, ["1"])
+            self.assertEqual((stack.redo(), stack.done, stack.undone), ("1", ["1"], []))
+            self.assertEqual(list(store.rows("t")), [(1, "x"), (2, "y")])
+            with self.assertRaisesRegex(IndexError, "nothing to redo"):
+                stack.forget_redo()
+            stack.forget_undo()
+            with self.assertRaisesRegex(IndexError, "nothing to undo"):
+                stack.forget_undo()
+            for call in (stack.forget_undo, stack.forget_redo):
+                with self.assertRaises(RuntimeError), stack.action():
+                    call()
+
+    def test_sessions_that_undo(self):
+        """The undo of a session has no conflicts, whatever was written before it."""
+        with self.store() as store, store.session("t") as session:
+            store.insert("t", 1, "x")
+            with store.transaction():
+                store.delete("t", where={"a": 1})
+                store.insert("t", 1, None)
+            store.apply(stores.header("t", 1, 0) + stores.insert(1, "y"), conflict="replace")
+            self.assertEqual(session.undo().applied, 1)
+            self.assertEqual(list(store.rows("t")), [])
+
     def test_limit(self):
         with self.store() as store:
             stack = store.undo_stack("t", limit=3)
@@ -475,6 +576,8 @@ class Stacks(Folder):
             for limit in (0, -1):
                 with self.assertRaises(ValueError):
                     store.undo_stack("t", limit=limit)
+            with self.assertRaisesRegex(ValueError, "the names of the tables"):
+                store.undo_stack()
 
     def test_files(self):
         """The actions are kept over a restart."""
@@ -521,6 +624,23 @@ class Asking(model.Applying):
     def ask(self, name, kind):
         choice = choose(self.chance, kind.decode())
         self.choices[kind] = choice.encode()
+        return super().ask(name, kind)
+
+
+class Naming(model.Applying):
+    """The model of an apply, with the kind, the table and the key of each conflict."""
+
+    def __init__(self, tables, choices):
+        super().__init__(tables, choices)
+        self.asked, self.key = [], None
+
+    def carry_out(self, name, entry):
+        marked = zip(self.tables[name].flags, entry[2][0])
+        self.key = tuple(stores.take_value(field, 0)[0] for flag, field in marked if flag)
+        super().carry_out(name, entry)
+
+    def ask(self, name, kind):
+        self.asked.append((kind.decode(), name.decode(), self.key))
         return super().ask(name, kind)
 
 
@@ -599,15 +719,65 @@ class Conflicts(Folder):
         try:
             report = store.apply(file, on_conflict=decide, ignore_noop=ignore_noop)
         except StoreError as error:
-            return str(error)
+            return f"error {error.number} {error.name} {error.detail}".rstrip()
         lines = [b"warning 17 skipped " + model.quoted(name.encode()) for name in report.skipped]
         for conflict in report.conflicts:
-            kind, choice, table = map(str.encode, conflict)
+            kind, choice, table = map(str.encode, conflict[:3])
             parts = model.NUMBERS[kind], kind, choice, model.quoted(table)
             lines.append(b"conflict %d %s %s %s" % parts)
         if report.ignored:
             lines.append(b"ignored %d" % report.ignored)
         return [*lines, b"applied %d" % report.applied]
+
+    def test_rows(self):
+        """The rows that are named are those of the model, with a choice for each kind."""
+        maker, named, refused = Maker(random.Random("rows")), 0, 0
+        for number in range(8 * SEEDS):
+            tables = self.tables(maker)
+            file, chance = reader.write(maker.changeset_of(tables)), random.Random(number)
+            choices = {kind.decode(): choose(chance, kind.decode()) for kind in model.NUMBERS}
+            noop = maker.pick((b"report", b"ignore"))
+            spelled = {kind.encode(): choice.encode() for kind, choice in choices.items()}
+            with self.subTest(number), self.filled(tables) as store:
+                wanted, ended = self.ended(Naming(tables, {**spelled, b"noop": noop}), file)
+                found = self.found(store.apply, file, ignore_noop=noop == b"ignore", **choices)
+                self.assertEqual(found, (wanted[-1:] if ended else wanted, ended))
+                for name, table in tables.items():
+                    self.assertEqual(set(store.rows(name.decode())), set(values_of(table)))
+                named += len(wanted)
+                refused += ended is not None
+        self.assertGreater(named, 100)
+        self.assertGreater(refused, 5)
+
+    def test_reverts(self):
+        """The row at which a revert ends is that of the model."""
+        maker, refused = Maker(random.Random("reverts")), 0
+        for number in range(2 * SEEDS):
+            tables = self.tables(maker)
+            groups = maker.changeset_of(tables)
+            file = reader.write(groups)
+            with self.subTest(number), self.filled(tables) as store:
+                wanted, ended = self.ended(Naming(tables, model.ABORTS), vollikash.invert(file))
+                self.assertEqual(self.found(store.revert, file), (wanted, ended))
+                refused += ended is not None
+        self.assertGreater(refused, 5)
+
+    def ended(self, applying, file):
+        """The conflicts of the model, and the number of the error that ends it, or None."""
+        try:
+            applying.run(reader.Reader(file).groups())
+        except model.Refusal as refusal:
+            return applying.asked, int(refusal.line.split()[1])
+        return applying.asked, None
+
+    def found(self, call, *arguments, **given):
+        """The conflicts of a store, and the number of the error that ends it, or None."""
+        try:
+            return [(it.kind, it.table, it.key) for it in call(*arguments, **given).conflicts], None
+        except ConflictError as error:
+            return [(error.kind, error.table, error.key)], error.number
+        except StoreError as error:
+            return [], error.number
 
     def test_what_is_asked(self):
         with self.store() as store:
@@ -658,6 +828,62 @@ class Conflicts(Folder):
             with self.assertRaises(ChangesetError):
                 store.apply(file[:-1], on_conflict=lambda conflict: "omit")
             self.assertEqual(list(store.rows("t")), [(1, "x")])
+
+    def test_a_session(self):
+        """What is looked for in a session is not recorded."""
+        with self.store() as store:
+            store.insert_many("t", [(1, "x"), (2, "x")])
+            file = stores.header("t", 1, 0) + stores.insert(2, "y")
+            with store.session("t") as session:
+                report = store.apply(file, conflict="omit")
+                self.assertEqual(report, ([("conflict", "omit", "t", (2,))], [], 0, 0))
+                with self.assertRaises(ConflictError):
+                    store.apply(file, constraint="replace")
+                self.assertTrue(session.is_empty())
+                store.apply(file, conflict="replace")
+                self.assertEqual(len(list(vollikash.changes(session.changeset()))), 1)
+
+    def test_programs_that_are_run_anew(self):
+        """The changeset is sent again if another program has to carry it out."""
+        with self.store(self.folder / "store") as store:
+            store.insert("t", 1, "x")
+            expected = store._expected
+
+            def found_anew(*arguments):
+                found = expected(*arguments)
+                store._run_anew()
+                return found
+
+            with unittest.mock.patch.object(store, "_expected", found_anew):
+                report = store.apply(stores.header("t", 1, 0) + stores.insert(1, "y"), conflict="replace")
+            self.assertEqual(report, ([("conflict", "replace", "t", (1,))], [], 1, 0))
+            self.assertEqual(list(store.rows("t")), [(1, "y")])
+
+    def test_large_stores(self):
+        """No row is looked for where that takes long."""
+        with self.store(self.folder / "store") as store:
+            store.insert("t", 1, "x")
+            file = stores.header("t", 1, 0) + stores.insert(1, "y")
+            for largest, key in ((1 << 24, (1,)), (1, None)):
+                with unittest.mock.patch("vollikash._store.LARGEST_SEARCHED", largest):
+                    for call in (store.apply, lambda file: store.revert(vollikash.invert(file))):
+                        with self.assertRaises(ConflictError) as caught:
+                            call(file)
+                        self.assertEqual(caught.exception.key, key)
+                    report = store.apply(file, conflict="omit")
+                    self.assertEqual(report, ([("conflict", "omit", "t", key)], [], 0, 0))
+
+    def test_rows_that_are_not_found(self):
+        """What the rows do not show is not named, and the apply is done all the same."""
+        with self.store() as store:
+            store.insert("t", 1, "x")
+            del store._schemas["t"]
+            file = stores.header("t", 1, 0) + stores.insert(1, "y")
+            with self.assertRaises(ConflictError) as caught:
+                store.apply(file)
+            self.assertEqual((caught.exception.key, caught.exception.detail), (None, "conflict 't'"))
+            report = store.apply(file, conflict="replace")
+            self.assertEqual(report, ([("conflict", "replace", "t", None)], [], 1, 0))
 
     def test_tables_that_are_not_known(self):
         """Nothing is carried out that was not asked for."""
@@ -794,8 +1020,10 @@ class Sizes(Folder):
             with self.assertRaises(ConflictError) as caught:
                 store.apply(deletes)
             self.assertEqual((caught.exception.kind, caught.exception.table), ("notfound", "t"))
+            self.assertIsNone(caught.exception.key)
             report = store.apply(deletes, notfound="omit")
             self.assertEqual((len(report.conflicts), report.applied), (20, 0))
+            self.assertIsNone(report.conflicts[0].key)
             self.assertEqual(store.apply(deletes, ignore_noop=True).ignored, 20)
             self.assertEqual(store.revert(deletes).applied, 20)
             with self.assertRaises(ConflictError):
@@ -804,15 +1032,48 @@ class Sizes(Folder):
                 store.apply(deletes[:-1])
             self.assertEqual(list(store.rows("t")), rows)
             with store.session("t"):
-                self.expect("ScriptTooLong", store.apply, deletes)
+                self.expect_unsent(store, store.apply, deletes)
+                self.expect_unsent(store, store.revert, deletes)
+                self.expect_unsent(store, store.insert, "t", 20, b"x" * 9_000_000)
             self.assertEqual(list(store.rows("t")), rows)
             store.close()
             with self.assertRaises(vollikash.ProgramError):
                 store.apply(deletes)
         with self.store() as store:
-            self.expect("ScriptTooLong", store.apply, deletes)
-            self.expect("ScriptTooLong", store.insert_many, "t", rows)
+            for choices in ({}, {"notfound": "omit"}, {"on_conflict": lambda conflict: "omit"}):
+                self.expect_unsent(store, functools.partial(store.apply, **choices), deletes)
+            self.expect_unsent(store, store.revert, deletes)
+            self.expect_unsent(store, store.insert_many, "t", rows)
             self.assertEqual(list(store.rows("t")), [])
+
+    def expect_unsent(self, store, call, *arguments):
+        """Expect that a call is refused before a line is sent, with the reason and the way out."""
+        left, why = store._process.left, "a changeset has at most [0-9]+ bytes: close the session, "
+        with self.assertRaisesRegex(StoreError, f"error 63 ScriptTooLong in memory .*{why}take a "):
+            call(*arguments)
+        self.assertEqual(store._process.left, left)
+
+    def test_long_values(self):
+        """A value that no line can hold is stored in a file, edited and deleted."""
+        long = b"\x07" * 9_000_000
+        with self.store(self.folder / "store") as store:
+            store.insert("t", 1, long)
+            store.update("t", {"b": long[1:]}, where={"a": 1})
+            store.insert("t", long, 2)
+            self.assertEqual(list(store.rows("t")), [(1, long[1:]), (long, 2)])
+            store.delete("t", where={"a": long})
+            self.assertEqual(store.get("t", 1), (1, long[1:]))
+
+    def test_conflicts_of_long_changesets(self):
+        """The changeset of a conflict is sent once, and a program in memory takes it."""
+        with self.store() as store:
+            store.insert_many("t", [(1, "x"), (2, "x")])
+            builder = vollikash.Builder()
+            builder.table("t", key=[True, False])
+            builder.insert("t", 2, b"\x07" * 6_000_000)
+            report = store.apply(builder.to_bytes(), conflict="replace")
+            self.assertEqual(report.conflicts, [("conflict", "replace", "t", (2,))])
+            self.assertEqual(store.get("t", 2), (2, b"\x07" * 6_000_000))
 
 
 if __name__ == "__main__":

@@ -8,7 +8,6 @@ import ctypes
 import os
 import pathlib
 import random
-import sqlite3
 import sys
 import tempfile
 import unittest
@@ -26,6 +25,9 @@ try:
     MISSING = ""
 except SqliteError as reason:
     MISSING = str(reason)
+
+# Whether SQLite's library has the flag that ignores no-ops.
+IGNORES = not MISSING and sqlite._library().sqlite3_libversion_number() >= 3042000
 
 # The few values of made-up rows, and how many seeds are tried.
 VALUES, SEEDS = (0, 1, -1, "x", "1", b"1", "a\nb", None), 60
@@ -156,6 +158,7 @@ class Changesets(unittest.TestCase):
             with self.assertRaises(ConflictError) as caught:
                 base.apply(file)
             self.assertEqual((caught.exception.kind, caught.exception.table), ("conflict", "t"))
+            self.assertEqual(caught.exception.key, (1,))
 
             def decide(conflict):
                 asked.append((conflict.kind, conflict.change.key, conflict.current))
@@ -201,6 +204,7 @@ class Changesets(unittest.TestCase):
             with self.assertRaises(ConflictError) as caught:
                 base.apply(builder.to_bytes())
             self.assertEqual((caught.exception.kind, caught.exception.table), ("foreign_key", ""))
+            self.assertIsNone(caught.exception.key)
             self.assertEqual(base.execute("SELECT * FROM p"), [(1,)])
 
     def test_noops(self):
@@ -208,11 +212,11 @@ class Changesets(unittest.TestCase):
         builder.table("t", key=[True])
         builder.insert("t", 1)
         with opened("CREATE TABLE t(a PRIMARY KEY)", "INSERT INTO t VALUES(1)") as base:
-            if sqlite3.sqlite_version_info < (3, 42):
+            if IGNORES:
+                base.apply(builder.to_bytes(), ignore_noop=True)
+            else:
                 with self.assertRaisesRegex(SqliteError, "3.42"):
                     base.apply(builder.to_bytes(), ignore_noop=True)
-            else:
-                base.apply(builder.to_bytes(), ignore_noop=True)
 
 
 @unittest.skipIf(MISSING, MISSING)
@@ -220,7 +224,17 @@ class Stores(unittest.TestCase):
     """Stores and ordinary tables ask for the same decisions, and have the same rows."""
 
     def test_decisions(self):
-        asked_of_all = 0
+        self.assertGreater(self.compare(False)[0], SEEDS)
+
+    @unittest.skipUnless(IGNORES, "SQLite ignores no-ops from 3.42 on")
+    def test_noops(self):
+        """SQLite's flag ignores what a store ignores, and a DELETE whose row differs."""
+        asked, ignored = self.compare(True)
+        self.assertGreater(min(asked, ignored), SEEDS // 2)
+
+    def compare(self, ignore_noop):
+        """Compare decisions and rows. Return how much was asked, and how many changes were ignored."""
+        asked_of_all = ignored_of_all = 0
         for seed in range(SEEDS):
             chance = random.Random(seed)
             rows = {(key, chance.choice(VALUES[:5])): (chance.choice(VALUES),) for key in range(4)}
@@ -233,11 +247,13 @@ class Stores(unittest.TestCase):
                 store.insert_many("t", rows)
                 for row in rows:
                     base.execute("INSERT INTO t VALUES(?, ?, ?)", row)
-                ours = self.asked(store, file, seed)
-                self.assertEqual(self.asked(base, vollikash.number_keys(file), seed), ours)
+                ours, ignored = self.asked(store, file, seed, ignore_noop)
+                numbered = vollikash.number_keys(file)
+                self.assertEqual(self.asked(base, numbered, seed, ignore_noop)[0], ours)
                 self.assertEqual(set(base.execute("SELECT * FROM t")), set(store.rows("t")))
                 asked_of_all += len(ours)
-        self.assertGreater(asked_of_all, SEEDS)
+                ignored_of_all += ignored
+        return asked_of_all, ignored_of_all
 
     def changeset(self, chance, rows):
         """A made-up changeset. Most of its keys are those of rows."""
@@ -254,22 +270,27 @@ class Stores(unittest.TestCase):
                 getattr(builder, op)("t", *old)
         return builder.to_bytes()
 
-    def asked(self, target, file, seed):
-        """What is asked of a function that decides by chance, and how the apply ends."""
-        chance, asked = random.Random(seed), []
+    def asked(self, target, file, seed, ignore_noop):
+        """What is asked of a function that decides by chance, and how the apply ends; and how many
+        changes a store ignores.
+        """
+        chance, asked, report = random.Random(seed), [], None
 
         def decide(conflict):
             change = conflict.change
+            if ignore_noop and (conflict.kind, change.op) == ("data", "delete"):
+                self.assertIsInstance(target, vollikash.Store)
+                return "omit"
             asked.append((conflict.kind, change.op, change.key, change.old, change.new))
             asked.append(conflict.current if conflict.kind in ("data", "conflict") else None)
             choices = ("omit",) if conflict.kind == "notfound" else ("omit", "replace", "replace")
             return "abort" if chance.random() < 0.03 else chance.choice(choices)
 
         try:
-            target.apply(file, on_conflict=decide)
+            report = target.apply(file, on_conflict=decide, ignore_noop=ignore_noop)
         except ConflictError as error:
-            asked.append(str(error))
-        return asked
+            asked.append((str(error), error.key))
+        return asked, report.ignored if report else 0
 
 
 if __name__ == "__main__":

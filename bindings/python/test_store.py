@@ -4,6 +4,8 @@
 usage: bindings/python/test_store.py [PROGRAM]
 """
 import concurrent.futures
+import contextlib
+import fcntl
 import gc
 import importlib.util
 import os
@@ -15,7 +17,9 @@ import sys
 import tempfile
 import textwrap
 import time
+import types
 import unittest
+import unittest.mock
 import venv
 
 import vollikash
@@ -54,6 +58,14 @@ def is_running(process):
         return pathlib.Path(f"/proc/{process}/stat").read_text().rsplit(")", 1)[1].split()[0] != "Z"
     except FileNotFoundError:
         return False
+
+
+def lists_locks():
+    """Whether the system lists the locks of this process."""
+    with tempfile.NamedTemporaryFile() as file:
+        fcntl.lockf(file, fcntl.LOCK_EX)
+        listed = pathlib.Path("/proc/locks")
+        return listed.exists() and f":{os.fstat(file.fileno()).st_ino} " in listed.read_text()
 
 
 class Folder(unittest.TestCase):
@@ -121,9 +133,19 @@ class Stores(Folder):
             for value in (1.5, "\ud800", 1 << 63, -(1 << 63) - 1, True, [1], object()):
                 with self.subTest(repr(value)[:20]), self.assertRaises(ValueError):
                     store.insert("t", 1, value)
+            left = store._process.left
             for name in ("a\nb", "\ud800", 7):
                 with self.subTest(repr(name)), self.assertRaises(ValueError):
                     store.create(name, ["a"], key=["a"])
+            for call in (
+                lambda: store.create("a\nb", ["a"], key=["a"]), lambda: store.session("t", "a\nb"),
+                lambda: store.create("u", ["a", "a\nb"], key=["a"]), lambda: store.rows("a\nb"),
+                lambda: store.insert("a\nb", 1), lambda: store.delete("t", where={"a\nb": 1}),
+                lambda: store.update("t", {"a\nb": 1}, where={"a": 1}),
+            ):
+                with self.assertRaisesRegex(ValueError, r"'a\\nb' has a line feed.* take another$"):
+                    call()
+            self.assertEqual((store._process.left, store.tables()), (left, ["t"]))
             with self.assertRaises(ValueError):
                 store.update("t", {}, where={"a": 1})
             with self.assertRaises(ValueError):
@@ -144,12 +166,33 @@ class Stores(Folder):
                 (lambda: store.delete("t", where={"b": 9}), 67, "UnknownColumn"),
                 (lambda: store.create("t", ["a"], key=["a"]), 30, "TableExists"),
                 (lambda: store.create("u", ["a", "a"], key=["a"]), 32, "BadSchema"),
-                (lambda: store.create("u", [], key=[]), 61, "Syntax"),
+                (lambda: store.insert("t"), 35, "RowWidth"),
+                (lambda: store.insert("u"), 31, "NoTable"),
             ):
                 with self.subTest(name), self.assertRaises(StoreError) as caught:
                     call()
                 self.assertEqual((caught.exception.number, caught.exception.name), (number, name))
             self.assertEqual(list(store.rows("t")), [(1, "z")])
+
+    def test_declarations(self):
+        """What makes no table is refused before anything is sent."""
+        with vollikash.open(":memory:") as store:
+            left = store._process.left
+            for columns, key, refuses, why in (
+                ([], [], (), "columns is empty: a table has at least one column"),
+                ([], ["a"], (), "columns is empty"),
+                (["a"], [], (), "key is empty: a table has at least one key column"),
+                (["a"], iter([]), (), "key is empty"),
+                (["a"], ["b"], (), "key has 'b', which is no column's name"),
+                (["a"], ["a", "b"], (), "key has 'b', which is no column's name"),
+                (["a"], ["a"], ["b"], "refuses has 'b', which is no column's name"),
+                (["number"], "number", (), "key is a collection of names, and not the one name"),
+                ("ab", ["a"], (), "columns is a collection of names"),
+                (["a"], ["a"], "a", "refuses is a collection of names"),
+            ):
+                with self.subTest(why), self.assertRaisesRegex(ValueError, why):
+                    store.create("u", columns, key, refuses, exist_ok=True)
+            self.assertEqual((store.tables(), store._process.left), ([], left))
 
     def test_applies(self):
         with store_with_table() as store:
@@ -158,8 +201,10 @@ class Stores(Folder):
                 store.apply(FILE)
             error = pickle.loads(pickle.dumps(caught.exception))
             self.assertEqual((error.number, error.name, error.kind, error.table), (41, "Abort", "conflict", "t"))
+            self.assertEqual((error.key, error.detail), ((1,), "conflict 't'"))
+            self.assertEqual(str(error), "error 41 Abort conflict 't', key (1,)")
             report = store.apply(bytearray(FILE), conflict="replace")
-            self.assertEqual(report, ([("conflict", "replace", "t")], [], 1, 0))
+            self.assertEqual(report, ([("conflict", "replace", "t", (1,))], [], 1, 0))
             again = store.apply(FILE, ignore_noop=True)
             self.assertEqual((again.conflicts, again.applied, again.ignored), ([], 0, 1))
             self.assertEqual(store.revert(FILE).applied, 1)
@@ -203,15 +248,15 @@ class Rules(Folder):
             with self.assertRaises(ConflictError) as caught:
                 store.apply(file, **choices)
             error = pickle.loads(pickle.dumps(caught.exception))
-            told = error.number, error.name, error.kind, error.table
-            self.assertEqual(told, (number, {41: "Abort", 42: "Misuse"}[number], kind, "n"))
+            told = error.number, error.name, error.kind, error.table, error.key
+            self.assertEqual(told, (number, {41: "Abort", 42: "Misuse"}[number], kind, "n", (1,)))
             self.assertEqual(list(store.rows("n")), rows)
 
     def expect_left(self, rows, file, conflicts, **choices):
         """Asserts that an apply to these rows meets these conflicts of n, and that the rows stay."""
         with self.subTest(rows=rows, **choices), store_with_rule(":memory:", *rows) as store:
             report = store.apply(file, **choices)
-            self.assertEqual(report, ([(*met, "n") for met in conflicts], [], 0, 0))
+            self.assertEqual(report, ([(*met, "n", (1,)) for met in conflicts], [], 0, 0))
             self.assertEqual(list(store.rows("n")), rows)
 
     def test_lines(self):
@@ -331,10 +376,11 @@ class Rules(Folder):
             self.assertEqual(caught.exception.kind, "constraint")
             self.assertEqual(list(target.rows("n")), [])
             report = target.apply(changes, constraint="omit")
-            self.assertEqual(report, ([("constraint", "omit", "n")] * 2, [], 2, 0))
+            omitted = [("constraint", "omit", "n", key) for key in ((2,), (4,))]
+            self.assertEqual(report, (omitted, [], 2, 0))
             self.assertEqual(list(target.rows("n")), [(1, "x"), (3, b"")])
             again = target.apply(changes, constraint="omit", ignore_noop=True)
-            self.assertEqual(again, ([("constraint", "omit", "n")] * 2, [], 0, 2))
+            self.assertEqual(again, (omitted, [], 0, 2))
 
 
 class Files(Folder):
@@ -365,6 +411,178 @@ class Files(Folder):
         self.addCleanup(os.chdir, before)
         store_with_table("--help").close()
         self.assertIn("--help", os.listdir(self.folder))
+
+
+class Causes(Folder):
+    """What a StoreFault is likely to come from."""
+
+    def expect(self, cause, why, call, *arguments):
+        """Assert that a call is a StoreFault of this cause, and that its text says why."""
+        with self.subTest(cause, why=why), self.assertRaises(StoreError) as caught:
+            call(*arguments)
+        for error in (caught.exception, pickle.loads(pickle.dumps(caught.exception))):
+            self.assertEqual((error.number, error.name, error.detail), (38, "StoreFault", ""))
+            self.assertEqual((error.cause, error.why), (cause, why))
+            self.assertEqual(str(error), "error 38 StoreFault" + (f": {why}" if why else ""))
+
+    def test_paths(self):
+        folder, path = str(self.folder), str(self.folder / "file")
+        self.expect("path", f"{folder!r} is a folder", vollikash.open, folder)
+        missing = self.folder / "missing"
+        self.expect("path", f"there is no folder {str(missing)!r}", vollikash.open, missing / "a.db")
+        os.mkfifo(path)
+        self.expect("path", f"{path!r} is not a plain file", vollikash.open, path)
+        long = str(self.folder / ("n" * 300))
+        self.expect("path", f"{long!r}: File name too long", vollikash.open, long)
+        self.assertEqual(os.listdir(folder), ["file"])
+
+    def test_rights(self):
+        """The rights of this process are asked for, whatever they are."""
+        path = str(self.folder / "text")
+        self.write(path)
+        for refused, why in (
+            ((path, os.R_OK), f"{path!r} cannot be read"), ((path, os.W_OK), f"{path!r} cannot be written"),
+            ((os.path.realpath(self.folder), os.W_OK | os.X_OK), "no file can be made in the folder "),
+        ):
+            def access(*asked, refused=refused):
+                return asked != refused
+
+            why += repr(refused[0]) if why.endswith(" ") else ""
+            with unittest.mock.patch.object(os, "access", access):
+                self.expect("permission", why, vollikash.open, path)
+
+    def write(self, path):
+        """Write a text."""
+        pathlib.Path(path).write_text("This is no database.\n" * 99)
+
+    def test_content(self):
+        path = str(self.folder / "text")
+        self.write(path)
+        with open(path, "rb") as file:
+            # SQLite and the program take no notice of such a lock.
+            fcntl.flock(file, fcntl.LOCK_EX)
+            self.expect("not_a_database", f"{path!r} is not a SQLite database", vollikash.open, path)
+        self.assertEqual(pathlib.Path(path).read_text(), "This is no database.\n" * 99)
+        other = self.folder / "other.db"
+        with contextlib.closing(sqlite3.connect(other)) as base:
+            base.execute("PRAGMA auto_vacuum = FULL")
+            base.execute("CREATE TABLE x(a)")
+            base.commit()
+        before = other.read_bytes()
+        self.expect("other", "", vollikash.open, other)
+        self.assertEqual(other.read_bytes(), before)
+
+    @unittest.skipUnless(lists_locks(), "the system does not list locks")
+    def test_holders(self):
+        """A connection keeps its locks while it is looked for."""
+        path = str(self.folder / "held.db")
+        own = f"{path!r} is in use by another connection of this process"
+        with contextlib.closing(sqlite3.connect(path)) as base:
+            base.execute("CREATE TABLE x(a)")
+            base.execute("BEGIN EXCLUSIVE")
+            for _ in range(2):
+                self.expect("busy", own, vollikash.open, path)
+            base.rollback()
+            base.execute("PRAGMA journal_mode = WAL")
+            base.execute("SELECT * FROM x").fetchall()
+            for _ in range(2):
+                self.expect("busy", own, vollikash.open, path)
+        store, link = self.folder / "store.db", self.folder / "link.db"
+        link.symlink_to(store)
+        with store_with_table(store):
+            for path in (store, link):
+                why = f"{str(path)!r} is in use by another store of this process"
+                self.expect("busy", why, vollikash.open, path)
+        with vollikash.open(store) as again:
+            self.assertEqual(again.tables(), ["t"])
+
+    @unittest.skipUnless(lists_locks(), "the system does not list locks")
+    def test_other_processes(self):
+        path = str(self.folder / "held.db")
+        text = (
+            "import sqlite3, sys; base = sqlite3.connect(sys.argv[1]); base.execute('CREATE TABLE x(a)'); "
+            "base.execute('BEGIN EXCLUSIVE'); print(flush=True); sys.stdin.read()"
+        )
+        command, pipes = [sys.executable, "-c", text, path], {"stdin": -1, "stdout": -1}
+        with subprocess.Popen(command, **pipes) as holder:
+            holder.stdout.readline()
+            why = f"{path!r} is in use by process {holder.pid}"
+            self.expect("busy", why, vollikash.open, path)
+        store_with_table(self.folder / "store.db").close()
+        text = "import sys, vollikash; store = vollikash.open('store.db'); print(flush=True); sys.stdin.read()"
+        environment = {**os.environ, "PYTHONPATH": str(HERE)}
+        command = [sys.executable, "-c", text]
+        with subprocess.Popen(command, cwd=self.folder, env=environment, **pipes) as holder:
+            holder.stdout.readline()
+            path = str(self.folder / "store.db")
+            self.expect("busy", f"{path!r} is in use by another program", vollikash.open, path)
+
+    def test_journals(self):
+        """What a program has left that stopped."""
+        path = self.folder / "base.db"
+        with contextlib.closing(sqlite3.connect(path)) as base:
+            base.execute("PRAGMA cache_size = 1")
+            base.execute("CREATE TABLE x(a)")
+            base.executemany("INSERT INTO x VALUES(?)", [(b"1" * 999,)] * 99)
+            base.commit()
+            base.execute("UPDATE x SET a = 2")
+            content, journal = path.read_bytes(), pathlib.Path(f"{path}-journal").read_bytes()
+        copy = str(self.folder / "copy.db")
+        left = pathlib.Path(os.path.realpath(copy) + "-journal")
+        pathlib.Path(copy).write_bytes(content)
+        left.write_bytes(journal)
+        why = f"{str(left)!r} is there: open {copy!r} once with SQLite"
+        self.expect("journal", why, vollikash.open, copy)
+        self.assertEqual(left.read_bytes(), journal)
+        with contextlib.closing(sqlite3.connect(copy)) as base:
+            self.assertEqual(base.execute("SELECT count(*) FROM x").fetchone(), (99,))
+        vollikash.open(copy).close()
+
+    def test_disks(self):
+        """A disk is asked for its free space, whatever that is."""
+        path = self.folder / "store.db"
+        self.program("echo 'error 38 StoreFault' >&2; exit 1")
+        self.expect("other", "", vollikash.open, path)
+        full = types.SimpleNamespace(f_bavail=1, f_frsize=4096)
+        why = f"the disk of {os.path.realpath(self.folder)!r} is full"
+        with unittest.mock.patch.object(os, "statvfs", return_value=full):
+            self.expect("full", why, vollikash.open, path)
+        with unittest.mock.patch.object(os, "statvfs", side_effect=OSError):
+            self.expect("other", "", vollikash.open, path)
+
+    def test_open_stores(self):
+        """The locks of the store's own program are no cause."""
+        self.program("""\
+            while read -r word slot digits; do
+                case "$word $slot" in
+                    ".load m") mark=$digits ;;
+                    ".hex m") echo "$mark" ;;
+                    *) echo "error 38 StoreFault" ;;
+                esac
+            done
+        """)
+        full = types.SimpleNamespace(f_bavail=0, f_frsize=4096)
+        for path in (":memory:", self.folder / "store.db"):
+            with vollikash.open(path) as store, unittest.mock.patch.object(os, "statvfs", return_value=full):
+                self.assertEqual(pickle.loads(pickle.dumps(self.fault(store))).cause, self.cause(path))
+
+    def fault(self, store):
+        """The error of an insert."""
+        with self.assertRaises(StoreError) as caught:
+            store.insert("t", 1)
+        return caught.exception
+
+    def cause(self, path):
+        """The cause where a disk is full."""
+        return "other" if path == ":memory:" else "full"
+
+    def test_other_errors(self):
+        """They have no cause."""
+        with store_with_table() as store:
+            for call in (lambda: store.insert("t", 1), lambda: store.rows("u")):
+                with self.assertRaises(StoreError) as caught:
+                    call()
+                self.assertEqual((caught.exception.cause, caught.exception.why), (None, ""))
 
 
 class Programs(Folder):

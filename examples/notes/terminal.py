@@ -4,11 +4,12 @@ import codecs
 import os
 import re
 import select
+import signal
 import sys
 import termios
 import tty
 import unicodedata
-from typing import List, NamedTuple, Optional, Tuple
+from typing import Callable, List, NamedTuple, NoReturn, Optional, Tuple
 
 # Another screen than the one that the commands before stand on, without a cursor, where a paste is told from typing;
 # and back from there.
@@ -93,6 +94,36 @@ def around(text: str, cursor: int, width: int) -> Tuple[str, int]:
     return cut(shown(text[start : cursor + width]), width), used
 
 
+class Field:
+    """A text that is written, with a cursor, and what keeps it."""
+
+    def __init__(self, title: str, text: str, keep: Callable[[str], str]) -> None:
+        self.title, self.text, self.keep = f"{title}: ", text, keep
+        self.cursor = len(text)
+
+    def done(self) -> str:
+        """Keeps the text."""
+        return self.keep(self.text)
+
+    def press(self, key: Key) -> None:
+        """Does what a key does, or puts a text in front of the cursor."""
+        before, behind = self.text[: self.cursor], self.text[self.cursor :]
+        if key.name == "text":
+            before += key.text
+        elif key.name == "backspace":
+            before = before[:-1]
+        elif key.name == "delete":
+            behind = behind[1:]
+        self.text = before + behind
+        moves = {"left": len(before) - 1, "right": len(before) + 1, "home": 0, "end": len(self.text)}
+        self.cursor = min(max(moves.get(key.name, len(before)), 0), len(self.text))
+
+    def shown(self, columns: int) -> Tuple[str, int]:
+        """The line of it in so many cells, and the cell of the cursor."""
+        text, cell = around(self.text, self.cursor, max(1, columns - len(self.title)))
+        return self.title + text, len(self.title) + cell
+
+
 def _first_key(typed: str) -> Tuple[Optional[Key], str]:
     """The first key of what was typed, and the rest; no key where the rest of one has to come."""
     if typed.startswith(_PASTE_BEGINS):
@@ -108,8 +139,13 @@ def _first_key(typed: str) -> Tuple[Optional[Key], str]:
     return Key(_CONTROLS.get(typed[0], "unknown" if control else "text"), typed[0]), typed[1:]
 
 
+def _stop(*_: object) -> NoReturn:
+    """Ends the program by its way out, so that the terminal is restored."""
+    raise SystemExit(1)
+
+
 class Terminal:
-    """The terminal of standard input and output, from `with` to its end."""
+    """The terminal of standard input and output, from `with` to its end. A signal that ends the program restores it."""
 
     def __init__(self) -> None:
         self._decoder = codecs.getincrementaldecoder("utf-8")("surrogateescape")
@@ -118,6 +154,8 @@ class Terminal:
         self._ended = False
 
     def __enter__(self) -> "Terminal":
+        for number in (signal.SIGTERM, signal.SIGHUP):
+            signal.signal(number, _stop)
         self._before = termios.tcgetattr(sys.stdin.fileno())
         tty.setraw(sys.stdin.fileno())
         self._write(_BEGIN)

@@ -400,7 +400,8 @@ class Notes(unittest.TestCase):
 
     def test_a_store_that_is_open(self):
         with vollikash.open(self.path):
-            self.expect_no_editor("notes.py: notes.db: error 38 StoreFault\r\n")
+            why = "'notes.db' is in use by another program"
+            self.expect_no_editor(f"notes.py: notes.db: error 38 StoreFault: {why}\r\n")
 
     def test_another_table(self):
         with vollikash.open(self.path) as store:

@@ -53,7 +53,7 @@ PRINTED = """\
    The three are not the same.
 
 4. The shop's changeset is applied by the hub, with no word about conflicts.
-   Refused, error 41 Abort data 'stock': the row differs from the one that was changed there.
+   Refused, error 41 Abort data 'stock', key (1,): the row differs from the one that was changed there.
    Nothing of it is carried out, the new part neither.
    shop    1 bolt 35  2 nut 80  4 latch 7
    office  1 bolt 45  2 nut 80

@@ -8,12 +8,17 @@ import os
 import subprocess
 
 from support import reader
-from support.model import NUMBERS, Applying, Refusal, Table, concatenated, content_of, have_same_columns, put, quoted
+from support.model import (
+    NUMBERS, Applying, Refusal, Table, concatenated, conflict_of, content_of, have_same_columns, put, quoted,
+)
 from support.program import PATIENCE, TESTS
 
 
 # SQLite's result codes.
 OK, ABORT, SCHEMA, MISUSE = 0, 4, 17, 21
+
+# The keywords among the names of made-up tables.
+KEYWORDS = (b"SELECT", b"NULL")
 
 # The differences that the documents tell.
 ORDER = "joins whose entries of a table SQLite orders otherwise"
@@ -23,6 +28,8 @@ APPLY_FLAGS = "applies whose flags are not SQLite's, which passes over the table
 APPLY_NOTHING = "applies with updates that modify nothing, which SQLite does not look at: asked without these"
 APPLY_WIDER = "applies to a table of more columns, which SQLite applies to: not asked"
 APPLY_NOOP = "applies that ignore what changes nothing, which SQLite's library can from 3.42 on: not compared"
+APPLY_DELETE = "applies that ignore what changes nothing, and in SQLite a DELETE whose row differs: compared with that"
+APPLY_QUOTED = "applies that ignore what changes nothing, with a name in quotes, which SQLite refuses: not asked"
 APPLY_CASE = "applies among tables whose names differ in case alone, which are one to SQLite: not asked"
 APPLY_LATER = "applies whose constraint conflicts SQLite reports after the others of their table: compared in its order"
 APPLY_REMOVED = "applies whose second attempt fails: SQLite has removed the row, which stays here: compared without it"
@@ -141,13 +148,25 @@ class PutOff(Exception):
 
 
 class LaterApplying(Applying):
-    """An apply that reports constraint conflicts as SQLite does.
+    """An apply that reports constraint conflicts as SQLite does, and ignores what it ignores.
 
     An entry whose new row would break a NOT NULL constraint is postponed. It is tried again after
     the other entries of its table, and its conflict is reported at the third try. Each try of an
     UPDATE of a row that differs reports that conflict first. The row that an INSERT replaces is
-    removed at the first try, and remains removed.
+    removed at the first try, and remains removed. If no-ops are ignored, so is a DELETE whose row
+    differs.
     """
+
+    passes_over = False
+
+    def carry_out(self, name, entry):
+        """Carries an entry out, if it is no DELETE that is ignored."""
+        row = self.tables[name].rows.get(self.tables[name].key(entry[2][0]))
+        is_other = entry[0] == reader.DELETE and conflict_of(entry, row) == b"data"
+        if is_other and self.choices[b"noop"] == b"ignore":
+            self.passes_over = True
+        else:
+            super().carry_out(name, entry)
 
     def carry_out_all(self, name, entries):
         """Carries the entries of a table out, in three rounds."""
@@ -197,6 +216,9 @@ class Apply:
         if self.has_wider():
             self.known.append(APPLY_WIDER)
             return []
+        if self.choices[b"noop"] == b"ignore" and any(map(has_quotes, (name for _, name, _ in self.groups))):
+            self.known.append(APPLY_QUOTED)
+            return []
         letters = b"".join(self.choices[kind][:1] for kind in NUMBERS)
         lines = [b"new"]
         for name, table in self.tables.items():
@@ -228,16 +250,20 @@ class Apply:
         """Compares the answers."""
         if b"none" in told:
             return (APPLY_NOOP,)
-        answer_here, rows_here = self.ended(Applying)
-        answer, rows = self.ended(LaterApplying)
+        answer_here, rows_here, _ = self.ended(Applying)
+        answer, rows, passes_over = self.ended(LaterApplying)
         made, told_answer, listed = told[:-len(rows) - 1], told[-len(rows) - 1], told[len(told) - len(rows):]
         lists = [sorted(line.split(b";")[1:]) for line in listed]
         if any(line != b"0" for line in made) or told_answer != answer or lists != rows:
             raise Difference(self.script, (answer, rows), told)
+        if passes_over:
+            return (APPLY_DELETE,)
         return (APPLY_LATER,) * (answer != answer_here) + (APPLY_REMOVED,) * (rows != rows_here)
 
     def ended(self, form):
-        """How an apply of this form ends, as `sqlite.c` answers it, and the rows that it leaves."""
+        """How an apply of this form ends, as `sqlite.c` answers it, the rows that it leaves, and
+        whether a DELETE was ignored whose row differs.
+        """
         tables = {name: copied(table) for name, table in self.tables.items()}
         applying, code, last = form(tables, self.choices), OK, b""
         try:
@@ -247,7 +273,7 @@ class Apply:
             code, last = ABORT if number == b"41" else MISUSE, b"%d" % NUMBERS[kind]
         met = b"".join(line[9:10] for line in applying.report if line.startswith(b"conflict ")) + last
         rows = [sorted(b"".join(map(shown, row)) for row in table.rows.values()) for table in tables.values()]
-        return b"%d %s" % (code, met), rows
+        return b"%d %s" % (code, met), rows, getattr(applying, "passes_over", False)
 
 
 class Recording:
@@ -279,6 +305,11 @@ class Recording:
         if any(line != b"0" for line in told[:-1]) or not told[-1].startswith(b"0 ") or not is_good:
             raise Difference([*self.before, *self.edits], wanted, told)
         return (SESSION_FLAGS,) * (marked != groups) + (SESSION_ORDER,) * (marked != self.groups)
+
+
+def has_quotes(name):
+    """Whether SQL has a name of a made-up table in quotes."""
+    return not name.decode().isidentifier() or name.upper() in KEYWORDS
 
 
 def made_groups(answer):

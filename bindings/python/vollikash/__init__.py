@@ -14,7 +14,9 @@ next to this one.
 from ._builder import Builder
 from ._changes import Change, changes
 from ._deciding import PendingConflict
-from ._errors import ChangesetError, Code, ConflictError, Error, JsonError, ProgramError, StoreError
+from ._errors import (
+    Cause, ChangesetError, Code, ConflictError, Error, JsonError, ProgramError, StoreError,
+)
 from ._explain import explain
 from ._files import check, dump, invert, number_keys, sql
 from ._json import from_json, read_json, to_json, write_json
@@ -24,14 +26,14 @@ from ._schema import Schema
 from ._session import Session
 from ._store import Store, open
 from ._tables import Counts, select, stat
-from ._undo import UndoStack
+from ._undo import Action, UndoStack
 from ._values import UNDEFINED, Field, Op, Undefined, Value
 
 __all__ = [
-    "Builder", "Change", "ChangesetError", "Choice", "Code", "Conflict", "ConflictError", "Counts",
-    "Error", "Field", "JsonError", "Kind", "Op", "PendingConflict", "ProgramError", "Report",
-    "Schema", "Session", "Store", "StoreError", "UNDEFINED", "Undefined", "UndoStack", "Value",
-    "changes", "check", "concat", "dump", "explain", "from_json", "invert", "number_keys", "open",
-    "read_json", "select", "sql", "stat", "to_json", "write_json",
+    "Action", "Builder", "Cause", "Change", "ChangesetError", "Choice", "Code", "Conflict",
+    "ConflictError", "Counts", "Error", "Field", "JsonError", "Kind", "Op", "PendingConflict",
+    "ProgramError", "Report", "Schema", "Session", "Store", "StoreError", "UNDEFINED", "Undefined",
+    "UndoStack", "Value", "changes", "check", "concat", "dump", "explain", "from_json", "invert",
+    "number_keys", "open", "read_json", "select", "sql", "stat", "to_json", "write_json",
 ]
 __version__ = "1.0.0"

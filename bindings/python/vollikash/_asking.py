@@ -5,10 +5,11 @@ import tempfile
 import threading
 from typing import Callable, Dict, NoReturn, Optional, Sequence, TypeVar, Union
 
+from ._causes import cause_of
 from ._edits import Edits, refusal
 from ._errors import ChangesetError, Code, ConflictError, ProgramError, StoreError
 from ._lines import Report, malformed, read_nothing, read_report
-from ._process import LONGEST_FILE, Process, path_word, run_command
+from ._process import LONGEST, LONGEST_FILE, Process, path_word, run_command
 from ._schema import Schema, is_unfinished, read_schemas
 
 _REFUSED = re.compile(
@@ -25,7 +26,7 @@ _ANY = re.compile(".*", re.DOTALL)
 
 # The bytes of lines that are kept for the session's own lines, so that its changeset can be read
 # and undone when the program takes no more edits.
-_KEPT = 4096
+KEPT = 4096
 
 # The seconds that a line may take.
 TIMEOUT = 60.0
@@ -33,8 +34,15 @@ TIMEOUT = 60.0
 _Answer = TypeVar("_Answer")
 
 
-def _raise(refused: "re.Match[str]") -> NoReturn:
-    """Raise the exception for an error line."""
+# Why a line is refused before it is sent, and what can be done.
+_NO_MORE_LINES = (
+    f"a program takes {LONGEST} bytes of lines, and another one would not have what is only in "
+    "memory or in the session: close the session, or take a store in a file"
+)
+
+
+def _raise(refused: "re.Match[str]", path: str, is_open: bool) -> NoReturn:
+    """Raise the exception for an error line of the store at a path, which is open or not."""
     try:
         code = Code(int(refused["number"]))
     except ValueError:
@@ -48,6 +56,8 @@ def _raise(refused: "re.Match[str]") -> NoReturn:
         raise ConflictError(code, code.title, rest)
     if code <= Code.DUPLICATE_KEY or code == Code.SCHEMA:
         raise ChangesetError(code, 1, int(rest))
+    if code == Code.STORE_FAULT:
+        raise StoreError(code, code.title, rest, *cause_of(path, is_open))
     raise StoreError(code, code.title, rest)
 
 
@@ -62,6 +72,8 @@ class Asker:
         self._schemas: Dict[str, Schema] = {}
         # The edits of the open transaction.
         self._edits: Optional[Edits] = None
+        # The program that has loaded the changeset that was applied last.
+        self._loader: Optional[Process] = None
         self._process = self._start()
 
     def _start(self) -> Process:
@@ -80,7 +92,7 @@ class Asker:
             refused = _REFUSED.fullmatch(error.said)
             if refused is None:
                 raise
-            _raise(refused)
+            _raise(refused, self._path, False)
 
     def _make_room(self, lines: Sequence[str], kept: int) -> None:
         """Start the program again if it takes no such lines any more, and if only the file matters.
@@ -88,7 +100,7 @@ class Asker:
         if not self._process.fits(lines, kept):
             self._run_anew()
         if not self._process.fits(lines, kept):
-            raise refusal(Code.SCRIPT_TOO_LONG)
+            raise refusal(Code.SCRIPT_TOO_LONG, _NO_MORE_LINES)
 
     def _run_anew(self) -> None:
         """Start the program again, if only the file matters."""
@@ -97,7 +109,7 @@ class Asker:
             self._process.close()
             self._process = self._start()
 
-    def _ask(self, read: Callable[[str], _Answer], *lines: str, kept: int = _KEPT) -> _Answer:
+    def _ask(self, read: Callable[[str], _Answer], *lines: str, kept: int = KEPT) -> _Answer:
         """Return the reply to the last of some lines as `read` reads it, or raise the error of the
         first that is refused. Keep so many bytes of lines.
         """
@@ -111,7 +123,7 @@ class Asker:
             raise RuntimeError("a transaction is open, which has only edits and reads of rows")
 
     def _ask_at_once(
-        self, read: Callable[[str], _Answer], *lines: str, kept: int = _KEPT
+        self, read: Callable[[str], _Answer], *lines: str, kept: int = KEPT
     ) -> _Answer:
         """Return what `_ask` does, also in a transaction."""
         self._make_room(lines, kept)
@@ -128,7 +140,7 @@ class Asker:
         printed = self._process.ask(line)
         refused = _REFUSED.fullmatch(printed)
         if refused is not None:
-            _raise(refused)
+            _raise(refused, self._path, True)
         return printed
 
     def _apply_by_command(self, file: bytes, options: Sequence[str]) -> Report:
@@ -142,7 +154,7 @@ class Asker:
             ended = run_command(words, patience)
         refused = _REFUSED.fullmatch(ended.stderr)
         if refused is not None:
-            _raise(refused)
+            _raise(refused, self._path, False)
         if ended.returncode:
             raise ProgramError(f"the program has ended: {ended.stderr.strip()}", ended.stderr)
         return read_report(ended.stdout)

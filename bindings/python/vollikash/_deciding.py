@@ -4,7 +4,9 @@ A key is once in a file, so the conflicts of a change depend only on the current
 """
 import itertools
 import operator
-from typing import Callable, Dict, Iterator, List, Mapping, NamedTuple, Optional, Sequence, Set
+from typing import (
+    Callable, Dict, Iterator, List, Mapping, NamedTuple, Optional, Sequence, Set, Tuple,
+)
 
 from ._changes import Change, changes
 from ._edits import Row, refusal
@@ -12,7 +14,7 @@ from ._encoding import Encoder, header
 from ._errors import Code, ConflictError
 from ._lines import CHOICES, Choice, Conflict, Kind
 from ._schema import Schema
-from ._values import UNDEFINED, Field, Record
+from ._values import UNDEFINED, Field, Record, defined
 
 
 class PendingConflict(NamedTuple):
@@ -75,12 +77,12 @@ class Decider:
         choice = self._handler(PendingConflict(kind, change, row))
         if choice not in CHOICES:
             raise ValueError(f"a choice is one of {', '.join(CHOICES)}, and not {choice!r}")
-        detail = f"{kind} '" + change.table.replace("'", "''") + "'"
+        detail, key = f"{kind} '" + change.table.replace("'", "''") + "'", defined(change.key)
         if choice == "abort":
-            raise ConflictError(Code.ABORT, Code.ABORT.title, detail)
+            raise ConflictError(Code.ABORT, Code.ABORT.title, detail, key)
         if choice == "replace" and kind in ("notfound", "constraint"):
-            raise ConflictError(Code.MISUSE, Code.MISUSE.title, detail)
-        self.conflicts.append(Conflict(kind, choice, change.table))
+            raise ConflictError(Code.MISUSE, Code.MISUSE.title, detail, key)
+        self.conflicts.append(Conflict(kind, choice, change.table, key))
         return choice
 
     def keeps(self, change: Change, row: Optional[Row], refusing: Sequence[int]) -> bool:
@@ -145,3 +147,21 @@ def decided(
         spelled = [spell(one.op, one.indirect, one.old, one.new)[1] for one in kept]
         parts += [header(table, flags), *spelled] if spelled else []
     return b"".join(parts)
+
+
+def expected(
+    data: bytes,
+    schemas: Mapping[str, Schema],
+    rows: Callable[[str], Iterator[Row]],
+    choices: Mapping[Kind, Choice],
+    ignores_noop: bool,
+) -> Tuple[List[Conflict], Optional[ConflictError]]:
+    """Return the conflicts that an apply with these choices has, with the keys of their rows, and
+    the error that ends it.
+    """
+    decider = Decider(lambda conflict: choices[conflict.kind], ignores_noop)
+    try:
+        decided(data, schemas, rows, decider)
+    except ConflictError as error:
+        return decider.conflicts, error
+    return decider.conflicts, None

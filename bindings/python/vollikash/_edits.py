@@ -73,11 +73,15 @@ class TableEdits:
 
     def _current(self, key: bytes) -> Optional[List[bytes]]:
         """Return the fields of the row of a key as it is without the edits."""
+        wanted, _ = record_at(key, 0, len(self._keys))
         for row in self._rows(self._name):
-            fields = self._spelled(row)
-            if self._key(fields) == key:
-                return fields
+            if self._key_values(row) == wanted:
+                return self._spelled(row)
         return None
+
+    def _key_values(self, row: Row) -> Row:
+        """Return the values of a row's key."""
+        return tuple([row[place] for place in self._keys])
 
     def _row(self, key: bytes) -> Optional[List[bytes]]:
         """Return the fields of the row of a key as it is with the edits."""
@@ -141,7 +145,9 @@ class TableEdits:
     def get(self, values: Sequence[Value]) -> Optional[Row]:
         """Return the row of a key, by its values in the order of the columns."""
         if len(values) != len(self._keys):
-            raise ValueError(f"table {shown(self._name)} has {len(self._keys)} key columns")
+            names = [column for column, place in self._places.items() if place in self._keys]
+            why = f"the key is {', '.join(names):.80}, and {len(values)} values are given"
+            raise ValueError(f"table {shown(self._name)}: {why}")
         row: List[Field] = [LEFT_OUT] * len(self._places)
         for place, value in zip(self._keys, values):
             row[place] = value
@@ -167,10 +173,12 @@ class TableEdits:
         """Raise the error of an INSERT if a key has a row that an edit inserted and another one
         deleted. No change of a changeset says that.
         """
-        absent = {key for key, (op, _) in self._edits.items() if op == _ABSENT}
+        count = len(self._keys)
+        keys = [key for key, (op, _) in self._edits.items() if op == _ABSENT]
+        absent = {record_at(key, 0, count)[0] for key in keys}
         for row in self._rows(self._name) if absent else ():
-            if self._key(self._spelled(row)) in absent:
-                key = tuple(row[place] for place in self._keys)
+            key = self._key_values(row)
+            if key in absent:
                 raise refusal(Code.KEY_TAKEN, f"in table {shown(self._name)}, key {key!r:.80}")
 
     def parts(self) -> Iterator[bytes]:

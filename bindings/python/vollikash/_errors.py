@@ -1,6 +1,11 @@
 """The errors of the package, with the numbers and names of docs/ERRORS.md."""
 import enum
-from typing import Any, NoReturn, Tuple
+from typing import Any, Literal, Optional, Tuple
+
+from ._values import Key
+
+# What may have made a call of a store a StoreFault.
+Cause = Literal["path", "permission", "busy", "not_a_database", "journal", "full", "other"]
 
 
 class Code(enum.IntEnum):
@@ -86,8 +91,8 @@ class ChangesetError(Error, ValueError):
 class JsonError(Error, ValueError):
     """A text is not the JSON of a changeset.
 
-    `line` and `column` are one-based. They are the place of a mistake in JSON, or else of the value
-    that is wrong.
+    `line` and `column` are one-based. They are the place of a mistake in JSON, or else of the
+    change, the name or the flags that are wrong.
     """
 
     def __init__(self, why: str, line: int, column: int) -> None:
@@ -104,17 +109,23 @@ class StoreError(Error):
     """A call was refused. It has changed nothing, and the store can be used.
 
     `number` and `name` are those of docs/ERRORS.md. `detail` is the rest of the error line, such as
-    the index of a table.
+    the index of a table. `cause` is the likely cause of a StoreFault, and None for other errors. It
+    is looked for after the error, and is "other" if nothing is found. `why` is a sentence about it.
     """
 
-    def __init__(self, number: int, name: str, detail: str = "") -> None:
-        super().__init__(f"error {number} {name} {detail}".rstrip())
+    def __init__(
+        self, number: int, name: str, detail: str = "", cause: Optional[Cause] = None, why: str = ""
+    ) -> None:
+        error = f"error {number} {name} {detail}".rstrip()
+        super().__init__(f"{error}: {why}" if why else error)
         self.number = number
         self.name = name
         self.detail = detail
+        self.cause = cause
+        self.why = why
 
     def __reduce__(self) -> Tuple[Any, ...]:
-        return type(self), (self.number, self.name, self.detail)
+        return type(self), (self.number, self.name, self.detail, self.cause, self.why)
 
     @property
     def code(self) -> Code:
@@ -123,7 +134,21 @@ class StoreError(Error):
 
 
 class ConflictError(StoreError):
-    """An apply or a revert ended at a conflict, and has changed nothing."""
+    """An apply or a revert ended at a conflict, and has changed nothing.
+
+    `key` has the values of the row's key in column order, or is None if it is not known.
+    """
+
+    def __init__(
+        self, number: int, name: str, detail: str, key: Optional[Key] = None
+    ) -> None:
+        super().__init__(number, name, detail)
+        self.key = key
+        if key is not None:
+            self.args = (f"{self}, key {key!r:.80}",)
+
+    def __reduce__(self) -> Tuple[Any, ...]:
+        return type(self), (self.number, self.name, self.detail, self.key)
 
     @property
     def kind(self) -> str:

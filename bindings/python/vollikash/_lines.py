@@ -1,9 +1,10 @@
 """The lines of the shell: spelling values and names, and reading replies."""
+import functools
 import re
-from typing import Iterable, Iterator, List, Literal, NamedTuple, Tuple, cast, get_args
+from typing import Iterable, Iterator, List, Literal, NamedTuple, Optional, Tuple, cast, get_args
 
 from ._errors import ProgramError
-from ._values import Value
+from ._values import Key, Value
 
 # What may be the matter when a change is applied, and what can be done about it.
 Kind = Literal["data", "notfound", "conflict", "constraint"]
@@ -11,9 +12,13 @@ Choice = Literal["omit", "replace", "abort"]
 
 CHOICES: Tuple[Choice, ...] = get_args(Choice)
 
-_VALUE = re.compile(
-    r"(?P<integer>-?[0-9]+)|(?P<null>NULL)|X'(?P<blob>(?:[0-9a-f]{2})*)'|'(?P<text>(?:[^']|'')*)'"
-)
+# A value of a row, and one with what ends it.
+_VALUE = r"(-?[0-9]+|NULL|X'(?:[0-9a-f]{2})*'|'[^']*(?:''[^']*)*')"
+_FIELD = re.compile(_VALUE + r"([|\n])")
+
+# How many columns the rows have at most that are read by one pattern, which is compiled for each
+# number of columns.
+_WIDEST = 64
 _CONFLICT = re.compile(
     r"conflict [0-9]+ (?P<kind>data|notfound|conflict|constraint) (?P<choice>omit|replace) "
     r"(?P<table>'(?:[^']|'')*')\n"
@@ -24,11 +29,15 @@ _APPLIED = re.compile(r"(?:ignored (?P<ignored>[0-9]+)\n)?applied (?P<count>[0-9
 
 
 class Conflict(NamedTuple):
-    """A conflict of an apply, and the choice for it."""
+    """A conflict of an apply, the choice for it, and the row: its table, and the values of its key.
+
+    The key is None if it is not known, as in the apply of a changeset of more than 8 MB.
+    """
 
     kind: Kind
     choice: Choice
     table: str
+    key: Optional[Key] = None
 
 
 class Report(NamedTuple):
@@ -52,7 +61,8 @@ def is_one_line(values: Iterable[Value]) -> bool:
 def _one_line(what: str, text: str) -> str:
     """Return a text that a line can hold."""
     if "\n" in text:
-        raise ValueError(f"{what} has a line feed, which a line cannot hold")
+        why = "has a line feed, which no line of the shell can hold: take another"
+        raise ValueError(f"{what} {why}")
     try:
         text.encode()
     except UnicodeEncodeError as error:
@@ -92,35 +102,64 @@ def malformed(printed: str, at: int, wanted: str) -> ProgramError:
     return ProgramError(f"the program answered {printed[at:at + 40]!r} in place of a {wanted}")
 
 
-def _read_value(printed: str, at: int) -> Tuple[Value, int]:
-    """Return the value that is printed at a place, and the place after it."""
-    found = _VALUE.match(printed, at)
-    if found is None:
-        raise malformed(printed, at, "value")
-    kind = found.lastgroup
-    if kind == "integer":
-        return int(found["integer"]), found.end()
-    if kind == "blob":
-        return bytes.fromhex(found["blob"]), found.end()
-    return (None if kind == "null" else found["text"].replace("''", "'")), found.end()
+def _value(printed: str) -> Value:
+    """Return the value that is printed so."""
+    first = printed[0]
+    if first == "'":
+        return read_text(printed)
+    if first == "X":
+        return bytes.fromhex(printed[2:-1])
+    return None if first == "N" else int(printed)
+
+
+def _fields(printed: str) -> Iterator[Tuple[str, str]]:
+    """Yield each value that is printed, and what ends it."""
+    at = 0
+    for found in _FIELD.finditer(printed):
+        if found.start() != at:
+            break
+        at = found.end()
+        yield found[1], found[2]
+    if at < len(printed):
+        raise malformed(printed, at, "value and its end")
+
+
+def _wide_rows(printed: str) -> Iterator[Tuple[Value, ...]]:
+    """Yield rows of any width."""
+    row: List[Value] = []
+    for spelled_value, end in _fields(printed):
+        row.append(_value(spelled_value))
+        if end == "\n":
+            yield tuple(row)
+            row = []
+    if row:
+        raise malformed(printed, len(printed), "value")
+
+
+@functools.lru_cache(maxsize=_WIDEST)
+def _row_of(width: int) -> "re.Pattern[str]":
+    """Return the pattern of a row of this many columns."""
+    return re.compile(r"\|".join([_VALUE] * width) + r"\n")
 
 
 def read_rows(printed: str) -> Iterator[Tuple[Value, ...]]:
     """Yield the rows that a SELECT prints. A text may have line feeds."""
+    width = 1
+    for _, end in _fields(printed):
+        if end == "\n" or width > _WIDEST:
+            break
+        width += 1
+    if width > _WIDEST:
+        yield from _wide_rows(printed)
+        return
     at = 0
-    row: List[Value] = []
-    while at < len(printed):
-        value, at = _read_value(printed, at)
-        row.append(value)
-        end = printed[at:at + 1]
-        if end == "\n":
-            yield tuple(row)
-            row = []
-        elif end != "|":
-            raise malformed(printed, at, "row's end")
-        at += 1
-    if row:
-        raise malformed(printed, at, "value")
+    for found in _row_of(width).finditer(printed):
+        if found.start() != at:
+            break
+        at = found.end()
+        yield tuple(map(_value, found.groups()))
+    if at < len(printed):
+        raise malformed(printed, at, "row")
 
 
 def read_nothing(printed: str) -> None:

@@ -4,6 +4,7 @@ import pathlib
 import selectors
 import shutil
 import subprocess
+import threading
 import time
 import weakref
 from typing import Optional, Sequence
@@ -16,11 +17,13 @@ _MARK_BYTES = 16
 # What is sent after each line: that slot is printed.
 _BEHIND = "\n.hex m\n"
 
-# How many bytes of lines a program takes.
-_LONGEST = 16777216
+# How many bytes of lines a program takes, and how many one line has at most. The rest is for other
+# lines.
+LONGEST = 16777216
+LONGEST_LINE = LONGEST - 16384
 
-# How many bytes a file may have that is loaded by a line. The rest is for lines of other kinds.
-LONGEST_FILE = _LONGEST // 2 - 8192
+# How many bytes a file may have that is loaded by a line.
+LONGEST_FILE = LONGEST_LINE // 2
 
 
 def find_program() -> str:
@@ -75,6 +78,24 @@ def path_word(path: str) -> str:
     return f"./{path}" if path.startswith("-") else path
 
 
+# The programs that were started and have answered. The lock is for reading and writing them.
+_STARTED: "weakref.WeakSet[Process]" = weakref.WeakSet()
+_STARTING = threading.Lock()
+
+
+def is_open_here(path: str) -> bool:
+    """Return whether a program of this process runs on the file at a path."""
+    with _STARTING:
+        started = list(_STARTED)
+    return any(process.has_file(path) for process in started)
+
+
+def fits_program(line: str) -> bool:
+    """Return whether a program that has taken no other line takes this one."""
+    # No character takes more than four bytes.
+    return 4 * len(line) <= LONGEST_LINE or len(line.encode()) <= LONGEST_LINE
+
+
 class Process:
     """A program that runs a shell on a file."""
 
@@ -96,9 +117,17 @@ class Process:
         for stream in (self._process.stdin, self._process.stdout):
             assert stream is not None
             os.set_blocking(stream.fileno(), False)
-        self.left = _LONGEST
+        self.left = LONGEST
         self._mark = os.urandom(_MARK_BYTES).hex()
         self.ask(f".load m {self._mark}")
+        self._path = path
+        with _STARTING:
+            _STARTED.add(self)
+
+    def has_file(self, path: str) -> bool:
+        """Return whether the program runs on the file at a path."""
+        is_file = self._ends.alive and self._path != ":memory:"
+        return is_file and os.path.samefile(self._path, path)
 
     def fits(self, lines: Sequence[str], kept: int) -> bool:
         """Return whether the program accepts these lines and `kept` more bytes. It accepts
@@ -109,7 +138,7 @@ class Process:
     def has_half(self) -> bool:
         """Return whether the program accepts half of its lines still, so that a session may begin.
         """
-        return self.left >= _LONGEST // 2
+        return self.left >= LONGEST // 2
 
     def ask(self, line: str) -> str:
         """Return the answer to a line, which fits."""

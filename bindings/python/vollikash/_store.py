@@ -4,20 +4,20 @@ import os
 from types import TracebackType
 from typing import (
     TYPE_CHECKING, Callable, Collection, Iterable, Iterator, List, Mapping, Optional, Sequence,
-    Type, Union,
+    Tuple, Type, Union,
 )
 
 from . import _exchange
-from ._asking import TIMEOUT, Asker
-from ._deciding import Decider, Handler, PendingConflict, decided
+from ._asking import KEPT, TIMEOUT, Asker
+from ._deciding import Decider, Handler, PendingConflict, decided, expected
 from ._edits import Edits, Row, TableEdits, refusal
 from ._errors import Code, ConflictError, ProgramError, StoreError
 from ._files import Bytes, as_bytes, invert
 from ._lines import (
-    CHOICES, Choice, Report, is_one_line, read_nothing, read_report, read_rows, spelled,
-    spelled_name,
+    CHOICES, Choice, Conflict, Kind, Report, is_one_line, read_nothing, read_report, read_rows,
+    spelled, spelled_name,
 )
-from ._process import LONGEST_FILE
+from ._process import LONGEST_FILE, fits_program
 from ._schema import Schema
 from ._session import Session
 from ._undo import UndoStack
@@ -25,6 +25,14 @@ from ._values import Value, shown
 
 if TYPE_CHECKING:
     import sqlite3
+
+# The choices of an apply that ends at the first conflict.
+_ABORTS: Mapping[Kind, Choice] = {
+    "data": "abort", "notfound": "abort", "conflict": "abort", "constraint": "abort",
+}
+
+# How many bytes the file of a store has at most in which the rows of conflicts are looked for.
+LARGEST_SEARCHED = 1 << 24
 
 # What a conflict of the changeset of edits is the error of.
 _REFUSALS = {
@@ -45,11 +53,38 @@ def _assigned(values: Mapping[str, Value], between: str) -> str:
     return between.join(f"{spelled_name(name)}={spelled(value)}" for name, value in values.items())
 
 
+def _declared(
+    columns: Iterable[str], key: Iterable[str], refuses: Iterable[str]
+) -> Tuple[List[str], List[str], List[str]]:
+    """Return the names that a declaration has. Raise ValueError if they make no table."""
+    for what, given in (("columns", columns), ("key", key), ("refuses", refuses)):
+        if isinstance(given, str):
+            raise ValueError(f"{what} is a collection of names, and not the one name {given!r}")
+    names, keys, marked = list(columns), list(key), list(refuses)
+    if not names:
+        raise ValueError("columns is empty: a table has at least one column")
+    if not keys:
+        raise ValueError("key is empty: a table has at least one key column")
+    for what, listed in (("key", keys), ("refuses", marked)):
+        for name in listed:
+            if name not in names:
+                raise ValueError(f"{what} has {name!r}, which is no column's name")
+    return names, keys, marked
+
+
+def _named(error: ConflictError, found: Optional[ConflictError]) -> ConflictError:
+    """Return an error of the program with the key that was found for it."""
+    if found is None or (found.number, found.detail) != (error.number, error.detail):
+        return error
+    return ConflictError(error.number, error.name, error.detail, found.key)
+
+
 def _insert_each(edits: TableEdits, rows: Iterable[Sequence[Value]]) -> None:
     """Insert rows. An error says which one is refused."""
     for number, row in enumerate(rows, 1):
         if isinstance(row, (str, bytes, Mapping)):
-            raise ValueError(f"row {number}: a row has its values in order, and is no {type(row).__name__}")
+            kind = type(row).__name__
+            raise ValueError(f"row {number}: a row has its values in order, and is no {kind}")
         try:
             edits.insert(row)
         except StoreError as error:
@@ -102,13 +137,11 @@ class Store(Asker):
     ) -> None:
         """Create a table without rows: its columns, those of the key, and those that refuse None.
 
-        Key columns refuse None anyway. A name in `refuses` that is not a column raises ValueError
-        before anything is sent. With `exist_ok` a table that exists with these columns is kept.
+        Key columns refuse None anyway. No columns, an empty key, and a name in `key` or `refuses`
+        that is not a column raise ValueError before anything is sent. With `exist_ok` a table that
+        exists with these columns is kept.
         """
-        names, marked, keys = list(columns), list(refuses), list(key)
-        for name in marked:
-            if name not in names:
-                raise ValueError(f"refuses has {name!r}, which is no column's name")
+        names, keys, marked = _declared(columns, key, refuses)
         named = ", ".join(spelled_name(name) + " NOT NULL" * (name in marked) for name in names)
         key_names = ", ".join(map(spelled_name, keys))
         schema = Schema(
@@ -142,13 +175,12 @@ class Store(Asker):
 
     def insert(self, table: str, *values: Value) -> None:
         """Insert one row, with a value for each column."""
-        with self._lock:
-            if self._edits is None and is_one_line(values):
-                row = ", ".join(map(spelled, values))
-                self._ask(read_nothing, f"INSERT INTO {spelled_name(table)} VALUES({row});")
-            else:
-                with self._edited(table) as edits:
-                    edits.insert(values)
+
+        def line() -> Optional[str]:
+            row = ", ".join(map(spelled, values))
+            return f"INSERT INTO {spelled_name(table)} VALUES({row});" if values else None
+
+        self._edit(table, values, line, lambda edits: edits.insert(values))
 
     def insert_many(self, table: str, rows: Iterable[Sequence[Value]]) -> None:
         """Insert rows in one transaction. If one is refused, none is, and the error says which."""
@@ -157,23 +189,38 @@ class Store(Asker):
 
     def update(self, table: str, values: Mapping[str, Value], where: Mapping[str, Value]) -> None:
         """Set columns of the row whose key columns have the values of `where`."""
-        with self._lock:
-            if self._edits is None and is_one_line((*values.values(), *where.values())):
-                row, key = _assigned(values, ", "), _assigned(where, " AND ")
-                self._ask(read_nothing, f"UPDATE {spelled_name(table)} SET {row} WHERE {key};")
-            else:
-                with self._edited(table) as edits:
-                    edits.update(values, where)
+
+        def line() -> str:
+            row, key = _assigned(values, ", "), _assigned(where, " AND ")
+            return f"UPDATE {spelled_name(table)} SET {row} WHERE {key};"
+
+        given = (*values.values(), *where.values())
+        self._edit(table, given, line, lambda edits: edits.update(values, where))
 
     def delete(self, table: str, where: Mapping[str, Value]) -> None:
         """Delete the row whose key columns have the values of `where`."""
+
+        def line() -> str:
+            return f"DELETE FROM {spelled_name(table)} WHERE {_assigned(where, ' AND ')};"
+
+        self._edit(table, (*where.values(),), line, lambda edits: edits.delete(where))
+
+    def _edit(
+        self,
+        table: str,
+        values: Sequence[Value],
+        line: Callable[[], Optional[str]],
+        edit: Callable[[TableEdits], None],
+    ) -> None:
+        """Make an edit with these values by a line, or by a changeset if no line can hold it."""
         with self._lock:
-            if self._edits is None and is_one_line(where.values()):
-                key = _assigned(where, " AND ")
-                self._ask(read_nothing, f"DELETE FROM {spelled_name(table)} WHERE {key};")
-            else:
-                with self._edited(table) as edits:
-                    edits.delete(where)
+            if self._edits is None and is_one_line(values):
+                spelled_edit = line()
+                if spelled_edit is not None and fits_program(spelled_edit):
+                    self._ask(read_nothing, spelled_edit)
+                    return
+            with self._edited(table) as edits:
+                edit(edits)
 
     def rows(self, table: str) -> Iterator[Row]:
         """Return an iterator over the current rows of a table, by the bytes of their keys."""
@@ -229,7 +276,7 @@ class Store(Asker):
         if not file:
             return
         try:
-            report = self.apply(file, data="replace")
+            report = self._apply_chosen(file, {**_ABORTS, "data": "replace"})
         except ConflictError as error:
             raise refusal(_REFUSALS[error.kind], self._culprit(file)) from None
         if report.skipped:
@@ -274,7 +321,7 @@ class Store(Asker):
         in the order of the file, with a `PendingConflict`. It returns the choice. Nothing is
         written before its last call.
         """
-        choices = {
+        choices: Mapping[Kind, Choice] = {
             "data": data, "notfound": notfound, "conflict": conflict, "constraint": constraint
         }
         for kind, choice in choices.items():
@@ -282,33 +329,94 @@ class Store(Asker):
                 raise ValueError(f"{kind} is one of {', '.join(CHOICES)}, and not {choice!r}")
             if on_conflict is not None and choice != "abort":
                 raise ValueError(f"{kind} is chosen, and on_conflict too")
-        if on_conflict is not None:
-            return self._apply_decided(as_bytes(file), on_conflict, ignore_noop)
+        given = as_bytes(file)
+        with self._lock:
+            if on_conflict is not None:
+                return self._apply_decided(given, on_conflict, ignore_noop)
+            return self._apply_named(given, choices, ignore_noop)
+
+    def _apply_named(
+        self, file: bytes, choices: Mapping[Kind, Choice], ignore_noop: bool
+    ) -> Report:
+        """Apply a changeset, and name the rows of its conflicts.
+
+        They are looked for after an apply that has ended at the first one, and has changed nothing.
+        """
+        if not self._is_searched(file):
+            return self._apply_chosen(file, choices, ignore_noop)
+        try:
+            return self._apply_chosen(file, _ABORTS, ignore_noop)
+        except ConflictError as error:
+            conflicts, ending = self._expected(file, choices, ignore_noop)
+            if choices == _ABORTS:
+                raise _named(error, ending) from None
+        try:
+            report = self._apply_chosen(file, choices, ignore_noop, is_loaded=True)
+        except ConflictError as error:
+            raise _named(error, ending) from None
+        is_same = [it[:3] for it in conflicts] == [it[:3] for it in report.conflicts]
+        return report._replace(conflicts=conflicts) if is_same else report
+
+    def _is_searched(self, file: bytes) -> bool:
+        """Return whether the rows of conflicts are looked for, which reads whole tables."""
+        if len(file) > LONGEST_FILE or self._path == ":memory:":
+            # What is in memory has come by the lines of one program.
+            return len(file) <= LONGEST_FILE
+        path = os.path.realpath(self._path)
+        files = [name for name in (path, f"{path}-wal") if os.path.exists(name)]
+        return sum(map(os.path.getsize, files)) <= LARGEST_SEARCHED
+
+    def _expected(
+        self, file: bytes, choices: Mapping[Kind, Choice], ignore_noop: bool
+    ) -> Tuple[List[Conflict], Optional[ConflictError]]:
+        """Return the conflicts that an apply will have, and the error that will end it."""
+        try:
+            return expected(file, self._schemas, self._select, choices, ignore_noop)
+        except (StoreError, ValueError):
+            # The program takes no more lines, or the rows cannot be asked for.
+            return [], None
+
+    def _apply_chosen(
+        self,
+        file: bytes,
+        choices: Mapping[Kind, Choice],
+        ignore_noop: bool = False,
+        *,
+        is_loaded: bool = False,
+    ) -> Report:
+        """Apply a changeset with these choices."""
         words = [f"{kind}={choice}" for kind, choice in choices.items()]
         line = " ".join([".apply f", *words, *["noop=ignore"] * ignore_noop])
         options = [f"--{word}" for word in words] + ["--ignore-noop"] * ignore_noop
-        given = as_bytes(file)
-        return self._apply(given, line, lambda: self._apply_by_command(given, options))
+        return self._apply(file, line, lambda: self._apply_by_command(file, options), is_loaded)
 
     def _apply_decided(self, file: bytes, handler: Handler, ignore_noop: bool) -> Report:
         """Apply a changeset whose conflicts a function decides."""
         with self._lock:
             self._expect_no_transaction()
+            self._expect_fit(file)
             decider = Decider(handler, ignore_noop)
             kept = decided(file, self._schemas, self._select, decider)
-            report = self.apply(
-                kept, data="replace", conflict="replace", ignore_noop=ignore_noop
-            )
+            choices: Mapping[Kind, Choice] = {**_ABORTS, "data": "replace", "conflict": "replace"}
+            report = self._apply_chosen(kept, choices, ignore_noop)
             return report._replace(conflicts=decider.conflicts, skipped=decider.skipped)
 
-    def _apply(self, file: bytes, line: str, by_command: Callable[[], Report]) -> Report:
+    def _apply(
+        self, file: bytes, line: str, by_command: Callable[[], Report], is_loaded: bool = False
+    ) -> Report:
         """Apply a changeset by a line. If it is too long for one, apply it while the store is
-        closed.
+        closed. `is_loaded` says whether it was applied last.
         """
         with self._lock:
             self._expect_no_transaction()
             if len(file) <= LONGEST_FILE:
-                return self._ask(read_report, f".load f {file.hex()}", line)
+                # A program that was started anew meanwhile has not loaded it.
+                if is_loaded and self._loader is self._process and self._process.fits([line], 0):
+                    return self._ask(read_report, line, kept=0)
+                load = f".load f {file.hex()}"
+                self._make_room([load, line], KEPT)
+                self._loader = self._process
+                return self._ask(read_report, load, line)
             self._expect_fit(file)
             self._process.expect_open()
             self._process.close()
@@ -328,7 +436,16 @@ class Store(Asker):
         changed.
         """
         given = as_bytes(file)
-        return self._apply(given, ".revert f", lambda: self._apply_by_command(invert(given), []))
+        with self._lock:
+            try:
+                return self._apply(
+                    given, ".revert f", lambda: self._apply_by_command(invert(given), [])
+                )
+            except ConflictError as error:
+                if not self._is_searched(given):
+                    raise
+                _, ending = self._expected(invert(given), _ABORTS, False)
+                raise _named(error, ending) from None
 
     def load_from(self, connection: "sqlite3.Connection", table: str) -> None:
         """Copy a table of an ordinary SQLite database into the store, in one transaction.

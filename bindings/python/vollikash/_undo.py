@@ -5,8 +5,10 @@ import os
 import tempfile
 from typing import TYPE_CHECKING, Any, Dict, Iterator, List, Optional, Tuple, Union
 
+from ._deciding import Handler
 from ._errors import Error
-from ._files import check
+from ._files import check, invert
+from ._tables import stat
 
 if TYPE_CHECKING:
     from ._store import Store
@@ -25,6 +27,16 @@ def _read_action(pair: Any) -> _Action:
     return name, changes
 
 
+class Action:
+    """What the block of an action does. `changes` is its changeset after the block, and empty if it
+    changes nothing.
+    """
+
+    def __init__(self, name: str) -> None:
+        self.name = name
+        self.changes = b""
+
+
 class UndoStack:
     """The last actions on some tables of a store. Made by `Store.undo_stack`.
 
@@ -39,6 +51,8 @@ class UndoStack:
         limit: int,
         path: Optional[Union[str, "os.PathLike[str]"]],
     ) -> None:
+        if not tables:
+            raise ValueError("a stack has the names of the tables that it is for")
         if limit < 1:
             raise ValueError(f"a stack of {limit} actions has none")
         self.store = store
@@ -71,8 +85,9 @@ class UndoStack:
         return bool(self._undone)
 
     @contextlib.contextmanager
-    def action(self, name: str = "") -> Iterator[None]:
-        """Make what the block does an action. What was undone before cannot be done again then.
+    def action(self, name: str = "") -> Iterator[Action]:
+        """Make what the block does an action, which is yielded. What was undone before cannot be
+        done again then.
 
         If the block raises an exception, what it has done to the tables of the stack is undone. If
         it changes nothing, there is no action. In the block `undo` and `redo` raise RuntimeError.
@@ -80,11 +95,12 @@ class UndoStack:
         """
         if not isinstance(name, str):
             raise ValueError(f"the name of an action is a str, and not a {type(name).__name__}")
+        action = Action(name)
         with self.store.session(*self._tables) as session:
             self._is_acting = True
             try:
-                yield
-                changes = session.changeset()
+                yield action
+                action.changes = session.changeset()
             except BaseException:
                 # If that fails, the program has ended, and has left what was done.
                 with contextlib.suppress(Error):
@@ -92,42 +108,75 @@ class UndoStack:
                 raise
             finally:
                 self._is_acting = False
-        if changes:
-            self._done.append((name, changes))
+        if action.changes:
+            self._done.append((name, action.changes))
             self._undone.clear()
             self._keep()
 
-    def undo(self) -> str:
+    def undo(self, *, on_conflict: Optional[Handler] = None) -> str:
         """Undo the last action, and return its name. Raises IndexError if there is none.
 
-        If other edits were made to its rows, that is `ConflictError`, and nothing is changed.
+        If other edits were made to its rows, that is `ConflictError`, and nothing is changed. With
+        `on_conflict` that function decides each conflict, as in `Store.apply`. Then `redo` restores
+        what this has changed, and if that is nothing, the action is forgotten.
         """
-        self._expect_no_action()
-        if not self._done:
-            raise IndexError("there is nothing to undo")
-        name, changes = self._done[-1]
-        self.store.revert(changes)
-        self._undone.append(self._done.pop())
-        self._keep()
+        name, changes = self._last(self._done, "undo")
+        if on_conflict is None:
+            self.store.revert(changes)
+        else:
+            changes = invert(self._decided(invert(changes), on_conflict))
+        self._move(self._done, self._undone, name, changes)
         return name
 
-    def redo(self) -> str:
+    def redo(self, *, on_conflict: Optional[Handler] = None) -> str:
         """Do the action again that was undone last, and return its name. Raises IndexError if there
-        is none, and `ConflictError` as `undo`.
+        is none, and `ConflictError` as `undo`, which says what `on_conflict` does.
         """
-        self._expect_no_action()
-        if not self._undone:
-            raise IndexError("there is nothing to redo")
-        name, changes = self._undone[-1]
-        self.store.apply(changes)
-        self._done.append(self._undone.pop())
-        self._keep()
+        name, changes = self._last(self._undone, "redo")
+        if on_conflict is None:
+            self.store.apply(changes)
+        else:
+            changes = self._decided(changes, on_conflict)
+        self._move(self._undone, self._done, name, changes)
         return name
 
-    def _expect_no_action(self) -> None:
-        """Raise RuntimeError in the block of an action."""
+    def forget_undo(self) -> str:
+        """Forget the last action, which remains done, and return its name. Raises IndexError if
+        there is none.
+        """
+        name, _ = self._last(self._done, "undo")
+        self._move(self._done, self._undone, name, b"")
+        return name
+
+    def forget_redo(self) -> str:
+        """Forget the action that was undone last, which remains undone, and return its name. Raises
+        IndexError if there is none.
+        """
+        name, _ = self._last(self._undone, "redo")
+        self._move(self._undone, self._done, name, b"")
+        return name
+
+    def _last(self, actions: List[_Action], what: str) -> _Action:
+        """Return the last of some actions."""
         if self._is_acting:
             raise RuntimeError("an action is open, which can only be ended")
+        if not actions:
+            raise IndexError(f"there is nothing to {what}")
+        return actions[-1]
+
+    def _decided(self, file: bytes, on_conflict: Handler) -> bytes:
+        """Apply a changeset whose conflicts a function decides. Return what that has changed."""
+        with self.store.session(*stat(file)) as session:
+            self.store.apply(file, on_conflict=on_conflict)
+            return session.changeset()
+
+    def _move(self, source: List[_Action], target: List[_Action], name: str, file: bytes) -> None:
+        """Move the last action, which has this changeset now. One that changes nothing is dropped.
+        """
+        source.pop()
+        if file:
+            target.append((name, file))
+        self._keep()
 
     def _keep(self) -> None:
         """Drop the oldest actions, and write the others into the file."""

@@ -9,13 +9,15 @@ import ctypes.util
 import functools
 import os
 from types import TracebackType
-from typing import Any, Callable, List, Literal, NamedTuple, Optional, Sequence, Tuple, Type, Union
+from typing import (
+    Any, Callable, Dict, List, Literal, NamedTuple, Optional, Sequence, Tuple, Type, Union,
+)
 
 from ._changes import Change
 from ._errors import Code, ConflictError, Error
 from ._files import Bytes, as_bytes, check
 from ._lines import CHOICES, Choice
-from ._values import UNDEFINED, Op, Record
+from ._values import UNDEFINED, Op, Record, defined
 
 # What ordinary tables hold.
 SqliteValue = Union[int, float, str, bytes, None]
@@ -27,7 +29,7 @@ _KINDS: Tuple[Kind, ...] = ("data", "notfound", "conflict", "constraint", "forei
 _ANSWERS = {"omit": 0, "replace": 1, "abort": 2}
 
 _OK, _ABORT, _ROW, _DONE = 0, 4, 100, 101
-_OPERATIONS = {18: "insert", 9: "delete", 23: "update"}
+_OPERATIONS: Dict[int, Op] = {18: "insert", 9: "delete", 23: "update"}
 _INTEGER, _FLOAT, _TEXT, _BLOB = 1, 2, 3, 4
 _READ_WRITE_CREATE = 0x2 | 0x4 | 0x10000
 _IGNORE_NOOP, _IGNORE_NOOP_SINCE = 0x4, 3042000
@@ -178,7 +180,7 @@ def _change(cursor: int) -> Change:
     library.sqlite3changeset_op(cursor, *map(ctypes.byref, (name, count, op, indirect)))
     flags = ctypes.POINTER(ctypes.c_ubyte)()
     library.sqlite3changeset_pk(cursor, ctypes.byref(flags), None)
-    operation: Op = _OPERATIONS[op.value]  # type: ignore[assignment]
+    operation = _OPERATIONS[op.value]
     old: Optional[Record] = None
     new: Optional[Record] = None
     if operation != "insert":
@@ -215,10 +217,11 @@ class _Deciding:
         if choice not in CHOICES:
             raise ValueError(f"a choice is one of {', '.join(CHOICES)}, and not {choice!r}")
         table = "" if change is None else change.table.replace("'", "''")
+        key = None if change is None else defined(change.key)
         if choice == "abort":
-            raise ConflictError(Code.ABORT, Code.ABORT.title, f"{kind} '{table}'")
+            raise ConflictError(Code.ABORT, Code.ABORT.title, f"{kind} '{table}'", key)
         if choice == "replace" and kind not in ("data", "conflict"):
-            raise ConflictError(Code.MISUSE, Code.MISUSE.title, f"{kind} '{table}'")
+            raise ConflictError(Code.MISUSE, Code.MISUSE.title, f"{kind} '{table}'", key)
         return choice
 
 
@@ -299,8 +302,8 @@ class Database:
             raise ValueError("execute runs one statement")
 
     def _prepared(self, text: bytes) -> Tuple[ctypes.c_void_p, bytes]:
-        """Return the first statement of a text, or a null pointer if it has none, and the text after
-        it.
+        """Return the first statement of a text, or a null pointer if it has none, and the text
+        after it.
         """
         query, rest, given = _P(), _P(), ctypes.create_string_buffer(text)
         self._expect(_library().sqlite3_prepare_v2(
