@@ -15,8 +15,10 @@ ghost use Rattle.cs_files.specs.Texts.{dump_of, sql_of};
 ghost use Rattle.vollikash.specs.Answers.{Gives, Lacks, Tells, IsMadeCode, IsRefusal, no_fault};
 
 mod answer;
+mod iterator;
 
-pub use answer::{FaultReport, NO_ROOM, OK};
+pub use answer::{DONE, FaultReport, NO_ROOM, OK, RANGE};
+pub use iterator::{vollikash_next, vollikash_value};
 use answer::{hand_out, report, report_plain};
 use cs_files::{concat_bytes, dump_file, first_fault, invert_bytes, number_keys_bytes, sql_file};
 use cs_tables::Tables;
