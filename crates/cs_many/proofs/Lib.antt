@@ -1,1 +1,2 @@
+pub mod ChainLemmas
 pub mod SelectLemmas

@@ -1,6 +1,9 @@
 -- Many files that are concatenated from the first on; this project's own.
-use Rattle.std.specs.Prelude.{◌≡◌, ℕ, ◌+◌, ◌≤◌, List, [], ◌∷◌, ◌++◌, length, take, drop, Result, Ok, Err}
+use Rattle.std.specs.Prelude.{◌≡◌, ℕ, ◌≤◌, List, [], ◌∷◌, ◌++◌, length, take, drop}
+use Rattle.cs_value.specs.Refusals.{Refuses}
 use Rattle.cs_wire.specs.Changeset.{IsAccepted}
+use Rattle.cs_many.specs.declared.chaining.ChainFault.{ChainFault}
+use Rattle.cs_many.specs.declared.chaining.ChainFault.TheVariants.{File, Lengths}
 use Rattle.cs_files.specs.declared.fault.FileFault.{FileFault}
 use Rattle.cs_files.specs.Files.{FirstFails, JoinFails, Joins}
 
@@ -24,6 +27,11 @@ abbrev pub Chains : List (List ℕ) → List ℕ → Type 0
 Chains [] out = out ≡ []
 Chains (first ∷ others) out = IsAccepted first × JoinsAll first others out
 
+-- why a file is not joined to the concatenation of those before it
+abbrev pub WhyNot : List (List ℕ) → List ℕ → List ℕ → FileFault → Type 0
+WhyNot [] joined file fault = FirstFails file fault
+WhyNot (first ∷ others) joined file fault = JoinFails joined file fault
+
 -- the file at this index is at fault: the first is none, or it cannot be joined to the concatenation of those before it
 pub record ChainFails (files : List (List ℕ)) (index : ℕ) (fault : FileFault) : Type 0 where
   pub before : List (List ℕ)
@@ -35,7 +43,7 @@ pub record ChainFails (files : List (List ℕ)) (index : ℕ) (fault : FileFault
   pub chained : Chains before joined
   pub fails : WhyNot before joined file fault
 
--- why a file is not joined to the concatenation of those before it
-abbrev pub WhyNot : List (List ℕ) → List ℕ → List ℕ → FileFault → Type 0
-WhyNot [] joined file fault = FirstFails file fault
-WhyNot (first ∷ others) joined file fault = JoinFails joined file fault
+-- the file at an index is at fault, for which Why holds; nothing is said if memory ran out, or of the lengths
+abbrev pub IfFile : (ℕ → FileFault → Type 0) → ChainFault → Type 0
+IfFile Why Lengths = Unit {0}
+IfFile Why (File index error) = Refuses (Why index) error

@@ -7,9 +7,12 @@
 //! assert_eq!(rt; select_bytes(alloc, file, b"s\x00")?, b"");
 //! ```
 //!
-//! `selecting` keeps the tables that are named. A list of names crosses to C as one buffer.
+//! `selecting` keeps the tables that are named, and `chaining` concatenates many files. Names and files come in one
+//! buffer each, since a list of slices does not cross to C.
 #![tactic(auto)]
 
+mod chaining;
 mod selecting;
 
+pub use chaining::{ChainFault, concat_all_bytes};
 pub use selecting::select_bytes;

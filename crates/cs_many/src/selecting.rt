@@ -53,7 +53,7 @@ fn write_if_named(
     requires { IsHeader (header_of header) }
     ensures written { (entries : List EntryData) (groups : List GroupData) → AreLeft tables.old entries groups
         → OnOk result (out.new.items ≡ out.old.items ++ (if is_among_in names.now header.entry.name.now
-            then header_bytes (header_of header.entry) ++ entries_bytes entries else [])) }
+        then header_bytes (header_of header.entry) ++ entries_bytes entries else [])) }
     ensures left { (entries : List EntryData) (groups : List GroupData) → AreLeft tables.old entries groups
         → OnOk result ((others : List EntryData) × AreLeft tables.new others groups) }
     ensures ahead { tables.old.place ≤ tables.new.place }
