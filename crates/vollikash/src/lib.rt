@@ -16,9 +16,12 @@ ghost use Rattle.vollikash.specs.Answers.{Gives, Lacks, Tells, IsMadeCode, IsRef
 
 mod answer;
 mod iterator;
+mod many;
+mod message;
 
 pub use answer::{DONE, FaultReport, NO_ROOM, OK, RANGE};
 pub use iterator::{vollikash_next, vollikash_value};
+pub use many::{vollikash_concat_many, vollikash_select};
 use answer::{hand_out, report, report_plain};
 use cs_files::{concat_bytes, dump_file, first_fault, invert_bytes, number_keys_bytes, sql_file};
 use cs_tables::Tables;
