@@ -1,5 +1,6 @@
 -- A sentence for people for each number that a call answers.
-use Rattle.std.specs.Prelude.{◌≡◌, ℕ, ◌==◌, nat_lt, if◌then◌else◌, List, [], ◌∷◌, ◌++◌, Option, Some, None, codes, get_or}
+use Rattle.std.specs.Prelude.{◌≡◌, ◌⊎◌, ℕ, ℤ, pos, negsuc, ◌==◌, nat_lt, if◌then◌else◌, List, [], ◌∷◌, ◌++◌, Option, Some, None, codes, get_or}
+use Rattle.vollikash.specs.declared.answer.TheConstants.{OK, NO_ROOM, RANGE}
 
 -- those of the numbers 0 to 18, by their places
 abbrev pub low_messages : List (List ℕ)
@@ -36,6 +37,15 @@ message_of code =
     else if code == 82 then Some (codes "an argument is out of range")
     else None
 
+-- the same of C's int
+abbrev pub message_of_code : ℤ → Option (List ℕ)
+message_of_code (pos code) = message_of code
+message_of_code (negsuc code) = None
+
 -- the sentence of a number, and a zero byte
-abbrev pub IsMessage : ℕ → List ℕ → Type 0
-IsMessage code text = (sentence : List ℕ) × (message_of code ≡ Some sentence) × (text ≡ sentence ++ 0 ∷ [])
+abbrev pub IsMessage : ℤ → List ℕ → Type 0
+IsMessage code text = (sentence : List ℕ) × (message_of_code code ≡ Some sentence) × (text ≡ sentence ++ 0 ∷ [])
+
+-- what asking for a sentence answers
+abbrev pub IsMessageCode : ℤ → Type 0
+IsMessageCode code = (code ≡ OK) ⊎ (code ≡ NO_ROOM) ⊎ (code ≡ RANGE)

@@ -11,8 +11,8 @@ ghost use Rattle.cs_iterator.specs.Values.{field_on};
 use crate::answer::{DONE, FaultReport, OK, RANGE, report, report_plain};
 use cs_entries::ReadError;
 use cs_files::first_fault;
-use cs_value::Fault;
 use cs_iterator::{ChangeSpan, Side, ValueSpan, change_value, next_change};
+use cs_value::Fault;
 
 /// Puts the next change of a file into `change`, and the offset after it into `place`.
 ///
