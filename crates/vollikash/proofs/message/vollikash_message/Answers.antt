@@ -1,5 +1,5 @@
 -- `message::vollikash_message`: the clauses `told` and `room`.
-use Rattle.std.proofs.Common.{rules, ◌≡◌, ◌++◌, ◌∷◌, [], ◌+◌, ◌<◌, ◌≤◌, ℕ, List, Some, drop, w32, length, length-append, refl, sym, ap, ◌∙◌, arith}
+use Rattle.std.proofs.Common.{rules, ◌++◌, ◌∷◌, [], ℕ, Some, drop, w32, length-append, refl, sym, ap, ◌∙◌, arith}
 use Rattle.std.proofs.lemmas.Int.{to_z-of_z}
 use Rattle.vollikash.specs.Messages.{message_of_code}
 use Rattle.vollikash.proofs.MessageLemmas.{text_ended}
