@@ -2,6 +2,8 @@
 ** Makes the calls of vollikash.h on what its standard input asks for, a line a call, and prints what they answer:
 **
 **     check HEX | invert HEX | number_keys HEX | concat HEX HEX | dump HEX | sql HEX      where "-" stands for no bytes
+**     select HEX NAMES | concat_many HEX LENGTHS      NAMES in hexadecimal digits, LENGTHS too, four digits for each
+**     changes HEX               each change and each of its values, by vollikash_next and vollikash_value
 **     ok HEX                    the bytes, or the text, that were made
 **     error CODE FILE PLACE     the report of a refusal
 **
@@ -19,7 +21,7 @@
 
 #include "vollikash.h"
 
-enum { THREADS = 4, STACK = 128 * 1024, MORE = 7, UNTOUCHED = 0xA5 };
+enum { THREADS = 4, STACK = 128 * 1024, MORE = 7, UNTOUCHED = 0xA5, FILES = 64 };
 
 /* Bytes in a block that is just as long. */
 struct bytes {
@@ -64,6 +66,127 @@ static int is_untouched(struct bytes bytes, size_t from)
     return from == bytes.count;
 }
 
+/* A text that is written as far as there is room, and counted. */
+struct text {
+    uint8_t *at;
+    size_t room;
+    size_t count;
+};
+
+static void add(struct text *text, const void *bytes, size_t count)
+{
+    for (size_t i = 0; i < count; i++, text->count++) {
+        if (text->count < text->room) {
+            text->at[text->count] = ((const uint8_t *)bytes)[i];
+        }
+    }
+}
+
+static void add_number(struct text *text, const char *before, long long number)
+{
+    char digits[64];
+    int count = snprintf(digits, sizeof digits, "%s%lld", before, number);
+    require(count > 0 && count < (int)sizeof digits, "a number is too long");
+    add(text, digits, (size_t)count);
+}
+
+static void add_hex(struct text *text, const char *before, const uint8_t *bytes, size_t count)
+{
+    add(text, before, strlen(before));
+    for (size_t i = 0; i < count; i++) {
+        char digits[3];
+        snprintf(digits, sizeof digits, "%02x", bytes[i]);
+        add(text, digits, 2);
+    }
+}
+
+/* The values of a change on one side, and that there is no further one. */
+static void add_side(struct text *text, struct bytes file, const struct vollikash_change *change, int side)
+{
+    struct vollikash_field value, before;
+    memset(&value, UNTOUCHED, sizeof value);
+    before = value;
+    require(vollikash_value(file.at, file.count, change, side, change->columns, &value) == VOLLIKASH_RANGE,
+            "there is a value behind the last column");
+    require(memcmp(&value, &before, sizeof value) == 0, "a value was touched");
+    for (size_t column = 0; column < change->columns; column++) {
+        int code = vollikash_value(file.at, file.count, change, side, column, &value);
+        require(code == VOLLIKASH_OK, "a change has no value in a column");
+        require(value.offset <= file.count && value.length <= file.count - value.offset, "a value is outside the file");
+        if (value.kind == VOLLIKASH_UNDEFINED) {
+            add(text, " u", 2);
+        } else if (value.kind == VOLLIKASH_INTEGER) {
+            add_number(text, " i", value.integer);
+        } else if (value.kind == VOLLIKASH_NULL) {
+            add(text, " n", 2);
+        } else {
+            require(value.kind == VOLLIKASH_TEXT || value.kind == VOLLIKASH_BLOB, "a value has no kind");
+            add_hex(text, value.kind == VOLLIKASH_TEXT ? " t" : " b", vollikash_bytes(file.at, &value), value.length);
+        }
+    }
+}
+
+/*
+** A line for each change, and one for the fault or the end: its name, the flags, what it does, and its values before and
+** after it. No pointer leaves the file, which is a block of its own.
+*/
+static void list_changes(struct text *text, struct bytes file)
+{
+    struct vollikash_change change, before;
+    struct vollikash_fault fault;
+    size_t place = 0, last = 0;
+    int code;
+    memset(&change, UNTOUCHED, sizeof change);
+    while ((code = vollikash_next(file.at, file.count, &place, &change, &fault)) == VOLLIKASH_OK) {
+        require(last < place && place <= file.count, "a step does not go on");
+        require(change.records + change.records_length == place, "the records do not end where the change does");
+        require(vollikash_table(file.at, &change)[change.name_length] == '\0', "a name does not end");
+        add_hex(text, "change ", file.at + change.name, change.name_length);
+        add_hex(text, " ", file.at + change.flags, change.columns);
+        require(vollikash_is_key(file.at, &change, 0) == (file.at[change.flags] != 0), "a flag differs");
+        add_number(text, " ", change.operation);
+        add_number(text, " ", change.indirect);
+        add(text, " old", 4);
+        add_side(text, file, &change, VOLLIKASH_OLD);
+        add(text, " new", 4);
+        add_side(text, file, &change, VOLLIKASH_NEW);
+        add(text, "\n", 1);
+        last = place;
+    }
+    before = change;
+    require(fault.code == code && fault.file == (code != VOLLIKASH_DONE), "a report differs");
+    require(fault.place <= file.count, "a fault is outside the file");
+    add_number(text, code == VOLLIKASH_DONE ? "end " : "fault ", code);
+    add_number(text, " ", (long long)fault.place);
+    require(vollikash_next(file.at, file.count, &place, &change, &fault) == code, "the end is not answered again");
+    require(place == last && memcmp(&before, &change, sizeof change) == 0, "an end touches a change");
+}
+
+static int call_changes(struct bytes file, struct bytes out, size_t *written, struct vollikash_fault *fault)
+{
+    struct text counted = {NULL, 0, 0}, text = {out.at, out.count, 0};
+    list_changes(&counted, file);
+    *written = counted.count;
+    fault->code = counted.count <= out.count ? VOLLIKASH_OK : VOLLIKASH_NO_ROOM;
+    fault->file = 0;
+    fault->place = 0;
+    if (fault->code == VOLLIKASH_OK) {
+        list_changes(&text, file);
+    }
+    return fault->code;
+}
+
+static int call_concat_many(struct bytes files, struct bytes digits, struct bytes out, size_t *written,
+                            struct vollikash_fault *fault)
+{
+    size_t lengths[FILES], count = digits.count / 2;
+    require(count <= FILES, "too many files");
+    for (size_t i = 0; i < count; i++) {
+        lengths[i] = (size_t)(256 * digits.at[2 * i] + digits.at[2 * i + 1]);
+    }
+    return vollikash_concat_many(files.at, files.count, lengths, count, out.at, out.count, written, fault);
+}
+
 static int call(const struct request *request, struct bytes out, size_t *written, struct vollikash_fault *fault)
 {
     struct bytes first = request->first, second = request->second;
@@ -76,6 +199,16 @@ static int call(const struct request *request, struct bytes out, size_t *written
     }
     if (strcmp(request->name, "invert") == 0) {
         return vollikash_invert(first.at, first.count, out.at, out.count, written, fault);
+    }
+    if (strcmp(request->name, "changes") == 0) {
+        return call_changes(first, out, written, fault);
+    }
+    if (strcmp(request->name, "concat_many") == 0) {
+        return call_concat_many(first, second, out, written, fault);
+    }
+    if (strcmp(request->name, "select") == 0) {
+        return vollikash_select(first.at, first.count, (const char *)second.at, second.count, out.at, out.count, written,
+                                fault);
     }
     if (strcmp(request->name, "number_keys") == 0) {
         return vollikash_number_keys(first.at, first.count, out.at, out.count, written, fault);
@@ -279,7 +412,9 @@ static void refuse_each(const struct asked *asked)
         struct answer answer = answer_refused(asked->request, out, at, &written);
         if (answer.fault.code == VOLLIKASH_NO_MEMORY) {
             require(written == 0 && is_untouched(out, 0), "a call that memory is refused to has written something");
-            require(answer.fault.file == 0 && answer.fault.place == 0, "want of memory names a file");
+            require(answer.fault.place == 0, "want of memory has a place");
+            require(answer.fault.file == 0 || strcmp(asked->request->name, "concat_many") == 0,
+                    "want of memory names a file");
         } else {
             require(memcmp(&answer.fault, &asked->answer.fault, sizeof answer.fault) == 0, "memory changes the report");
             require(answer.fault.code != VOLLIKASH_OK || memcmp(out.at, asked->answer.made.at, needed) == 0,

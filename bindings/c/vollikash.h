@@ -1,25 +1,28 @@
 /*
-** Vollikash checks, inverts, concatenates, numbers and prints changesets, the files
-** of SQLite's session extension. No call needs SQLite or a database.
+** Vollikash checks, iterates over, inverts, concatenates, selects, numbers and prints
+** changesets, the files of SQLite's session extension. No call needs SQLite or a
+** database.
 **
 ** For every input it is proved that a call returns, and what it answers
 ** (docs/PROMISES.md, "Calls for C"), if the caller keeps to these rules:
 **
 **   * No pointer is NULL, not even with length 0. "" is fine there.
 **   * A pointer to bytes has as many bytes as its length, at most PTRDIFF_MAX.
-**     `written` and `fault` point to one object of their type.
-**   * `out`, `written` and `fault` overlap nothing else. Two files may be the same
-**     bytes.
-**   * While a call runs, no other thread writes to the files, or uses `out`,
-**     `written` or `fault`.
+**     `written`, `fault`, `place`, `change` and `value` point to one object of their
+**     type. `lengths` has as many objects as `count` says.
+**   * `out`, `written`, `fault`, `place`, `change` of vollikash_next and `value`
+**     overlap nothing else. Two files may be the same bytes.
+**   * While a call runs, no other thread writes to the files, or uses what the call
+**     writes to.
 **   * No call is made in a signal handler, or in the child of a fork of a process
 **     with threads. The stack has 128 KiB left.
 **   * malloc, realloc and free belong to one allocator, whose blocks are aligned to
 **     16 bytes.
 **
-** The caller owns every buffer. A call allocates at most some eleven times the bytes
-** of its files (vollikash_check some twenty times), and frees all of it before it
-** returns. A text is made in memory first, and grows with the length of a table's
+** The caller owns every buffer and every struct. A call allocates at most some eleven
+** times the bytes of its files (vollikash_check some twenty times), and frees all of it
+** before it returns. vollikash_next, vollikash_value and vollikash_message allocate
+** nothing. A text is made in memory first, and grows with the length of a table's
 ** name times the number of its changes. A call keeps no state, so several threads
 ** can call at once.
 */
@@ -73,50 +76,17 @@ enum vollikash_code {
     VOLLIKASH_NULL_KEY = 17,        /* a key column is NULL */
     VOLLIKASH_DUPLICATE_KEY = 18,   /* a key is in a table twice */
 
-    VOLLIKASH_SCHEMA = 43,    /* a table has other columns or another key in the second file */
+    VOLLIKASH_SCHEMA = 43,    /* a table has other columns or another key in a later file */
     VOLLIKASH_NO_MEMORY = 60, /* memory ran out */
     VOLLIKASH_NO_ROOM = 80,   /* `out` is too small; `written` has the length that is needed */
-
-    /* No call of this library answers those below: stores, applies, sessions and scripts do. */
-
-    /* Stores. */
-    VOLLIKASH_TABLE_EXISTS = 30,  /* there is a table with this name */
-    VOLLIKASH_NO_TABLE = 31,      /* there is no table with this name */
-    VOLLIKASH_BAD_SCHEMA = 32,    /* the name, the columns or the key are not those of a table */
-    VOLLIKASH_KEY_TAKEN = 33,     /* there is a row with this key */
-    VOLLIKASH_NO_ROW = 34,        /* there is no row with this key */
-    VOLLIKASH_ROW_WIDTH = 35,     /* the row does not have one value for each column */
-    VOLLIKASH_NULL_IN_KEY = 36,   /* a key column of the row is NULL */
-    VOLLIKASH_DAMAGED_STORE = 37, /* the stored records are not valid */
-    VOLLIKASH_STORE_FAULT = 38,   /* the database refused */
-    VOLLIKASH_NOT_NULL = 39,      /* another column of the row refuses NULL and has it */
-
-    /* Applies. */
-    VOLLIKASH_WIDER = 40,  /* the store's table has more columns than the file's */
-    VOLLIKASH_ABORT = 41,  /* a conflict ended the apply */
-    VOLLIKASH_MISUSE = 42, /* a conflict of this kind cannot be replaced */
-
-    /* Sessions. */
-    VOLLIKASH_ALREADY_ATTACHED = 50, /* the table is attached */
-    VOLLIKASH_WRONG_STORE = 51,      /* the store does not have the table as it was attached */
-
-    /* Lines of scripts, and streams of the program. */
-    VOLLIKASH_SYNTAX = 61,          /* the line is not a command */
-    VOLLIKASH_EMPTY_SLOT = 62,      /* nothing was put into the slot */
-    VOLLIKASH_SCRIPT_TOO_LONG = 63, /* the script has more than 16777216 bytes */
-    VOLLIKASH_NO_SESSION = 64,      /* no session is open */
-    VOLLIKASH_SESSION_OPEN = 65,    /* a session is open */
-    VOLLIKASH_BAD_HEX = 66,         /* the digits are not hexadecimal, two for each byte */
-    VOLLIKASH_UNKNOWN_COLUMN = 67,  /* a column is missing, named twice, or misnamed */
-    VOLLIKASH_LINE_TEXT = 68,       /* the line is not UTF-8 */
-    VOLLIKASH_INPUT_FAULT = 71,     /* a read failed */
-    VOLLIKASH_OUTPUT_FAULT = 72     /* a write failed */
+    VOLLIKASH_DONE = 81,      /* no change is left */
+    VOLLIKASH_RANGE = 82      /* a column, a side, a length or a number is out of range */
 };
 
 /*
 ** SQLite's result code for a number above, without sqlite3.h: SQLITE_OK,
-** SQLITE_CORRUPT, SQLITE_SCHEMA, SQLITE_CONSTRAINT, SQLITE_ABORT, SQLITE_MISUSE,
-** SQLITE_NOMEM, SQLITE_IOERR, SQLITE_TOOBIG, and SQLITE_ERROR for the others.
+** SQLITE_CORRUPT, SQLITE_SCHEMA, SQLITE_NOMEM, SQLITE_TOOBIG, SQLITE_DONE,
+** SQLITE_RANGE, and SQLITE_ERROR for other numbers.
 */
 static inline int vollikash_class(int code)
 {
@@ -126,35 +96,37 @@ static inline int vollikash_class(int code)
     switch (code) {
     case VOLLIKASH_OK:
         return 0;
-    case VOLLIKASH_DAMAGED_STORE:
-        return 11;
-    case VOLLIKASH_NOT_NULL:
-        return 19;
-    case VOLLIKASH_WIDER:
     case VOLLIKASH_SCHEMA:
         return 17;
-    case VOLLIKASH_ABORT:
-        return 4;
-    case VOLLIKASH_MISUSE:
-        return 21;
     case VOLLIKASH_NO_MEMORY:
         return 7;
-    case VOLLIKASH_INPUT_FAULT:
-    case VOLLIKASH_OUTPUT_FAULT:
-        return 10;
     case VOLLIKASH_NO_ROOM:
         return 18;
+    case VOLLIKASH_DONE:
+        return 101;
+    case VOLLIKASH_RANGE:
+        return 25;
     default:
         return 1;
     }
 }
 
 /*
+** Puts a sentence for people for a number above into `out`, with a zero byte after it,
+** and the number of its bytes, the zero byte included, into `written`. A buffer of
+** VOLLIKASH_MESSAGE_ROOM bytes is enough. Returns OK, NO_ROOM, or RANGE for another
+** number; then `out` is unchanged.
+*/
+#define VOLLIKASH_MESSAGE_ROOM 80
+int vollikash_message(int code, char *out, size_t room, size_t *written) VOLLIKASH_NONNULL;
+
+/*
 ** The report of a call. Every call fills it in.
 */
 struct vollikash_fault {
     int code;     /* what the call returns */
-    int file;     /* the file at fault: 1 the first or only one, 2 the second, 0 none */
+    int file;     /* the file at fault: 1 the first or only one, 2 the second, 0 none;
+                  ** of vollikash_concat_many its zero-based index */
     size_t place; /* for 1 to 18 a byte offset in that file; for SCHEMA the zero-based
                   ** index of the table that differs; else 0 */
 };
@@ -164,6 +136,94 @@ struct vollikash_fault {
 ** the changeset without a table. Returns OK, 1 to 18 or NO_MEMORY.
 */
 int vollikash_check(const uint8_t *file, size_t length, struct vollikash_fault *fault) VOLLIKASH_NONNULL;
+
+/*
+** Where a change lies in a file, and where its table's name and flags do. A span has
+** offsets from the start of the file and no pointers, so it stays valid as long as the
+** bytes are the same, wherever they are. vollikash_next fills it in.
+*/
+struct vollikash_change {
+    size_t name;           /* the table's name: its offset, */
+    size_t name_length;    /* and its bytes, which are UTF-8 */
+    size_t flags;          /* the offset of the flags: a byte for each column, not 0 if it is of the key */
+    size_t columns;        /* the number of columns */
+    size_t records;        /* the records of the change: their offset, */
+    size_t records_length; /* and their bytes */
+    int operation;         /* SQLITE_INSERT 18, SQLITE_DELETE 9 or SQLITE_UPDATE 23 */
+    int indirect;          /* 1 if a trigger or a foreign key made the change, else 0 */
+};
+
+enum { VOLLIKASH_INSERT = 18, VOLLIKASH_DELETE = 9, VOLLIKASH_UPDATE = 23 };
+
+/*
+** Goes to the next change of a file. `place` is 0 before the first call; each later
+** call takes `place` and `change` as the previous one left them, and the same file:
+**
+**     struct vollikash_change change;
+**     struct vollikash_fault fault;
+**     size_t place = 0;
+**     int code;
+**     while ((code = vollikash_next(file, length, &place, &change, &fault)) == VOLLIKASH_OK) {
+**         ..
+**     }
+**
+** Returns OK, or DONE after the last change; for other bytes than a changeset's file
+** also 1 to 7 or 9 to 17, at the first place that cannot be read. Then `place` and
+** `change` are unchanged. It does not notice that a table or a key is in the file
+** twice: vollikash_check does. A call takes time in proportion to the change.
+*/
+int vollikash_next(const uint8_t *file, size_t length, size_t *place, struct vollikash_change *change,
+                   struct vollikash_fault *fault) VOLLIKASH_NONNULL;
+
+/* The table's name, of `name_length` bytes. In the file a zero byte is after it. */
+static inline const char *vollikash_table(const uint8_t *file, const struct vollikash_change *change)
+{
+    return (const char *)(file + change->name);
+}
+
+/* Whether a column is one of the key. `column` is less than `columns`. */
+static inline int vollikash_is_key(const uint8_t *file, const struct vollikash_change *change, size_t column)
+{
+    return file[change->flags + column] != 0;
+}
+
+/* What a value is: SQLite's numbers of the types, and 0 if the change does not have it. */
+enum {
+    VOLLIKASH_UNDEFINED = 0,
+    VOLLIKASH_INTEGER = 1,
+    VOLLIKASH_TEXT = 3,
+    VOLLIKASH_BLOB = 4,
+    VOLLIKASH_NULL = 5
+};
+
+/* A value of a change, or where it lies in the file. */
+struct vollikash_field {
+    int kind;        /* one of the above */
+    int64_t integer; /* the integer, else 0 */
+    size_t offset;   /* the text or the blob: its offset, else 0, */
+    size_t length;   /* and its bytes, else 0 */
+};
+
+/* A side of a change: before it, which an INSERT does not have, or after it, which a DELETE does not have. */
+enum { VOLLIKASH_OLD = 0, VOLLIKASH_NEW = 1 };
+
+/*
+** Fills in what a change has in a zero-based column on one side. `change` is as
+** vollikash_next left it for the same file. A column that an UPDATE does not modify,
+** the key after an UPDATE, and the side that a change does not have are
+** VOLLIKASH_UNDEFINED. A text is UTF-8. Returns OK; RANGE if there is no such column or
+** side; for other bytes than a changeset's file also 1, 4 or 12 to 14. Unless it
+** returns OK, `value` is unchanged. A call takes time in proportion to the bytes of the
+** change up to the value.
+*/
+int vollikash_value(const uint8_t *file, size_t length, const struct vollikash_change *change, int side,
+                    size_t column, struct vollikash_field *value) VOLLIKASH_NONNULL;
+
+/* The bytes of a text or a blob, of which there are `length`. No zero byte is after them. */
+static inline const uint8_t *vollikash_bytes(const uint8_t *file, const struct vollikash_field *value)
+{
+    return file + value->offset;
+}
 
 /*
 ** The calls below make bytes from files. If these are at most `room`, a call puts
@@ -197,6 +257,27 @@ int vollikash_number_keys(const uint8_t *file, size_t length, uint8_t *out, size
 */
 int vollikash_concat(const uint8_t *first, size_t first_length, const uint8_t *second, size_t second_length,
                      uint8_t *out, size_t room, size_t *written, struct vollikash_fault *fault) VOLLIKASH_NONNULL;
+
+/*
+** Makes the concatenation of many files, which are in one buffer, one after the other,
+** and have these lengths. It does what the first does, then what the second does, and
+** so on, and is at most as long as all together. Without a file it has no bytes. Errors:
+** 1 to 18 and SCHEMA for the first file at fault, whose zero-based index is in
+** `fault`; RANGE if the lengths do not add up to the bytes; NO_MEMORY, NO_ROOM. It takes
+** time in proportion to the number of files times the length of the result.
+*/
+int vollikash_concat_many(const uint8_t *files, size_t files_length, const size_t *lengths, size_t count,
+                          uint8_t *out, size_t room, size_t *written,
+                          struct vollikash_fault *fault) VOLLIKASH_NONNULL;
+
+/*
+** Makes the file of the tables that are named, in the order of the file. A zero byte is
+** between two names, and may be after the last, so "a\0b" with its length 4 names a and
+** b. Names that the file does not have are ignored. It is at most as long as the file.
+** Errors: 1 to 18, NO_MEMORY, NO_ROOM.
+*/
+int vollikash_select(const uint8_t *file, size_t length, const char *names, size_t names_length, uint8_t *out,
+                     size_t room, size_t *written, struct vollikash_fault *fault) VOLLIKASH_NONNULL;
 
 /*
 ** Makes a text in UTF-8, without a zero byte after it: a line for each table and each

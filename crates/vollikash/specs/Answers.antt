@@ -1,5 +1,5 @@
 -- What a caller in C sees of a call: the number that it answers, the report, and the buffer that it fills.
-use Rattle.std.specs.Prelude.{◌≡◌, ◌≢◌, ◌⊎◌, ℕ, ℤ, pos, ◌<◌, ◌≤◌, List, ◌++◌, length, drop, Vec, Result, Ok, Err}
+use Rattle.std.specs.Prelude.{◌≡◌, ◌≢◌, ◌⊎◌, ℕ, ℤ, pos, ◌<◌, ◌≤◌, nat_lt, if◌then◌else◌, List, ◌++◌, length, drop, Vec, Result, Ok, Err}
 use Rattle.std.specs.declared.alloc.Global.{Global}
 use Rattle.cs_value.specs.declared.refusal.OrNoMemory.{OrNoMemory}
 use Rattle.cs_value.specs.declared.refusal.OrNoMemory.TheVariants.{Fault, NoMemory}
@@ -70,3 +70,15 @@ IsMade (Err refusal) bytes = ⊥
 abbrev pub IsWhy : Result (Vec ℕ Global) (OrNoMemory FileFault) → FileFault → Type 0
 IsWhy (Ok made) fault = ⊥
 IsWhy (Err refusal) fault = refusal ≡ Fault fault
+
+-- the number of a file, zero-based, as far as C's int goes
+abbrev pub file_number : ℕ → ℤ
+file_number index = if nat_lt index 2147483647 then pos index else pos 2147483647
+
+-- a refusal for which Why holds of the file at an index is reported, and nothing was written
+pub record TellsFile (Why : ℕ → FileFault → Type 0) (report : FaultReport) (written : ℕ) : Type 0 where
+  pub index : ℕ
+  pub refusal : OrNoMemory FileFault
+  pub why : Refuses (Why index) refusal
+  pub told : report ≡ record { code = pos (of_refusal code_of 60 refusal); file = file_number index; place = place_of refusal }
+  pub none : written ≡ 0

@@ -12,6 +12,12 @@ pub const OK: i32 = 0;
 /// The caller's buffer is too small.
 pub const NO_ROOM: i32 = 80;
 
+/// The iterator is after the last change.
+pub const DONE: i32 = 81;
+
+/// A column or a side is out of range.
+pub const RANGE: i32 = 82;
+
 /// What a call reports of itself.
 #[repr(C)]
 #[derive(Clone, Copy, Debug, PartialEq, Eq)]

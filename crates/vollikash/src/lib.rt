@@ -15,11 +15,17 @@ ghost use Rattle.cs_files.specs.Texts.{dump_of, sql_of};
 ghost use Rattle.vollikash.specs.Answers.{Gives, Lacks, Tells, IsMadeCode, IsRefusal, no_fault};
 
 mod answer;
+mod iterator;
+mod many;
+mod message;
 
-pub use answer::{FaultReport, NO_ROOM, OK};
+pub use answer::{DONE, FaultReport, NO_ROOM, OK, RANGE};
 use answer::{hand_out, report, report_plain};
 use cs_files::{concat_bytes, dump_file, first_fault, invert_bytes, number_keys_bytes, sql_file};
 use cs_tables::Tables;
+pub use iterator::{vollikash_next, vollikash_value};
+pub use many::{vollikash_concat_many, vollikash_select};
+pub use message::vollikash_message;
 use std::alloc::Global;
 
 /// The version of the library, as one number: a million times the major one, a thousand times the minor one,

@@ -1,0 +1,6 @@
+pub mod Changes
+pub mod Values
+pub mod Steps
+pub use Rattle.cs_wire.specs.Changeset
+pub use Rattle.cs_wire.specs.Entry
+pub use Rattle.cs_wire.specs.Items

@@ -1,0 +1,105 @@
+//! The iterator over the changes of a file, and their values.
+ghost use Rattle.std.specs.Prelude.{◌≡◌, ◌≢◌, ◌+◌, ◌<◌, ◌≤◌, [], ℕ, IfSome, List, None, length};
+ghost use Rattle.cs_entries.specs.Changeset.{GroupData, IsFileOf};
+ghost use Rattle.cs_iterator.specs.Changes.{AreLeft, IsStep, LiesIn, Shows, TableChange};
+ghost use Rattle.cs_iterator.specs.Values.{ShowsValue};
+ghost use Rattle.vollikash.specs.Answers.{no_fault};
+ghost use Rattle.vollikash.specs.Iterating.{IsStepCode, TellsFault, side_number};
+ghost use Rattle.cs_iterator.specs.declared.value.Side.{Side as SideData};
+ghost use Rattle.cs_iterator.specs.Values.{field_on};
+
+use crate::answer::{DONE, FaultReport, OK, RANGE, report, report_plain};
+use cs_entries::ReadError;
+use cs_files::first_fault;
+use cs_iterator::{ChangeSpan, Side, ValueSpan, change_value, next_change};
+use cs_value::Fault;
+
+/// Puts the next change of a file into `change`, and the offset after it into `place`.
+///
+/// `place` is 0 before the first call. Each later call takes `place` and `change` as the previous one left them. It
+/// answers `OK`, or `DONE` after the last change, or the number of what is wrong with the file; then both are
+/// unchanged. It allocates nothing, and takes time in proportion to the change.
+#[unsafe(no_mangle)]
+pub extern "C" fn vollikash_next(
+    file: &[u8],
+    place: &mut usize,
+    change: &mut ChangeSpan,
+    fault: &mut FaultReport,
+) -> i32
+    ensures next { (all : List GroupData) (left : List TableChange) → IsFileOf file.now all → AreLeft file.now all left place.old change.old
+        → result ≡ OK → IsStep file.now all left change.new place.new }
+    ensures done { (all : List GroupData) (left : List TableChange) → IsFileOf file.now all → AreLeft file.now all left place.old change.old
+        → result ≡ DONE → left ≡ [] }
+    ensures no_fault { (all : List GroupData) (left : List TableChange) → IsFileOf file.now all → AreLeft file.now all left place.old change.old
+        → IsStepCode result }
+    ensures within { result ≡ OK → LiesIn file.now change.new }
+    ensures forward { result ≡ OK → (place.old < place.new) × (place.new ≤ length file.now) }
+    ensures same { result ≢ OK → (place.new ≡ place.old) × (change.new ≡ change.old) }
+    ensures refused { (IsStepCode result → ⊥) → TellsFault fault.new }
+    ensures code { fault.new.code ≡ result }
+    ensures plain { IsStepCode result → fault.new ≡ no_fault result }
+{
+    match next_change(file, *place, change) {
+        Ok(Some((next, end))) => {
+            *change = next;
+            *place = end;
+            *fault = report_plain(OK);
+            OK
+        }
+        Ok(None) => {
+            *fault = report_plain(DONE);
+            DONE
+        }
+        Err(error) => {
+            *fault = report(&first_fault(ReadError::Fault(error)));
+            fault.code
+        }
+    }
+}
+
+/// Puts what a change says of a column on one side into `value`: where it lies in the file, or the integer.
+///
+/// `change` is as `vollikash_next` left it for the same file. `side` is 0 for before the change and 1 for after it, and
+/// `column` is zero-based. It answers `OK`, or `RANGE` if there is no such side or column, or the number of what is
+/// wrong with the file; then `value` is unchanged. It allocates nothing.
+#[unsafe(no_mangle)]
+pub extern "C" fn vollikash_value(
+    file: &[u8],
+    change: &ChangeSpan,
+    side: i32,
+    column: usize,
+    value: &mut ValueSpan,
+) -> i32
+    ensures value { (side_is : SideData) (shown : TableChange) → side ≡ side_number side_is → Shows file.now change.now shown
+        → column < length shown.header.flags
+        → (result ≡ OK) × ShowsValue file.now value.new (field_on side_is shown.entry.change column) }
+    ensures no_column { (side_is : SideData) (shown : TableChange) → side ≡ side_number side_is → Shows file.now change.now shown
+        → length shown.header.flags ≤ column → result ≡ RANGE }
+    ensures no_side { ((side_is : SideData) → side ≢ side_number side_is) → result ≡ RANGE }
+    ensures within { result ≡ OK → value.new.offset + value.new.length ≤ length file.now }
+    ensures same { result ≢ OK → value.new ≡ value.old }
+{
+    let Some(side) = side_of(side) else {
+        return RANGE;
+    };
+    match change_value(file, change, side, column) {
+        Ok(Some(found)) => {
+            *value = found;
+            OK
+        }
+        Ok(None) => RANGE,
+        Err(fault) => i32::from(fault.code()),
+    }
+}
+
+/// The side of a number.
+fn side_of(number: i32) -> Option<Side>
+    ensures side { IfSome result (λ side. number ≡ side_number side) }
+    ensures none { result ≡ None → (side : SideData) → number ≢ side_number side }
+{
+    match number {
+        0 => Some(Side::Old),
+        1 => Some(Side::New),
+        _ => None,
+    }
+}
