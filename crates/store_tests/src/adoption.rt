@@ -1,8 +1,8 @@
 //! Databases that are adopted as stores, or handed back.
 
-use cs_store::{Store, StoreError};
+use cs_store::{Cause, Store, StoreError, Unopened};
 use sqlite::{Alter, Connection, Error, FileStore, Leftover, MemStore, Options};
-use sqlite_disk::{Disk, Files};
+use sqlite_disk::{Disk, Files, Memory};
 use std::process::Abort;
 
 /// Returns a database in memory.
@@ -72,9 +72,50 @@ fn adopts_an_empty_database_and_its_store(rt: HostRuntime) {
 fn hands_a_connection_back(rt: HostRuntime) {
     let mut conn = database(&rt);
     conn.execute("BEGIN", &[]).expect(&rt, "a transaction");
-    let mut conn = handed_back(&rt, conn, StoreError::StoreFault);
+    let mut conn = handed_back(&rt, conn, StoreError::StoreFault(Cause::Other));
     conn.execute("CREATE TABLE rec(x)", &[])
         .expect(&rt, "a table");
     conn.execute("COMMIT", &[]).expect(&rt, "a commit");
     let _conn = handed_back(&rt, conn, StoreError::DamagedStore);
+}
+
+/// Returns files in memory, the database file with these bytes.
+fn files_of(rt: &(impl Abort + AllocGlobal), bytes: &[u8]) -> Files<Memory> {
+    let mut db = Memory::new(rt.alloc());
+    db.write_at(0, bytes).expect(rt, "memory");
+    db.sync().expect(rt, "memory");
+    Files {
+        log: Memory::new(rt.alloc()),
+        db,
+    }
+}
+
+/// Opens the store in files.
+fn open_store(
+    rt: &(impl Abort + AllocGlobal),
+    files: Files<Memory>,
+) -> Result<Store<FileStore<Memory>>, (StoreError, Unopened<Memory>)> {
+    assert!(rt; files.log.may_be_used() && files.db.may_be_used());
+    Store::open_files(rt.alloc(), files, Options::new(1), false)
+}
+
+#[test]
+fn says_that_files_hold_no_database(rt: HostRuntime) {
+    match open_store(&rt, files_of(&rt, b"no database")) {
+        Err((error, Unopened::Files(_))) => {
+            assert!(rt; error == StoreError::StoreFault(Cause::NotADatabase));
+        }
+        _ => panic!(rt; "a store"),
+    }
+}
+
+#[test]
+fn closes_a_store_and_opens_its_files(rt: HostRuntime) {
+    let Ok(store) = open_store(&rt, files_of(&rt, b"")) else {
+        panic!(rt; "no store");
+    };
+    let Ok(files) = store.close_files() else {
+        panic!(rt; "files");
+    };
+    assert!(rt; !files.db.bytes().is_empty() && open_store(&rt, files).is_ok());
 }

@@ -4,7 +4,7 @@ use crate::apply::refusal;
 use crate::{DELETE, NULL_INSERT};
 use cs_apply::{ApplyFault, Choice};
 use cs_session::SessionFault;
-use cs_store::StoreError;
+use cs_store::{Cause, StoreError};
 use cs_value::Fault;
 use std::fmt::Display;
 use std::process::Abort;
@@ -28,7 +28,7 @@ fn numbers_refusals_of_stores(rt: HostRuntime) {
         (StoreError::RowWidth, 35, 1, "RowWidth"),
         (StoreError::NullInKey, 36, 1, "NullInKey"),
         (StoreError::DamagedStore, 37, 11, "DamagedStore"),
-        (StoreError::StoreFault, 38, 1, "StoreFault"),
+        (StoreError::StoreFault(Cause::Busy), 38, 1, "StoreFault"),
         (StoreError::NotNull, 39, 19, "NotNull"),
         (StoreError::NoMemory, 60, 7, "NoMemory"),
     ] {
@@ -88,5 +88,30 @@ fn prints_refusals_of_applies(rt: HostRuntime) {
         ),
     ] {
         expect_text(&rt, &refusal(&rt, file, choice), text);
+    }
+}
+
+#[test]
+fn prints_why_a_database_refuses(rt: HostRuntime) {
+    for (cause, text) in [
+        (
+            Cause::Busy,
+            "the database refused: another connection has it open",
+        ),
+        (
+            Cause::NotADatabase,
+            "the database refused: it is not a database that can be read",
+        ),
+        (Cause::Full, "the database refused: the disk is full"),
+        (
+            Cause::InputOutput,
+            "the database refused: a file cannot be read or written",
+        ),
+        (
+            Cause::Other,
+            "the database refused: it does not carry out the call",
+        ),
+    ] {
+        expect_text(&rt, &StoreError::StoreFault(cause), text);
     }
 }
