@@ -53,6 +53,7 @@ pub extern "C" fn vollikash_concat_many(
     ensures joined { result ≡ OK → Gives (Chains (files_in files.now lengths.now)) out.old out.new written.new }
     ensures room { result ≡ NO_ROOM → Lacks (Chains (files_in files.now lengths.now)) out.old written.new }
     ensures enough { length files.now ≤ length out.old → result ≢ NO_ROOM }
+    ensures whole { IsMadeCode result → AreLengths files.now lengths.now }
     ensures lengths { result ≡ RANGE → AreLengths files.now lengths.now → ⊥ }
     ensures refused { IsRefusal result → result ≢ RANGE
         → TellsFile (ChainFails (files_in files.now lengths.now)) fault.new written.new }
