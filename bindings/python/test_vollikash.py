@@ -9,6 +9,7 @@ and those of the table of cases `tests/cases`, most of which are damaged.
 usage: bindings/python/test_vollikash.py
 """
 import concurrent.futures
+import itertools
 import os
 import pathlib
 import pickle
@@ -264,10 +265,13 @@ def value_of(word):
     return {"u": iterator.UNDEFINED, "n": None, "b": content, "t": kind == "t" and content.decode()}[kind]
 
 
-def sqlite_changes(sqlite, file):
-    """The changes of a file as SQLite reads them, and how that ends."""
+def sqlite_changes(sqlite, file, count=None):
+    """The changes of a file as SQLite reads them, or the first ones, and how that ends.
+
+    SQLite's iterator does not end on some damaged files.
+    """
     changes = iterator.Iterator(sqlite, file)
-    return [(name, changes.flags, *rest) for name, *rest in changes], changes.code
+    return [(name, changes.flags, *rest) for name, *rest in itertools.islice(changes, count)], changes.code
 
 
 class Changes(unittest.TestCase):
@@ -300,11 +304,10 @@ class Changes(unittest.TestCase):
             self.skipTest("there is no libsqlite3 with the session extension")
         for file, (changes, code, _) in zip(files, self.changes_of(files)):
             with self.subTest(file=file.hex()):
-                theirs, ended = sqlite_changes(sqlite, file)
                 if code == Code.DONE:
-                    self.assertEqual((changes, 0), (theirs, ended))
+                    self.assertEqual((changes, 0), sqlite_changes(sqlite, file))
                 else:
-                    self.assertEqual(changes, theirs[:len(changes)])
+                    self.assertEqual(changes, sqlite_changes(sqlite, file, len(changes))[0])
 
     def files(self):
         """All but the file of 32767 columns, of which each value takes the time of those before it."""
