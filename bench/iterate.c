@@ -1,6 +1,6 @@
 /*
-** Times a pass over all changes of a file and their values, by Vollikash and by SQLite's iterator. Prints the seconds of
-** the shortest of some passes of each, and the number of changes.
+** Times a pass over all changes of a file and their values, by Vollikash and by SQLite's iterator. Prints
+** the seconds of the shortest of some passes of each, and the bytes of the file.
 **
 ** usage: iterate COUNT, where COUNT is the number of changes of the file that it makes
 */
@@ -84,7 +84,11 @@ static long long pass_sqlite(const uint8_t *file, size_t length, size_t *count)
             sqlite3changeset_new(changes, column, &value);
             int kind = sqlite3_value_type(value);
             sum += kind;
-            sum += kind == SQLITE_INTEGER ? sqlite3_value_int64(value) : kind == SQLITE_TEXT ? sqlite3_value_bytes(value) : 0;
+            if (kind == SQLITE_INTEGER) {
+                sum += sqlite3_value_int64(value);
+            } else if (kind == SQLITE_TEXT) {
+                sum += sqlite3_value_bytes(value);
+            }
         }
         ++*count;
     }
@@ -112,6 +116,6 @@ int main(int words, char **given)
         fprintf(stderr, "the iterators differ\n");
         return 1;
     }
-    printf("%.6f %.6f %zu\n", best, best_sqlite, count);
+    printf("%.6f %.6f %zu\n", best, best_sqlite, length);
     return 0;
 }

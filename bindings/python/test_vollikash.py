@@ -41,6 +41,8 @@ CHECKS = ("check", "check-sanitized", "check-refusing")
 CUT = [TOP / "tests/recorded" / name for name in ("insert-one.cs", "update-one.cs", "delete-one.cs")]
 # How many damaged files are made of each sample, and which.
 DAMAGED, DAMAGE_SEED = 100, 7
+# How a program is compiled that calls SQLite's session extension, and how many times as long as that a pass may take.
+SESSION, TIMES_SQLITE = ("-DSQLITE_ENABLE_SESSION", "-DSQLITE_ENABLE_PREUPDATE_HOOK"), 4
 # The bytes of a file that has too many columns for a test of each value.
 LONG = 20_000
 INSERT, UPDATE, DELETE = (path.read_bytes() for path in CUT)
@@ -332,6 +334,17 @@ class Changes(unittest.TestCase):
 
     def test_prefixes(self):
         self.check_faults(prefixes())
+
+    def test_time(self):
+        """A million changes take a few times as long as by SQLite's iterator at most, and so do fewer."""
+        with tempfile.TemporaryDirectory() as folder:
+            words = ["cc", "-O2", *SESSION, "-I", HEADER.parent, TOP / "bench/iterate.c", BUILT / "libvollikash.a",
+                     "-lsqlite3", "-o", f"{folder}/iterate"]
+            if subprocess.run(words, capture_output=True, check=False).returncode:
+                self.skipTest("there is no sqlite3.h, or no libsqlite3 with the session extension")
+            for count in (1000, 1_000_000):
+                taken, theirs, _ = run(f"{folder}/iterate", count).split()
+                self.assertLess(float(taken), TIMES_SQLITE * float(theirs))
 
 
 class Many(unittest.TestCase):
