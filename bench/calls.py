@@ -1,5 +1,5 @@
 #!/usr/bin/env python3
-"""Times `vollikash_invert` and `vollikash_concat` from C, and SQLite's calls on the same files.
+"""Times `vollikash_invert`, `vollikash_concat` and `vollikash_next` from C, and SQLite's calls on the same files.
 
 A time is the shortest of five calls in one process. The files are in memory, and the buffer is long
 enough. They have 1000 to 1000000 entries, as those of `read_write.py`: all in one table, with keys
@@ -9,6 +9,9 @@ file of a concatenation are also in the first.
 SQLite's concatenation takes time in proportion to the square of the number of tables. It is left
 out for more than 1000 tables. Without a SQLite that has its session extension, its columns are left
 out.
+
+`vollikash_next` and `vollikash_value` go over all changes and values of a file of INSERTs of three
+columns (`iterate.c`), next to SQLite's iterator. Without that they are left out.
 
 Build the library first: `make -C bindings/c`.
 
@@ -61,6 +64,25 @@ def compiled(source, program, *words):
     return subprocess.run(command, capture_output=True).returncode == 0
 
 
+SESSION = ("-DSQLITE_ENABLE_SESSION", "-DSQLITE_ENABLE_PREUPDATE_HOOK")
+
+
+def time_iterators(folder):
+    """Times both iterators over files of several sizes."""
+    program = os.path.join(folder, "iterate")
+    archive = os.path.join(BINDINGS, "out/libvollikash.a")
+    if not compiled("iterate.c", program, *SESSION, "-I", BINDINGS, archive, "-lsqlite3"):
+        return
+    print("INSERTs of three columns")
+    print("  entries  call         bytes   seconds   us/entry    SQLite    times")
+    for entries in COUNTS:
+        ran = subprocess.run([program, str(entries)], capture_output=True, text=True, check=True)
+        taken, theirs, size = ran.stdout.split()
+        taken, theirs = float(taken), float(theirs)
+        line = f"{entries:>9}  {'next':<7} {size:>10} {taken:>9.4f} {taken / entries * 1e6:>10.3f}"
+        print(line + f" {theirs:>9.4f} {taken / theirs:>8.2f}", flush=True)
+
+
 def main():
     with tempfile.TemporaryDirectory() as folder:
         calls, library, file, more = (os.path.join(folder, name) for name in ("calls", "library", "file.cs", "more.cs"))
@@ -81,6 +103,7 @@ def main():
                         theirs = seconds(library, files)
                         line += f" {theirs:>9.4f} {taken / theirs:>8.2f}"
                     print(line, flush=True)
+        time_iterators(folder)
 
 
 if __name__ == "__main__":

@@ -125,8 +125,8 @@ int vollikash_message(int code, char *out, size_t room, size_t *written) VOLLIKA
 */
 struct vollikash_fault {
     int code;     /* what the call returns */
-    int file;     /* the file at fault: 1 the first or only one, 2 the second, 0 none;
-                  ** of vollikash_concat_many its zero-based index */
+    int file;     /* the file at fault: 1 the first or only one, 2 the second and so on,
+                  ** 0 none */
     size_t place; /* for 1 to 18 a byte offset in that file; for SCHEMA the zero-based
                   ** index of the table that differs; else 0 */
 };
@@ -262,8 +262,8 @@ int vollikash_concat(const uint8_t *first, size_t first_length, const uint8_t *s
 ** Makes the concatenation of many files, which are in one buffer, one after the other,
 ** and have these lengths. It does what the first does, then what the second does, and
 ** so on, and is at most as long as all together. Without a file it has no bytes. Errors:
-** 1 to 18 and SCHEMA for the first file at fault, whose zero-based index is in
-** `fault`; RANGE if the lengths do not add up to the bytes; NO_MEMORY, NO_ROOM. It takes
+** 1 to 18 and SCHEMA for the first file at fault, which is in `fault`, counted from
+** 1; RANGE if the lengths do not add up to the bytes; NO_MEMORY, NO_ROOM. It takes
 ** time in proportion to the number of files times the length of the result.
 */
 int vollikash_concat_many(const uint8_t *files, size_t files_length, const size_t *lengths, size_t count,

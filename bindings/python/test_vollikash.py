@@ -9,9 +9,11 @@ and those of the table of cases `tests/cases`, most of which are damaged.
 usage: bindings/python/test_vollikash.py
 """
 import concurrent.futures
+import itertools
 import os
 import pathlib
 import pickle
+import random
 import re
 import shutil
 import subprocess
@@ -26,7 +28,8 @@ HERE = pathlib.Path(__file__).resolve().parent
 TOP = HERE.parent.parent
 sys.path.insert(0, str(TOP / "tests"))
 
-from support import reader  # noqa: E402
+from support import iterator, reader  # noqa: E402
+from support.samples import TO_DAMAGE, damaged  # noqa: E402
 
 BUILT = HERE.parent / "c/out"
 HEADER = HERE.parent / "c/vollikash.h"
@@ -36,6 +39,12 @@ RECORDED = sorted([*TOP.glob("examples/*.cs"), *TOP.glob("tests/recorded/*.cs")]
 CHECKS = ("check", "check-sanitized", "check-refusing")
 # Recorded files of one entry, so that each of their proper prefixes but the empty one is damaged.
 CUT = [TOP / "tests/recorded" / name for name in ("insert-one.cs", "update-one.cs", "delete-one.cs")]
+# How many damaged files are made of each sample, and which.
+DAMAGED, DAMAGE_SEED = 100, 7
+# How a program is compiled that calls SQLite's session extension, and how many times as long as that a pass may take.
+SESSION, TIMES_SQLITE = ("-DSQLITE_ENABLE_SESSION", "-DSQLITE_ENABLE_PREUPDATE_HOOK"), 4
+# The bytes of a file that has too many columns for a test of each value.
+LONG = 20_000
 INSERT, UPDATE, DELETE = (path.read_bytes() for path in CUT)
 
 
@@ -232,6 +241,169 @@ class Files(unittest.TestCase):
             self.assertEqual(harness(requests, name), ["ok -"] * len(requests))
 
 
+def change_of(line):
+    """A change as the C program prints it, in the form of SQLite's iterator."""
+    word, name, flags, operation, indirect, *values = line.split(" ")
+    assert word == "change" and values[0] == "old"
+    sides = values[1:values.index("new")], values[values.index("new") + 1:]
+    assert [len(side) for side in sides] == [len(flags) // 2] * 2
+    old, new = (tuple(map(value_of, side)) for side in sides)
+    operation = iterator.OPERATIONS[int(operation)]
+    if operation == "insert":
+        assert set(old) == {iterator.UNDEFINED}
+        old = None
+    if operation == "delete":
+        assert set(new) == {iterator.UNDEFINED}
+        new = None
+    return bytes.fromhex(name), bytes.fromhex(flags), operation, bool(int(indirect)), old, new
+
+
+def value_of(word):
+    """A value as the C program prints it."""
+    kind, rest = word[0], word[1:]
+    if kind == "i":
+        return int(rest)
+    content = bytes.fromhex(rest) if kind in "tb" else None
+    return {"u": iterator.UNDEFINED, "n": None, "b": content, "t": kind == "t" and content.decode()}[kind]
+
+
+def sqlite_changes(sqlite, file, count=None):
+    """The changes of a file as SQLite reads them, or the first ones, and how that ends.
+
+    SQLite's iterator does not end on some damaged files.
+    """
+    changes = iterator.Iterator(sqlite, file)
+    return [(name, changes.flags, *rest) for name, *rest in itertools.islice(changes, count)], changes.code
+
+
+class Changes(unittest.TestCase):
+    """vollikash_next and vollikash_value return what SQLite's iterator does, and the faults of the other calls."""
+
+    def changes_of(self, files):
+        """The changes of each file, the number of the fault or of the end, and its place."""
+        for answer in harness([f"changes {file.hex() or '-'}" for file in files], "check-sanitized"):
+            text, which = printed(answer)
+            self.assertEqual(which, 0)
+            *lines, end = text.decode().splitlines()
+            word, code, place = end.split(" ")
+            self.assertEqual(word == "end", int(code) == Code.DONE)
+            yield [change_of(line) for line in lines], int(code), int(place)
+
+    def check_faults(self, files):
+        """A file that is refused is refused at the same place, unless something is in it twice."""
+        for file, (changes, code, place) in zip(files, self.changes_of(files)):
+            with self.subTest(file=file.hex()):
+                refusal = told(vollikash.check, file)
+                if not refusal:
+                    self.assertEqual((code, place), (Code.DONE, 0))
+                elif int(refusal.split()[1]) not in (Code.DUPLICATE_TABLE, Code.DUPLICATE_KEY):
+                    self.assertEqual(f"error {code} {Code(code).title} {place}\n", refusal)
+
+    def check_sqlite(self, files):
+        """The changes are those of SQLite's iterator, as far as the file can be read."""
+        sqlite = iterator.library()
+        if sqlite is None:
+            self.skipTest("there is no libsqlite3 with the session extension")
+        for file, (changes, code, _) in zip(files, self.changes_of(files)):
+            with self.subTest(file=file.hex()):
+                if code == Code.DONE:
+                    self.assertEqual((changes, 0), sqlite_changes(sqlite, file))
+                else:
+                    self.assertEqual(changes, sqlite_changes(sqlite, file, len(changes))[0])
+
+    def files(self):
+        """All but the file of 32767 columns, of which each value takes the time of those before it."""
+        files = [b"", *(path.read_bytes() for path in RECORDED), *loaded()]
+        return [file for file in files if len(file) < LONG]
+
+    def damaged_files(self):
+        chosen = random.Random(DAMAGE_SEED)
+        return [it for file in TO_DAMAGE.values() for it in chosen.sample(list(damaged(file)), DAMAGED)]
+
+    def test_files(self):
+        self.check_faults(self.files())
+
+    def test_files_and_sqlite(self):
+        self.check_sqlite(self.files())
+
+    def test_damaged_files(self):
+        self.check_faults(self.damaged_files())
+
+    def test_damaged_files_and_sqlite(self):
+        self.check_sqlite(self.damaged_files())
+
+    def test_prefixes(self):
+        self.check_faults(prefixes())
+
+    def test_time(self):
+        """A million changes take a few times as long as by SQLite's iterator at most, and so do fewer."""
+        with tempfile.TemporaryDirectory() as folder:
+            words = ["cc", "-O2", *SESSION, "-I", HEADER.parent, TOP / "bench/iterate.c", BUILT / "libvollikash.a",
+                     "-lsqlite3", "-o", f"{folder}/iterate"]
+            if subprocess.run(words, capture_output=True, check=False).returncode:
+                self.skipTest("there is no sqlite3.h, or no libsqlite3 with the session extension")
+            for count in (1000, 1_000_000):
+                taken, theirs, _ = run(f"{folder}/iterate", count).split()
+                self.assertLess(float(taken), TIMES_SQLITE * float(theirs))
+
+
+class Many(unittest.TestCase):
+    """Tables are selected by their names, and many files concatenated."""
+
+    def answers(self, requests):
+        answers, *others = (harness(requests, name) for name in CHECKS)
+        self.assertEqual(others, [answers] * len(others))
+        return [printed(answer) for answer in answers]
+
+    def test_selected_tables(self):
+        files = [file for path in RECORDED if not told(vollikash.check, file := path.read_bytes())]
+        for file in files:
+            groups = list(reader.Reader(file).groups())
+            names = [name for _, name, _ in groups]
+            choices = [[], names, names[:1], names[1:], names[::-1], [*names, *names], [b"", b"none", *names[:1]]]
+            wanted = [reader.write([group for group in groups if group[1] in choice]) for choice in choices]
+            for end in (b"", b"\0"):
+                buffers = [b"\0".join(choice) + end for choice in choices]
+                requests = [f"select {file.hex() or '-'} {buffer.hex() or '-'}" for buffer in buffers]
+                with self.subTest(file=file.hex(), end=end):
+                    self.assertEqual(self.answers(requests), [(made, 0) for made in wanted])
+
+    def test_selection_of_damaged_files(self):
+        files = prefixes()
+        answers = self.answers([f"select {file.hex()} 74" for file in files])
+        self.assertEqual(answers, [(told(vollikash.check, file), 1) for file in files])
+
+    def test_many_files(self):
+        """They make what two at a time make, and the file at fault is named by its index."""
+        lists = [[], [INSERT], [INSERT, UPDATE], [INSERT, UPDATE, DELETE], [DELETE, INSERT, b"", UPDATE], [b"", b""],
+                 [b"x"], [INSERT, b"T"], [INSERT, UPDATE, b"P", b"x"], [INSERT, UPDATE, INSERT[:-1]],
+                 [b"\x54\x01\x01t\x00\x09\x00\x05", INSERT], [INSERT, INSERT.replace(b"\x54\x02", b"\x54\x03")]]
+        requests, wanted = [], []
+        for files in lists:
+            lengths = b"".join(len(file).to_bytes(2, "big") for file in files)
+            requests.append(f"concat_many {b''.join(files).hex() or '-'} {lengths.hex() or '-'}")
+            wanted.append(self.one_by_one(files))
+        self.assertEqual(self.answers(requests), wanted)
+
+    def one_by_one(self, files):
+        joined = b""
+        for index, file in enumerate(files):
+            try:
+                vollikash.check(file)
+                joined = vollikash.concat(joined, file) if index else file
+            except ChangesetError as error:
+                return f"error {error.code} {error.name} {error.place}\n", index
+        return joined, 0
+
+    def test_lengths(self):
+        """Lengths that do not add up to the bytes are refused."""
+        for lengths in ([], [len(INSERT) - 1], [len(INSERT) + 1], [len(INSERT), 1], [len(INSERT), 65535]):
+            digits = b"".join(length.to_bytes(2, "big") for length in lengths).hex()
+            code = Code.TRUNCATED if lengths == [len(INSERT) - 1] else Code.RANGE
+            made, which = self.answers([f"concat_many {INSERT.hex()} {digits or '-'}"])[0]
+            self.assertEqual((made.split()[1], which), (str(int(code)), 0))
+
+
 class Keys(unittest.TestCase):
     """The columns of keys are numbered."""
 
@@ -318,11 +490,16 @@ class Numbers(unittest.TestCase):
         rows = re.findall(r"^\| (\d+) \| (\w+)[^|]* \| (\d+) \|", (TOP / "docs/ERRORS.md").read_text(), re.M)
         return [(int(number), name, int(code)) for number, name, code in rows]
 
+    def header(self):
+        """The numbers of the header's calls."""
+        return self.numbers(re.search(r"enum vollikash_code \{(.*?)\};", HEADER.read_text(), re.S)[1])
+
     def test_documents(self):
-        numbers = self.numbers(HEADER.read_text())
+        """The header has only numbers that its calls return: of files, of memory and of arguments."""
+        numbers = self.numbers((HERE / "vollikash/_errors.py").read_text().replace("    ", "    VOLLIKASH_"))
         errors = self.documented()
-        self.assertEqual({"Ok": 0, **{name: number for number, name, _ in errors}},
-                         {name: number for name, (number, _) in numbers.items()})
+        returned = {name: number for number, name, _ in errors if number <= 18 or number in (43, 60, 80, 81, 82)}
+        self.assertEqual({"Ok": 0, **returned}, {name: number for name, (number, _) in self.header().items()})
         self.assertEqual([number for number, *_ in errors], sorted({number for number, *_ in errors}))
         for document in ("FORMAT.md", "STORE.md"):
             rows = re.findall(r"^\| (\d+) \| (\w+) \|", (TOP / "docs" / document).read_text(), re.M)
@@ -334,13 +511,39 @@ class Numbers(unittest.TestCase):
         numbers = {name: number for number, name, _ in self.documented()}
         self.assertEqual({code.title: code.value for code in Code}, {"Ok": 0, **numbers})
 
+    def test_messages(self):
+        """Each number of the header has a sentence of its own, and no other number has one."""
+        printed_messages = compiled("""
+            #include <stdio.h>
+            #include "vollikash.h"
+            int main(void)
+            {
+                char text[VOLLIKASH_MESSAGE_ROOM], none[1];
+                size_t written, needed;
+                for (int code = -300; code < 700; code++) {
+                    int answer = vollikash_message(code, text, sizeof text, &written);
+                    if (vollikash_message(code, none, 0, &needed) != (answer ? answer : VOLLIKASH_NO_ROOM)
+                        || needed != written) {
+                        return 1;
+                    }
+                    if (answer == VOLLIKASH_OK) {
+                        printf("%d %zu %s\\n", code, written, text);
+                    }
+                }
+            }
+        """)
+        lines = [line.split(" ", 2) for line in printed_messages.splitlines()]
+        self.assertEqual([int(code) for code, _, _ in lines], sorted(number for number, _ in self.header().values()))
+        self.assertEqual([int(count) for _, count, _ in lines], [len(text) + 1 for *_, text in lines])
+        self.assertEqual(len({text for *_, text in lines}), len(lines))
+
     def test_classes(self):
-        numbers = self.numbers(HEADER.read_text())
+        numbers = self.header()
         prints = [f'    printf("%d\\n", vollikash_class(VOLLIKASH_{name}));' for _, name in numbers.values()]
         source = ["#include <stdio.h>", '#include "vollikash.h"', "int main(void)", "{", *prints, "}", ""]
         printed_classes = compiled("\n".join(source)).split()
         self.assertEqual({title: int(line) for title, line in zip(numbers, printed_classes)},
-                         {"Ok": 0, **{name: code for _, name, code in self.documented()}})
+                         {"Ok": 0, **{name: code for _, name, code in self.documented() if name in numbers}})
 
 
 class Linked(unittest.TestCase):

@@ -58,6 +58,8 @@ class Code(enum.IntEnum):
     INPUT_FAULT = 71
     OUTPUT_FAULT = 72
     NO_ROOM = 80
+    DONE = 81
+    RANGE = 82
 
     @property
     def title(self) -> str:

@@ -1,7 +1,7 @@
 -- Many files that are concatenated.
 use Rattle.std.proofs.Common.{◌≡◌, ℕ, ◌+◌, ◌<◌, ◌≤◌, List, [], ◌∷◌, ◌++◌, length, length-append, take, drop, get_or, refl, sym, ap, subst, ◌∙◌, append_assoc, append-nil, arith}
 use Rattle.std.specs.Prelude.{Result, Ok, Err, IfErr, IfOk}
-use Rattle.std.proofs.lemmas.List.{drop_more, drop_all, length-take, length-drop}
+use Rattle.std.proofs.lemmas.List.{drop_more, drop_all, length-take, length-drop, nil_from_length}
 use Rattle.cs_value.specs.declared.refusal.OrNoMemory.{OrNoMemory}
 use Rattle.cs_value.specs.declared.refusal.OrNoMemory.TheVariants.{Fault, NoMemory}
 use Rattle.cs_value.specs.Refusals.{Refuses}
@@ -31,6 +31,7 @@ pub record IsChained (files lengths : List ℕ) (index : ℕ) (joined rest : Lis
   pub chained : Chains before joined
   pub fewer : length joined + length rest ≤ length files
   pub are_lengths : AreLengths files lengths → AreLengths rest (drop index lengths)
+  pub are_whole : AreLengths rest (drop index lengths) → AreLengths files lengths
 
 pub IsChained-none : (files lengths : List ℕ) → IsChained files lengths 0 [] files
 IsChained-none files lengths = record {
@@ -40,6 +41,7 @@ IsChained-none files lengths = record {
   chained = refl;
   fewer = omega arith;
   are_lengths = λ are. are;
+  are_whole = λ are. are;
 }
 
 module _ (files lengths : List ℕ) (index : ℕ) (joined rest : List ℕ) (so : IsChained files lengths index joined rest) (within : index < length lengths) where
@@ -58,6 +60,7 @@ module _ (files lengths : List ℕ) (index : ℕ) (joined rest : List ℕ) (so :
     chained = chained;
     fewer = omega (arith, so.fewer, fewer, le, length-take (get_or lengths index 0) rest, length-drop (get_or lengths index 0) rest);
     are_lengths = λ are. (subst (AreLengths rest) length_is (so.are_lengths are)).1;
+    are_whole = λ are. so.are_whole (subst (AreLengths rest) (sym length_is) (le, are));
   }
 
   pub IsChained-fails : (fault : FileFault) → WhyNot so.before joined (take (get_or lengths index 0) rest) fault → ChainFails (files_in files lengths) index fault
@@ -85,6 +88,9 @@ module _ (files lengths : List ℕ) (index : ℕ) (joined rest : List ℕ) (so :
 
   pub IsChained-all : Chains (files_in files lengths) joined
   IsChained-all = subst (λ (fs : List (List ℕ)). Chains fs joined) (sym (so.files_are ∙ ap (λ (ls : List ℕ). so.before ++ files_in rest ls) none_left ∙ append-nil so.before)) so.chained
+
+  pub IsChained-whole : length rest ≤ 0 → AreLengths files lengths
+  IsChained-whole none = so.are_whole (subst (AreLengths rest) (sym none_left) (nil_from_length rest (omega arith)))
 
   pub IsChained-over : 0 < length rest → AreLengths files lengths → ⊥
   IsChained-over some are =

@@ -41,6 +41,7 @@ pub fn concat_all_bytes(
     ensures chained { IfOk result (λ out. Chains (files_in files.now lengths.now) out.items) }
     ensures length { IfOk result (λ out. length out.items ≤ length files.now) }
     ensures refused { IfErr result (IfFile (ChainFails (files_in files.now lengths.now))) }
+    ensures whole { IfOk result (λ _. AreLengths files.now lengths.now) }
     ensures lengths { result ≡ Err NoLengths → AreLengths files.now lengths.now → ⊥ }
 {
     let mut joined = Vec::new(alloc);

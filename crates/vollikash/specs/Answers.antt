@@ -71,9 +71,9 @@ abbrev pub IsWhy : Result (Vec ℕ Global) (OrNoMemory FileFault) → FileFault 
 IsWhy (Ok made) fault = ⊥
 IsWhy (Err refusal) fault = refusal ≡ Fault fault
 
--- the number of a file, zero-based, as far as C's int goes
+-- the number of a file, counted from 1, as far as C's int goes
 abbrev pub file_number : ℕ → ℤ
-file_number index = if nat_lt index 2147483647 then pos index else pos 2147483647
+file_number index = if nat_lt index 2147483647 then pos (index + 1) else pos 2147483647
 
 -- a refusal for which Why holds of the file at an index is reported, and nothing was written
 pub record TellsFile (Why : ℕ → FileFault → Type 0) (report : FaultReport) (written : ℕ) : Type 0 where

@@ -40,7 +40,7 @@ pub extern "C" fn vollikash_select(
 /// `written`. The files are in a buffer, one after the other, and have these lengths.
 ///
 /// It answers `OK`, `NO_ROOM`, `RANGE` if the lengths do not add up to the bytes, or the number of what is wrong with a
-/// file or that a table differs, or that memory was refused. `fault` has the zero-based index of the file.
+/// file or that a table differs, or that memory was refused. `fault` has the file, counted from 1.
 #[unsafe(no_mangle)]
 pub extern "C" fn vollikash_concat_many(
     alloc: Global,
@@ -53,6 +53,7 @@ pub extern "C" fn vollikash_concat_many(
     ensures joined { result ≡ OK → Gives (Chains (files_in files.now lengths.now)) out.old out.new written.new }
     ensures room { result ≡ NO_ROOM → Lacks (Chains (files_in files.now lengths.now)) out.old written.new }
     ensures enough { length files.now ≤ length out.old → result ≢ NO_ROOM }
+    ensures whole { IsMadeCode result → AreLengths files.now lengths.now }
     ensures lengths { result ≡ RANGE → AreLengths files.now lengths.now → ⊥ }
     ensures refused { IsRefusal result → result ≢ RANGE
         → TellsFile (ChainFails (files_in files.now lengths.now)) fault.new written.new }
@@ -78,12 +79,12 @@ pub extern "C" fn vollikash_concat_many(
     }
 }
 
-/// The number of a file, as far as C's int goes.
+/// The number of a file, counted from 1, as far as C's int goes.
 fn file_number_of(index: usize) -> i32
     ensures { result ≡ file_number index }
 {
     if index < 2_147_483_647 {
-        index as i32
+        index as i32 + 1
     } else {
         2_147_483_647
     }
