@@ -151,5 +151,5 @@ reverts_err law file before old (fault.Abort k) leads refuses =
     let given = back law file before old leads refuses.changeset refuses.read omit_all in
     absurd (none_last _ refuses.reached.later (record { conflict = conflict_of k; choice = choice.Abort }) (sym refuses.reached.listed ∙ clean_meets_none old refuses.changeset refuses.reached.choose given.0))
 reverts_err law file before old (fault.Misuse k) leads refuses = absurd (let e = refuses.ended.chosen in cc)
-reverts_err law file before old (fault.Store e) leads refuses = inr (ap fault.Store refuses)
+reverts_err law file before old (fault.Store e) leads refuses = inr refuses
 reverts_err law file before old fault.NoMemory leads refuses = inl refl

@@ -9,7 +9,7 @@ use Rattle.std.proofs.lemmas.List.Quantifiers.{all_pairs_push}
 use Rattle.cs_value.specs.Table.{IsName}
 use Rattle.cs_value.specs.State.{SchemaData, IsSchema, State, schema_at, rows_at}
 use Rattle.cs_rows.specs.declared.fault.StoreError.{StoreError}
-use Rattle.cs_store.specs.Faults.{IsReadRefusal}
+use Rattle.cs_store.specs.Faults.{IsReadRefusal, refused_for}
 use Rattle.cs_session.specs.declared.attached.Attached.{Attached}
 use Rattle.cs_session.specs.FirstImages.{AttachedTable, Notes, IsAttachedTable, IsNotes, rewound_rows, rewound}
 use Rattle.cs_session.specs.Attaching.{IsNewTable, Attaches, IsAttachRefusal}
@@ -98,4 +98,4 @@ attached_rewound (Err e) state name old new done = tt
 pub read_refused : (e : StoreError) → IsReadRefusal e → IsAttachRefusal (fault_of e)
 read_refused e (inl damaged) = subst (λ (x : StoreError). IsAttachRefusal (fault_of x)) (sym damaged) (inr (inl refl))
 read_refused e (inr (inl memory)) = subst (λ (x : StoreError). IsAttachRefusal (fault_of x)) (sym memory) tt
-read_refused e (inr (inr shut)) = subst (λ (x : StoreError). IsAttachRefusal (fault_of x)) (sym shut) (inr (inr refl))
+read_refused e (inr (inr (refused_for cause))) = inr (inr (refused_for cause))

@@ -22,14 +22,16 @@ use Rattle.cs_value.proofs.ListLemmas.{recursion_from_AllPairs}
 use Rattle.cs_group.specs.declared.conflict.Noop.TheVariants as noop
 use Rattle.cs_run.specs.declared.conflict.Conflict.{Conflict}
 use Rattle.cs_run.specs.declared.fault.ApplyFault.{ApplyFault}
+use Rattle.cs_run.specs.declared.fault.ApplyFault.TheVariants as apply
 use Rattle.cs_run.specs.declared.report.Report.{Report}
 use Rattle.cs_run.specs.declared.running.Direction.TheVariants.{Inverse}
 use Rattle.cs_run.specs.Running as applying
 use Rattle.cs_run.specs.Running.{Handler, AlwaysAborts, Applies, Refuses, Leads}
 use Rattle.cs_apply.proofs.RevertLemmas.{reverts_ok, reverts_err, applies_weaker, refuses_weaker}
+use Rattle.cs_store.specs.Faults.{IsStoreFault}
 use Rattle.cs_session.specs.Faults.{apply_fault_of}
 use Rattle.cs_session.specs.FirstImages.{AttachedTable, Notes, IsNotes, HasAttached, rewound, rewound_state, recorded_changes}
-use Rattle.cs_session.specs.Changes.{HasTables, RefusesChanges}
+use Rattle.cs_session.specs.Changes.{HasTables, IsOfStore, RefusesChanges}
 use Rattle.cs_session.specs.Undoing.{LeadsBackTo, Undoes}
 use Rattle.cs_session.proofs.RewoundLemmas.{rewound_here, all_rewound}
 use Rattle.cs_session.proofs.ChangesLemmas.{before_is, changes_are, changes_clean, changes_applied, all_compatible}
@@ -73,6 +75,15 @@ inverse_skips state (g ∷ changeset) [] all zip = absurd zip
 inverse_skips state (g ∷ changeset) (h ∷ inverse) all zip =
     let same : judged state h ≡ Compatible = ap (λ (header : HeaderData). judgement header.flags (option_map (λ s. s.flags) (schema_at state header.name))) zip.0.header ∙ all.0 in
     rw same (inverse_skips state changeset inverse all.1 zip.1)
+
+-- the database that refuses an apply refuses the session
+store_refused : (e : ApplyFault) → applying.IsOfStore IsStoreFault e → IsOfStore IsStoreFault (apply_fault_of e)
+store_refused (apply.Store error) is = is
+store_refused (apply.Read fault) none = absurd none
+store_refused (apply.Wider place) none = absurd none
+store_refused (apply.Abort conflict) none = absurd none
+store_refused (apply.Misuse conflict) none = absurd none
+store_refused apply.NoMemory none = absurd none
 
 module _ (law : ChangesetFiles) (state : State) (notes : Notes) (is_state : IsState state) (are : IsNotes notes) (has : HasTables state notes) where
   abbrev changes : List GroupData
@@ -121,4 +132,4 @@ module _ (law : ChangesetFiles) (state : State) (notes : Notes) (is_state : IsSt
     where
       at : applying.IsResource e → RefusesChanges state notes (apply_fault_of e)
       at (inl is) = inr (inl (ap apply_fault_of is))
-      at (inr is) = inr (inr (ap apply_fault_of is))
+      at (inr is) = inr (inr (store_refused e is))
