@@ -100,14 +100,14 @@ static void add_hex(struct text *text, const char *before, const uint8_t *bytes,
     }
 }
 
-/* The values of a change on one side, and that there is no further one. */
+/* The values of a change on one side, and a check that there is no further one. */
 static void add_side(struct text *text, struct bytes file, const struct vollikash_change *change, int side)
 {
     struct vollikash_field value, before;
     memset(&value, UNTOUCHED, sizeof value);
     before = value;
     require(vollikash_value(file.at, file.count, change, side, change->columns, &value) == VOLLIKASH_RANGE,
-            "there is a value behind the last column");
+            "there is a value after the last column");
     require(memcmp(&value, &before, sizeof value) == 0, "a value was touched");
     for (size_t column = 0; column < change->columns; column++) {
         int code = vollikash_value(file.at, file.count, change, side, column, &value);

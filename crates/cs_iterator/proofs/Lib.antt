@@ -1,3 +1,4 @@
+pub mod Examples
 pub mod PartLemmas
 pub mod StepLemmas
 pub mod ValueLemmas

@@ -1,0 +1,45 @@
+-- The changes of a small file, and what spans show of it.
+use Rattle.std.proofs.Common.{◌≡◌, [], ◌∷◌, pos, Some, None, true, false, refl, arith}
+use Rattle.cs_value.specs.declared.value.OwnedValue.TheVariants.{Int, Text, Null}
+use Rattle.cs_value.specs.declared.value.OwnedField.TheVariants.{Undefined, Defined}
+use Rattle.cs_entries.specs.declared.entry.Change.{Change}
+use Rattle.cs_entries.specs.declared.entry.Change.TheVariants.{Insert, Delete, Update}
+use Rattle.cs_entries.specs.Changeset.{HeaderData}
+use Rattle.cs_iterator.specs.declared.value.Side.TheVariants.{Old, New}
+use Rattle.cs_iterator.specs.Changes.{changes_of}
+use Rattle.cs_iterator.specs.Values.{ShowsField, field_on}
+
+t : HeaderData
+t = record { name = 116 ∷ []; flags = 1 ∷ 0 ∷ [] }
+
+insert_is : Change
+insert_is = Insert (Int (pos 1) ∷ Null ∷ [])
+
+delete_is : Change
+delete_is = Delete (Int (pos 2) ∷ Null ∷ [])
+
+-- the changes of a table are in its order, each with its header
+two_changes :
+    changes_of (record {
+      header = t;
+      entries = record { indirect = false; change = insert_is } ∷ record { indirect = true; change = delete_is } ∷ [];
+    } ∷ []) ≡ record { header = t; entry = record { indirect = false; change = insert_is } } ∷ record { header = t; entry = record { indirect = true; change = delete_is } } ∷ []
+two_changes = refl
+
+-- an insert has no value before it, and a delete none after it
+no_old_value : field_on Old (Insert (Int (pos 1) ∷ Null ∷ [])) 0 ≡ None
+no_old_value = refl
+
+new_value : field_on New (Insert (Int (pos 1) ∷ Null ∷ [])) 1 ≡ Some (Defined Null)
+new_value = refl
+
+no_new_value : field_on New (Delete (Int (pos 2) ∷ Null ∷ [])) 0 ≡ None
+no_new_value = refl
+
+-- an update has its key before it only
+update_key : field_on New (Update (Defined (Int (pos 1)) ∷ Defined Null ∷ []) (Undefined ∷ Defined (Int (pos 5)) ∷ [])) 0 ≡ Some Undefined
+update_key = refl
+
+-- the text x lies at the second of three bytes
+text_is_shown : ShowsField (9 ∷ 120 ∷ 9 ∷ []) (record { kind = pos 3; integer = pos 0; offset = 1; length = 1 }) (Defined (Text (120 ∷ [])))
+text_is_shown = (refl, record { spelled = refl; within = omega arith })
