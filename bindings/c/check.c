@@ -413,8 +413,7 @@ static void refuse_each(const struct asked *asked)
         if (answer.fault.code == VOLLIKASH_NO_MEMORY) {
             require(written == 0 && is_untouched(out, 0), "a call that memory is refused to has written something");
             require(answer.fault.place == 0, "want of memory has a place");
-            require(answer.fault.file == 0 || strcmp(asked->request->name, "concat_many") == 0,
-                    "want of memory names a file");
+            require(answer.fault.file == 0, "want of memory names a file");
         } else {
             require(memcmp(&answer.fault, &asked->answer.fault, sizeof answer.fault) == 0, "memory changes the report");
             require(answer.fault.code != VOLLIKASH_OK || memcmp(out.at, asked->answer.made.at, needed) == 0,

@@ -70,6 +70,7 @@ pub fn next_change(
         → result ≡ Ok None → left ≡ [] }
     ensures no_fault { (all : List GroupData) (left : List TableChange) → IsFileOf file.now all → AreLeft file.now all left place last.now
         → IfErr result (λ _. ⊥) }
+    ensures ended { result ≡ Ok None → place ≡ length file.now }
     ensures within { IfOk result (λ found. IfSome found (λ step. LiesIn file.now step.0)) }
     ensures forward { IfOk result (λ found. IfSome found (λ step. (place < step.1) × (step.1 ≤ length file.now))) }
 {

@@ -10,7 +10,7 @@ use Rattle.cs_files.specs.Faults.{code_of}
 use Rattle.vollikash.specs.declared.answer.FaultReport.{FaultReport}
 use Rattle.vollikash.specs.declared.answer.TheConstants.{OK, NO_ROOM}
 
--- the number is that of a fault
+-- the call did not do what it was asked for, whatever the room
 abbrev pub IsRefusal : ℤ → Type 0
 IsRefusal code = (code ≢ OK) × (code ≢ NO_ROOM)
 
@@ -75,10 +75,15 @@ IsWhy (Err refusal) fault = refusal ≡ Fault fault
 abbrev pub file_number : ℕ → ℤ
 file_number index = if nat_lt index 2147483647 then pos (index + 1) else pos 2147483647
 
+-- which of many files has the fault, or 0 where none has it
+abbrev pub file_among : ℕ → OrNoMemory FileFault → ℤ
+file_among index (Fault f) = file_number index
+file_among index NoMemory = pos 0
+
 -- a refusal for which Why holds of the file at an index is reported, and nothing was written
 pub record TellsFile (Why : ℕ → FileFault → Type 0) (report : FaultReport) (written : ℕ) : Type 0 where
   pub index : ℕ
   pub refusal : OrNoMemory FileFault
   pub why : Refuses (Why index) refusal
-  pub told : report ≡ record { code = pos (of_refusal code_of 60 refusal); file = file_number index; place = place_of refusal }
+  pub told : report ≡ record { code = pos (of_refusal code_of 60 refusal); file = file_among index refusal; place = place_of refusal }
   pub none : written ≡ 0

@@ -1,5 +1,5 @@
 //! What a call answers to C.
-ghost use Rattle.std.specs.Prelude.{◌≡◌, ◌≢◌};
+ghost use Rattle.std.specs.Prelude.{◌≡◌, ◌≢◌, IfOk};
 ghost use Rattle.vollikash.specs.Answers.{IsMade, IsWhy, Gives, Lacks, Tells, IsMadeCode, IsRefusal};
 ghost use Rattle.vollikash.specs.Answers.{no_fault, report_of};
 
@@ -15,17 +15,16 @@ pub const NO_ROOM: i32 = 80;
 /// The iterator is after the last change.
 pub const DONE: i32 = 81;
 
-/// A column or a side is out of range.
+/// An argument is out of range.
 pub const RANGE: i32 = 82;
 
 /// What a call reports of itself.
 #[repr(C)]
 #[derive(Clone, Copy, Debug, PartialEq, Eq)]
 pub struct FaultReport {
-    /// The answer: `OK`, `NO_ROOM`, or the number of a fault.
+    /// What the call answers.
     pub code: i32,
-    /// The file that has the fault: 1 for the first or the only one, 2 for the second, and 0 where
-    /// none has it.
+    /// The file that has the fault, counted from 1, or 0 if none has it.
     pub file: i32,
     /// Where the fault is: a count of bytes from the start of the file, or of groups where a table
     /// differs.
@@ -67,6 +66,7 @@ pub(crate) fn hand_out(
     written: &mut usize,
     fault: &mut FaultReport,
 ) -> i32
+    ensures made { IfOk made (λ _. IsMadeCode result) }
     ensures given { result ≡ OK → Gives (IsMade made) out.old out.new written.new }
     ensures room { result ≡ NO_ROOM → Lacks (IsMade made) out.old written.new }
     ensures refused { IsRefusal result → Tells (IsWhy made) fault.new written.new }

@@ -32,6 +32,7 @@ pub extern "C" fn vollikash_next(
         → result ≡ DONE → left ≡ [] }
     ensures no_fault { (all : List GroupData) (left : List TableChange) → IsFileOf file.now all → AreLeft file.now all left place.old change.old
         → IsStepCode result }
+    ensures ended { result ≡ DONE → place.old ≡ length file.now }
     ensures within { result ≡ OK → LiesIn file.now change.new }
     ensures forward { result ≡ OK → (place.old < place.new) × (place.new ≤ length file.now) }
     ensures same { result ≢ OK → (place.new ≡ place.old) × (change.new ≡ change.old) }

@@ -7,7 +7,7 @@ ghost use Rattle.vollikash.specs.declared.answer.TheConstants.{OK, NO_ROOM};
 ghost use Rattle.vollikash.specs.Answers.{Gives, Lacks, Tells, TellsFile, IsMadeCode, IsRefusal, file_number, no_fault};
 
 use crate::answer::{FaultReport, RANGE, hand_out, report, report_plain};
-use cs_files::first_fault;
+use cs_files::{ToolFault, first_fault};
 use cs_many::{ChainFault, concat_all_bytes, select_bytes};
 use std::alloc::Global;
 
@@ -55,6 +55,7 @@ pub extern "C" fn vollikash_concat_many(
     ensures enough { length files.now ≤ length out.old → result ≢ NO_ROOM }
     ensures whole { IsMadeCode result → AreLengths files.now lengths.now }
     ensures lengths { result ≡ RANGE → AreLengths files.now lengths.now → ⊥ }
+    ensures range { result ≡ RANGE → (fault.new ≡ no_fault RANGE) × (written.new ≡ 0) }
     ensures refused { IsRefusal result → result ≢ RANGE
         → TellsFile (ChainFails (files_in files.now lengths.now)) fault.new written.new }
     ensures same { result ≢ OK → out.new ≡ out.old }
@@ -70,8 +71,12 @@ pub extern "C" fn vollikash_concat_many(
         }
         Err(ChainFault::File { index, error }) => {
             *written = 0;
+            let file = match error {
+                ToolFault::Fault(_) => file_number_of(index),
+                ToolFault::NoMemory => 0,
+            };
             *fault = FaultReport {
-                file: file_number_of(index),
+                file,
                 ..report(&error)
             };
             fault.code
