@@ -13,12 +13,15 @@ use Rattle.cs_rows.specs.declared.edit.Edit.{Edit}
 use Rattle.cs_rows.specs.declared.edit.Edit.TheVariants.{Insert, Update, Delete}
 use Rattle.cs_rows.specs.declared.fault.StoreError.{StoreError}
 use Rattle.cs_rows.specs.declared.fault.StoreError.TheVariants.{KeyTaken, NoRow}
+use Rattle.cs_rows.specs.declared.fault.StoreError.TheVariants as store
+use Rattle.cs_store.specs.Faults.{IsResource, refused_for}
 use Rattle.cs_store.specs.Editing.{Edited, row_fault, unless, has_row, when, inserted_in, moved, updated_in, deleted_in, found_table, edited}
 use Rattle.cs_group.specs.Laws.{TellsFormer}
 use Rattle.cs_run.specs.Steps.{with_result}
 use Rattle.cs_run.proofs.WriteLemmas.{result_schemas, result_elsewhere}
 use Rattle.cs_session.specs.declared.fault.SessionFault.{SessionFault}
 use Rattle.cs_session.specs.declared.fault.SessionFault.TheVariants.{NoMemory as OutOfMemory}
+use Rattle.cs_session.specs.Faults.{fault_of}
 use Rattle.cs_session.specs.FirstImages.{AttachedTable, Notes, IsNotes, HasAttached, writes_of, recorded, rewound}
 use Rattle.cs_session.specs.Noting.{AreFormers, IsDamage}
 use Rattle.cs_session.specs.Changes.{HasNamed}
@@ -125,6 +128,27 @@ edited_formers state edit done is is_state notes has =
     each tells (table ∷ ts) has = (at tells table has.0 (bytes_eq (table_of edit) table.name) refl, each tells ts has.1)
 
 -- ---- what is answered
+
+-- an edit that the store refuses for a reason of its own
+refused_there : (state : State) (edit : Edit) (notes : Notes) → HasNamed state (table_of edit) notes → (e : StoreError) → edited state edit ≡ Err e → RefusesEdit state edit notes (fault_of e)
+refused_there state edit notes has store.TableExists is = inl (has, is)
+refused_there state edit notes has store.NoTable is = inl (has, is)
+refused_there state edit notes has store.BadSchema is = inl (has, is)
+refused_there state edit notes has store.KeyTaken is = inl (has, is)
+refused_there state edit notes has store.NoRow is = inl (has, is)
+refused_there state edit notes has store.RowWidth is = inl (has, is)
+refused_there state edit notes has store.NullInKey is = inl (has, is)
+refused_there state edit notes has store.NotNull is = inl (has, is)
+refused_there state edit notes has store.DamagedStore is = inl (has, is)
+refused_there state edit notes has (store.StoreFault cause) is = inl (has, is)
+refused_there state edit notes has store.NoMemory is = tt
+
+-- or because memory ran out, or the database refused
+pub refuses_edit : (state : State) (edit : Edit) (notes : Notes) → HasNamed state (table_of edit) notes → (e : StoreError) → (edited state edit ≡ Err e) ⊎ IsResource e
+    → RefusesEdit state edit notes (fault_of e)
+refuses_edit state edit notes has e (inl is) = refused_there state edit notes has e is
+refuses_edit state edit notes has e (inr (inl none)) = subst (λ (x : StoreError). RefusesEdit state edit notes (fault_of x)) (sym none) tt
+refuses_edit state edit notes has e (inr (inr (refused_for cause))) = inr (refused_for cause)
 
 pub refuses_noting : (state : State) (edit : Edit) (notes : Notes) (written : List WrittenData) (e : SessionFault) → AreFormers notes written → (e ≡ OutOfMemory) ⊎ (IsDamage e × ¬ AreFormers notes written)
     → RefusesEdit state edit notes e
