@@ -76,7 +76,7 @@ enum vollikash_code {
     VOLLIKASH_NULL_KEY = 17,        /* a key column is NULL */
     VOLLIKASH_DUPLICATE_KEY = 18,   /* a key is in a table twice */
 
-    VOLLIKASH_SCHEMA = 43,    /* a table has other columns or another key in a later file */
+    VOLLIKASH_SCHEMA = 43,    /* a table has other columns or another key than in an earlier file */
     VOLLIKASH_NO_MEMORY = 60, /* memory ran out */
     VOLLIKASH_NO_ROOM = 80,   /* `out` is too small; `written` has the length that is needed */
     VOLLIKASH_DONE = 81,      /* no change is left */
@@ -114,8 +114,8 @@ static inline int vollikash_class(int code)
 /*
 ** Puts a sentence for people for a number above into `out`, with a zero byte after it,
 ** and the number of its bytes, the zero byte included, into `written`. A buffer of
-** VOLLIKASH_MESSAGE_ROOM bytes is enough. Returns OK, NO_ROOM, or RANGE for another
-** number; then `out` is unchanged.
+** VOLLIKASH_MESSAGE_ROOM bytes is enough. Returns OK; NO_ROOM, with the number that is
+** needed; or RANGE for another number. Unless it returns OK, `out` is unchanged.
 */
 #define VOLLIKASH_MESSAGE_ROOM 80
 int vollikash_message(int code, char *out, size_t room, size_t *written) VOLLIKASH_NONNULL;
@@ -125,10 +125,10 @@ int vollikash_message(int code, char *out, size_t room, size_t *written) VOLLIKA
 */
 struct vollikash_fault {
     int code;     /* what the call returns */
-    int file;     /* the file at fault: 1 the first or only one, 2 the second and so on,
-                  ** 0 none */
+    int file;     /* the file at fault: 1 the first or only one, 2 the second and so on; 0 for
+                  ** OK, DONE, NO_ROOM, RANGE and NO_MEMORY */
     size_t place; /* for 1 to 18 a byte offset in that file; for SCHEMA the zero-based
-                  ** index of the table that differs; else 0 */
+                  ** index, in that file, of the table that differs; else 0 */
 };
 
 /*
@@ -145,7 +145,8 @@ int vollikash_check(const uint8_t *file, size_t length, struct vollikash_fault *
 struct vollikash_change {
     size_t name;           /* the table's name: its offset, */
     size_t name_length;    /* and its bytes, which are UTF-8 */
-    size_t flags;          /* the offset of the flags: a byte for each column, not 0 if it is of the key */
+    size_t flags;          /* the offset of the flags: a byte for each column, not 0 if it is of the key,
+                           ** in SQLite's files its position in the PRIMARY KEY, from 1 */
     size_t columns;        /* the number of columns */
     size_t records;        /* the records of the change: their offset, */
     size_t records_length; /* and their bytes */
@@ -243,9 +244,11 @@ int vollikash_invert(const uint8_t *file, size_t length, uint8_t *out, size_t ro
 /*
 ** Makes the same changeset with the columns of each key numbered in column order, 1,
 ** 2 and so on, and 255 from the 255th on. It has the same changes and the same length.
-** SQLite's sqlite3changeset_apply silently skips a table whose flags are not these.
-** Do not call this on a file that SQLite recorded. Errors: 1 to 18, NO_MEMORY,
-** NO_ROOM.
+** SQLite's sqlite3changeset_apply silently skips a table whose flags are not the
+** positions of its columns in the PRIMARY KEY. A store's changeset marks each of them by
+** 1, and this call numbers them. It takes them to be in column order, which is wrong for
+** PRIMARY KEY(b, a). A file that SQLite recorded has the right numbers, and so has its
+** inverse: do not call this on them. Errors: 1 to 18, NO_MEMORY, NO_ROOM.
 */
 int vollikash_number_keys(const uint8_t *file, size_t length, uint8_t *out, size_t room, size_t *written,
                           struct vollikash_fault *fault) VOLLIKASH_NONNULL;
@@ -263,8 +266,10 @@ int vollikash_concat(const uint8_t *first, size_t first_length, const uint8_t *s
 ** and have these lengths. It does what the first does, then what the second does, and
 ** so on, and is at most as long as all together. Without a file it has no bytes. Errors:
 ** 1 to 18 and SCHEMA for the first file at fault, which is in `fault`, counted from
-** 1; RANGE if the lengths do not add up to the bytes; NO_MEMORY, NO_ROOM. It takes
-** time in proportion to the number of files times the length of the result.
+** 1; RANGE if a length is more than the bytes that are left, or bytes are left after the
+** last file; NO_MEMORY, NO_ROOM. Wrong lengths can also look like a damaged file. It
+** takes time in proportion to the number of files times the longest concatenation on the
+** way: for thousands of files, concatenate neighbours first.
 */
 int vollikash_concat_many(const uint8_t *files, size_t files_length, const size_t *lengths, size_t count,
                           uint8_t *out, size_t room, size_t *written,
@@ -273,7 +278,8 @@ int vollikash_concat_many(const uint8_t *files, size_t files_length, const size_
 /*
 ** Makes the file of the tables that are named, in the order of the file. A zero byte is
 ** between two names, and may be after the last, so "a\0b" with its length 4 names a and
-** b. Names that the file does not have are ignored. It is at most as long as the file.
+** b. Names are compared byte by byte. One that the file does not have is ignored; without
+** any the result has no bytes. It is at most as long as the file.
 ** Errors: 1 to 18, NO_MEMORY, NO_ROOM.
 */
 int vollikash_select(const uint8_t *file, size_t length, const char *names, size_t names_length, uint8_t *out,

@@ -30,7 +30,7 @@ low_messages =
 abbrev pub message_of : ℕ → Option (List ℕ)
 message_of code =
     if nat_lt code 19 then Some (get_or low_messages code [])
-    else if code == 43 then Some (codes "a table has other columns or another key in a later file")
+    else if code == 43 then Some (codes "a table has other columns or another key than in an earlier file")
     else if code == 60 then Some (codes "out of memory")
     else if code == 80 then Some (codes "the buffer is too small")
     else if code == 81 then Some (codes "no change is left")

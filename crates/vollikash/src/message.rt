@@ -54,7 +54,7 @@ fn sentence_of(code: u8) -> Option<&'static str>
         return Some(low_sentence(code));
     }
     match code {
-        43 => Some("a table has other columns or another key in a later file"),
+        43 => Some("a table has other columns or another key than in an earlier file"),
         60 => Some("out of memory"),
         80 => Some("the buffer is too small"),
         81 => Some("no change is left"),
