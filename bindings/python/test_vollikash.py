@@ -374,7 +374,7 @@ class Many(unittest.TestCase):
         self.assertEqual(answers, [(told(vollikash.check, file), 1) for file in files])
 
     def test_many_files(self):
-        """They make what two at a time make, and the file at fault is named by its index."""
+        """They make what two at a time make, and the file at fault is counted from 1."""
         lists = [[], [INSERT], [INSERT, UPDATE], [INSERT, UPDATE, DELETE], [DELETE, INSERT, b"", UPDATE], [b"", b""],
                  [b"x"], [INSERT, b"T"], [INSERT, UPDATE, b"P", b"x"], [INSERT, UPDATE, INSERT[:-1]],
                  [b"\x54\x01\x01t\x00\x09\x00\x05", INSERT], [INSERT, INSERT.replace(b"\x54\x02", b"\x54\x03")]]
@@ -387,12 +387,12 @@ class Many(unittest.TestCase):
 
     def one_by_one(self, files):
         joined = b""
-        for index, file in enumerate(files):
+        for number, file in enumerate(files, 1):
             try:
                 vollikash.check(file)
-                joined = vollikash.concat(joined, file) if index else file
+                joined = vollikash.concat(joined, file) if number > 1 else file
             except ChangesetError as error:
-                return f"error {error.code} {error.name} {error.place}\n", index
+                return f"error {error.code} {error.name} {error.place}\n", number
         return joined, 0
 
     def test_lengths(self):
@@ -401,7 +401,7 @@ class Many(unittest.TestCase):
             digits = b"".join(length.to_bytes(2, "big") for length in lengths).hex()
             code = Code.TRUNCATED if lengths == [len(INSERT) - 1] else Code.RANGE
             made, which = self.answers([f"concat_many {INSERT.hex()} {digits or '-'}"])[0]
-            self.assertEqual((made.split()[1], which), (str(int(code)), 0))
+            self.assertEqual((made.split()[1], which), (str(int(code)), int(code != Code.RANGE)))
 
 
 class Keys(unittest.TestCase):
