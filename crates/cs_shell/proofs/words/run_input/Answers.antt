@@ -1,11 +1,12 @@
 -- `words::run_input`: the clause `ran`.
-use Rattle.std.proofs.Common.{inl, refl, subst}
+use Rattle.std.proofs.Common.{inl, inr, refl, subst}
 use Rattle.sqlite.specs.Held.{state}
 use Rattle.sqlite.specs.Steps.{over_memory}
 use Rattle.cs_value.specs.State.{State}
 use Rattle.cs_store.specs.Store.{tables_in}
 use Rattle.cs_shell.specs.Runs.{Runs}
 use Rattle.cs_machine.specs.Script.{LineGives}
+use Rattle.cs_machine.proofs.TurnLemmas.{resource_of_store}
 use Rattle.cs_shell.specs.Stores.{RunsScript, beginning}
 use Rattle.cs_shell.proofs.words.run_input.Goals as goal
 
@@ -23,3 +24,7 @@ returns-in-Ok-clause-ran g c =
       },
       c.end_script.ensures.told,
     )
+
+pub returns-in-Err-clause-ran : goal.returns-in-Err-clause-ran
+returns-in-Err-clause-ran g c =
+    inr (refl, refl, refl, (c.from.result, rw c.from.ensures (resource_of_store c.in-Err.error c.in-Err.ensures.named), c.report.ensures))
