@@ -108,14 +108,3 @@ fn says_that_files_hold_no_database(rt: HostRuntime) {
         _ => panic!(rt; "a store"),
     }
 }
-
-#[test]
-fn closes_a_store_and_opens_its_files(rt: HostRuntime) {
-    let Ok(store) = open_store(&rt, files_of(&rt, b"")) else {
-        panic!(rt; "no store");
-    };
-    let Ok(files) = store.close_files() else {
-        panic!(rt; "files");
-    };
-    assert!(rt; !files.db.bytes().is_empty() && open_store(&rt, files).is_ok());
-}
