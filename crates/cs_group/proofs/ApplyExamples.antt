@@ -543,7 +543,11 @@ update_is_ignored =
     ap (λ (ps : List PlacedEntry). length (ignored_of Ignore (state_of later) ps)) (t_is_applicable refuses later (update x y))
     ∙ in_state refuses later (update x y) refl (λ refused o. length (cond (is_idle refused flags (update x y) o) (in_t (update x y) ∷ []) []))
 
--- so nothing is asked and nothing written
+-- where no-ops are reported, it is not
+update_is_reported : ignored Report (state_of later) (one_change (update x y)) ≡ 0
+update_is_reported = refl
+
+-- an ignored update asks for no choice and writes nothing
 none_is_heeded : heeded Ignore (state_of later) (one_change (update x y)) ≡ []
 unfolding value_bytes field_bytes
 none_is_heeded =
@@ -556,7 +560,7 @@ ignored_meets_none choose = ap (flat_map (met_at (state_of later) choose)) none_
 ignored_writes_none : (choose : Choices) → written_under Ignore (state_of later) (one_change (update x y)) choose ≡ []
 ignored_writes_none choose = ap (filter_map (written_for (state_of later) choose)) none_is_heeded
 
--- the table t of the column a alone
+-- the table t with only the column a
 abbrev header_a : HeaderData
 header_a = record { name = codes "t"; flags = 1 ∷ [] }
 

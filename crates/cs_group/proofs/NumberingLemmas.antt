@@ -21,7 +21,7 @@ use Rattle.cs_group.specs.declared.conflict.Noop.TheVariants.{Report, Ignore}
 use Rattle.cs_group.specs.declared.judging.Judgement.TheVariants.{Wider}
 use Rattle.cs_group.specs.Judging.{judged, is_skipped, is_compatible}
 use Rattle.cs_group.specs.Joining.{table_name, key_places}
-use Rattle.cs_group.specs.Applying.{PlacedEntry, placed_by, placed_in, placed, placed_key, current, refused_at, IsElsewhere, NoneWider, skipped, compatible_groups, applicable, is_idle_at, heeded_of, heeded, placed_kind, Choices, met_at, met_under, written_for, placed_result, AreApplied}
+use Rattle.cs_group.specs.Applying.{PlacedEntry, placed_by, placed_in, placed, placed_key, current, refused_at, IsElsewhere, NoneWider, skipped, compatible_groups, applicable, is_idle_at, ignored_of, heeded_of, heeded, placed_kind, Choices, met_at, met_under, written_for, placed_result, AreApplied}
 use Rattle.cs_group.specs.Numbering.{next_number, numbered_behind, numbered_flags, numbered_header, numbered_group, numbered, InvertsNumbered, numbered_entry, as_numbered, DoesAlike}
 use Rattle.cs_group.proofs.InverseLemmas.{no_changeset}
 use Rattle.cs_group.proofs.JudgingLemmas.{judgement_same}
@@ -373,6 +373,17 @@ heeded_of_numbered Ignore state (p ∷ ps) = rw (idle_stays state p, heeded_of_n
     at true = refl
     at false = refl
 
+-- as many entries are ignored
+ignored_of_numbered : (noop : Noop) (state : State) (ps : List PlacedEntry) → length (ignored_of noop state (map numbered_entry ps)) ≡ length (ignored_of noop state ps)
+ignored_of_numbered Report state ps = refl
+ignored_of_numbered Ignore state [] = refl
+ignored_of_numbered Ignore state (p ∷ ps) =
+    rw (idle_stays state p) (at (is_idle_at state p) (ignored_of Ignore state (map numbered_entry ps)) (ignored_of Ignore state ps) (ignored_of_numbered Ignore state ps))
+  where
+    at : (b : Bool) (ns others : List PlacedEntry) → length ns ≡ length others → length (cond b (numbered_entry p ∷ ns) ns) ≡ length (cond b (p ∷ others) others)
+    at true ns others same = ap suc same
+    at false ns others same = same
+
 heeded_numbered : (noop : Noop) (state : State) (changeset : List GroupData) → heeded noop state (numbered changeset) ≡ map numbered_entry (heeded noop state changeset)
 heeded_numbered noop state changeset = ap (heeded_of noop state) (applicable_numbered state changeset) ∙ heeded_of_numbered noop state (applicable state changeset)
 
@@ -411,6 +422,7 @@ pub does_alike : (changeset : List GroupData) → DoesAlike changeset (numbered 
 does_alike changeset = record {
   judged = λ state. judged_each state changeset;
   skipped = λ state. skipped_stay state changeset;
+  ignored = λ noop state. ap (λ (ps : List PlacedEntry). length (ignored_of noop state ps)) (applicable_numbered state changeset) ∙ ignored_of_numbered noop state (applicable state changeset);
   met = λ noop state choose. met_stay noop state changeset choose;
   clean = λ state. (
     λ is. record { none_wider = none_wider state changeset is.none_wider; no_conflict = none_meets state changeset is.no_conflict },

@@ -38,7 +38,7 @@ placed groups = flat_map placed_in groups
 abbrev pub placed_key : PlacedEntry → List ℕ
 placed_key p = key_of p.flags p.entry.change
 
--- the row that stands there
+-- the current row with that key
 abbrev pub current : State → PlacedEntry → Option (List OwnedValue)
 current state p = row_at state p.table (placed_key p)
 
@@ -56,7 +56,7 @@ IsElsewhere p table key = ¬ ((p.table ≡ table) × (placed_key p ≡ key))
 
 -- ---- which of them are applied
 
--- the names of the tables whose changes are passed over
+-- the names of the tables that are skipped
 abbrev pub skipped : State → List GroupData → List (List ℕ)
 skipped state changeset = map (λ g. g.header.name) (filter (λ g. is_skipped (judged state g)) changeset)
 
@@ -79,12 +79,12 @@ applicable state changeset = placed (compatible_groups state changeset)
 
 -- ---- entries that change nothing
 
--- the row of the entry already agrees with what it leaves, and it meets a conflict there
+-- the entry is a no-op: it has a conflict, and the current row already agrees with its new row
 abbrev pub is_idle_at : State → PlacedEntry → Bool
 is_idle_at state p = is_idle (refused_at state p) p.flags p.entry.change (current state p)
 
--- those of the entries that are idle, where these are to be ignored: for them nothing is asked, nothing is written, and
--- nothing is told but their number
+-- the entries that are no-ops, if no-ops are to be ignored: no choice is asked for them, nothing is written, and only
+-- their number is reported
 abbrev pub ignored_of : Noop → State → List PlacedEntry → List PlacedEntry
 ignored_of Report state entries = []
 ignored_of Ignore state entries = filter (is_idle_at state) entries
@@ -169,16 +169,16 @@ written = written_under Report
 abbrev pub placed_result : State → Choices → PlacedEntry → Option (Option (List OwnedValue))
 placed_result state choose p = entry_result (refused_at state p) p.flags p.entry.change (current state p) (choose p)
 
--- a state that these entries make of another: with its tables, at the key of each entry what that leaves, and elsewhere
--- the rows that stood there
+-- a state that these entries make of another: it has the same tables, at the key of each entry the result of that
+-- entry, and elsewhere the same rows
 pub record AreApplied (old : State) (entries : List PlacedEntry) (choose : Choices) (new : State) : Type 0 where
   pub schemas : (table : List ℕ) → schema_at new table ≡ schema_at old table
   pub results : All (λ p. placed_result old choose p ≡ Some (current new p)) entries
   pub others : (table key : List ℕ) → All (λ p. IsElsewhere p table key) entries
       → row_at new table key ≡ row_at old table key
 
--- the state after the changeset: the rows at the keys of compatible groups are the results, and where an entry is
--- ignored the row that stood there
+-- the state after the changeset: the rows at the keys of compatible groups are the results; an ignored entry leaves the
+-- row
 abbrev pub IsAppliedUnder : Noop → State → List GroupData → Choices → State → Type 0
 IsAppliedUnder noop old changeset choose new = AreApplied old (heeded noop old changeset) choose new
 

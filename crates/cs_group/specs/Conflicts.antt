@@ -37,15 +37,14 @@ has_values (value ∷ row) [] = false
 has_values (value ∷ row) (Undefined ∷ image) = has_values row image
 has_values (value ∷ row) (Defined v ∷ image) = is_same (Defined v) (Defined value) && has_values row image
 
--- what is met by an image of the row before, or of none, where this row stands, or none
+-- the kind of conflict that an old image, or none, has with the current row, or none
 abbrev pub kind_between : Option (List OwnedField) → Option (List OwnedValue) → Option Kind
 kind_between None None = None
 kind_between None (Some row) = Some Conflict
 kind_between (Some image) None = Some NotFound
 kind_between (Some image) (Some row) = if has_values row image then None else Some Data
 
--- a change would leave NULL in a column that refuses it: since no row that stands has it there, this says whether the
--- row afterwards would
+-- a change would leave NULL in a column that refuses it; since no current row has NULL there, the new image decides
 abbrev pub is_refused : List Bool → List ℕ → Change → Bool
 is_refused refuses flags change = unwrap_or (option_map (has_null refuses) (after_image flags change)) false
 
@@ -66,13 +65,13 @@ agrees None (Some row) = false
 agrees (Some image) None = false
 agrees (Some image) (Some row) = has_values row image
 
--- a change is idle at a row, or none, where it meets a conflict and what stands there already agrees with what it
--- leaves: the changes for which SQLite does not call the conflict handler under SQLITE_CHANGESETAPPLY_IGNORENOOP (its
--- "Flags for sqlite3changeset_apply_v2")
+-- a change is a no-op at a row, or none, if it has a conflict and the current row already agrees with the new one: the
+-- changes for which SQLite does not call the conflict handler under SQLITE_CHANGESETAPPLY_IGNORENOOP (its "Flags for
+-- sqlite3changeset_apply_v2")
 abbrev pub is_idle : Bool → List ℕ → Change → Option (List OwnedValue) → Bool
 is_idle refused flags change row = is_some (conflict_kind refused change row) && agrees (after_image flags change) row
 
--- the value of a field, and where it is undefined the one that stands in its column
+-- the value of a field, or the current one of its column if the field is undefined
 abbrev pub value_in : OwnedField → Option OwnedValue → Option OwnedValue
 value_in Undefined stood = stood
 value_in (Defined v) stood = Some v
@@ -128,7 +127,7 @@ abbrev pub is_ended : List Kind → (Kind → Choice) → Bool
 is_ended [] choose = false
 is_ended (kind ∷ kinds) choose = ends kind (choose kind) || is_ended kinds choose
 
--- what stands at the key of a change afterwards, under the choices: a row or none, if there is an afterwards
+-- the row at the key of a change after it, or none, under the choices; nothing if they end the apply
 abbrev pub entry_result : Bool → List ℕ → Change → Option (List OwnedValue) → (Kind → Choice)
     → Option (Option (List OwnedValue))
 entry_result refused flags change row choose =

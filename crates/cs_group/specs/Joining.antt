@@ -27,7 +27,7 @@ laid_over [] lower = []
 laid_over (upper ∷ uppers) [] = []
 laid_over (upper ∷ uppers) (lower ∷ lowers) = over upper lower ∷ laid_over uppers lowers
 
--- the same of a row that may be absent: what the upper says stands, and what it leaves open the lower says
+-- the same of a row that may be absent: the fields of the upper one, and those of the lower one where it has none
 abbrev pub known : Option (List OwnedField) → Option (List OwnedField) → Option (List OwnedField)
 known None lower = None
 known (Some upper) None = Some upper
@@ -100,7 +100,7 @@ abbrev pub outcome : {X : Type 0} → (X → List ℕ) → (X → Option X → O
 outcome text_of join xs x = join x (with_text text_of xs (text_of x))
 
 -- what becomes of each thing of the first list with the thing of its text in the second; then the things of the second
--- whose text the first has not
+-- with a text that the first does not have
 abbrev pub joined_by : {X : Type 0} → (X → List ℕ) → (X → Option X → Option X) → List X → List X → List X
 joined_by text_of join first second =
     filter_map (outcome text_of join second) first ++ filter (is_new text_of first) second

@@ -36,8 +36,8 @@ abbrev pub WrittenTells : Type 0
 WrittenTells = (noop : Noop) (old : State) (changeset : List GroupData) (choose : Choices) (new : State)
     → IsAppliedUnder noop old changeset choose new → TellsFormer old new (written_under noop old changeset choose)
 
--- which changes are idle: a delete where no row stands, an insert where its row stands, and an update where the row
--- with its key has the new values in the modified columns, and not all of the old ones
+-- which changes are no-ops: a delete without a row, an insert whose row exists, and an update whose row has the new
+-- values in the modified columns, and not all of the old ones
 pub record IdleCases : Type 0 where
   pub deleted : (refused : Bool) (flags : List ℕ) (old : List OwnedValue) (row : Option (List OwnedValue))
       → (is_idle refused flags (Delete old) row ≡ true) ↔ (row ≡ None)

@@ -9,17 +9,13 @@ use Rattle.sqlite.proofs.StateLemmas.{survives_then, survives_weaker}
 use Rattle.cs_value.specs.State as tables
 use Rattle.cs_rows.specs.declared.fault.StoreError.{StoreError}
 use Rattle.cs_records.specs.Records.{IsUndone, KeepsContent, KeepsCrash, KeepsOthers}
-use Rattle.cs_store.specs.Store.{HoldsState, HoldsTables, IsStore, IsSound, IsInside, KeepsStore, Begins, Ends, tables_in}
-use Rattle.cs_store.specs.Crash.{MayLeave, LeavesOnly, LeavesTakenOver, CanBegin, IsAtomic}
-use Rattle.cs_store.specs.Laws.{was_clean, keeps_itself}
+use Rattle.cs_access.specs.Store.{HoldsState, HoldsTables, IsStore, IsSound, IsInside, KeepsStore, Begins, Ends, tables_in}
+use Rattle.cs_access.specs.Crash.{MayLeave, LeavesOnly, LeavesTakenOver, CanBegin, IsAtomic}
+use Rattle.cs_access.specs.Laws.{was_clean, keeps_itself}
 use Rattle.cs_records.proofs.ContentLemmas.{crash_then, crash_weaker}
-use Rattle.cs_store.proofs.WriteLemmas.{shows_state}
+use Rattle.cs_access.proofs.WriteLemmas.{may_leave, shows_state}
 
 -- ---- what is committed
-
--- the trees of a database that holds a state are a store's
-pub may_leave : (s : State) (Holds : tables.State → Type 0) (trees : Trees) → HoldsState s.now → Holds (tables_in s.now) → trees ≡ s.now.trees → MayLeave Holds trees
-may_leave s Holds trees holds shows same = subst (MayLeave Holds) (sym same) (record { schema = s.now.schema; store = holds; tables = shows })
 
 -- of those tables something else holds
 pub leaves_weaker : (P Q : tables.State → Type 0) → ((t : tables.State) → P t → Q t) → (trees : Trees) → MayLeave P trees → MayLeave Q trees

@@ -22,10 +22,10 @@ use Rattle.cs_rows.specs.declared.fault.StoreError.TheVariants.{DamagedStore}
 use Rattle.cs_rows.specs.Faults.{IsResource}
 use Rattle.cs_records.specs.Records.{HoldsRecords, records_in}
 use Rattle.cs_stored.specs.Stored.{version, Stores}
-use Rattle.cs_store.specs.Store.{HoldsTables, IsDamaged, Adopts, tables_in}
-use Rattle.cs_store.specs.Opening.{IsFoundIn, OpensFiles, RefusesFound}
-use Rattle.cs_store.specs.Crash.{MayLeave, LeavesOnly, IsLeftIn, IsLeftOf}
-use Rattle.cs_store.proofs.AdoptionLemmas.{nothing_held, vacant_holds, damaged_none}
+use Rattle.cs_access.specs.Store.{HoldsTables, IsDamaged, Adopts, tables_in}
+use Rattle.cs_store.specs.Opening.{IsLeftIn, IsFoundIn, OpensFiles, RefusesFound}
+use Rattle.cs_access.specs.Crash.{MayLeave, LeavesOnly, IsLeftOf}
+use Rattle.cs_adoption.proofs.AdoptionLemmas.{nothing_held, vacant_holds, damaged_none}
 use Rattle.cs_stored.proofs.StateOf.{stored_once}
 
 -- trees list one schema

@@ -1,9 +1,4 @@
-pub mod AdoptionLemmas
 pub mod CrashLemmas
 pub mod DeclareLemmas
-pub mod KnownLemmas
 pub mod LeftLemmas
-pub mod ReadLemmas
-pub mod StoreLemmas
-pub mod StoredLists
-pub mod WriteLemmas
+pub mod OpeningLemmas

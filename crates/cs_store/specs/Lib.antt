@@ -1,8 +1,8 @@
-pub mod Refusals
-pub mod Store
-pub mod Crash
 pub mod Opening
-pub mod Laws
+pub use Rattle.cs_access.specs.Refusals
+pub use Rattle.cs_access.specs.Store
+pub use Rattle.cs_access.specs.Crash
+pub use Rattle.cs_access.specs.Laws
 pub use Rattle.cs_stored.specs.Declaration
 pub use Rattle.cs_stored.specs.Stored
 pub use Rattle.cs_stored.specs.Valid

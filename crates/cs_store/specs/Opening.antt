@@ -1,5 +1,5 @@
 -- How the files of a database are opened as a store, or refused.
-use Rattle.std.specs.Prelude.{◌≡◌, ◌⊎◌, false, IsTrue, Option, None, Some}
+use Rattle.std.specs.Prelude.{◌≡◌, ◌⊎◌, ◌≤◌, false, IsTrue, Option, None, Some}
 use Rattle.sqlite_disk.specs.declared.Disk.{Ghosts}
 use Rattle.sqlite_disk.specs.declared.Files.{Files}
 use Rattle.sqlite_trees.specs.Tree.{Trees}
@@ -11,15 +11,20 @@ use Rattle.sqlite.specs.declared.error.ErrorCode.TheVariants as code
 use Rattle.sqlite.specs.declared.file.Leftover.{Leftover}
 use Rattle.sqlite.specs.Files.{HoldsDatabase, AreFoundIn, IsCleanLeft, FailsToOpenFiles, LeavesFiles, image_of, file_state}
 use Rattle.sqlite.specs.State.{State, HasCleanDisk}
+use Rattle.cs_value.specs.State as tables
 use Rattle.cs_rows.specs.declared.fault.StoreError.{StoreError}
 use Rattle.cs_rows.specs.declared.fault.StoreError.TheVariants.{DamagedStore}
 use Rattle.cs_rows.specs.Faults.{IsResource}
 use Rattle.cs_records.specs.Records.{KeepsOthers}
 use Rattle.cs_store.specs.declared.opening.Unopened.{Unopened}
 use Rattle.cs_store.specs.declared.opening.Unopened.TheVariants as unopened
-use Rattle.cs_store.specs.Refusals.{refusal_for}
-use Rattle.cs_store.specs.Crash.{MayLeave}
-use Rattle.cs_store.specs.Store.{HoldsState, HoldsTables, IsAtRest, IsDamaged, tables_in}
+use Rattle.cs_access.specs.Refusals.{refusal_for}
+use Rattle.cs_access.specs.Crash.{MayLeave}
+use Rattle.cs_access.specs.Store.{HoldsState, HoldsTables, IsAtRest, IsDamaged, tables_in}
+
+-- the contents of files hold a database that is what a crash left of these tables
+abbrev pub IsLeftIn : tables.State → Image → Type 0
+IsLeftIn held image = ∥ ((trees : Trees) × HoldsDatabase image trees × MayLeave (λ left. left ≡ held) trees) ∥₁
 
 -- the database is the one that the files held
 pub record IsFoundIn (image : Image) (db : Database) : Type 0 where
@@ -27,8 +32,8 @@ pub record IsFoundIn (image : Image) (db : Database) : Type 0 where
   pub holds : (trees : Trees) → HoldsDatabase image trees → db.trees ≡ trees
   pub reads : AreFoundIn image db.trees
 
--- Files are opened as a store: the database that they held. The store has its tables, and the other tables are as they
--- were.
+-- Files are opened as a store: they held a database, and the store has its tables. The other tables of the database are
+-- as they were.
 pub record OpensFiles (image : Image) (new : State) : Type 0 where
   pub db : Database
   pub found : IsFoundIn image db
@@ -37,37 +42,39 @@ pub record OpensFiles (image : Image) (new : State) : Type 0 where
   pub others : KeepsOthers db new.now
   pub at_rest : IsAtRest new
 
--- A database was found that is refused, and is still shown as it was found: it is damaged, or memory ran out, or the
--- database refused. No transaction is open, and a crash leaves that database or a store with its tables.
+-- Files held a database that is refused: it is damaged, memory ran out, or the database refused. The connection shows it
+-- as it was found, unless a failure of the disk, which is counted, has shut it. No transaction is open, and a crash leaves
+-- that database or a store with its tables.
 pub record RefusesFound (image : Image) (e : StoreError) (shown : State) : Type 0 where
   pub db : Database
   pub found : IsFoundIn image db
   pub why : ((e ≡ DamagedStore) × IsDamaged db) ⊎ IsResource e
   pub outside : shown.in_transaction ≡ false
+  pub still : IsTrue shown.is_open ⊎ (1 ≤ shown.faults)
   pub kept : IsTrue shown.is_open → (shown.now ≡ db) × (shown.committed ≡ db)
   pub leaves : (trees : Trees) → shown.may_leave trees → (trees ≡ db.trees) ⊎ MayLeave (HoldsTables db) trees
 
--- Files are not opened as a database. The error has its cause in what the files hold, in a fault or in memory, and they
--- are left so that the next opening finds what this one did.
+-- Files are not opened as a database. The error has its cause in the contents of the files, in a failed call or in memory.
+-- The next opening of what is left finds the same database, or none where there was none.
 pub record IsUnopened {D : Type 0} {g : Ghosts D} (files : Files D) (e : StoreError) (left : Leftover D g) : Type 0 where
   pub error : Error
   pub is : e ≡ refusal_for error
   pub cause : IsCleanLeft left → FailsToOpenFiles files left error
   pub unharmed : IsCleanLeft left → LeavesFiles files left
 
--- files are refused: they are not opened as a database, or their database is refused
+-- files are refused: they are not opened as a database, or the database in them is refused
 abbrev pub RefusesFiles : {D : Type 0} {g : Ghosts D} → Files D → StoreError → Unopened D g → Type 0
 RefusesFiles files e (unopened.Files left) = IsUnopened files e left
 RefusesFiles {g = g} files e (unopened.Database conn) = HasCleanDisk (file_state conn) → RefusesFound (image_of g files) e (file_state conn)
 
--- the files at a path cannot be opened or are open already, or memory ran out
-abbrev pub CannotOpenPath : Error → Type 0
-CannotOpenPath error =
+-- the error is one of a path: its files cannot be opened, or are open already, or memory ran out
+abbrev pub IsPathError : Error → Type 0
+IsPathError error =
     (error ≡ SqliteFailure code.CannotOpen) ⊎ ((error ≡ SqliteFailure code.OutOfMemory) ⊎ (error ≡ SqliteFailure code.DatabaseBusy))
 
--- a path is refused: it has no files, or they are refused, which were such files when they were opened
+-- a path is refused: its files are not opened, or files that were opened, and were such ones then, are refused
 abbrev pub RefusesPath : {D : Type 0} {g : Ghosts D} → (Files D → Type 0) → Image → StoreError → Option (Unopened D g) → Type 0
-RefusesPath Were image e None = (error : Error) × (e ≡ refusal_for error) × CannotOpenPath error
+RefusesPath Were image e None = (error : Error) × (e ≡ refusal_for error) × IsPathError error
 RefusesPath {D = D} Were image e (Some (unopened.Files left)) = (files : Files D) × Were files × IsUnopened files e left
 RefusesPath Were image e (Some (unopened.Database conn)) = HasCleanDisk (file_state conn) → RefusesFound image e (file_state conn)
 

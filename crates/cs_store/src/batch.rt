@@ -7,12 +7,11 @@ ghost use Rattle.cs_rows.specs.declared.fault.StoreError.TheVariants.{TableExist
 ghost use Rattle.cs_rows.specs.Faults.{IsResource, IsReadRefusal};
 ghost use Rattle.cs_rows.specs.Rows.{IsDeclared};
 ghost use Rattle.cs_records.specs.Records.{IsUndone, KeepsCrash, KeepsOthers};
-ghost use Rattle.cs_store.specs.Crash.{IsAtomic, LeavesOnly};
-ghost use Rattle.cs_store.specs.Store.{AddsTable, Ends, IsInside, KeepsStore, tables_in};
+ghost use Rattle.cs_access.specs.Crash.{IsAtomic, LeavesOnly};
+ghost use Rattle.cs_access.specs.Store.{AddsTable, Ends, IsInside, KeepsStore, tables_in};
 
-use crate::known;
-use crate::refusal::refused;
 use crate::store::Store;
+use cs_access::{commit, refused};
 use cs_records::transactions;
 use cs_rows::{Rows, Schema, StoreError};
 use cs_value::{Key, Row};
@@ -43,7 +42,7 @@ impl<S: Alter> SqlBatch<'_, S> {
         ensures kept { KeepsStore (state S.Store self.old.store.now) (state S.Store self.new.store.now) }
     {
         let store = &mut *self.store;
-        known::add_table(&mut store.conn, &mut store.known, alloc, name, schema)
+        cs_access::add_table(&mut store.conn, &mut store.known, alloc, name, schema)
     }
 
     /// Commits the writes of the batch.
@@ -91,9 +90,9 @@ impl<S: Alter> Rows for SqlBatch<'_, S> {
     ghost use Rattle.std.proofs.Common.{◌≡◌, refl, ◌∙◌};
     ghost use Rattle.sqlite.specs.State.{HasCleanDisk};
     ghost use Rattle.sqlite.specs.Held.{state as shown};
-    ghost use Rattle.cs_store.specs.Crash.{LeavesOnly};
-    ghost use Rattle.cs_store.specs.Store.{KeepsStore, tables_in};
-    ghost use Rattle.cs_store.specs.Laws as laws;
+    ghost use Rattle.cs_access.specs.Crash.{LeavesOnly};
+    ghost use Rattle.cs_access.specs.Store.{KeepsStore, tables_in};
+    ghost use Rattle.cs_access.specs.Laws as laws;
 
     ghost state = { λ b. tables_in (shown S.Store b.store.now).now };
 
@@ -116,39 +115,21 @@ impl<S: Alter> Rows for SqlBatch<'_, S> {
 
     fn get(&mut self, alloc: Global, table: &str, key: &Key) -> Result<Option<Row>, StoreError> {
         let store = &mut *self.store;
-        known::find_row(&mut store.conn, &mut store.known, alloc, table, key)
+        cs_access::find_row(&mut store.conn, &mut store.known, alloc, table, key)
     }
 
     fn put(&mut self, alloc: Global, table: &str, key: &Key, row: &Row) -> Result<(), StoreError> {
         let store = &mut *self.store;
-        known::put_row(&mut store.conn, &mut store.known, alloc, table, key, row)
+        cs_access::put_row(&mut store.conn, &mut store.known, alloc, table, key, row)
     }
 
     fn remove(&mut self, _alloc: Global, table: &str, key: &Key) -> Result<(), StoreError> {
         let store = &mut *self.store;
-        known::remove_row(&mut store.conn, &mut store.known, table, key)
+        cs_access::remove_row(&mut store.conn, &mut store.known, table, key)
     }
 
     fn list(&mut self, alloc: Global, table: &str) -> Result<Vec<Row>, StoreError> {
         let store = &mut *self.store;
-        known::list_rows(&mut store.conn, &mut store.known, alloc, table)
-    }
-}
-
-/// Commits the transaction of a connection.
-pub(crate) fn commit<S: Alter>(conn: &mut Connection<S>) -> Result<(), StoreError>
-    ensures committed { HasCleanDisk (state S.Store conn.new)
-        → OnOk result (IsTrue (state S.Store conn.old).in_transaction
-        × Shows (state S.Store conn.old) (state S.Store conn.new)
-        (state S.Store conn.old).now (state S.Store conn.old).now false) }
-    ensures refused { IfErr result IsResource }
-    ensures undone { HasCleanDisk (state S.Store conn.new)
-        → OnErr result (IsUndone (state S.Store conn.old) (state S.Store conn.new)) }
-    ensures survives { Survives (state S.Store conn.old) (state S.Store conn.new)
-        (λ db. (db ≡ (state S.Store conn.old).now.trees) × IsTrue (state S.Store conn.old).in_transaction) }
-{
-    match transactions::commit(conn) {
-        Ok(()) => Ok(()),
-        Err(error) => Err(refused(error)),
+        cs_access::list_rows(&mut store.conn, &mut store.known, alloc, table)
     }
 }

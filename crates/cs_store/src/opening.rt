@@ -9,15 +9,15 @@ ghost use Rattle.sqlite_std_file.specs.File.{IsFresh};
 ghost use Rattle.sqlite_wal.specs.Files.{image_at};
 ghost use Rattle.sqlite_wal.specs.Recovery.{Image};
 ghost use Rattle.sqlite_wal.specs.Reads.{AreClean};
-ghost use Rattle.sqlite_trees.specs.View.{IsClean, IsQuiet};
-ghost use Rattle.sqlite_store.specs.FileStore.{state as files_state, view, faults, recovers, is_shielded};
-ghost use Rattle.cs_store.specs.Crash.{IsLeftIn, LeavesOnly};
-ghost use Rattle.cs_store.specs.Store.{tables_in};
-ghost use Rattle.cs_store.specs.Refusals.{refusal_for};
-ghost use Rattle.cs_store.specs.Opening.{OpensFiles, RefusesFiles, RefusesPath, IsHonestRest, IsHonestLeft};
+ghost use Rattle.sqlite_trees.specs.View.{IsClean, IsQuiet, IsRolledBack as IsUndone};
+ghost use Rattle.sqlite_store.specs.FileStore.{state as files_state, files as store_files, view, faults, recovers, is_shielded};
+ghost use Rattle.cs_access.specs.Crash.{LeavesOnly};
+ghost use Rattle.cs_access.specs.Store.{tables_in};
+ghost use Rattle.cs_access.specs.Refusals.{refusal_for};
+ghost use Rattle.cs_store.specs.Opening.{IsLeftIn, OpensFiles, RefusesFiles, RefusesPath, IsHonestRest, IsHonestLeft};
 
-use crate::refusal::refused;
 use crate::store::Store;
+use cs_access::refused;
 use cs_records::RecordsError;
 use cs_rows::StoreError;
 use sqlite::{Connection, FileFrom, FileStore, Files, Leftover, Options, Start};
@@ -78,6 +78,7 @@ impl<D: Disk + Drop> Store<FileStore<D>> {
     /// returns these tables ([`open_files`](Store::open_files)).
     pub fn into_files(self) -> FileStore<D>
         ensures quiet { IsQuiet view faults recovers is_shielded self.store result }
+        ensures undone { IsUndone (view self.store) (view result) }
         ensures left { (held : tables.State) → IsClean (view result)
             → LeavesOnly (λ left. left ≡ held) (file_state self)
             → (image : Image) → (files_state result).may_leave image → IsLeftIn held image }
@@ -93,6 +94,8 @@ impl<D: Disk + Drop> Store<FileStore<D>> {
     /// They come with what is left of the files, where a crash leaves nothing else than before. `StoreFault` if the
     /// database refuses, and `NoMemory` if out of memory.
     pub fn close_files(self) -> Result<Files<D>, (StoreError, FileStore<D>)>
+        ensures closed { IfOk result (λ files. (last : _)
+            × (store_files last ≡ (files.log, files.db)) × IsClosed self last) }
         ensures usable { IfOk result (λ files. IsTrue (D.Disk.is_usable files.log) × IsTrue (D.Disk.is_usable files.db)) }
         ensures copied { IfOk result (λ files. AreClean D.Disk files.log files.db → IsCopied self files) }
         ensures refused { IfErr result (λ e. IsClosed self e.1 × (IsClean (view e.1)

@@ -8,7 +8,7 @@ ghost use Rattle.cs_rows.specs.declared.fault.StoreError.TheVariants.{DamagedSto
 ghost use Rattle.cs_rows.specs.declared.fault.StoreError.TheVariants.{BadSchema as NoSchema, TableExists as TakenName};
 ghost use Rattle.cs_rows.specs.Faults.{IsResource, IsReadRefusal, IsEditRefusal};
 ghost use Rattle.cs_rows.specs.Editing.{Declares, EditsInto, schema_of, edited, written_of};
-ghost use Rattle.cs_store.specs.Crash.{CanBegin, IsAtomic, IsLeftOf, LeavesOnly, LeavesTakenOver, MayLeave};
+ghost use Rattle.cs_access.specs.Crash.{CanBegin, IsAtomic, IsLeftOf, LeavesOnly, LeavesTakenOver, MayLeave};
 ghost use Rattle.cs_records.specs.Records.{KeepsContent, KeepsCrash, KeepsOthers};
 ghost use Rattle.cs_rows.specs.Rows.{IsDeclared, Fits};
 ghost use Rattle.sqlite.specs.Effect.{IsDatabase};
@@ -16,13 +16,11 @@ ghost use Rattle.sqlite.specs.State.{HasCleanDisk, Survives};
 ghost use Rattle.sqlite.specs.Held.{state};
 ghost use Rattle.sqlite_trees.specs.Tree.{Trees};
 ghost use Rattle.sqlite.specs.Steps.{over_memory};
-ghost use Rattle.cs_store.specs.Store.{Adopts, Begins, HoldsTables, IsAtRest, IsDamaged, KeepsStore};
-ghost use Rattle.cs_store.specs.Store.{RefusesShut, tables_in};
+ghost use Rattle.cs_access.specs.Store.{Adopts, Begins, HoldsTables, IsAtRest, IsDamaged, KeepsStore};
+ghost use Rattle.cs_access.specs.Store.{RefusesShut, tables_in};
 
 use crate::batch::SqlBatch;
-use crate::known::KnownTable;
-use crate::refusal::refused;
-use crate::{adoption, known, tables};
+use cs_access::{KnownTable, refused};
 use cs_records::{RecordsError, transactions};
 use cs_rows::{Edit, Schema, StoreError, Written, edit_in};
 use cs_value::{Key, Row, is_table_name};
@@ -42,7 +40,7 @@ pub struct Store<S: Alter> {
 
 impl<S: Alter> Model for Store<S> {
     ghost use Rattle.sqlite.specs.Held.{Held, held_code, state};
-    ghost use Rattle.cs_store.specs.Store.{IsSound, Knows};
+    ghost use Rattle.cs_access.specs.Store.{IsSound, Knows};
 
     ghost Value = { Held S };
 
@@ -114,7 +112,7 @@ impl<S: Alter> Store<S> {
         ensures leaves { MatchResult result (λ s. LeavesTakenOver (state S.Store conn) (state S.Store s))
             (λ e. LeavesTakenOver (state S.Store conn) (state S.Store e.1)) }
     {
-        match adoption::adopt(&mut conn, alloc) {
+        match cs_adoption::adopt(&mut conn, alloc) {
             Ok(()) => Ok(Store { conn, known: None }),
             Err(error) => Err((error, conn)),
         }
@@ -270,7 +268,7 @@ impl<S: Alter> Store<S> {
         ensures kept { KeepsStore (state S.Store self.old) (state S.Store self.new) }
     {
         self.known = None;
-        tables::list_tables(&mut self.conn, alloc)
+        cs_access::list_tables(&mut self.conn, alloc)
     }
 
     /// Returns the schema of a table, or None if no table has the name.
@@ -289,7 +287,7 @@ impl<S: Alter> Store<S> {
         ensures named { IfErr result IsReadRefusal }
         ensures kept { KeepsStore (state S.Store self.old) (state S.Store self.new) }
     {
-        known::find_schema(&mut self.conn, &mut self.known, alloc, name)
+        cs_access::find_schema(&mut self.conn, &mut self.known, alloc, name)
     }
 
     /// Returns the rows of a table, in the order of the bytes of their keys.
@@ -312,7 +310,7 @@ impl<S: Alter> Store<S> {
         ensures named { IfErr result (λ e. (e ≡ NoSuchTable) ⊎ IsReadRefusal e) }
         ensures kept { KeepsStore (state S.Store self.old) (state S.Store self.new) }
     {
-        let listed = known::list_rows(&mut self.conn, &mut self.known, alloc, name)?;
+        let listed = cs_access::list_rows(&mut self.conn, &mut self.known, alloc, name)?;
         match &self.known {
             Some(_) => Ok(listed),
             None => Err(StoreError::NoTable),
@@ -340,7 +338,7 @@ impl<S: Alter> Store<S> {
         ensures named { IfErr result (λ e. (e ≡ NoSuchTable) ⊎ IsReadRefusal e) }
         ensures kept { KeepsStore (state S.Store self.old) (state S.Store self.new) }
     {
-        let found = known::find_row(&mut self.conn, &mut self.known, alloc, name, key)?;
+        let found = cs_access::find_row(&mut self.conn, &mut self.known, alloc, name, key)?;
         match &self.known {
             Some(_) => Ok(found),
             None => Err(StoreError::NoTable),

@@ -1,5 +1,5 @@
 //! Readers and writers that remember whether a call failed.
-ghost use Rattle.std.specs.Prelude.{◌≡◌, ◌||◌, is_err, false, ℕ, List, Result, IfErr, IsTrue};
+ghost use Rattle.std.specs.Prelude.{◌≡◌, ◌++◌, ◌||◌, is_err, false, ℕ, List, Result, IfErr, IsTrue};
 ghost use Rattle.std.specs.declared.io.Error.{Error as IoError};
 ghost use Rattle.std.specs.Io.{ReadsAtMost, WritesAtMost};
 ghost use Rattle.std.specs.Io.KnownBytes.{Keeps, ReadConsumes, WriteAppends};
@@ -157,8 +157,9 @@ impl<W: WriteCall> Write for Told<W> {
 /// set.
 pub fn write_whole<W: WriteCall>(out: &mut Told<W>, bytes: &[u8]) -> Result<(), OutputFault>
     ensures writes { Writes W.contents result out.old out.new bytes.now }
-    ensures failed { IfErr result (λ _. (last : W) × (rest : List ℕ) × (answer : Result ℕ IoError)
-        × W.writes last answer rest (inner_of out.new) × IsTrue (is_failed_write answer rest)) }
+    ensures failed { IfErr result (λ _. (last : W) × (front rest : List ℕ) × (answer : Result ℕ IoError)
+        × (bytes.now ≡ front ++ rest) × W.writes last answer rest (inner_of out.new)
+        × IsTrue (is_failed_write answer rest)) }
 {
     let mut rest = bytes;
     while !rest.is_empty() {

@@ -1,7 +1,12 @@
--- `opening::Store+FileStore+D::close_files`: the clause `refused`.
+-- `opening::Store+FileStore+D::close_files`: the clauses `closed` and `refused`.
 use Rattle.std.proofs.Common.{ap, ◌∙◌}
-use Rattle.cs_store.specs.Refusals.{refusal_of}
+use Rattle.cs_access.specs.Refusals.{refusal_of}
 use Rattle.cs_store.proofs.opening.Store+FileStore+D.close_files.Goals as goal
+
+pub returns-in-Ok-clause-closed : goal.returns-in-Ok-clause-closed
+returns-in-Ok-clause-closed g c =
+    let ok = rw c.into_connection.ensures at c.in-Ok.ensures.ok in
+    (ok.0, ok.1, ok.2)
 
 pub returns-in-Err-clause-refused : goal.returns-in-Err-clause-refused
 returns-in-Err-clause-refused g c =

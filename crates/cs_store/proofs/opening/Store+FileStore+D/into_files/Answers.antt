@@ -1,14 +1,15 @@
--- `opening::Store+FileStore+D::into_files`: the clauses `quiet` and `left`.
+-- `opening::Store+FileStore+D::into_files`: the clauses `quiet`, `undone` and `left`.
 use Rattle.std.proofs.Common.{◌≡◌, arith}
 use Rattle.sqlite.specs.Files.{file_state}
 use Rattle.sqlite.specs.State.{HasCleanDisk}
-use Rattle.cs_store.specs.Crash.{LeavesOnly}
+use Rattle.cs_access.specs.Crash.{LeavesOnly}
 use Rattle.cs_store.proofs.LeftLemmas.{left_in}
 use Rattle.cs_store.proofs.opening.Store+FileStore+D.into_files.Goals as goal
 
 pub returns : goal.returns
 returns g c = record {
   quiet = rw c.into_connection.ensures at c.into_store.ensures.quiet;
+  undone = rw c.into_connection.ensures at c.into_store.ensures.undone;
   left = λ held clean leaves image may.
       let conn = c.into_connection.result in
       let leaves_conn : LeavesOnly (λ left. left ≡ held) (file_state conn) = rw c.into_connection.ensures leaves in

@@ -4,16 +4,16 @@ use Rattle.std.proofs.lemmas.Result.{err_from_is_err_and}
 use Rattle.cs_value.specs.Table.{IsName}
 use Rattle.cs_value.specs.State.{SchemaData, IsSchema}
 use Rattle.cs_rows.specs.Editing.{Declares, schema_of}
-use Rattle.cs_store.specs.Store.{AddsTable, tables_in}
+use Rattle.cs_access.specs.Store.{AddsTable, tables_in}
 use Rattle.cs_store.proofs.CrashLemmas.{unmoved_atomic, idle_atomic, dropped_atomic, made_atomic, made_others, commit_left, refused_stands}
 use Rattle.cs_store.proofs.DeclareLemmas.{added_declares, committed_declares, taken_declares}
-use Rattle.cs_store.proofs.WriteLemmas.{on_err_then, on_ok_both}
+use Rattle.cs_access.proofs.WriteLemmas.{on_err_then, on_ok_both}
 use Rattle.sqlite.specs.Held.{state}
 use Rattle.sqlite.specs.State.{HasCleanDisk}
-use Rattle.cs_store.specs.Laws.{was_clean}
+use Rattle.cs_access.specs.Laws.{was_clean}
 use Rattle.cs_records.specs.Records.{KeepsContent, KeepsCrash}
-use Rattle.cs_store.specs.Crash.{CanBegin}
-use Rattle.cs_store.proofs.StoreLemmas.{undone_batch}
+use Rattle.cs_access.specs.Crash.{CanBegin}
+use Rattle.cs_access.proofs.StoreLemmas.{undone_batch}
 use Rattle.cs_records.proofs.QueryLemmas.{on_err}
 use Rattle.cs_store.proofs.store.Store.declare.Goals as goal
 

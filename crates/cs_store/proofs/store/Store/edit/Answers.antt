@@ -4,12 +4,12 @@ use Rattle.std.specs.Prelude.{map, OnErr}
 use Rattle.sqlite.specs.Held.{state}
 use Rattle.cs_rows.specs.Editing.{EditsInto, written_of}
 use Rattle.sqlite.specs.State.{HasCleanDisk}
-use Rattle.cs_store.specs.Laws.{was_clean}
+use Rattle.cs_access.specs.Laws.{was_clean}
 use Rattle.cs_records.specs.Records.{KeepsContent, KeepsCrash}
-use Rattle.cs_store.specs.Crash.{CanBegin}
-use Rattle.cs_store.specs.Store.{tables_in}
+use Rattle.cs_access.specs.Crash.{CanBegin}
+use Rattle.cs_access.specs.Store.{tables_in}
 use Rattle.cs_store.proofs.CrashLemmas.{idle_atomic, dropped_atomic, made_atomic, made_others, left_new, refused_stands}
-use Rattle.cs_store.proofs.StoreLemmas.{undone_batch}
+use Rattle.cs_access.proofs.StoreLemmas.{undone_batch}
 use Rattle.cs_records.proofs.QueryLemmas.{on_err}
 use Rattle.cs_store.proofs.store.Store.edit.Goals as goal
 

@@ -1,0 +1,5 @@
+pub mod KnownLemmas
+pub mod ReadLemmas
+pub mod StoreLemmas
+pub mod StoredLists
+pub mod WriteLemmas

@@ -1,0 +1,14 @@
+-- `known::add_table`: the clauses `named` and `kept`.
+use Rattle.std.proofs.Common.{inr}
+use Rattle.std.proofs.lemmas.Result.{IfErr-weaker}
+use Rattle.cs_access.specs.Laws.{keeps_then}
+use Rattle.cs_access.proofs.known.add_table.Goals as goal
+
+pub returns-in-Ok-None-clause-named : goal.returns-in-Ok-None-clause-named
+returns-in-Ok-None-clause-named g c = IfErr-weaker c.put_table.result _ _ (λ e resource. inr (inr resource)) c.put_table.ensures.refused
+
+pub returns-in-Ok-None-clause-kept : goal.returns-in-Ok-None-clause-kept
+returns-in-Ok-None-clause-kept g c = keeps_then c.find_schema.ensures.kept c.put_table.ensures.kept
+
+pub returns-clause-named : goal.returns-clause-named
+returns-clause-named g c = inr c.in-Err.ensures.named

@@ -1,0 +1,30 @@
+-- `tables::put_row`: the clauses `put` and `kept`.
+use Rattle.std.proofs.Common.{◌≡◌, Some, rules}
+use Rattle.sqlite.specs.Held.{state}
+use Rattle.cs_value.specs.Spelling.{row_bytes}
+use Rattle.cs_access.proofs.ReadLemmas.{no_record}
+use Rattle.cs_access.proofs.WriteLemmas.{row_put, mapped, written_is, written_keeps}
+use Rattle.cs_access.proofs.tables.put_row.Goals as goal
+
+pub returns-clause-put : goal.returns-clause-put
+returns-clause-put g c sound inside =
+    let old = state g.S.Store c.args.conn.now in
+    let new = state g.S.Store c.put_record.new.conn in
+    let h = c.put_record.ensures in
+    let spelled : c.deref.result.now ≡ row_bytes c.args.row.now = search rules in
+    λ clean. mapped _ c.put_record.result c.map_err.result _ c.map_err.ensures.cases (written_is old new c.put_record.result c.args.name.now c.bytes.result.now (Some c.deref.result.now) _ sound inside
+    (λ clean holds set. row_put old.now new.now c.args.name.now c.args.key.now c.args.row.now holds (c.requires.fits clean) (rw (c.bytes.ensures, spelled) at set)) h.survives h.set clean)
+
+pub returns-clause-kept : goal.returns-clause-kept
+returns-clause-kept g c sound inside =
+    let old = state g.S.Store c.args.conn.now in
+    let new = state g.S.Store c.put_record.new.conn in
+    let h = c.put_record.ensures in
+    let spelled : c.deref.result.now ≡ row_bytes c.args.row.now = search rules in
+    written_keeps old new c.put_record.result c.args.name.now c.bytes.result.now (Some c.deref.result.now) _ sound inside
+    (λ clean holds set. row_put old.now new.now c.args.name.now c.args.key.now c.args.row.now holds (c.requires.fits clean) (rw (c.bytes.ensures, spelled) at set)) h.survives h.set h.goes_on h.rests
+
+pub put_record-requires : goal.put_record-requires
+put_record-requires g c = λ new clean records.
+    let it = c.requires.new new clean in
+    rw c.bytes.ensures (no_record (state g.S.Store c.args.conn.now).now c.args.name.now c.args.key.now c.args.row.now it.0 (c.requires.fits clean) it.1)

@@ -1,0 +1,14 @@
+pub mod Refusals
+pub mod Store
+pub mod Crash
+pub mod Laws
+pub use Rattle.cs_stored.specs.Declaration
+pub use Rattle.cs_stored.specs.Stored
+pub use Rattle.cs_stored.specs.Valid
+pub use Rattle.cs_records.specs.Records
+pub use Rattle.cs_rows.specs.Faults
+pub use Rattle.cs_rows.specs.Rows
+pub use Rattle.cs_value.specs.Value
+pub use Rattle.cs_value.specs.Key
+pub use Rattle.cs_value.specs.Table
+pub use Rattle.cs_value.specs.State

@@ -1,0 +1,22 @@
+//! The tables and rows of a store, read and written through a connection to its database.
+//!
+//! ```rust
+//! let mut known = None;
+//! put_row(&mut conn, &mut known, alloc, "t", &key, &row)?;
+//! assert_eq!(rt; find_row(&mut conn, &mut known, alloc, "t", &key)?, Some(row));
+//! commit(&mut conn)?;
+//! ```
+//!
+//! `known` has the calls on tables and rows, which read the schema of a table once, and `tables` what they do with
+//! records. `ending` ends a transaction. `refusal` turns a refusal of the database into one of a store.
+#![tactic(auto)]
+
+mod ending;
+mod known;
+mod refusal;
+mod tables;
+
+pub use ending::commit;
+pub use known::{KnownTable, add_table, find_row, find_schema, list_rows, put_row, remove_row};
+pub use refusal::refused;
+pub use tables::list_tables;

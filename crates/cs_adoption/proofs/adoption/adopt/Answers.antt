@@ -1,0 +1,19 @@
+-- `adoption::adopt`: the clauses `refused` and `survives`.
+use Rattle.std.proofs.Common.{Err}
+use Rattle.sqlite.specs.Held.{state}
+use Rattle.cs_access.specs.Laws.{was_clean}
+use Rattle.cs_access.specs.Store.{IsDamaged}
+use Rattle.cs_adoption.proofs.AdoptionLemmas.{adopted_survives, same_damage}
+use Rattle.cs_adoption.proofs.adoption.adopt.Goals as goal
+
+pub returns-in-Err-set_up-clause-refused : goal.returns-in-Err-set_up-clause-refused
+returns-in-Err-set_up-clause-refused g c clean =
+    let set_clean = was_clean (state g.S.Store c.set_up.new.conn) (state g.S.Store c.roll_back.new.conn) c.roll_back.ensures.survives clean in
+    let begun_clean = was_clean (state g.S.Store c.begin.new.conn) (state g.S.Store c.set_up.new.conn) c.set_up.ensures.survives set_clean in
+    let same = (c.in-Ok.ensures.begun begun_clean).1.now_is in
+    same_damage {X = Unit {0}} (Err c.in-Err-set_up.error) IsDamaged (state g.S.Store c.args.conn.now).now (state g.S.Store c.begin.new.conn).now same (c.in-Err-set_up.ensures.refused set_clean)
+
+pub returns-in-Ok-set_up-clause-survives : goal.returns-in-Ok-set_up-clause-survives
+returns-in-Ok-set_up-clause-survives g c =
+    adopted_survives (state g.S.Store c.args.conn.now) (state g.S.Store c.begin.new.conn) (state g.S.Store c.set_up.new.conn) (state g.S.Store c.commit.new.conn)
+    c.begin.ensures.survives (λ clean. (c.in-Ok.ensures.begun clean).1.now_is) c.set_up.ensures.survives c.in-Ok-set_up.ensures.set_up c.commit.ensures.survives

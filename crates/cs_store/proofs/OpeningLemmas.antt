@@ -1,0 +1,50 @@
+-- Files that are opened as a store, or refused.
+use Rattle.std.proofs.Common.{◌≡◌, ◌⊎◌, inl, inr, IsTrue, arith, ap, sym, subst, ◌∙◌}
+use Rattle.sqlite.specs.Effect.{Database}
+use Rattle.sqlite_trees.specs.Tree.{Trees}
+use Rattle.sqlite.specs.State.{State, HasCleanDisk, Opens, IsLive, Survives}
+use Rattle.sqlite.specs.Start.{FindsIn}
+use Rattle.sqlite.specs.Files.{AreFoundIn}
+use Rattle.sqlite_wal.specs.Recovery.{Image}
+use Rattle.cs_rows.specs.declared.fault.StoreError.{StoreError}
+use Rattle.cs_rows.specs.declared.fault.StoreError.TheVariants.{DamagedStore}
+use Rattle.cs_rows.specs.Faults.{IsResource}
+use Rattle.cs_records.specs.Records.{KeepsContent}
+use Rattle.cs_access.specs.Store.{HoldsTables, IsDamaged, Adopts}
+use Rattle.cs_access.specs.Crash.{MayLeave, LeavesTakenOver}
+use Rattle.cs_store.specs.Opening.{IsFoundIn, OpensFiles, RefusesFound}
+
+-- a database over files that were opened is the one that they held
+found_in : (image : Image) (found : State) → FindsIn image found → Opens found → IsLive found → IsTrue found.is_open → IsFoundIn image found.now
+found_in image found finds opens live is_open = record {
+  sound = (live is_open).0;
+  holds = λ trees holds. ap (λ (db : Database). db.trees) opens.clean ∙ finds.holds trees holds;
+  reads = subst (λ (db : Database). AreFoundIn image db.trees) (sym opens.clean) finds.reads;
+}
+
+-- so a store over it has the tables that they held
+pub opens_files : (image : Image) (found new : State) → FindsIn image found → Opens found → IsLive found → Adopts found new → OpensFiles image new
+opens_files image found new finds opens live adopts = record {
+  db = found.now;
+  found = found_in image found finds opens live adopts.was_open;
+  holds = adopts.holds;
+  held = adopts.held;
+  others = adopts.others;
+  at_rest = adopts.at_rest;
+}
+
+-- and one that is refused shows what they held
+pub refuses_found : {May : Trees → Type 0} (image : Image) (found shown : State) (e : StoreError) → FindsIn image found → Opens found → IsLive found → ((e ≡ DamagedStore) × IsDamaged found.now) ⊎ IsResource e
+    → KeepsContent found shown → Survives found shown May → LeavesTakenOver found shown → HasCleanDisk shown → RefusesFound image e shown
+refuses_found image found shown e finds opens live why kept survives leaves clean = record {
+  db = found.now;
+  found = found_in image found finds opens live opens.is_open;
+  why = why;
+  outside = kept.mode ∙ opens.autocommit;
+  still = elim (survives.closes clean opens.is_open) [
+    | inl is_open ↦ inl is_open
+    | inr more ↦ inr (omega (arith, more))
+  ];
+  kept = λ is_open. (kept.now is_open, kept.committed is_open ∙ sym opens.clean);
+  leaves = λ trees may. subst (λ (d : Database). (trees ≡ d.trees) ⊎ MayLeave (HoldsTables found.now) trees) (sym opens.clean) (leaves.opened opens.is_open clean trees may);
+}
