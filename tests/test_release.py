@@ -25,6 +25,7 @@ from support.program import PATIENCE, TOP
 sys.path.insert(0, str(TOP / "release"))
 
 import dist  # noqa: E402
+import glibc  # noqa: E402
 
 README = TOP / "README.md"
 PACKAGE = TOP / "bindings/python/vollikash"
@@ -135,8 +136,15 @@ class Versions(unittest.TestCase):
     def test_files(self):
         self.assertRegex(dist.VERSION, r"^\d+\.\d+\.\d+$")
         self.expect(r'^__version__ = "(.*)"$', PACKAGE / "__init__.py")
-        self.expect(r'^\.TH \S+ 1 ".*?" "Vollikash (\S+)"', *TOP.glob("man/*.1"))
+        self.expect(r'^\.TH .*"Vollikash (\S+)"', *TOP.glob("man/*.1"))
         self.expect(r"^## (\d\S+)$", TOP / "CHANGELOG.md")
+
+    def test_documents(self):
+        """The names of the release's files in the documents have it."""
+        for document in (README, *TOP.glob("docs/*.md")):
+            named = set(re.findall(r"\bvollikash-(\d[\d.]*\d)-", document.read_text()))
+            with self.subTest(document.name):
+                self.assertLessEqual(named, {dist.VERSION})
 
     def test_header(self):
         header = (TOP / "bindings/c/vollikash.h").read_text()
@@ -245,11 +253,9 @@ class Wheel(unittest.TestCase):
 
     def test_tag(self):
         """It names the version of glibc that the program and the library need, and no later one."""
-        needed = set()
-        for file in (dist.PROGRAM, dist.SHARED):
-            listed = run("objdump", "-T", file)
-            needed |= {(int(major), int(minor)) for major, minor in re.findall(r"\bGLIBC_(\d+)\.(\d+)", listed)}
-        major, minor = max(needed | {(2, 5)})
+        symbols = run("objdump", "-T", dist.PROGRAM) + run("objdump", "-T", dist.SHARED)
+        needed = {(int(major), int(minor)) for major, minor in re.findall(r"\bGLIBC_(\d+)\.(\d+)", symbols)}
+        major, minor = max(needed | {glibc.OLDEST})
         tag = f"py3-none-manylinux_{major}_{minor}_x86_64"
         self.assertEqual(release().wheel.name, f"vollikash-{dist.VERSION}-{tag}.whl")
         fields = release().metadata("WHEEL")
@@ -290,6 +296,47 @@ class Wheel(unittest.TestCase):
             for program, printed in programs:
                 with self.subTest(document=document):
                     self.assertEqual(run(release().python, "-c", program, cwd=release().unpacked), printed)
+
+
+@unittest.skipUnless(shutil.which("objdump") and shutil.which("cc"), "there is no objdump or no cc")
+class Glibc(unittest.TestCase):
+    """What is found of the libraries that a file needs."""
+
+    def setUp(self):
+        folder = tempfile.TemporaryDirectory()
+        self.addCleanup(folder.cleanup)
+        self.folder = pathlib.Path(folder.name)
+
+    def library(self, name, source, *flags):
+        """A shared library of this source."""
+        (self.folder / "source.c").write_text(source)
+        file = self.folder / f"lib{name}.so"
+        run("cc", "-shared", "-fPIC", f"-L{self.folder}", self.folder / "source.c", "-o", file, *flags)
+        return file
+
+    def test_nothing_needed(self):
+        file = self.library("one", "int one(void) { return 1; }\n", "-nostdlib")
+        self.assertEqual(glibc.glibc_of(file), (glibc.OLDEST, []))
+        self.assertEqual(glibc.tag_of([file]), "manylinux_2_5_x86_64")
+
+    def test_symbols(self):
+        """The symbol getrandom came with 2.25."""
+        source = "#include <sys/random.h>\nlong one(char *a) { return getrandom(a, 1, 0); }\n"
+        self.assertEqual(glibc.glibc_of(self.library("one", source)), ((2, 25), []))
+
+    def test_packed_relocations(self):
+        source = "#include <stdio.h>\nstatic int a; int *b = &a;\nint one(void) { return puts(\"\"); }\n"
+        try:
+            file = self.library("one", source, "-Wl,-z,pack-relative-relocs")
+        except AssertionError:
+            self.skipTest("the linker does not pack relocations")
+        self.assertEqual(glibc.glibc_of(file), ((2, 36), []))
+
+    def test_another_library(self):
+        self.library("one", "int one(void) { return 1; }\n")
+        file = self.library("two", "int one(void);\nint two(void) { return one(); }\n", "-lone")
+        with self.assertRaisesRegex(SystemExit, r"^no wheel can be made: libtwo\.so needs .*libone\.so$"):
+            glibc.tag_of([file])
 
 
 @needs_release

@@ -5,9 +5,8 @@ installation does without them here, and uses those of the repository.
 """
 import os
 import pathlib
-import re
 import shutil
-import subprocess
+import sys
 import tempfile
 
 from setuptools import Distribution, setup
@@ -23,14 +22,15 @@ except ImportError:  # setuptools before 70.1
 
 HERE = pathlib.Path(__file__).resolve().parent
 TOP = HERE.parents[1]
+sys.path.insert(0, str(TOP / "release"))
+
+from glibc import tag_of  # noqa: E402
+
 LIBRARY = TOP / "bindings/c/out/libvollikash.so"
 PROGRAM = TOP / "crates/changeset/out/changeset"
 
 # What is built, and what builds it.
 BUILT = {LIBRARY: "make -C bindings/c", PROGRAM: "(cd crates/changeset && rt run)"}
-
-# The libraries that each Linux with glibc has.
-SYSTEM = {"libc.so.6", "libm.so.6", "libgcc_s.so.1", "ld-linux-x86-64.so.2"}
 
 # Where other files are installed, if they are there.
 SHARED = {
@@ -43,21 +43,6 @@ SHARED = {
 def relative(*paths):
     """Return paths as setuptools takes them, of the files that are there."""
     return [os.path.relpath(path, HERE) for path in paths if path.exists()]
-
-
-def glibc_of(file):
-    """Return the version of glibc that a file needs, as its references to versions say."""
-    text = subprocess.run(
-        ["objdump", "-p", str(file)], env={**os.environ, "LC_ALL": "C"}, stdout=subprocess.PIPE,
-        universal_newlines=True, check=True,
-    ).stdout
-    others = set(re.findall(r"^ *NEEDED +(\S+)$", text, re.M)) - SYSTEM
-    if others:
-        raise SystemExit(f"{file} needs {', '.join(sorted(others))}: no wheel can be made of it")
-    found = re.findall(r"GLIBC_(\d+)\.(\d+)", text)
-    # The loader of 2.36 is the first that knows this, and the name has no number.
-    found += [("2", "36")] if "GLIBC_ABI_DT_RELR" in text else []
-    return max([(2, 5), *((int(major), int(minor)) for major, minor in found)])
 
 
 class Native(Distribution):
@@ -98,8 +83,7 @@ class Wheel(bdist_wheel):
     def get_tag(self):
         if "editable_wheel" in self.distribution.commands:
             return "py3", "none", "linux_x86_64"
-        major, minor = max(map(glibc_of, BUILT))
-        return "py3", "none", f"manylinux_{major}_{minor}_x86_64"
+        return "py3", "none", tag_of(BUILT)
 
 
 # What is built in between is no part of the repository.
