@@ -356,6 +356,10 @@ class Making(unittest.TestCase):
             with self.subTest(name):
                 self.assertTrue((release().folder / name).read_bytes() == data)
 
+    def test_make(self):
+        printed = run("make", "--dry-run", "dist", "PYTHON=a-python", cwd=TOP)
+        self.assertEqual(printed, "a-python release/dist.py\n")
+
     def test_date(self):
         with mock.patch.dict(os.environ, SOURCE_DATE_EPOCH="1000000000"):
             self.assertEqual(dist.date_of_tree(), 1_000_000_000)
@@ -395,7 +399,8 @@ class Editable(unittest.TestCase):
             if IS_BUILT:
                 found = run(python, "-c", WHERE, cwd=folder).splitlines()
                 self.assertEqual(found, [str(TOP / "bindings/c/out/libvollikash.so"), str(dist.PROGRAM)])
-            self.assertTrue(pathlib.Path(folder, "bin/vollikash").exists())
+            commands = [name for name in ("changeset", "vollikash") if pathlib.Path(folder, "bin", name).exists()]
+            self.assertEqual(commands, ["vollikash"])
         self.assertEqual(sorted(PACKAGE.parent.iterdir()), before)
 
 
