@@ -201,7 +201,7 @@ class Archive(unittest.TestCase):
         self.assertEqual(listed, [name for name in files if name != "SHA256SUMS"])
 
     def test_c(self):
-        """The programs of the documents run with the shared library, by both ways to its flags, and with the archive."""
+        """The programs of the documents run with the shared library, by two ways to its flags, and the archive."""
         unpacked = release().unpacked
         file = unpacked / "lib/pkgconfig/vollikash.pc"
         archive = [f"-I{unpacked / 'include'}", str(unpacked / "lib/libvollikash.a")]
