@@ -16,37 +16,12 @@ import tempfile
 import unittest
 
 from support import iterator
+from support.documents import blocks_of, commands_of, programs_of
 from support.program import PATIENCE, PROGRAM, TOP, main
 
 ARCHIVE = TOP / "bindings/c/out/libvollikash.a"
-FOLDERS = ("", "docs/", "examples/", "bindings/", "crates/*/")
+FOLDERS = ("", "docs/", "examples/", "bindings/", "bindings/python/", "crates/*/")
 DOCUMENTS = sorted(it for folder in FOLDERS for it in TOP.glob(f"{folder}*.md"))
-
-BLOCK = re.compile(r"^```(\w*)\n(.*?)^```$", re.M | re.S)
-
-
-def blocks_of(document):
-    """The blocks of a document, each a tag and a text."""
-    return BLOCK.findall(document.read_text())
-
-
-def commands_of(block):
-    """The commands of a console block, each with what it prints. A here-document belongs to its
-    command.
-    """
-    commands = []
-    end = None
-    for line in block.splitlines():
-        if end is not None:
-            commands[-1][0].append(line)
-            end = None if line == end else end
-        elif line.startswith("$ "):
-            commands.append(([line[2:]], []))
-            found = re.search(r"<< '(\w+)'", line)
-            end = found and found[1]
-        else:
-            commands[-1][1].append(line)
-    return [("\n".join(command), "".join(f"{line}\n" for line in printed)) for command, printed in commands]
 
 
 def run(words, **options):
@@ -56,15 +31,6 @@ def run(words, **options):
         **options,
     )
     return done.stdout
-
-
-def programs_of(document, language):
-    """The programs of a document in a language, each with what it is to print."""
-    blocks = [*blocks_of(document), ("", "")]
-    for (tag, text), (following, output) in zip(blocks, blocks[1:]):
-        if tag == language:
-            commented = re.findall(r"^ *print\(.*\)  # (.*)$", text, re.M)
-            yield text, output if following == "text" else "".join(f"{line}\n" for line in commented)
 
 
 def squeezed(code):
@@ -99,13 +65,9 @@ class Blocks(unittest.TestCase):
         self.assertGreater(count, 25)
 
     def test_scripts(self):
-        """The commands of `sh` blocks are programs of the repository: the gate, and the one that
-        `test_try.py` runs.
-        """
-        for document in DOCUMENTS:
-            for line in "".join(text for tag, text in blocks_of(document) if tag == "sh").splitlines():
-                with self.subTest(document=document.name, line=line):
-                    self.assertTrue(os.access(TOP / line, os.X_OK))
+        """`sh` blocks are commands for a release, which `test_release.py` runs."""
+        documents = [document.name for document in DOCUMENTS for tag, _ in blocks_of(document) if tag == "sh"]
+        self.assertEqual(documents, ["README.md", "C.md"])
 
     def test_python(self):
         environment = {**os.environ, "PYTHONPATH": str(TOP / "bindings/python")}

@@ -7,13 +7,17 @@ usage: bindings/c/test_install.py, behind `make`; `make check` runs it
 import os
 import pathlib
 import re
-import shlex
 import shutil
 import subprocess
+import sys
 import tempfile
 import unittest
 
 HERE = pathlib.Path(__file__).resolve().parent
+sys.path.insert(0, str(HERE.parents[1] / "tests"))
+
+from support.flags import flags_by_pkg_config, flags_of_file  # noqa: E402
+
 PROGRAM = HERE.parents[1] / "crates/changeset/out/changeset"
 
 # What is installed below the prefix, and what else where the program is built.
@@ -62,17 +66,6 @@ def files_below(folder):
     return {str(path.relative_to(folder)) for path in folder.rglob("*") if not path.is_dir()}
 
 
-def flags_of_file(path):
-    """The flags of a compiler that a file of pkg-config has, read as pkg-config reads it."""
-    text = path.read_text()
-    folders = dict(re.findall(r"^(\w+)=(.*)$", text, re.M))
-    fields = dict(re.findall(r"^([\w.]+): (.*)$", text, re.M))
-    flags = f"{fields['Cflags']} {fields['Libs']}"
-    while "${" in flags:
-        flags = re.sub(r"\$\{(\w+)\}", lambda found: folders[found[1]], flags)
-    return shlex.split(flags)
-
-
 def times_of_built():
     """When each file that `make` has built was written."""
     return {path.name: path.lstat().st_mtime_ns for path in (HERE / "out").iterdir()}
@@ -100,9 +93,8 @@ class Install(unittest.TestCase):
 
     def flags(self):
         """The flags by pkg-config, or where that is not there by its file."""
-        if not shutil.which("pkg-config"):
-            return flags_of_file(self.lib / "pkgconfig/vollikash.pc")
-        return shlex.split(run("pkg-config", "--cflags", "--libs", "vollikash", PKG_CONFIG_PATH=str(self.lib / "pkgconfig")))
+        file = self.lib / "pkgconfig/vollikash.pc"
+        return flags_by_pkg_config(file) or flags_of_file(file)
 
     def test_files(self):
         wanted = LIBRARY | (COMMAND if PROGRAM.exists() else set())
