@@ -29,7 +29,7 @@ use Rattle.cs_adoption.proofs.AdoptionLemmas.{nothing_held, vacant_holds, damage
 use Rattle.cs_stored.proofs.StateOf.{stored_once}
 
 -- trees list one schema
-listed_once : (trees : Trees) (s t : Schema) → IsSoundIn s trees → IsSoundIn t trees → s ≡ t
+pub listed_once : (trees : Trees) (s t : Schema) → IsSoundIn s trees → IsSoundIn t trees → s ≡ t
 listed_once trees s t one other =
     let read = reads (trees catalog_tree) s one.lists in
     read_once _ s t read.tables read.indexes read.views (reads (trees catalog_tree) t other.lists)

@@ -1,18 +1,22 @@
 -- Files that are opened as a store, or refused.
-use Rattle.std.proofs.Common.{◌≡◌, ◌⊎◌, inl, inr, IsTrue, arith, ap, sym, subst, ◌∙◌}
+use Rattle.std.proofs.Common.{◌≡◌, ◌⊎◌, [], inl, inr, IsTrue, arith, ap, sym, subst, ◌∙◌}
+use Rattle.std.specs.FinMap as map
 use Rattle.sqlite.specs.Effect.{Database}
 use Rattle.sqlite_trees.specs.Tree.{Trees}
 use Rattle.sqlite.specs.State.{State, HasCleanDisk, Opens, IsLive, Survives}
 use Rattle.sqlite.specs.Start.{FindsIn}
-use Rattle.sqlite.specs.Files.{AreFoundIn}
+use Rattle.sqlite.specs.Files.{AreFoundIn, IsEmpty}
 use Rattle.sqlite_wal.specs.Recovery.{Image}
 use Rattle.cs_rows.specs.declared.fault.StoreError.{StoreError}
 use Rattle.cs_rows.specs.declared.fault.StoreError.TheVariants.{DamagedStore}
 use Rattle.cs_rows.specs.Faults.{IsResource}
-use Rattle.cs_records.specs.Records.{KeepsContent}
-use Rattle.cs_access.specs.Store.{HoldsTables, IsDamaged, Adopts}
+use Rattle.cs_records.specs.Records.{KeepsContent, LacksRecords}
+use Rattle.cs_access.specs.Store.{HoldsTables, IsDamaged, Adopts, tables_in}
 use Rattle.cs_access.specs.Crash.{MayLeave, LeavesTakenOver}
+use Rattle.sqlite.proofs.ListingLemmas.{empty_is_sound}
+use Rattle.cs_adoption.proofs.AdoptionLemmas.{empty_lacks, nothing_held, nothing_damaged}
 use Rattle.cs_store.specs.Opening.{IsFoundIn, OpensFiles, RefusesFound}
+use Rattle.cs_store.proofs.LeftLemmas.{listed_once}
 
 -- a database over files that were opened is the one that they held
 found_in : (image : Image) (found : State) → FindsIn image found → Opens found → IsLive found → IsTrue found.is_open → IsFoundIn image found.now
@@ -48,3 +52,22 @@ refuses_found image found shown e finds opens live why kept survives leaves clea
   kept = λ is_open. (kept.now is_open, kept.committed is_open ∙ sym opens.clean);
   leaves = λ trees may. subst (λ (d : Database). (trees ≡ d.trees) ⊎ MayLeave (HoldsTables found.now) trees) (sym opens.clean) (leaves.opened opens.is_open clean trees may);
 }
+
+-- ---- empty files
+
+-- the database of files without a byte declares nothing
+blank_lacks : (image : Image) (db : Database) → image.db ≡ [] → IsFoundIn image db → LacksRecords db.schema
+blank_lacks image db none found =
+    let empty : IsEmpty db.trees = elim found.reads [
+      | inl adopted ↦ absurd (let present = rw none at adopted.3.found.present in omega arith)
+      | inr nothing ↦ nothing.1
+    ] in
+    empty_lacks db.schema (listed_once db.trees db.schema (record { tables = []; indexes = []; views = [] }) found.sound (empty_is_sound db.trees empty.1))
+
+-- they become a store without tables
+pub new_opens : (image : Image) (new : State) → image.db ≡ [] → OpensFiles image new → tables_in new.now ≡ map.empty
+new_opens image new none it = nothing_held it.db (tables_in new.now) (blank_lacks image it.db none it.found) it.held
+
+-- and are not refused for damage
+pub new_refuses : (image : Image) (e : StoreError) (shown : State) → image.db ≡ [] → RefusesFound image e shown → IsResource e
+new_refuses image e shown none it = nothing_damaged it.db e (blank_lacks image it.db none it.found) it.why

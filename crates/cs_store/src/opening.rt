@@ -1,5 +1,6 @@
 //! How the files of a database are opened as a store.
-ghost use Rattle.std.specs.Prelude.{◌≡◌, ◌⊎◌, true, false, IsTrue, IfOk, IfErr, MatchResult};
+ghost use Rattle.std.specs.Prelude.{◌≡◌, ◌⊎◌, [], true, false, IsTrue, IfOk, IfErr, MatchResult};
+ghost use Rattle.std.specs.FinMap as map;
 ghost use Rattle.cs_value.specs.State as tables;
 ghost use Rattle.cs_rows.specs.Faults.{IsResource, IsReadRefusal};
 ghost use Rattle.sqlite.specs.State.{HasCleanDisk};
@@ -57,6 +58,9 @@ impl<D: Disk + Drop> Store<FileStore<D>> {
         ensures refused { IfErr result (λ e. RefusesFiles files e.0 e.1) }
         ensures recovers { (held : tables.State) → IsLeftIn held (image_of D.Disk files) → MatchResult result
             (λ s. HasCleanDisk (file_state s) → tables_in (file_state s).now ≡ held)
+            (λ e. IsHonestRest e.1 → IsResource e.0) }
+        ensures new { (image_of D.Disk files).db ≡ [] → MatchResult result
+            (λ s. HasCleanDisk (file_state s) → tables_in (file_state s).now ≡ map.empty)
             (λ e. IsHonestRest e.1 → IsResource e.0) }
         ensures named { IfErr result (λ e. IsReadRefusal e.0) }
     {
@@ -129,6 +133,9 @@ impl<S: Start> Store<FileStore<FileFrom<S>>> {
         ensures recovers { (held : tables.State) → IsLeftIn held (image_at S.Start) → MatchResult result
             (λ s. HasCleanDisk (file_state s) → tables_in (file_state s).now ≡ held)
             (λ e. IsHonestLeft e.1 → IsResource e.0) }
+        ensures new { (image_at S.Start).db ≡ [] → MatchResult result
+            (λ s. HasCleanDisk (file_state s) → tables_in (file_state s).now ≡ map.empty)
+            (λ e. IsHonestLeft e.1 → IsResource e.0) }
         ensures named { IfErr result (λ e. IsReadRefusal e.0) }
     {
         match Connection::open_from(rt, path, new_has_sums, start) {
@@ -165,6 +172,8 @@ impl<S: Start> Store<FileStore<FileFrom<S>>> {
             → OpensFiles (image_at S.Start) (file_state s)) }
         ensures recovers { (held : tables.State) → IsLeftIn held (image_at S.Start) → IfOk result
             (λ s. HasCleanDisk (file_state s) → tables_in (file_state s).now ≡ held) }
+        ensures new { (image_at S.Start).db ≡ [] → IfOk result
+            (λ s. HasCleanDisk (file_state s) → tables_in (file_state s).now ≡ map.empty) }
         ensures named { IfErr result IsReadRefusal }
     {
         match Store::open_path(rt, path, new_has_sums, start) {

@@ -1,7 +1,7 @@
--- `opening::Store+FileStore+D::open_files`: the clauses `opened`, `refused` and `recovers`.
+-- `opening::Store+FileStore+D::open_files`: the clauses `opened`, `refused`, `recovers` and `new`.
 use Rattle.sqlite.specs.Files.{file_state, image_of}
 use Rattle.cs_access.specs.Laws.{was_clean}
-use Rattle.cs_store.proofs.OpeningLemmas.{opens_files, refuses_found}
+use Rattle.cs_store.proofs.OpeningLemmas.{opens_files, refuses_found, new_opens, new_refuses}
 use Rattle.cs_store.proofs.LeftLemmas.{left_opens, left_refuses}
 use Rattle.cs_store.proofs.opening.Store+FileStore+D.open_files.Goals as goal
 
@@ -24,3 +24,9 @@ returns-in-Ok-adopt-clause-recovers g c held left clean = left_opens held _ _ le
 
 pub returns-in-Err-adopt-clause-recovers : goal.returns-in-Err-adopt-clause-recovers
 returns-in-Err-adopt-clause-recovers g c held left clean = left_refuses held _ _ _ left (returns-in-Err-adopt-clause-refused g c clean)
+
+pub returns-in-Ok-adopt-clause-new : goal.returns-in-Ok-adopt-clause-new
+returns-in-Ok-adopt-clause-new g c none clean = new_opens _ _ none (returns-in-Ok-adopt-clause-opened g c clean)
+
+pub returns-in-Err-adopt-clause-new : goal.returns-in-Err-adopt-clause-new
+returns-in-Err-adopt-clause-new g c none clean = new_refuses _ _ _ none (returns-in-Err-adopt-clause-refused g c clean)

@@ -1,10 +1,10 @@
--- `opening::Store+FileStore+FileFrom+S::open_path`: the clauses `opened`, `refused` and `recovers`.
+-- `opening::Store+FileStore+FileFrom+S::open_path`: the clauses `opened`, `refused`, `recovers` and `new`.
 use Rattle.std.proofs.Common.{◌≡◌, ap, ◌∙◌}
 use Rattle.sqlite.specs.Files.{file_state}
 use Rattle.sqlite_wal.specs.Files.{image_at}
 use Rattle.cs_access.specs.Laws.{was_clean}
 use Rattle.cs_access.specs.Refusals.{refusal_of, refusal_for}
-use Rattle.cs_store.proofs.OpeningLemmas.{opens_files, refuses_found}
+use Rattle.cs_store.proofs.OpeningLemmas.{opens_files, refuses_found, new_opens, new_refuses}
 use Rattle.cs_store.proofs.LeftLemmas.{left_opens, left_refuses}
 use Rattle.cs_store.proofs.opening.Store+FileStore+FileFrom+S.open_path.Goals as goal
 use Rattle.cs_store.proofs.opening.Store+FileStore+FileFrom+S.open_path.Goals.{in-Some, in-None}
@@ -28,6 +28,12 @@ returns-in-Ok-adopt-clause-recovers g c held left clean = left_opens held _ _ le
 
 pub returns-in-Err-adopt-clause-recovers : goal.returns-in-Err-adopt-clause-recovers
 returns-in-Err-adopt-clause-recovers g c held left clean = left_refuses held _ _ _ left (returns-in-Err-adopt-clause-refused g c clean)
+
+pub returns-in-Ok-adopt-clause-new : goal.returns-in-Ok-adopt-clause-new
+returns-in-Ok-adopt-clause-new g c none clean = new_opens _ _ none (returns-in-Ok-adopt-clause-opened g c clean)
+
+pub returns-in-Err-adopt-clause-new : goal.returns-in-Err-adopt-clause-new
+returns-in-Err-adopt-clause-new g c none clean = new_refuses _ _ _ none (returns-in-Err-adopt-clause-refused g c clean)
 
 pub returns-after-left-clause-refused : goal.returns-after-left-clause-refused
 returns-after-left-clause-refused g c =
