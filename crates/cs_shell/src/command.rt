@@ -5,6 +5,7 @@ use crate::output::write_file;
 use cs_apply::{Noop, Policy};
 use cs_files::{OutputFault, Told, concat_bytes, invert_bytes, print_dump, print_sql};
 use cs_machine::apply_unnoted;
+use cs_memory::open_memory;
 use cs_replies::{Refusal, Reply, write_reply};
 use cs_store::{Store, StoreError};
 use cs_words::IN_MEMORY;
@@ -88,7 +89,7 @@ pub(crate) fn apply_file<W: Write>(
     let reply = if store == IN_MEMORY {
         apply_unnoted(
             rt.alloc(),
-            &mut Store::new_memory(rt.alloc())?,
+            &mut open_memory(rt.alloc())?,
             &bytes,
             policy,
             noop,

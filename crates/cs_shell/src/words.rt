@@ -14,8 +14,8 @@ use crate::command::{close_store, open_store};
 use crate::script::Status;
 use crate::shell::run_script;
 use cs_files::{OutputFault, Told, write_whole};
+use cs_memory::{memory_files_law, open_memory};
 use cs_replies::{Refusal, write_refusal};
-use cs_store::{Store, memory_law};
 use cs_words::{Action, IN_MEMORY, WordsFault, parse_words};
 use std::alloc::Global;
 use std::io::{Read, Write};
@@ -67,9 +67,12 @@ fn run_input<R: Read, W: Write, E: Write>(
         err.old err.new }
     ensures status { result ≤ 1 }
 {
-    memory_law();
-    match Store::new_memory(alloc) {
-        Ok(mut store) => end_script(err, run_script(alloc, &mut store, input, out)),
+    match open_memory(alloc) {
+        Ok(mut store) => {
+            let status = run_script(alloc, &mut store, input, out);
+            memory_files_law(&store);
+            end_script(err, status)
+        }
         Err(error) => {
             report(err, &Refusal::from(error));
             1

@@ -1,7 +1,6 @@
 -- `words::run_input`: the clause `ran`.
 use Rattle.std.proofs.Common.{inl, inr, refl, subst}
-use Rattle.sqlite.specs.Held.{state}
-use Rattle.sqlite.specs.Steps.{over_memory}
+use Rattle.sqlite.specs.Files.{file_state}
 use Rattle.cs_value.specs.State.{State}
 use Rattle.cs_store.specs.Store.{tables_in}
 use Rattle.cs_shell.specs.Runs.{Runs}
@@ -12,8 +11,8 @@ use Rattle.cs_shell.proofs.words.run_input.Goals as goal
 
 pub returns-in-Ok-clause-ran : goal.returns-in-Ok-clause-ran
 returns-in-Ok-clause-ran g c =
-    let ran : RunsScript g.R.Read.remaining g.W.Write.contents c.run_script.result c.args.input.now c.run_script.new.input c.args.out.now c.run_script.new.out (tables_in (state over_memory c.in-Ok.store).now) (state over_memory c.run_script.new.store) =
-    c.run_script.ensures.ran (c.memory_law.ensures c.run_script.new.store) (tables_in (state over_memory c.in-Ok.store).now) (λ is_open. refl) in
+    let ran : RunsScript g.R.Read.remaining g.W.Write.contents c.run_script.result c.args.input.now c.run_script.new.input c.args.out.now c.run_script.new.out (tables_in (file_state c.in-Ok.store).now) (file_state c.run_script.new.store) =
+    c.run_script.ensures.ran c.memory_files_law.ensures (tables_in (file_state c.in-Ok.store).now) (λ is_open. refl) in
     inl (
       record {
         status = c.run_script.result;
