@@ -1,6 +1,9 @@
 //! The `changeset` command: its words and standard streams, handed to the library.
 #![tactic(auto)]
 
+mod prompt;
+
+use crate::prompt::{Prompted, is_typed};
 use cs_shell::{Told, print_usage, run_words};
 use std::io::ErrorKind;
 use std::process::ExitCode;
@@ -13,11 +16,12 @@ fn words(rt: &HostRuntime) -> io::Result<Vec<String>> {
 
 fn main(rt: HostRuntime) -> io::Result<ExitCode> {
     let mut err = Told::new(rt.stderr());
+    let mut input = Told::new(Prompted::new(rt.stdin(), rt.stderr(), is_typed(&rt)));
     let status = match words(&rt) {
         Ok(words) => run_words(
             &rt,
             &words,
-            &mut Told::new(rt.stdin()),
+            &mut input,
             &mut Told::new(rt.stdout()),
             &mut err,
         ),

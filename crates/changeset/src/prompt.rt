@@ -1,0 +1,72 @@
+//! A prompt for lines that are typed on a terminal.
+use std::io;
+use std::io::{Read, Write};
+use std::path::Path;
+use std::rt::HostRuntime;
+
+/// The line before the first prompt.
+const BANNER: &[u8] = b"changeset: one line is one command, Ctrl-D ends the script\n";
+
+const PROMPT: &[u8] = b"changeset> ";
+
+/// Returns whether a descriptor of this process is a terminal.
+fn is_terminal(rt: &HostRuntime, descriptor: &str) -> bool {
+    match Path::new(descriptor).read_link(rt) {
+        Ok(target) => {
+            let name = target.as_str();
+            name.starts_with("/dev/pts/") || name.starts_with("/dev/tty")
+        }
+        Err(_) => false,
+    }
+}
+
+/// Returns whether a person types the lines and sees the prompts: standard input and standard error are terminals.
+pub(crate) fn is_typed(rt: &HostRuntime) -> bool {
+    is_terminal(rt, "/proc/self/fd/0") && is_terminal(rt, "/proc/self/fd/2")
+}
+
+/// A reader that writes a prompt before each read, and the banner before the first one, if the lines are typed. A
+/// prompt that cannot be written is left out.
+#[derive(Drop)]
+pub(crate) struct Prompted<R, W> {
+    input: R,
+    screen: W,
+    is_typed: bool,
+    has_begun: bool,
+}
+
+impl<R: Read, W: Write> Prompted<R, W> {
+    pub(crate) fn new(input: R, screen: W, is_typed: bool) -> Prompted<R, W> {
+        Prompted {
+            input,
+            screen,
+            is_typed,
+            has_begun: false,
+        }
+    }
+
+    /// Writes the prompt.
+    fn prompt(&mut self) -> io::Result<()> {
+        if !self.has_begun {
+            self.has_begun = true;
+            self.screen.write_all(BANNER)?;
+        }
+        self.screen.write_all(PROMPT)?;
+        self.screen.flush()
+    }
+}
+
+impl<R: Read, W: Write> Read for Prompted<R, W> {
+    ghost remaining = { λ it. R.remaining it.input };
+
+    fn read(&mut self, buf: &mut [u8]) -> io::Result<usize> {
+        if self.is_typed {
+            let _ = self.prompt();
+        }
+        let result = self.input.read(buf);
+        if self.is_typed && matches!(result, Ok(0)) {
+            let _ = self.screen.write_all(b"\n");
+        }
+        result
+    }
+}
