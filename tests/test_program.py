@@ -8,10 +8,12 @@ recorded. The program has to be built first.
 import json
 import os
 import pathlib
+import pty
 import signal
 import sqlite3
 import subprocess
 import tempfile
+import termios
 import time
 import unittest
 
@@ -879,6 +881,52 @@ class Rules(StoreTest):
         run_sql(self.folder / "store", "DELETE FROM rec WHERE tab = 'u'")
         self.assertEqual(self.run_shell(["SELECT * FROM t;"]), (0, "1|'x'\n", ""))
         self.assertEqual(read_records(self.folder / "store"), [VERSION, TABLE, ROW])
+
+
+class Terminals(StoreTest):
+    """Scripts that are typed on a terminal."""
+
+    BANNER = "changeset: one line is one command, Ctrl-D ends the script\n"
+    PROMPT = "changeset> "
+
+    def type(self, lines, screen):
+        """Return what a script prints whose lines are typed: its output, and what is on the terminal.
+
+        Standard error is the terminal too, or `screen`.
+        """
+        main, terminal = pty.openpty()
+        modes = termios.tcgetattr(terminal)
+        modes[1] &= ~termios.OPOST
+        modes[3] &= ~termios.ECHO
+        termios.tcsetattr(terminal, termios.TCSANOW, modes)
+        typed = "".join(f"{line}\n" for line in lines) + "\x04"
+        os.write(main, typed.encode())
+        ran = subprocess.run(
+            [PROGRAM], stdin=terminal, stdout=subprocess.PIPE, stderr=screen or terminal,
+            timeout=PATIENCE, check=False,
+        )
+        self.assertEqual(ran.returncode, 0)
+        os.set_blocking(main, False)
+        try:
+            shown = os.read(main, 1 << 16)
+        except BlockingIOError:
+            shown = b""
+        os.close(terminal)
+        os.close(main)
+        return ran.stdout.decode(), shown.decode()
+
+    def test_prompts(self):
+        """A prompt is on the terminal before each line, and the answers are those of a pipe."""
+        lines = [CREATE, "INSERT INTO t VALUES(1, 'x');", "SELECT * FROM t;"]
+        shown = self.BANNER + self.PROMPT * (len(lines) + 1) + "\n"
+        self.assertEqual(self.type(lines, None), ("1|'x'\n", shown))
+
+    def test_no_prompt_elsewhere(self):
+        """Where standard error is no terminal, nothing is written to it."""
+        with tempfile.TemporaryFile() as screen:
+            self.assertEqual(self.type([CREATE], screen), ("", ""))
+            screen.seek(0)
+            self.assertEqual(screen.read(), b"")
 
 
 class Shells(StoreTest):

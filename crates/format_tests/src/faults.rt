@@ -78,7 +78,7 @@ const FILE_TEXTS: &[(ReadFaultKind, &str)] = &[
 ];
 
 /// Asserts the text of a fault.
-fn expect_text(rt: &(impl Abort + AllocGlobal), fault: &impl Display, text: &str) {
+pub(crate) fn expect_text(rt: &(impl Abort + AllocGlobal), fault: &impl Display, text: &str) {
     let shown = format!(in rt.alloc(); "{fault}").expect(rt, "memory");
     assert!(rt; shown.as_str() == text, "at {text}");
 }
@@ -111,7 +111,7 @@ fn prints_out_of_memory(rt: HostRuntime) {
 }
 
 /// Asserts the number, the class and the name of a fault.
-fn expect_named(rt: &impl Abort, fault: &impl Fault, code: u8, class: u8, name: &str) {
+pub(crate) fn expect_named(rt: &impl Abort, fault: &impl Fault, code: u8, class: u8, name: &str) {
     assert!(rt;
         fault.code() == code && fault.class() == class && fault.name() == name,
         "of {name}"

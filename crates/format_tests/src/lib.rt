@@ -1,7 +1,7 @@
 //! Tests of the public calls on values, changesets and files: of what no contract and no line of a script says.
 //!
 //! `values` has numbers, texts, rows and keys, `entries` the items of a file and net changes, `files` printed texts,
-//! `faults` the numbers, names and texts of faults, and `calling` the callers that `CALLING.md` of `cs_wire` and of
+//! `faults` and `refusals` the numbers, names and texts of faults, and `calling` the callers that `CALLING.md` of `cs_wire` and of
 //! `cs_group` shows. No crate with SQL is linked.
 #![tactic(auto)]
 
@@ -13,6 +13,8 @@ mod entries;
 mod faults;
 #[cfg(test)]
 mod files;
+#[cfg(test)]
+mod refusals;
 #[cfg(test)]
 mod values;
 

@@ -195,10 +195,3 @@ fn shows_the_current_row_of_a_constraint_conflict(rt: HostRuntime) {
     assert!(rt; asked_at(&rt, &mut rows, Some(&row)) == 2);
     assert!(rt; asked_at(&rt, &mut rows, None) == 42);
 }
-
-/// Returns the refusal of a file, where t refuses NULL in b and has no rows, with one choice for all conflicts.
-pub(crate) fn refusal(rt: &(impl Abort + AllocGlobal), file: &[u8], choice: Choice) -> ApplyFault {
-    let handler = |_: &Conflict| choice;
-    let mut rows = tables(rt);
-    run_in(rt.alloc(), &mut rows, file, FORWARD, REPORT, &handler).expect_err(rt, "a refusal")
-}

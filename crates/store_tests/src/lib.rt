@@ -1,10 +1,10 @@
 //! Tests of the public calls on rows, stores, applies and sessions: of what no contract and no line of a script says.
 //!
 //! `rows` makes rows and edits, and has tables in memory, `edits` the edits of rows in memory and in a batch, `apply`
-//! runs of changesets over rows in memory and in batches, and the text of a report, `faults` the numbers and texts of
-//! refusals, `adoption` databases that are adopted as stores, `session` attached tables, changesets, undos and stores
-//! that are not those of a session, `fused` disks that stop answering, and `calling` the callers that `CALLING.md` of
-//! `cs_store`, `cs_apply` and `cs_session` shows.
+//! runs of changesets over rows in memory and in batches, and the text of a report, `adoption` databases that are
+//! adopted as stores, `session` attached tables, changesets, undos and stores that are not those of a session, `fused`
+//! disks that stop answering, and `calling` the callers that `CALLING.md` of `cs_store`, `cs_apply` and `cs_session`
+//! shows.
 //!
 //! The table t of these tests has the columns a and b, of which a is the key.
 #![tactic(auto)]
@@ -17,8 +17,6 @@ mod apply;
 mod calling;
 #[cfg(test)]
 mod edits;
-#[cfg(test)]
-mod faults;
 #[cfg(test)]
 mod fused;
 #[cfg(test)]

@@ -2,7 +2,7 @@
 
 use crate::rows::{Call, edit_of, end, names, rows_of, store_of};
 use crate::{INSERT, UPDATE};
-use cs_session::Session;
+use cs_session::{Session, SessionFault};
 use cs_store::Store;
 use cs_value::{Fault, Value};
 use cs_wire::write;
@@ -221,4 +221,17 @@ fn writes_and_undoes_what_was_noted(rt: HostRuntime) {
     expect_changes(&rt, &mut store, FROM_ONE, 3);
     assert!(rt; rows_of(&rt, &mut store).len() == 1);
     end(store);
+}
+
+#[test]
+fn numbers_refusals_of_sessions(rt: HostRuntime) {
+    for (fault, code, name) in [
+        (SessionFault::AlreadyAttached, 50, "AlreadyAttached"),
+        (SessionFault::WrongStore, 51, "WrongStore"),
+    ] {
+        assert!(rt;
+            fault.code() == code && fault.class() == 1 && fault.name() == name,
+            "of {name}"
+        );
+    }
 }

@@ -1,20 +1,40 @@
-//! Codes, classes, names and texts of refusals.
+//! Numbers, classes, names and texts of the refusals of stores and applies.
 
-use crate::apply::refusal;
-use crate::{DELETE, NULL_INSERT};
-use cs_apply::{ApplyFault, Choice};
-use cs_session::SessionFault;
-use cs_store::{Cause, StoreError};
-use cs_value::Fault;
-use std::fmt::Display;
+use crate::DELETE;
+use crate::faults::{expect_named, expect_text};
+use cs_rows::{Cause, MemRows, StoreError};
+use cs_run::{ApplyFault, Choice, Conflict, Direction, Noop, run_in};
 use std::process::Abort;
 
-/// Asserts the code, the class and the name of a fault.
-fn expect_named(rt: &impl Abort, fault: &impl Fault, code: u8, class: u8, name: &str) {
-    assert!(rt;
-        fault.code() == code && fault.class() == class && fault.name() == name,
-        "of {name}"
-    );
+/// An INSERT of (1, NULL) into the table t.
+const NULL_INSERT: &[u8] = b"T\x02\x01\x00t\x00\x12\x00\x01\x00\x00\x00\x00\x00\x00\x00\x01\x05";
+
+/// Returns tables in memory with t, which refuses NULL in b and has no rows.
+fn tables(rt: &(impl Abort + AllocGlobal)) -> MemRows {
+    let mut rows = MemRows::new(rt.alloc());
+    let mut columns = Vec::new(rt.alloc());
+    for name in ["a", "b"] {
+        let column = String::from_str(rt.alloc(), name).expect(rt, "memory");
+        columns.push(column).expect(rt, "memory");
+    }
+    rows.declare(rt.alloc(), "t", &columns, &[true, false], &[false, true])
+        .expect(rt, "a table");
+    rows
+}
+
+/// Returns the refusal of a file by t, with one choice for all conflicts.
+fn refusal(rt: &(impl Abort + AllocGlobal), file: &[u8], choice: Choice) -> ApplyFault {
+    let handler = |_: &Conflict| choice;
+    let mut rows = tables(rt);
+    run_in(
+        rt.alloc(),
+        &mut rows,
+        file,
+        Direction::Forward,
+        Noop::Report,
+        &handler,
+    )
+    .expect_err(rt, "a refusal")
 }
 
 #[test]
@@ -37,7 +57,7 @@ fn numbers_refusals_of_stores(rt: HostRuntime) {
 }
 
 #[test]
-fn numbers_refusals_of_applies_and_sessions(rt: HostRuntime) {
+fn numbers_refusals_of_applies(rt: HostRuntime) {
     expect_named(&rt, &ApplyFault::Wider(3), 40, 17, "Wider");
     expect_named(&rt, &refusal(&rt, DELETE, Choice::Abort), 41, 4, "Abort");
     expect_named(
@@ -47,20 +67,6 @@ fn numbers_refusals_of_applies_and_sessions(rt: HostRuntime) {
         21,
         "Misuse",
     );
-    expect_named(
-        &rt,
-        &SessionFault::AlreadyAttached,
-        50,
-        1,
-        "AlreadyAttached",
-    );
-    expect_named(&rt, &SessionFault::WrongStore, 51, 1, "WrongStore");
-}
-
-/// Asserts the text of a fault.
-fn expect_text(rt: &(impl Abort + AllocGlobal), fault: &impl Display, text: &str) {
-    let shown = format!(in rt.alloc(); "{fault}").expect(rt, "memory");
-    assert!(rt; shown.as_str() == text, "at {text}");
 }
 
 #[test]
