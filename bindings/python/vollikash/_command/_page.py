@@ -6,7 +6,7 @@ import html as markup
 import itertools
 import operator
 import os
-from typing import Iterator, List, Sequence
+from typing import Iterator, List, Mapping, Optional, Sequence, Tuple
 
 from .. import __version__
 from .._changes import Change, changes
@@ -15,8 +15,18 @@ from .._values import UNDEFINED, Field
 from ._names import Names
 from ._progress import Progress
 from ._streams import Input, made, read_input, write_pieces
-from ._template import SCRIPT, STYLE
+from ._template import ROW_HEIGHT, SCRIPT, STYLE
 from ._texts import escaped_lines, printable
+
+# How many changes are laid out at once.
+_ROWS = 100
+
+# Longer texts are scrolled. A column has at most so many characters on a line; how many the column
+# of operations has; and how many pixels a character takes.
+_LONG, _WIDEST, _OPERATION, _CHARACTER = 1000, 60, 10, 9
+
+# What the heading of a key column has.
+_KEY = ' class="key"'
 
 _table = operator.attrgetter("table")
 
@@ -37,9 +47,9 @@ def _sum(code: str) -> str:
     return f"'sha256-{base64.b64encode(digest).decode()}'"
 
 
-# Only the style and the script of the page are allowed.
+# Nothing is loaded, and only the script of the page runs.
 _POLICY = (
-    f"default-src 'none'; style-src {_sum(STYLE)}; script-src {_sum(SCRIPT)}; "
+    f"default-src 'none'; style-src 'unsafe-inline'; script-src {_sum(SCRIPT)}; "
     "base-uri 'none'; form-action 'none'"
 )
 
@@ -49,33 +59,72 @@ def _name(text: str) -> str:
     return markup.escape(printable(text))
 
 
-def _value(tag: str, field: Field) -> str:
-    """Return a field as an element, or nothing if it is undefined."""
+def _content(field: Field) -> Tuple[str, str]:
+    """Return the classes and the text of a defined field."""
     if isinstance(field, str):
-        return f'<{tag} class="s">{markup.escape(escaped_lines(field))}</{tag}>'
-    if isinstance(field, bytes):
-        return f"<{tag} class=\"b\">X'{field.hex()}'</{tag}>"
-    if field is UNDEFINED:
-        return ""
-    return f'<{tag} class="n">NULL</{tag}>' if field is None else f"<{tag}>{field}</{tag}>"
+        text, kind = markup.escape(escaped_lines(field)), "text"
+    elif isinstance(field, bytes):
+        text, kind = f"X'{field.hex()}'", ""
+    else:
+        text, kind = ("NULL", "null") if field is None else (str(field), "")
+    return (f"{kind} long" if len(text) > _LONG else kind), text
+
+
+def _element(tag: str, field: Field) -> str:
+    """Return a field as an element."""
+    kind, text = _content(field)
+    return f'<{tag} class="{kind}">{text}</{tag}>' if kind else f"<{tag}>{text}</{tag}>"
+
+
+def _cell(field: Field) -> str:
+    """Return the cell of a value that has no other one next to it."""
+    kind, text = _content(field)
+    if kind.endswith("long"):
+        return f'<td><div class="{kind}">{text}</div>'
+    return f'<td class="{kind}">{text}' if kind else f"<td>{text}"
 
 
 def _cells(change: Change) -> Iterator[str]:
-    """Yield what each cell of a change has: the old value and the new one."""
-    old: Sequence[Field] = change.old or (UNDEFINED,) * len(change.flags)
-    new: Sequence[Field] = change.new or (UNDEFINED,) * len(change.flags)
-    for before, after, flag in zip(old, new, change.flags):
-        if flag and change.op == "update":
-            yield _value("b", before)
+    """Yield the cells of a change. That of a column that is updated has the old value and the new
+    one.
+    """
+    if change.old is None or change.new is None:
+        yield from map(_cell, change.new or change.old or ())
+        return
+    for before, after in zip(change.old, change.new):
+        if before is UNDEFINED:
+            yield "<td>"
+        elif after is UNDEFINED:
+            yield _cell(before)
         else:
-            yield _value("del", before) + _value("ins", after)
+            yield f"<td>{_element('del', before)} {_element('ins', after)}"
 
 
 def _row(change: Change) -> str:
     """Return the row of a change."""
     indirect = "<small>indirect</small>" if change.indirect else ""
-    cells = "".join(f"<td>{cell}</td>" for cell in _cells(change))
-    return f'<tr class="{change.op}"><th scope="row">{change.op}{indirect}</th>{cells}</tr>\n'
+    cells = "".join(_cells(change))
+    return f'<tr class="{change.op}"><th scope="row">{change.op}{indirect}{cells}</tr>\n'
+
+
+def _length(field: Field) -> int:
+    """Return about how many characters a field has on its longest line, as far as it matters."""
+    if isinstance(field, str):
+        return max(map(len, field[:_WIDEST].split("\n"))) + 2
+    if isinstance(field, bytes):
+        return 2 * len(field[:_WIDEST]) + 3
+    return 0 if field is UNDEFINED else 4 if field is None else len(str(field))
+
+
+def _widths(names: Sequence[str], changes: Sequence[Change]) -> List[int]:
+    """Return how many characters wide each column of a table is, by its first changes."""
+    widths = [len(name) + 5 for name in names]
+    for change in changes:
+        old, new = change.old or (), change.new or ()
+        for place, (before, after) in enumerate(itertools.zip_longest(old, new)):
+            fields = [_length(field) for field in (before, after) if field is not None]
+            widths[place] = max(widths[place], sum(fields) + 3)
+    return [min(width, _WIDEST) for width in widths]
 
 
 def _counted(count: int, what: str) -> str:
@@ -89,17 +138,69 @@ def _summary(counts: Counts) -> str:
     return ", ".join(_counted(count, kind) for count, kind in kinds if count)
 
 
-def _table_start(first: Change, names: Sequence[str], counts: Counts) -> str:
-    """Return the page from the heading of a table to its first row."""
-    heads = "".join(
-        f'<th scope="col"{" class=" + chr(34) + "k" + chr(34) if flag else ""}>{_name(name)}</th>'
-        for name, flag in zip(names, first.flags)
-    )
-    name = markup.escape(printable(first.table))
-    return (
-        f'<section data-table="{name}">\n<h3>{name}<small>{_summary(counts)}</small></h3>\n'
-        f'<div class="scroll"><table>\n<thead><tr><th></th>{heads}</tr></thead>\n<tbody>\n'
-    )
+class _Table:
+    """Makes the page of a table, by the changes of its first part."""
+
+    def __init__(self, first: Sequence[Change], names: Sequence[str]) -> None:
+        self._name, self._flags = _name(first[0].table), first[0].flags
+        self._names = names
+        widths = _widths(names, first)
+        self._width = _CHARACTER * (_OPERATION + sum(widths))
+        columns = "".join(
+            f'<col style="width:{100 * width / (_OPERATION + sum(widths)):.2f}%">'
+            for width in (_OPERATION, *widths)
+        )
+        self._columns = f"<colgroup>{columns}</colgroup>"
+
+    def start(self, counts: Counts) -> str:
+        """Return the heading of the table, and the names of its columns."""
+        heads = "".join(
+            f'<th scope="col"{_KEY * bool(flag)}>{_name(name)}'
+            for name, flag in zip(self._names, self._flags)
+        )
+        return (
+            f'<section data-table="{self._name}">\n'
+            f"<h3>{self._name}<small>{_summary(counts)}</small></h3>\n"
+            f'<div class="scroll"><div style="min-width:{self._width}px">\n'
+            f"<table>{self._columns}<thead><tr><th>{heads}</tr></thead></table>\n"
+        )
+
+    def part(self, changes: Sequence[Change]) -> str:
+        """Return a part of the table."""
+        height = f"contain-intrinsic-height:{ROW_HEIGHT * len(changes)}px"
+        rows = "".join(map(_row, changes))
+        return (
+            f'<div class="part" style="{height}"><table>{self._columns}<tbody>\n{rows}'
+            "</tbody></table></div>\n"
+        )
+
+    @staticmethod
+    def end() -> str:
+        """Return the end of the table."""
+        return "</div></div>\n</section>\n"
+
+
+def _parts(changes: Iterator[Change]) -> Iterator[List[Change]]:
+    """Yield changes in parts."""
+    while True:
+        part = list(itertools.islice(changes, _ROWS))
+        if not part:
+            return
+        yield part
+
+
+def _of_table(
+    changes: Iterator[Change], names: Names, counts: Mapping[str, Counts]
+) -> Iterator[str]:
+    """Yield the page of one table."""
+    table: Optional[_Table] = None
+    for part in _parts(changes):
+        if table is None:
+            name, flags = part[0].table, part[0].flags
+            table = _Table(part, names.of(name, flags))
+            yield table.start(counts[name])
+        yield table.part(part)
+    yield _Table.end()
 
 
 def _of_file(given: Input, names: Names) -> Iterator[str]:
@@ -113,12 +214,8 @@ def _of_file(given: Input, names: Names) -> Iterator[str]:
     yield f"<p>{_counted(sum(total), 'change')} in {tables}{detail}</p>\n"
     found = made(given, changes)
     with Progress(given.name) as progress:
-        for table, group in itertools.groupby(progress.counted(found), _table):
-            first = next(group)
-            columns = names.of(table, first.flags)
-            yield _table_start(first, columns, counts[table])
-            yield from map(_row, itertools.chain([first], group))
-            yield "</tbody>\n</table></div>\n</section>\n"
+        for _, group in itertools.groupby(progress.counted(found), _table):
+            yield from _of_table(group, names, counts)
     yield "</section>\n"
 
 

@@ -86,7 +86,8 @@ def _add_looking(words: _Words) -> None:
         "check", "explain the first fault of each file", _counts.check, "check *.cs"
     ))
     html = words.command(
-        "html", "make a page of the changes", _page.html, "html --schema app.db edit.cs -o edit.html"
+        "html", "make a page of the changes", _page.html,
+        "html --schema app.db edit.cs -o edit.html",
     )
     _add_files(html)
     _add_schema(html)

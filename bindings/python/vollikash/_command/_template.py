@@ -1,5 +1,8 @@
 """The style and the script of the page that `vollikash html` makes."""
 
+# How many pixels a row has, if it has one line.
+ROW_HEIGHT = 30
+
 STYLE = """
 :root {
   color-scheme: light dark;
@@ -32,70 +35,83 @@ form {
   align-items: center; margin-top: 1rem; padding: .6rem 1.5rem; background: var(--bar);
   border: solid var(--line); border-width: 1px 0; font-size: .9rem;
 }
-form[hidden], tr[hidden], section[hidden] { display: none; }
+[hidden] { display: none !important; }
 select, input[type=search] {
   margin-left: .4rem; padding: .25rem .5rem; border: 1px solid var(--line); border-radius: 5px;
   background: var(--ground); color: inherit; font: inherit; max-width: 18rem;
 }
 output { margin-left: auto; color: var(--quiet); }
 .scroll { overflow-x: auto; border: 1px solid var(--line); border-radius: 6px; }
-table { width: 100%; border-collapse: collapse; }
+/* A part of a table is laid out once it is near what is seen. */
+.part { content-visibility: auto; }
+table { width: 100%; border-collapse: collapse; table-layout: fixed; }
 th, td { padding: .3rem .75rem; text-align: left; vertical-align: top; }
-td { font: 13px/1.5 ui-monospace, "SF Mono", Menlo, Consolas, "DejaVu Sans Mono", monospace; }
-thead th { background: var(--bar); color: var(--quiet); font-size: .82rem; font-weight: 600; }
-thead th.k::after { content: " key"; font-weight: 400; font-size: .9em; opacity: .75; }
-tbody tr { border-top: 1px solid var(--line); }
-tbody th { width: 1%; font-size: .8rem; font-weight: 600; white-space: nowrap; }
-tbody th small { display: block; color: var(--quiet); font-weight: 400; }
-tr.insert { background: var(--insert); } tr.insert th, ins { color: var(--insert-ink); }
-tr.delete { background: var(--delete); } tr.delete th, del { color: var(--delete-ink); }
-tr.update { background: var(--update); } tr.update th { color: var(--update-ink); }
-del, ins, b {
-  display: inline-block; max-width: 40rem; max-height: 12rem; overflow: auto; font-weight: 400;
-  text-decoration: none; white-space: pre-wrap; overflow-wrap: anywhere; vertical-align: top;
+td {
+  font: 13px/1.5 ui-monospace, "SF Mono", Menlo, Consolas, "DejaVu Sans Mono", monospace;
+  white-space: pre-wrap; overflow-wrap: anywhere;
 }
-tr.update del { text-decoration: line-through; text-decoration-thickness: 1px; }
-tr.update td { white-space: nowrap; }
-tr.update del { margin-right: .6rem; }
-.s::before, .s::after { content: "'"; opacity: .55; }
-del + ins::before { content: "\\2192\\a0"; opacity: .55; }
-del + ins.s::before { content: "\\2192\\a0'"; }
-.b { opacity: .85; } .n { font-style: italic; opacity: .7; }
-i { font-style: normal; opacity: .6; }
+thead th { background: var(--bar); color: var(--quiet); font-size: .82rem; font-weight: 600; }
+thead th { overflow-wrap: anywhere; }
+thead th.key::after { content: " key"; font-weight: 400; font-size: .9em; opacity: .75; }
+tbody tr { border-top: 1px solid var(--line); }
+tbody th { font-size: .8rem; font-weight: 600; }
+tbody th small { display: block; color: var(--quiet); font-weight: 400; }
+tr.insert { background: var(--insert); } tr.insert *, ins { color: var(--insert-ink); }
+tr.delete { background: var(--delete); } tr.delete *, del { color: var(--delete-ink); }
+tr.update { background: var(--update); } tr.update th { color: var(--update-ink); }
+del { text-decoration-thickness: 1px; } ins { text-decoration: none; }
+ins::before { content: "\\2192\\a0"; opacity: .55; }
+.text::before, .text::after { content: "'"; opacity: .55; }
+ins.text::before { content: "\\2192\\a0'"; }
+.null { font-style: italic; opacity: .75; }
+.long { max-height: 15rem; overflow: auto; }
 footer { margin: 2rem 0 1.5rem; color: var(--quiet); font-size: .8rem; }
 """
 
 SCRIPT = """
 "use strict";
 (() => {
+  const HEIGHT = ROW_HEIGHT;
   const found = id => document.getElementById(id);
   const form = found("filter"), table = found("table"), text = found("text");
   const sections = [...document.querySelectorAll("section[data-table]")];
   const names = [...new Set(sections.map(section => section.dataset.table))];
   names.forEach((name, place) => table.add(new Option(name, String(place))));
   let known = null;
-  const rowsOf = section => [...section.querySelectorAll("tbody tr")].map(row => ({
+  const rowsOf = part => [...part.querySelectorAll("tbody tr")].map(row => ({
     row,
-    words: [...row.querySelectorAll("del, ins, b")]
-      .map(value => value.textContent.toLowerCase()).join("\\n"),
+    words: [...row.cells].slice(1).map(cell => cell.textContent.toLowerCase()).join("\\n"),
   }));
+  const partsOf = section => [...section.querySelectorAll(".part")].map(part => ({
+    part, rows: rowsOf(part),
+  }));
+  const filterPart = ({ part, rows }, fits) => {
+    let here = 0;
+    for (const { row, words } of rows) {
+      const is = fits(row.className, words);
+      if (row.hidden === is) row.hidden = !is;
+      here += is;
+    }
+    part.hidden = here === 0;
+    part.style.containIntrinsicHeight = `${HEIGHT * here}px`;
+    return here;
+  };
   const filter = () => {
-    known = known || sections.map(section => ({ section, rows: rowsOf(section) }));
+    known = known || sections.map(section => ({ section, parts: partsOf(section) }));
     const name = table.value === "" ? null : names[Number(table.value)];
     const wanted = text.value.toLowerCase();
     const ops = new Set([...form.querySelectorAll("input:checked")].map(box => box.value));
+    const fits = (op, words) => ops.has(op) && words.includes(wanted);
     let shown = 0, all = 0;
-    for (const { section, rows } of known) {
+    for (const { section, parts } of known) {
+      const isWanted = name === null || section.dataset.table === name;
       let here = 0;
-      const fits = name === null || section.dataset.table === name;
-      for (const { row, words } of rows) {
-        const is = fits && ops.has(row.className) && words.includes(wanted);
-        if (row.hidden === is) row.hidden = !is;
-        here += is;
+      for (const part of parts) {
+        here += filterPart(part, (op, words) => isWanted && fits(op, words));
+        all += part.rows.length;
       }
       section.hidden = here === 0;
       shown += here;
-      all += rows.length;
     }
     found("count").textContent = `${shown} of ${all} changes`;
   };
@@ -107,4 +123,4 @@ SCRIPT = """
   form.addEventListener("submit", event => event.preventDefault());
   form.hidden = false;
 })();
-"""
+""".replace("ROW_HEIGHT", str(ROW_HEIGHT))
