@@ -53,6 +53,6 @@ def run(words: Optional[Sequence[str]] = None) -> int:
     except MemoryError:
         complain(Failure("vollikash", "memory ran out", Code.NO_MEMORY))
     except OSError as error:
-        complain(of_system(error, "vollikash"))
+        complain(of_system(error))
         _drop_output()
     return 1

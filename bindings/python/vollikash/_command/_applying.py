@@ -1,18 +1,17 @@
 """`vollikash apply`: as `changeset FILE apply STORE`, with reasons in words."""
 import argparse
 import sys
-from typing import Dict, List, Mapping, TextIO, Tuple, cast
+from typing import Dict, List, Mapping, Sequence, TextIO, Tuple, cast
 
 from .._deciding import PendingConflict
 from .._errors import ChangesetError, Code, ConflictError, ProgramError, StoreError
 from .._lines import Choice, Conflict, Kind, Report
 from .._store import Store, open as open_store
 from ._messages import CONFLICTS, Failure, of_changeset, of_conflict, of_store
-from ._names import Names
 from ._progress import Progress
 from ._show import Lines
-from ._streams import Input, read_input
-from ._texts import Paint, is_terminal, literals, printable
+from ._streams import Input, read_input, text_output
+from ._texts import Paint, identifier, is_terminal, literal, literals, printable
 
 # A store takes its time: Ctrl-C ends it.
 PATIENCE = 86400.0
@@ -40,22 +39,21 @@ def _line_of(conflict: Conflict) -> str:
 
 def _print_report(report: Report) -> None:
     """Print the lines that the program prints, with reasons."""
-    for table in report.skipped:
-        print(f"warning 17 skipped {_quoted(table)}: {_SKIPPED}")
-    for conflict in report.conflicts:
-        print(_line_of(conflict))
+    lines = [f"warning 17 skipped {_quoted(table)}: {_SKIPPED}" for table in report.skipped]
+    lines += map(_line_of, report.conflicts)
     if report.ignored:
-        print(f"ignored {report.ignored}")
-    print(f"applied {report.applied}")
+        lines.append(f"ignored {report.ignored}")
+    lines.append(f"applied {report.applied}")
+    print("\n".join(lines), file=text_output())
 
 
 class _Questions:
     """Asks on a terminal about each conflict that no option decides."""
 
-    def __init__(self, chosen: Mapping[Kind, Choice]) -> None:
-        self._chosen = chosen
+    def __init__(self, store: Store, chosen: Mapping[Kind, Choice]) -> None:
+        self._store, self._chosen = store, chosen
         self._reader, self._writer = self._terminal()
-        self._lines = Lines(Names(None), Paint(self._writer))
+        self._lines = Lines(self._columns, Paint(self._writer))
 
     @staticmethod
     def _terminal() -> Tuple[TextIO, TextIO]:
@@ -76,8 +74,14 @@ class _Questions:
         self._write(f"{conflict.kind}: {CONFLICTS[conflict.kind]}\n")
         self._write(f"  change   {self._lines.line(conflict.change)}\n")
         if conflict.current is not None:
-            self._write(f"  current  {literals(conflict.current)}\n")
+            names = self._columns(conflict.change.table, conflict.change.flags)
+            row = [f"{identifier(it[0])}={literal(it[1])}" for it in zip(names, conflict.current)]
+            self._write(f"  current  {', '.join(row)}\n")
         return self._asked(conflict.kind in ("data", "conflict"))
+
+    def _columns(self, table: str, flags: bytes) -> Sequence[str]:
+        """Return the names of the columns of a table of the store."""
+        return self._store.schema(table).columns
 
     def _write(self, text: str) -> None:
         """Write to the terminal."""
@@ -109,7 +113,7 @@ def _applied(store: Store, data: bytes, arguments: argparse.Namespace) -> Report
     """Apply a changeset as the options say."""
     chosen, ignores = _chosen(arguments), arguments.ignore_noop
     if arguments.interactive:
-        return store.apply(data, on_conflict=_Questions(chosen), ignore_noop=ignores)
+        return store.apply(data, on_conflict=_Questions(store, chosen), ignore_noop=ignores)
     return store.apply(
         data, data=chosen.get("data", "abort"), notfound=chosen.get("notfound", "abort"),
         conflict=chosen.get("conflict", "abort"), constraint=chosen.get("constraint", "abort"),

@@ -4,8 +4,8 @@ from typing import List, Tuple
 
 from .._files import check as check_file
 from .._tables import Counts, stat as counts_of
-from ._streams import Input, for_each, made
-from ._texts import identifier, printable
+from ._streams import Input, for_each, made, text_output
+from ._texts import identifier, title
 
 _HEAD = ("file", "table", "inserts", "updates", "deletes")
 
@@ -39,14 +39,14 @@ def stat(arguments: argparse.Namespace) -> int:
     def count(given: Input) -> None:
         found = made(given, counts_of)
         for table, counted in found.items():
-            rows.append((printable(given.name), identifier(table), *map(str, counted)))
+            rows.append((title(given.name), identifier(table), *map(str, counted)))
         if not found:
-            rows.append((printable(given.name), "", "0", "0", "0"))
+            rows.append((title(given.name), "", "0", "0", "0"))
         counts.extend(found.values())
 
     status = for_each(arguments.file, count)
     rows.append(("total", "", *map(str, _total(counts))))
-    print("\n".join(_aligned(rows)))
+    print("\n".join(_aligned(rows)), file=text_output())
     return status
 
 
@@ -55,6 +55,6 @@ def check(arguments: argparse.Namespace) -> int:
 
     def check_one(given: Input) -> None:
         made(given, check_file)
-        print(f"{printable(given.name)}: ok")
+        print(f"{title(given.name)}: ok", file=text_output())
 
     return for_each(arguments.file, check_one)

@@ -4,7 +4,7 @@ from typing import Mapping, Optional
 
 from .._errors import ChangesetError, Code, ConflictError, StoreError
 from .._explain import explain
-from ._texts import literals, printable
+from ._texts import literals, printable, title
 
 # What an error of a store or of a line is, and what can be done.
 SENTENCES: Mapping[int, str] = {
@@ -51,9 +51,8 @@ class Failure(Exception):
     """Something failed. `name` is the file's, and `why` says what was expected."""
 
     def __init__(self, name: str, why: str, code: Optional[Code] = None, detail: str = "") -> None:
-        shown = "standard input" if name == "-" else printable(name)
         numbered = [f"error {code:d} {code.title} {detail}".rstrip()] if code else []
-        super().__init__(": ".join([shown, *numbered, why]))
+        super().__init__(": ".join([title(name), *numbered, why]))
 
 
 def complain(what: object) -> None:
@@ -69,9 +68,13 @@ def of_changeset(name: str, data: bytes, error: ChangesetError) -> Failure:
     return Failure(name, explain(data, error), error.code, str(error.place))
 
 
-def of_system(error: OSError, name: str) -> Failure:
-    """Return the failure of a call of the system, on the file of this name if it has no other."""
-    return Failure(str(error.filename or name), error.strerror or str(error))
+def of_system(error: OSError) -> Failure:
+    """Return the failure of a call of the system. One that names no file was to print."""
+    if error.errno is None:
+        return Failure("vollikash", str(error))
+    if error.filename is None:
+        return Failure("standard output", str(error.strerror), Code.OUTPUT_FAULT)
+    return Failure(str(error.filename), str(error.strerror))
 
 
 def of_conflict(name: str, error: ConflictError) -> Failure:

@@ -16,7 +16,7 @@ from ._names import Names
 from ._progress import Progress
 from ._streams import Input, made, read_input, write_pieces
 from ._template import ROW_HEIGHT, SCRIPT, STYLE
-from ._texts import escaped_lines, printable
+from ._texts import escaped_lines, printable, title
 
 # How many changes are laid out at once.
 _ROWS = 100
@@ -209,8 +209,7 @@ def _of_file(given: Input, names: Names) -> Iterator[str]:
     total = Counts(*map(sum, zip(*counts.values()))) if counts else Counts(0, 0, 0)
     tables = _counted(len(counts), "table")
     detail = f": {_summary(total)}" if counts else ""
-    name = "standard input" if given.name == "-" else given.name
-    yield f"<section>\n<h2>{_name(name)}</h2>\n"
+    yield f"<section>\n<h2>{markup.escape(title(given.name))}</h2>\n"
     yield f"<p>{_counted(sum(total), 'change')} in {tables}{detail}</p>\n"
     found = made(given, changes)
     with Progress(given.name) as progress:
@@ -219,23 +218,23 @@ def _of_file(given: Input, names: Names) -> Iterator[str]:
     yield "</section>\n"
 
 
-def _title(files: List[str]) -> str:
+def _heading(files: List[str]) -> str:
     """Return the title of the page."""
     if len(files) > 1:
         return f"Changes of {len(files)} files"
-    return "Changes" if files == ["-"] else f"Changes of {_name(os.path.basename(files[0]))}"
+    return f"Changes of {markup.escape(title(os.path.basename(files[0])))}"
 
 
 def _pieces(files: List[str], names: Names) -> Iterator[str]:
     """Yield the page."""
-    title = _title(files)
+    heading = _heading(files)
     yield (
         '<!DOCTYPE html>\n<html lang="en">\n<head>\n<meta charset="utf-8">\n'
         f'<meta http-equiv="Content-Security-Policy" content="{_POLICY}">\n'
         '<meta name="viewport" content="width=device-width, initial-scale=1">\n'
         '<meta name="referrer" content="no-referrer">\n'
-        f"<title>{title}</title>\n<style>{STYLE}</style>\n</head>\n<body>\n"
-        f"<header><h1>{title}</h1></header>\n{_FILTER}<main>\n"
+        f"<title>{heading}</title>\n<style>{STYLE}</style>\n</head>\n<body>\n"
+        f"<header><h1>{heading}</h1></header>\n{_FILTER}<main>\n"
     )
     for name in files:
         yield from _of_file(read_input(name), names)

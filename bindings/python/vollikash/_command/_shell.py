@@ -11,7 +11,7 @@ from .._process import LONGEST_FILE
 from ._applying import PATIENCE
 from ._messages import SENTENCES, Failure, of_store
 from ._progress import Progress
-from ._streams import read_input, write_pieces
+from ._streams import read_input, text_output, write_pieces
 from ._texts import allow_all, escaped_lines, is_terminal
 
 _PROMPT = "vollikash> "
@@ -123,8 +123,9 @@ class _Shell:
 
     def _say(self, text: str) -> None:
         """Print a text. A terminal gets no control characters."""
-        sys.stdout.write(escaped_lines(text) if self._is_seen else text)
-        sys.stdout.flush()
+        output = text_output()
+        output.write(escaped_lines(text) if self._is_seen else text)
+        output.flush()
 
     def _words(self, rest: str, form: str, count: int, at_end: bool = False) -> List[str]:
         """Return the words of a line of this form. The name of a file may have blanks."""

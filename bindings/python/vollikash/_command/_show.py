@@ -6,12 +6,12 @@ from typing import Iterator, Sequence
 
 from .._changes import Change, changes
 from .._files import check
-from .._json import pieces
+from .._json import Columns, pieces
 from .._values import UNDEFINED
 from ._names import Names
 from ._progress import Progress
-from ._streams import Input, for_each, made
-from ._texts import DIM, GREEN, RED, YELLOW, Paint, identifier, is_terminal, literal, printable
+from ._streams import Input, for_each, made, text_output
+from ._texts import DIM, GREEN, RED, YELLOW, Paint, identifier, is_terminal, literal, title
 
 _COLOURS = {"insert": GREEN, "update": YELLOW, "delete": RED}
 
@@ -19,12 +19,12 @@ _COLOURS = {"insert": GREEN, "update": YELLOW, "delete": RED}
 class Lines:
     """Makes the line of a change."""
 
-    def __init__(self, names: Names, paint: Paint) -> None:
-        self._names, self._paint = names, paint
+    def __init__(self, columns: Columns, paint: Paint) -> None:
+        self._columns, self._paint = columns, paint
 
     def line(self, change: Change) -> str:
         """Return the line of a change, which is one line whatever its values are."""
-        names = list(map(identifier, self._names.of(change.table, change.flags)))
+        names = list(map(identifier, self._columns(change.table, change.flags)))
         key = [
             f"{name}={literal(field)}"
             for name, field in zip(itertools.compress(names, change.flags), change.key)
@@ -56,23 +56,23 @@ def _show_json(given: Input, names: Names) -> None:
     """Print a changeset as JSON."""
     made(given, check)
     with Progress(given.name, not is_terminal(sys.stdout)):
-        sys.stdout.writelines(pieces(given.data, names.of))
+        text_output().writelines(pieces(given.data, names.of))
 
 
 def _show_lines(given: Input, lines: Lines, is_headed: bool) -> None:
     """Print a line for each change."""
-    found = made(given, changes)
+    found, output = made(given, changes), text_output()
     if is_headed:
-        print(f"==> {'standard input' if given.name == '-' else printable(given.name)} <==")
+        print(f"==> {title(given.name)} <==", file=output)
     with Progress(given.name, not is_terminal(sys.stdout)) as progress:
         for change in progress.counted(found):
-            print(lines.line(change))
+            print(lines.line(change), file=output)
 
 
 def show(arguments: argparse.Namespace) -> int:
     """Print the changes of files."""
     names = Names(arguments.schema)
-    lines = Lines(names, Paint(sys.stdout))
+    lines = Lines(names.of, Paint(sys.stdout))
 
     def show_one(given: Input) -> None:
         if arguments.json:

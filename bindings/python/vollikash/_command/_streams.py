@@ -7,7 +7,7 @@ import stat
 import sys
 import tempfile
 from typing import (
-    IO, BinaryIO, Callable, Iterable, Iterator, List, NamedTuple, Optional, Tuple, TypeVar,
+    IO, BinaryIO, Callable, Iterable, Iterator, List, NamedTuple, Optional, TextIO, Tuple, TypeVar,
 )
 
 from .._errors import ChangesetError, Code
@@ -74,12 +74,11 @@ def flush() -> None:
         sys.stdout.flush()
 
 
-def binary_output() -> BinaryIO:
-    """Return standard output for bytes. Raise `Failure`."""
+def text_output() -> TextIO:
+    """Return standard output. Raise `Failure`."""
     if sys.stdout is None:
         raise Failure("standard output", "it is closed", Code.OUTPUT_FAULT)
-    sys.stdout.flush()
-    return sys.stdout.buffer
+    return sys.stdout
 
 
 def write_bytes(out: Optional[str], data: bytes) -> None:
@@ -95,7 +94,8 @@ def write_pieces(out: Optional[str], pieces: Iterable[bytes]) -> None:
     name = "standard output" if out in (None, "-") else str(out)
     try:
         if out is None or out == "-":
-            _spool(pieces, binary_output())
+            flush()
+            _spool(pieces, text_output().buffer)
         elif _is_plain(out):
             _replace(os.path.realpath(out), pieces)
         else:

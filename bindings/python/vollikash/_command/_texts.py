@@ -67,6 +67,11 @@ def allow_all(stream: Optional[TextIO], errors: str) -> None:
         stream.reconfigure(errors=errors)
 
 
+def title(name: str) -> str:
+    """Return the name of a file as messages have it."""
+    return "standard input" if name == "-" else printable(name)
+
+
 def is_terminal(stream: Optional[TextIO]) -> bool:
     """Return whether a stream is a terminal."""
     return stream is not None and not stream.closed and stream.isatty()
