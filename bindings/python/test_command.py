@@ -5,6 +5,7 @@ headless Chromium if that is there.
 usage: bindings/python/test_command.py
 """
 import ctypes
+import functools
 import json
 import os
 import pathlib
@@ -144,6 +145,8 @@ class Folder(unittest.TestCase):
         while True:
             if typed and typed[0][0] in printed[start:]:
                 start = len(printed)
+                # A signal has to find the command waiting, and not about to wait.
+                time.sleep(0.3 if typed[0][1] == b"\x03" else 0)
                 os.write(terminal, typed.pop(0)[1])
             if not select.select([terminal], [], [], deadline - time.monotonic())[0]:
                 raise AssertionError(f"nothing more is printed after {printed!r}")
@@ -277,24 +280,35 @@ class Looking(Folder):
 
     def test_every_recorded_file(self):
         """A line has the values that the library prints, and JSON is that of the library."""
-        for path in RECORDED:
-            data = path.read_bytes()
+        files = {path: path.read_bytes() for path in RECORDED}
+        status, printed, said = self.run_text("show", *files)
+        self.assertEqual(status, 1)
+        parts = dict(re.findall(r"^==> (.*) <==\n((?:[a-z].*\n)*)", printed, re.M))
+        for path, data in files.items():
             with self.subTest(path=path.name):
-                status, printed, _ = self.run_text("show", path)
-                json_status, text, _ = self.run_text("show", "--json", path)
                 try:
                     changes = list(vollikash.changes(data))
-                except ChangesetError:
-                    self.assertEqual((status, json_status, printed, text), (1, 1, "", ""))
+                except ChangesetError as error:
+                    self.assertIn(f"{path}: error {error.code:d} {error.name} {error.place}: ", said)
+                    self.assertNotIn(str(path), parts)
                     continue
-                self.assertEqual((status, json_status), (0, 0))
-                self.assertEqual(vollikash.from_json(text), data)
-                lines = printed.splitlines()
+                lines = parts[str(path)].splitlines()
                 self.assertEqual(len(lines), len(changes))
                 for line, change in zip(lines, changes):
                     self.assertTrue(line.startswith(f"{change.op} {_texts.identifier(change.table)}["))
                     for field in (*(change.old or ()), *(change.new or ())):
                         self.assertIn("" if field is UNDEFINED else _texts.literal(field), line)
+
+    def test_json(self):
+        """It is that of the library, and several files are several texts."""
+        self.make("a.cs", made_up())
+        self.make("b.cs", b"")
+        whole = vollikash.to_json(made_up())
+        self.expect(["show", "--json", "a.cs", "b.cs", "-"], f"{whole}[]\n{whole}", given=made_up())
+        self.make("cut.cs", made_up()[:-1])
+        status, printed, said = self.run_text("show", "--json", "cut.cs", "b.cs")
+        self.assertEqual((status, printed), (1, "[]\n"))
+        self.assertIn("cut.cs: error 1 Truncated", said)
 
     def database(self, *statements):
         """Make an ordinary database, and return its name."""
@@ -1067,19 +1081,23 @@ class Pages(Folder):
 class Described(unittest.TestCase):
     """Completions and the page of the manual have what the parser has."""
 
-    def words(self):
+    @staticmethod
+    @functools.lru_cache(maxsize=None)
+    def words():
         """Each subcommand with its long options."""
-        text = _parser.parser().format_help()
+        text, found = _parser.parser().format_help(), {}
         for command in re.findall(r"^    ([a-z-]+)", text, re.M):
             helped = subprocess.run(
                 [*WORDS, command, "--help"], env=environment(), capture_output=True, text=True, check=True,
                 timeout=PATIENCE,
             ).stdout
-            yield command, sorted(set(re.findall(r"(?<![\w-])--[a-z-]+", helped.split("example:")[0])))
+            options = set(re.findall(r"(?<![\w-])--[a-z-]+", helped.split("example:")[0]))
+            found[command] = sorted(options)
+        return found
 
     def test_manual(self):
         page = (TOP / "man/vollikash.1").read_text().replace("\\-", "-")
-        for command, options in self.words():
+        for command, options in self.words().items():
             for word in (command, *options):
                 with self.subTest(command=command, word=word):
                     self.assertRegex(page, rf"(?m)^\.(B|BI|BR|RB).*{word}")
@@ -1105,7 +1123,7 @@ class Described(unittest.TestCase):
         return sorted(printed.split())
 
     def test_bash(self):
-        commands = dict(self.words())
+        commands = self.words()
         self.assertEqual(self.completed("vollikash", ""), sorted([*commands, "--help", "--version"]))
         self.assertEqual(self.completed("vollikash", "s"), ["select", "shell", "show", "stat"])
         for command, options in commands.items():
@@ -1118,7 +1136,7 @@ class Described(unittest.TestCase):
         path = HERE / "completions/_vollikash"
         subprocess.run(["zsh", "-n", path], check=True, timeout=PATIENCE)
         text = path.read_text()
-        for command, options in self.words():
+        for command, options in self.words().items():
             block = re.search(rf"^ +{command}\)\n(.*?);;", text, re.M | re.S)[1]
             block = block.replace("$output", "--output").replace("$schema", "--schema")
             self.assertIn(f"'{command}:", text)
