@@ -621,6 +621,15 @@ class Outputs(Folder):
         self.assertEqual(self.invert("a.cs"), (0, ""))
         self.assertEqual((self.folder / "a.cs").read_bytes(), self.inverse)
 
+    @unittest.skipIf(os.geteuid() == 0, "root may write each file")
+    def test_file_that_may_not_be_written(self):
+        self.make("o.cs", b"old")
+        os.chmod(self.folder / "o.cs", 0o444)
+        self.assertEqual(self.invert("o.cs"), (
+            1, "o.cs: error 72 OutputFault: Permission denied. A path that can be written is expected.\n"
+        ))
+        self.assertEqual((self.folder / "o.cs").read_bytes(), b"old")
+
     def test_links(self):
         (self.folder / "far").mkdir()
         self.make("far/o.cs", b"old")

@@ -4,7 +4,7 @@ from typing import Mapping, Optional
 
 from .._errors import ChangesetError, Code, ConflictError, StoreError
 from .._explain import explain
-from ._texts import literals, printable, title
+from ._texts import escaped_lines, literals, printable, title
 
 # What an error of a store or of a line is, and what can be done.
 SENTENCES: Mapping[int, str] = {
@@ -52,7 +52,7 @@ class Failure(Exception):
 
     def __init__(self, name: str, why: str, code: Optional[Code] = None, detail: str = "") -> None:
         numbered = [f"error {code:d} {code.title} {detail}".rstrip()] if code else []
-        super().__init__(": ".join([title(name), *numbered, why]))
+        super().__init__(": ".join([title(name), *numbered, escaped_lines(why)]))
 
 
 def complain(what: object) -> None:

@@ -1,7 +1,8 @@
 """The names of columns, which a changeset does not have."""
+import contextlib
 import os
 import pathlib
-from typing import TYPE_CHECKING, Dict, Optional, Sequence, Tuple
+from typing import TYPE_CHECKING, Dict, Iterator, Optional, Sequence, Tuple
 
 from .._deciding import is_start
 from .._exchange import read_schema
@@ -14,17 +15,26 @@ if TYPE_CHECKING:
     import sqlite3
 
 
+@contextlib.contextmanager
+def _reading(path: str) -> Iterator[None]:
+    """Raise `Failure` if the block cannot read a database."""
+    import sqlite3
+
+    try:
+        yield
+    except sqlite3.Error as error:
+        why = f"{error}. An SQLite database with the tables of the changeset is expected."
+        raise Failure(path, why) from None
+
+
 def _opened(path: str) -> "sqlite3.Connection":
     """Return a connection that reads a database. Raise `Failure`."""
     import sqlite3
 
     name = pathlib.Path(os.path.abspath(path)).as_uri() + "?mode=ro"
-    try:
+    with _reading(path):
         base = sqlite3.connect(name, uri=True)
         base.execute("PRAGMA schema_version")
-    except sqlite3.Error as error:
-        why = f"{error}. An SQLite database with the tables of the changeset is expected."
-        raise Failure(path, why) from None
     return base
 
 
@@ -60,7 +70,8 @@ class Names:
 
     def _ordinary(self, table: str) -> Optional[Schema]:
         """Return the schema of an ordinary table, or None if there is none."""
-        try:
-            return None if self._base is None else read_schema(self._base, table)
-        except ValueError:
+        if self._base is None or self._path is None:
             return None
+        with _reading(self._path), contextlib.suppress(ValueError):
+            return read_schema(self._base, table)
+        return None

@@ -1,4 +1,4 @@
-"""A line about work that takes over a second, on standard error if that is a terminal."""
+"""A line about work of more than a second, on standard error if that is a terminal."""
 import shutil
 import sys
 import threading

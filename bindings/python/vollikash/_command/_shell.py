@@ -149,12 +149,13 @@ class _Shell:
             raise Failure(name, f"more than {_DEEPEST} files read one another")
         try:
             with open(name, "rb") as file:
-                self._depth += 1
-                self.run(file)
-                self._depth -= 1
+                lines = file.readlines()
         except OSError as error:
             why = f"{error.strerror}. A file of lines is expected."
             raise Failure(name, why, Code.INPUT_FAULT) from None
+        self._depth += 1
+        self.run(lines)
+        self._depth -= 1
 
     def _write(self, rest: str) -> None:
         """Write the bytes of a slot into a file."""

@@ -110,20 +110,23 @@ def write_pieces(out: Optional[str], pieces: Iterable[bytes]) -> None:
 
 def _is_plain(out: str) -> bool:
     """Return whether OUT is a plain file, or will be one."""
+    if out.startswith(("/dev/std", "/dev/fd/", "/proc/")):
+        return False
     try:
-        return not _DESCRIPTOR.fullmatch(out) and stat.S_ISREG(os.stat(out).st_mode)
+        return stat.S_ISREG(os.stat(out).st_mode)
     except FileNotFoundError:
         return True
 
 
 def _opened(out: str) -> BinaryIO:
-    """Return a pipe, a device, or what this process has open."""
+    """Return a pipe, a device, or what a process has open, to append to it."""
     found = _DESCRIPTOR.fullmatch(out)
     if found is None:
-        return open(out, "wb", buffering=0)
-    flush()
-    number = _STANDARD[out] if out in _STANDARD else int(found[1] or found[2])
-    return open(os.dup(number), "wb", buffering=0)
+        number = os.open(out, os.O_WRONLY | os.O_APPEND | os.O_CLOEXEC)
+    else:
+        flush()
+        number = os.dup(_STANDARD[out] if out in _STANDARD else int(found[1] or found[2]))
+    return open(number, "wb", buffering=0)
 
 
 def _spool(pieces: Iterable[bytes], stream: IO[bytes]) -> None:
@@ -170,14 +173,28 @@ def _sync_folder(folder: str) -> None:
         os.close(number)
 
 
+def _mode(path: str) -> Optional[int]:
+    """Return the permissions of a file, or None if there is none. One that may not be written is
+    not replaced: that is OSError.
+    """
+    try:
+        number = os.open(path, os.O_WRONLY | os.O_CLOEXEC)
+    except FileNotFoundError:
+        return None
+    try:
+        return stat.S_IMODE(os.fstat(number).st_mode)
+    finally:
+        os.close(number)
+
+
 def _replace(path: str, pieces: Iterable[bytes]) -> None:
     """Make the file at a path have these bytes, or leave it as it is."""
-    folder = os.path.dirname(path)
+    folder, mode = os.path.dirname(path), _mode(path)
     with _new_file(folder) as (new, number):
         with open(number, "wb", closefd=False) as stream:
             _write_each(pieces, stream)
-        with contextlib.suppress(FileNotFoundError):
-            os.fchmod(number, stat.S_IMODE(os.stat(path).st_mode))
+        if mode is not None:
+            os.fchmod(number, mode)
         os.fsync(number)
         os.replace(new, path)
     _sync_folder(folder)
