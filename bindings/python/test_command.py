@@ -682,8 +682,11 @@ class Progress(unittest.TestCase):
             with _progress.Progress("b.cs") as progress:
                 self.assertEqual(sum(progress.counted([1, 2])), 3)
                 time.sleep(0.3)
-            printed = os.read(main, 1 << 16).decode()
+            printed = b""
+            while select.select([main], [], [], 0.5)[0]:
+                printed += os.read(main, 1 << 16)
         os.close(main)
+        printed = printed.decode()
         self.assertTrue(printed.startswith("\r\x1b[Ka\\x1b.cs: 0 s"), printed)
         self.assertIn("\r\x1b[Kb.cs: 0 s, 2 changes", printed)
         self.assertTrue(printed.endswith("\r\x1b[K"))
@@ -970,7 +973,7 @@ class Pages(Folder):
         """The texts of the rows that are seen."""
         return self.browser.value(
             "[...document.querySelectorAll('tbody tr')].filter(row => row.checkVisibility())"
-            ".map(row => [...row.cells].map(cell => cell.innerText))"
+            ".map(row => [...row.cells].map(cell => cell.textContent))"
         )
 
     def filter(self, **chosen):
@@ -996,10 +999,10 @@ class Pages(Folder):
         self.open(a=made_up(1))
         self.assertEqual(self.rows(), [
             ["insert", "7", "it's", "NULL"], ["update", "3", "a b", ""],
-            ["delete\nindirect", "2", "X'00ff'", "-5"], ["insert", "0", "x"],
+            ["deleteindirect", "2", "X'00ff'", "-5"], ["insert", "0", "x"],
         ])
         self.assertEqual(self.browser.value(
-            "[...document.querySelectorAll('h1, h2, h3, thead th, main p')].map(it => it.innerText)"
+            "[...document.querySelectorAll('h1, h2, h3, thead th, main p')].map(it => it.textContent)"
         ), [
             "Changes of a.cs", "a.cs", "4 changes in 2 tables: 2 inserts, 1 update, 1 delete",
             "notes1 insert, 1 update, 1 delete", "", "c1", "c2", "c3", "two words1 insert", "", "c1", "c2",
@@ -1019,7 +1022,7 @@ class Pages(Folder):
         base.execute('CREATE TABLE "two words"(one, two, PRIMARY KEY(one, two))')
         base.close()
         self.open("--schema", "app.db", a=made_up(1), b=b"")
-        heads = "[...document.querySelectorAll('h1, h2, thead th')].map(it => it.innerText)"
+        heads = "[...document.querySelectorAll('h1, h2, thead th')].map(it => it.textContent)"
         self.assertEqual(self.browser.value(heads), [
             "Changes of 2 files", "a.cs", "", "id", "text", "label", "", "one", "two", "b.cs",
         ])
@@ -1033,7 +1036,7 @@ class Pages(Folder):
         self.assertEqual(self.filter(text="249"), "1 of 253 changes")
         self.assertEqual(self.filter(text="", table="0"), "3 of 253 changes")
         self.assertEqual(self.browser.value("document.querySelectorAll('h3').length"), 2)
-        self.assertEqual([row[0] for row in self.rows()], ["insert", "update", "delete\nindirect"])
+        self.assertEqual([row[0] for row in self.rows()], ["insert", "update", "deleteindirect"])
         self.browser.value("document.querySelector('input[value=update]').checked = false")
         self.assertEqual(self.filter(table=""), "252 of 253 changes")
         self.assertEqual(self.filter(text="none"), "0 of 253 changes")

@@ -15,7 +15,7 @@ from .._values import UNDEFINED, Field
 from ._names import Names
 from ._progress import Progress
 from ._streams import Input, made, read_input, write_pieces
-from ._template import ROW_HEIGHT, SCRIPT, STYLE
+from ._template import HEAD_HEIGHT, ROW_HEIGHT, SCRIPT, STYLE
 from ._texts import escaped_lines, printable, title
 
 # How many changes are laid out at once.
@@ -158,8 +158,9 @@ class _Table:
             f'<th scope="col"{_KEY * bool(flag)}>{_name(name)}'
             for name, flag in zip(self._names, self._flags)
         )
+        height = f"contain-intrinsic-height:{HEAD_HEIGHT + ROW_HEIGHT * sum(counts)}px"
         return (
-            f'<section data-table="{self._name}">\n'
+            f'<section data-table="{self._name}" style="{height}">\n'
             f"<h3>{self._name}<small>{_summary(counts)}</small></h3>\n"
             f'<div class="scroll"><div style="min-width:{self._width}px">\n'
             f"<table>{self._columns}<thead><tr><th>{heads}</tr></thead></table>\n"

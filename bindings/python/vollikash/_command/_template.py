@@ -1,7 +1,7 @@
 """The style and the script of the page that `vollikash html` makes."""
 
-# How many pixels a row has, if it has one line.
-ROW_HEIGHT = 30
+# How many pixels a row has, if it has one line, and what is above the rows of a table.
+ROW_HEIGHT, HEAD_HEIGHT = 30, 85
 
 STYLE = """
 :root {
@@ -42,8 +42,8 @@ select, input[type=search] {
 }
 output { margin-left: auto; color: var(--quiet); }
 .scroll { overflow-x: auto; border: 1px solid var(--line); border-radius: 6px; }
-/* A part of a table is laid out once it is near what is seen. */
-.part { content-visibility: auto; }
+/* A table, and a part of it, is laid out once it is near what is seen. */
+.part, section[data-table] { content-visibility: auto; }
 table { width: 100%; border-collapse: collapse; table-layout: fixed; }
 th, td { padding: .3rem .75rem; text-align: left; vertical-align: top; }
 td {
@@ -71,7 +71,7 @@ footer { margin: 2rem 0 1.5rem; color: var(--quiet); font-size: .8rem; }
 SCRIPT = """
 "use strict";
 (() => {
-  const HEIGHT = ROW_HEIGHT;
+  const HEIGHT = ROW_HEIGHT, HEAD = HEAD_HEIGHT;
   const found = id => document.getElementById(id);
   const form = found("filter"), table = found("table"), text = found("text");
   const sections = [...document.querySelectorAll("section[data-table]")];
@@ -111,6 +111,7 @@ SCRIPT = """
         all += part.rows.length;
       }
       section.hidden = here === 0;
+      section.style.containIntrinsicHeight = `${HEAD + HEIGHT * here}px`;
       shown += here;
     }
     found("count").textContent = `${shown} of ${all} changes`;
@@ -123,4 +124,4 @@ SCRIPT = """
   form.addEventListener("submit", event => event.preventDefault());
   form.hidden = false;
 })();
-""".replace("ROW_HEIGHT", str(ROW_HEIGHT))
+""".replace("ROW_HEIGHT", str(ROW_HEIGHT)).replace("HEAD_HEIGHT", str(HEAD_HEIGHT))
