@@ -49,6 +49,11 @@ HOSTILE = "\x1b[31mred\x1b]0;title\x07\x9b2J<script>document.title = 'x'</script
 RAW = re.compile(r"[\x00-\x09\x0b-\x1a\x1c-\x1f\x7f-\x9f\u2028-\u202e]|\x1b(?!\[[0-9]*[mK])")
 
 
+def setUpModule():
+    """What a shell starts in the background ignores Ctrl-C, and so would what is started here."""
+    signal.signal(signal.SIGINT, signal.default_int_handler)
+
+
 def environment(**changed):
     """The variables for a run."""
     names = ("NO_COLOR", "VOLLIKASH_PROGRAM", "PYTHONPATH", "TERM")
