@@ -17,7 +17,7 @@ import unittest
 
 from support import iterator
 from support.documents import blocks_of, commands_of, programs_of
-from support.program import PATIENCE, PROGRAM, TOP, main
+from support.program import PATIENCE, PROGRAM, TOP, main, put_vollikash
 
 ARCHIVE = TOP / "bindings/c/out/libvollikash.a"
 FOLDERS = ("", "docs/", "examples/", "bindings/", "bindings/python/", "crates/*/")
@@ -52,7 +52,10 @@ class Blocks(unittest.TestCase):
                     self.assertIn(tag, ("", "console", "sh", "python", "c", "rust", "sql", "text"))
 
     def test_commands(self):
-        path = {**os.environ, "PATH": f"{PROGRAM.parent}:{os.environ['PATH']}"}
+        commands = tempfile.TemporaryDirectory()
+        self.addCleanup(commands.cleanup)
+        path = {"PATH": f"{PROGRAM.parent}:{commands.name}:{os.environ['PATH']}"}
+        path = {**os.environ, **put_vollikash(commands.name), **path}
         count = 0
         for document in DOCUMENTS:
             with tempfile.TemporaryDirectory() as folder:

@@ -15,6 +15,16 @@ PATIENCE = 120
 TRIES_ALL = os.environ.get("VOLLIKASH_TRIES") == "all"
 
 
+def put_vollikash(folder):
+    """Puts the command `vollikash` of the repository into a folder. Returns the variables that it
+    needs.
+    """
+    script = pathlib.Path(folder, "vollikash")
+    script.write_text(f'#!/bin/sh\nexec "{sys.executable}" -m vollikash "$@"\n')
+    script.chmod(0o755)
+    return {"PYTHONPATH": str(TOP / "bindings/python"), "VOLLIKASH_PROGRAM": str(PROGRAM)}
+
+
 def main():
     """Runs the suite that is the main module."""
     if not PROGRAM.is_file():

@@ -9,10 +9,10 @@ from ._causes import cause_of
 from ._edits import Edits, refusal
 from ._errors import ChangesetError, Code, ConflictError, ProgramError, StoreError
 from ._lines import Report, malformed, read_nothing, read_report
-from ._process import LONGEST, LONGEST_FILE, Process, path_word, run_command
+from ._process import LONGEST, LONGEST_FILE, MARK_SLOT, Process, path_word, run_command
 from ._schema import Schema, is_unfinished, read_schemas
 
-_REFUSED = re.compile(
+REFUSED = re.compile(
     r"error (?P<number>[0-9]{1,2}) (?P<name>[A-Za-z]+)(?: (?P<rest>.*))?\n", re.DOTALL
 )
 
@@ -64,6 +64,9 @@ def _raise(refused: "re.Match[str]", path: str, is_open: bool) -> NoReturn:
 class Asker:
     """A store that a program has open, which is asked line by line."""
 
+    # The slot of the program that no caller's line has.
+    _slot = MARK_SLOT
+
     def __init__(self, path: Union[str, "os.PathLike[str]"], timeout: float = TIMEOUT) -> None:
         self._lock = threading.RLock()
         self._path = os.fspath(path)
@@ -87,9 +90,9 @@ class Asker:
     def _run(self) -> Process:
         """Run the program."""
         try:
-            return Process(self._path, self._timeout)
+            return Process(self._path, self._timeout, self._slot)
         except ProgramError as error:
-            refused = _REFUSED.fullmatch(error.said)
+            refused = REFUSED.fullmatch(error.said)
             if refused is None:
                 raise
             _raise(refused, self._path, False)
@@ -138,7 +141,7 @@ class Asker:
     def _reply(self, line: str) -> str:
         """Return the reply to a line, or raise the error if it is refused."""
         printed = self._process.ask(line)
-        refused = _REFUSED.fullmatch(printed)
+        refused = REFUSED.fullmatch(printed)
         if refused is not None:
             _raise(refused, self._path, True)
         return printed
@@ -152,7 +155,7 @@ class Asker:
             # A longer changeset may take longer.
             patience = self._timeout * (1 + len(file) // LONGEST_FILE)
             ended = run_command(words, patience)
-        refused = _REFUSED.fullmatch(ended.stderr)
+        refused = REFUSED.fullmatch(ended.stderr)
         if refused is not None:
             _raise(refused, self._path, False)
         if ended.returncode:

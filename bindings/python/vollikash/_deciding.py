@@ -32,10 +32,10 @@ Handler = Callable[[PendingConflict], Choice]
 
 def _is_wider(schema: Optional[Schema], flags: bytes) -> bool:
     """Return whether a table has the columns of a file, and more."""
-    return schema is not None and _starts(schema, flags) and len(schema.columns) > len(flags)
+    return schema is not None and is_start(schema, flags) and len(schema.columns) > len(flags)
 
 
-def _starts(schema: Schema, flags: bytes) -> bool:
+def is_start(schema: Schema, flags: bytes) -> bool:
     """Return whether the first columns of a table are those of a file."""
     marks = schema.flags()[:len(flags)]
     return len(marks) == len(flags) and marks == bytes(map(bool, flags))
@@ -140,7 +140,7 @@ def decided(
     for group in groups:
         table, flags = group[0].table, group[0].flags
         schema, spell = schemas.get(table), Encoder(flags).entry
-        if schema is None or not _starts(schema, flags):
+        if schema is None or not is_start(schema, flags):
             decider.skipped.append(table)
             continue
         kept = _kept(group, schema, rows(table), decider)

@@ -5,7 +5,7 @@ Both directions keep one change in memory, next to the bytes of the file.
 import json
 import re
 from typing import (
-    Any, Callable, Dict, Iterator, List, NoReturn, Optional, Set, TextIO, Tuple, Union,
+    Any, Callable, Dict, Iterator, List, NoReturn, Optional, Sequence, Set, TextIO, Tuple, Union,
 )
 
 from ._decoding import Table, entries
@@ -25,6 +25,14 @@ _LONGEST_INTEGER = 20
 
 _text = json.JSONEncoder().encode
 
+# Returns the names of a table's columns, by its name and its flags.
+Columns = Callable[[str, bytes], Sequence[str]]
+
+
+def numbered(table: str, flags: bytes) -> List[str]:
+    """Return the names that columns have without a schema: c1, c2 and so on."""
+    return [f"c{number}" for number in range(1, len(flags) + 1)]
+
 
 def _field(value: Field) -> str:
     """Return a defined field as JSON."""
@@ -35,11 +43,11 @@ def _field(value: Field) -> str:
     return f'{{"blob": "{value.hex()}"}}' if isinstance(value, bytes) else "null"
 
 
-def _record(record: Record) -> str:
-    """Return the defined fields of a record as JSON."""
+def _record(record: Record, names: Sequence[str]) -> str:
+    """Return the defined fields of a record as JSON, by the names of their columns as JSON."""
     fields = [
-        f'"c{column}": {_field(value)}'
-        for column, value in enumerate(record, 1)
+        f"{name}: {_field(value)}"
+        for name, value in zip(names, record)
         if value is not UNDEFINED
     ]
     return "{" + ", ".join(fields) + "}"
@@ -52,19 +60,24 @@ def _start(table: Table, is_first: bool) -> str:
     return f'{end}{{"table": {_text(table.name)}, "flags": [{flags}], "changes": [\n'
 
 
-def _pieces(data: bytes) -> Iterator[str]:
+def pieces(data: bytes, columns: Columns = numbered) -> Iterator[str]:
     """Yield the JSON of an accepted file in parts, one for each change."""
     last: Optional[Table] = None
+    names: List[str] = []
     yield "["
     for table, op, indirect, old, new in entries(data):
-        parts = [",\n" if table is last else _start(table, last is None), f'{{"op": "{op}"']
+        start = ",\n"
+        if table is not last:
+            names = list(map(_text, columns(table.name, table.flags)))
+            start = _start(table, last is None)
+        parts = [start, f'{{"op": "{op}"']
         last = table
         if indirect:
             parts.append(', "indirect": true')
         if old is not None:
-            parts.append(f', "old": {_record(old)}')
+            parts.append(f', "old": {_record(old, names)}')
         if new is not None:
-            parts.append(f', "new": {_record(new)}')
+            parts.append(f', "new": {_record(new, names)}')
         yield "".join(parts) + "}"
     yield "]\n" if last is None else "\n]}\n]\n"
 
@@ -73,14 +86,14 @@ def to_json(file: Bytes) -> str:
     """Return a changeset as JSON. Raises `ChangesetError`."""
     data = as_bytes(file)
     check(data)
-    return "".join(_pieces(data))
+    return "".join(pieces(data))
 
 
 def write_json(file: Bytes, stream: TextIO) -> None:
     """Write a changeset as JSON into a text stream. Raises `ChangesetError`."""
     data = as_bytes(file)
     check(data)
-    stream.writelines(_pieces(data))
+    stream.writelines(pieces(data))
 
 
 def _integer(digits: str) -> int:
@@ -234,7 +247,7 @@ class _Spelling:
 
     def __init__(self, flags: bytes) -> None:
         self._spell = Encoder(flags).entry
-        self._columns = {f"c{column}": column - 1 for column in range(1, len(flags) + 1)}
+        self._columns = {name: place for place, name in enumerate(numbered("", flags))}
         self._keys: Set[bytes] = set()
 
     def entry(self, change: Any) -> bytes:

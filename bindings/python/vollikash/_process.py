@@ -14,8 +14,8 @@ from ._errors import ProgramError
 # What is printed after each answer: a slot with bytes that nobody guesses.
 _MARK_BYTES = 16
 
-# What is sent after each line: that slot is printed.
-_BEHIND = "\n.hex m\n"
+# The slot that has the mark, if the caller names no other one.
+MARK_SLOT = "m"
 
 # How many bytes of lines a program takes, and how many one line has at most. The rest is for other
 # lines.
@@ -99,8 +99,10 @@ def fits_program(line: str) -> bool:
 class Process:
     """A program that runs a shell on a file."""
 
-    def __init__(self, path: str, timeout: float) -> None:
+    def __init__(self, path: str, timeout: float, slot: str = MARK_SLOT) -> None:
         self.timeout = timeout
+        # What is sent after each line: the slot with the mark is printed.
+        self._ending = f"\n.hex {slot}\n"
         program = find_program()
         try:
             self._process = subprocess.Popen(
@@ -119,7 +121,7 @@ class Process:
             os.set_blocking(stream.fileno(), False)
         self.left = LONGEST
         self._mark = os.urandom(_MARK_BYTES).hex()
-        self.ask(f".load m {self._mark}")
+        self.ask(f".load {slot} {self._mark}")
         self._path = path
         with _STARTING:
             _STARTED.add(self)
@@ -133,7 +135,7 @@ class Process:
         """Return whether the program accepts these lines and `kept` more bytes. It accepts
         16777216 bytes in all.
         """
-        return sum(len((line + _BEHIND).encode()) for line in lines) + kept <= self.left
+        return sum(len((line + self._ending).encode()) for line in lines) + kept <= self.left
 
     def has_half(self) -> bool:
         """Return whether the program accepts half of its lines still, so that a session may begin.
@@ -142,7 +144,7 @@ class Process:
 
     def ask(self, line: str) -> str:
         """Return the answer to a line, which fits."""
-        return self._send_and_wait((line + _BEHIND).encode())
+        return self._send_and_wait((line + self._ending).encode())
 
     def expect_open(self) -> None:
         """Raise `ProgramError` if the program was ended."""

@@ -6,8 +6,8 @@ from typing import Dict, Iterator, List, NamedTuple, Tuple
 
 _KEY, _REFUSES = 1, 2
 
-# The bytes of a write-ahead log without a frame.
-_LOG_HEADER = 32
+# The least bytes of a write-ahead log that has a frame: its header, that of the frame, and a page.
+_ONE_FRAME = 32 + 24 + 512
 
 
 class Schema(NamedTuple):
@@ -86,6 +86,7 @@ def is_unfinished(path: str) -> bool:
     """
     name = os.path.realpath(path)
     try:
-        return os.path.getsize(f"{name}-wal") > _LOG_HEADER
+        has_frame = os.path.getsize(f"{name}-wal") >= _ONE_FRAME
     except OSError:
-        return os.path.exists(f"{name}-journal")
+        has_frame = False
+    return has_frame or os.path.exists(f"{name}-journal")

@@ -1,0 +1,147 @@
+"""`vollikash apply`: as `changeset FILE apply STORE`, with reasons in words."""
+import argparse
+import sys
+from typing import Dict, List, Mapping, Sequence, TextIO, Tuple, cast
+
+from .._deciding import PendingConflict
+from .._errors import ChangesetError, Code, ConflictError, ProgramError, StoreError
+from .._lines import Choice, Conflict, Kind, Report
+from .._store import Store, open as open_store
+from ._messages import CONFLICTS, Failure, of_changeset, of_conflict, of_store
+from ._progress import Progress
+from ._show import Lines
+from ._streams import Input, read_input, text_output
+from ._texts import Paint, identifier, is_terminal, literal, literals, printable
+
+# A store takes its time: Ctrl-C ends it.
+PATIENCE = 86400.0
+
+# SQLite's numbers of conflicts, which the program prints.
+_NUMBERS: Mapping[str, int] = {"data": 1, "notfound": 2, "conflict": 3, "constraint": 4}
+
+_KEYS: Mapping[str, Choice] = {"o": "omit", "r": "replace", "a": "abort"}
+
+_SKIPPED = "the store has no such table, or has it with another key or fewer columns"
+
+
+def _quoted(table: str) -> str:
+    """Return the name of a table as the program prints it, on one line."""
+    return "'" + printable(table).replace("'", "''") + "'"
+
+
+def _line_of(conflict: Conflict) -> str:
+    """Return the line of a conflict that was omitted or replaced."""
+    kind, choice, table, key = conflict
+    where = "" if key is None else f"key {literals(key)}: "
+    words = f"conflict {_NUMBERS[kind]} {kind} {choice} {_quoted(table)}"
+    return f"{words}: {where}{CONFLICTS[kind]}"
+
+
+def _print_report(report: Report) -> None:
+    """Print the lines that the program prints, with reasons."""
+    lines = [f"warning 17 skipped {_quoted(table)}: {_SKIPPED}" for table in report.skipped]
+    lines += map(_line_of, report.conflicts)
+    if report.ignored:
+        lines.append(f"ignored {report.ignored}")
+    lines.append(f"applied {report.applied}")
+    print("\n".join(lines), file=text_output())
+
+
+class _Questions:
+    """Asks on a terminal about each conflict that no option decides."""
+
+    def __init__(self, store: Store, chosen: Mapping[Kind, Choice]) -> None:
+        self._store, self._chosen = store, chosen
+        self._reader, self._writer = self._terminal()
+        self._lines = Lines(self._columns, Paint(self._writer))
+
+    @staticmethod
+    def _terminal() -> Tuple[TextIO, TextIO]:
+        """Return what is read and written to ask. Raise `Failure` without a terminal."""
+        if is_terminal(sys.stdin) and is_terminal(sys.stderr):
+            return sys.stdin, sys.stderr
+        try:
+            return open("/dev/tty", errors="replace"), open("/dev/tty", "w", errors="replace")
+        except OSError:
+            why = "--interactive asks on a terminal, and there is none. Choose by --data and so on"
+            raise Failure("vollikash", why) from None
+
+    def __call__(self, conflict: PendingConflict) -> Choice:
+        """Return the choice for a conflict."""
+        chosen = self._chosen.get(conflict.kind)
+        if chosen is not None:
+            return chosen
+        self._write(f"{conflict.kind}: {CONFLICTS[conflict.kind]}\n")
+        self._write(f"  change   {self._lines.line(conflict.change)}\n")
+        if conflict.current is not None:
+            names = self._columns(conflict.change.table, conflict.change.flags)
+            row = [f"{identifier(it[0])}={literal(it[1])}" for it in zip(names, conflict.current)]
+            self._write(f"  current  {', '.join(row)}\n")
+        return self._asked(conflict.kind in ("data", "conflict"))
+
+    def _columns(self, table: str, flags: bytes) -> Sequence[str]:
+        """Return the names of the columns of a table of the store."""
+        return self._store.schema(table).columns
+
+    def _write(self, text: str) -> None:
+        """Write to the terminal."""
+        self._writer.write(text)
+        self._writer.flush()
+
+    def _asked(self, may_replace: bool) -> Choice:
+        """Ask until there is an answer. The end of input is abort."""
+        names = ["omit", "replace", "abort"] if may_replace else ["omit", "abort"]
+        while True:
+            self._write(f"{', '.join(names)}? ")
+            answer = self._reader.readline()
+            if not answer:
+                self._write("\n")
+                return "abort"
+            choice = _KEYS.get(answer.strip().lower()[:1])
+            if choice in names:
+                return cast(Choice, choice)
+
+
+def _chosen(arguments: argparse.Namespace) -> Dict[Kind, Choice]:
+    """Return the choices that options name."""
+    kinds: List[Kind] = ["data", "notfound", "conflict", "constraint"]
+    named = {kind: getattr(arguments, kind) for kind in kinds}
+    return {kind: choice for kind, choice in named.items() if choice is not None}
+
+
+def _applied(store: Store, data: bytes, arguments: argparse.Namespace) -> Report:
+    """Apply a changeset as the options say."""
+    chosen, ignores = _chosen(arguments), arguments.ignore_noop
+    if arguments.interactive:
+        return store.apply(data, on_conflict=_Questions(store, chosen), ignore_noop=ignores)
+    return store.apply(
+        data, data=chosen.get("data", "abort"), notfound=chosen.get("notfound", "abort"),
+        conflict=chosen.get("conflict", "abort"), constraint=chosen.get("constraint", "abort"),
+        ignore_noop=ignores,
+    )
+
+
+def _failure(given: Input, store: str, error: Exception) -> Failure:
+    """Return what an error of an apply is, in words."""
+    if isinstance(error, ConflictError):
+        return of_conflict(given.name, error)
+    if isinstance(error, ChangesetError):
+        return of_changeset(given.name, given.data, error)
+    if isinstance(error, StoreError):
+        return of_store(given.name if error.code == Code.WIDER else store, error)
+    return Failure(store, str(error))
+
+
+def apply(arguments: argparse.Namespace) -> int:
+    """Apply a changeset to a store, and print the report."""
+    given, path = read_input(arguments.file[0]), arguments.store
+    try:
+        with Progress(path, not arguments.interactive):
+            with open_store(path, timeout=PATIENCE) as store:
+                report = _applied(store, given.data, arguments)
+    except (ChangesetError, StoreError, ProgramError) as error:
+        raise _failure(given, path, error) from None
+    except MemoryError:
+        raise Failure(path, "memory ran out", Code.NO_MEMORY) from None
+    _print_report(report)
+    return 0
