@@ -1,7 +1,6 @@
 //! A prompt for lines that are typed on a terminal.
 use std::io;
-use std::io::{Read, Write};
-use std::path::Path;
+use std::io::{IsTerminal, Read, Write};
 use std::rt::HostRuntime;
 
 /// The line before the first prompt.
@@ -9,20 +8,9 @@ const BANNER: &[u8] = b"changeset: one line is one command, Ctrl-D ends the scri
 
 const PROMPT: &[u8] = b"changeset> ";
 
-/// Returns whether a descriptor of this process is a terminal.
-fn is_terminal(rt: &HostRuntime, descriptor: &str) -> bool {
-    match Path::new(descriptor).read_link(rt) {
-        Ok(target) => {
-            let name = target.as_str();
-            name.starts_with("/dev/pts/") || name.starts_with("/dev/tty")
-        }
-        Err(_) => false,
-    }
-}
-
 /// Returns whether a person types the lines and sees the prompts: standard input and standard error are terminals.
 pub(crate) fn is_typed(rt: &HostRuntime) -> bool {
-    is_terminal(rt, "/proc/self/fd/0") && is_terminal(rt, "/proc/self/fd/2")
+    rt.stdin().is_terminal() && rt.stderr().is_terminal()
 }
 
 /// A reader that writes a prompt before each read, and the banner before the first one, if the lines are typed. A

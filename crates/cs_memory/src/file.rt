@@ -1,31 +1,35 @@
 //! A file in memory, as a disk.
-ghost use Rattle.std.specs.Prelude.{◌≡◌, [], length, true, false, refl, is_ok, OnOk};
-ghost use Rattle.sqlite_disk.specs.Disk.{Holds, Torn, Cut, CountsFault};
+ghost use Rattle.std.specs.Prelude.{◌≡◌, [], length, true, false, refl, is_ok, is_err, MatchBool, OnOk};
+ghost use Rattle.sqlite_disk.specs.Disk.{Holds, Torn, Cut, CountsFault, MoreFaults};
 ghost use Rattle.sqlite_disk.specs.Refusal.{finds_no_room};
-ghost use Rattle.cs_memory.specs.Memory.{bytes_of};
+ghost use Rattle.cs_memory.specs.Memory.{bytes_of, IsFresh};
 
 use sqlite_disk::{Disk, Tally, digest_of};
 use std::alloc::{AllocError, Global};
 use std::io;
 
-/// A file in memory. It ends with the process, so what it holds is what a crash leaves.
+/// A file in memory. It ends with the process: its contracts speak as if a crash left its bytes.
 #[derive(Drop)]
 pub struct MemoryFile {
     bytes: Vec<u8>,
-    // The number of calls that failed, and of reads among them whose bytes had another digest.
+    // The number of calls that failed, of reads among them whose bytes had another digest, and of writes for which
+    // memory ran out.
     faults: u64,
     caught: u64,
+    refused: u64,
 }
 
 impl MemoryFile {
     /// Returns an empty file.
     pub fn new(alloc: Global) -> MemoryFile
-        ensures { bytes_of result ≡ [] }
+        ensures empty { bytes_of result ≡ [] }
+        ensures fresh { IsFresh result }
     {
         MemoryFile {
             bytes: Vec::new(alloc),
             faults: 0,
             caught: 0,
+            refused: 0,
         }
     }
 }
@@ -41,7 +45,7 @@ impl Disk for MemoryFile {
 
     ghost is_clean = { λ _. true };
 
-    ghost tally_of = { λ file. record { caught = file.caught; refused = 0 } };
+    ghost tally_of = { λ file. record { caught = file.caught; refused = file.refused } };
 
     ghost key_of = { λ _. 0 };
 
@@ -63,7 +67,7 @@ impl Disk for MemoryFile {
     fn tally(&self) -> Tally {
         Tally {
             caught: self.caught,
-            refused: 0,
+            refused: self.refused,
         }
     }
 
@@ -94,11 +98,13 @@ impl Disk for MemoryFile {
     }
 
     fn write_at(&mut self, at: usize, bytes: &[u8]) -> io::Result<()> {
-        count(overwrite(&mut self.bytes, at, bytes), &mut self.faults)
+        let outcome = overwrite(&mut self.bytes, at, bytes);
+        count(outcome, &mut self.faults, &mut self.refused)
     }
 
     fn set_len(&mut self, len: usize) -> io::Result<()> {
-        count(resize(&mut self.bytes, len), &mut self.faults)
+        let outcome = resize(&mut self.bytes, len);
+        count(outcome, &mut self.faults, &mut self.refused)
     }
 
     fn sync(&mut self) -> io::Result<()> {
@@ -106,15 +112,17 @@ impl Disk for MemoryFile {
     }
 }
 
-/// Counts a call that failed because memory ran out.
-fn count(outcome: Result<(), AllocError>, faults: &mut u64) -> io::Result<()>
+/// Counts a write for which memory ran out. Its error is that of a full disk, since a disk has none for memory.
+fn count(outcome: Result<(), AllocError>, faults: &mut u64, refused: &mut u64) -> io::Result<()>
     ensures variant { is_ok result ≡ is_ok outcome }
-    ensures kind { finds_no_room result ≡ false }
+    ensures kind { finds_no_room result ≡ is_err result }
     ensures faults { CountsFault result faults.old faults.new }
+    ensures refused { MatchBool (is_err result) (MoreFaults refused.old refused.new) (refused.new ≡ refused.old) }
 {
     if outcome.is_err() {
         *faults = faults.saturating_add(1);
-        return Err(io::Error::from(io::ErrorKind::OutOfMemory));
+        *refused = refused.saturating_add(1);
+        return Err(io::ErrorKind::StorageFull.into());
     }
     Ok(())
 }
@@ -132,6 +140,9 @@ fn overwrite(file: &mut Vec<u8>, at: usize, bytes: &[u8]) -> Result<(), AllocErr
     ensures written { OnOk result (Holds file.new.items at bytes.now) }
     ensures others { Torn at (length bytes.now) file.old.items file.new.items }
 {
+    if at == file.len() {
+        return file.extend_from_slice(bytes);
+    }
     let end = at.checked_add(bytes.len()).ok_or(AllocError)?;
     if end > file.len() {
         resize(file, end)?;

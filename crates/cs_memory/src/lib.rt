@@ -5,9 +5,9 @@
 //! store.declare(alloc, "t", &[name_a, name_b], &[true, false], &[false, false])?;
 //! ```
 //!
-//! `file` has a file in memory as a disk, and `store` opens a store in two of them. Such a store takes the time of one
-//! in a file, less the disk. [`Store::new_memory`](cs_store::Store::new_memory) takes time in proportion to the store
-//! for each row that is removed.
+//! `file` has a file in memory as a disk, and `store` opens a store in two of them. A row is removed in the time that a
+//! store in a file takes. [`Store::new_memory`](cs_store::Store::new_memory) takes time in proportion to the store for
+//! that.
 #![tactic(auto)]
 
 mod file;

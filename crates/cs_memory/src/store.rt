@@ -18,7 +18,8 @@ pub type MemoryStore = Store<FileStore<MemoryFile>>;
 ///
 /// # Errors
 ///
-/// `StoreFault` if the database refuses, and `NoMemory` if out of memory.
+/// `StoreFault` if the database refuses, also if memory runs out as a file grows, and `NoMemory` if memory runs out
+/// elsewhere.
 pub fn open_memory(alloc: Global) -> Result<MemoryStore, StoreError>
     ensures empty { IfOk result (λ s. tables_in (file_state s).now ≡ map.empty) }
     ensures at_rest { IfOk result (λ s. IsAtRest (file_state s)) }
