@@ -889,10 +889,10 @@ class Terminals(StoreTest):
     BANNER = "changeset: one line is one command, Ctrl-D ends the script\n"
     PROMPT = "changeset> "
 
-    def type(self, lines, screen):
-        """Return what a script prints whose lines are typed: its output, and what is on the terminal.
+    def type(self, lines, screen=None, keyboard=None):
+        """Return what a script prints: its output, and what is on a terminal.
 
-        Standard error is the terminal too, or `screen`.
+        The lines are typed there, and standard error is there, unless there are files for them.
         """
         main, terminal = pty.openpty()
         modes = termios.tcgetattr(terminal)
@@ -902,7 +902,7 @@ class Terminals(StoreTest):
         typed = "".join(f"{line}\n" for line in lines) + "\x04"
         os.write(main, typed.encode())
         ran = subprocess.run(
-            [PROGRAM], stdin=terminal, stdout=subprocess.PIPE, stderr=screen or terminal,
+            [PROGRAM], stdin=keyboard or terminal, stdout=subprocess.PIPE, stderr=screen or terminal,
             timeout=PATIENCE, check=False,
         )
         self.assertEqual(ran.returncode, 0)
@@ -919,14 +919,14 @@ class Terminals(StoreTest):
         """A prompt is on the terminal before each line, and the answers are those of a pipe."""
         lines = [CREATE, "INSERT INTO t VALUES(1, 'x');", "SELECT * FROM t;"]
         shown = self.BANNER + self.PROMPT * (len(lines) + 1) + "\n"
-        self.assertEqual(self.type(lines, None), ("1|'x'\n", shown))
+        self.assertEqual(self.type(lines), ("1|'x'\n", shown))
 
     def test_no_prompt_elsewhere(self):
-        """Where standard error is no terminal, nothing is written to it."""
-        with tempfile.TemporaryFile() as screen:
-            self.assertEqual(self.type([CREATE], screen), ("", ""))
-            screen.seek(0)
-            self.assertEqual(screen.read(), b"")
+        """Where standard input or standard error is no terminal, there is no prompt."""
+        with tempfile.TemporaryFile() as file:
+            self.assertEqual(self.type([CREATE], screen=file), ("", ""))
+            self.assertEqual(file.tell(), 0)
+            self.assertEqual(self.type([], keyboard=file), ("", ""))
 
 
 class Shells(StoreTest):

@@ -1,16 +1,19 @@
 #!/usr/bin/env python3
 """Out of memory: one allocation of a run is refused, then the next, and so on (`refuse.c`).
 
-A line of a script is answered as with memory, or by `error 60 NoMemory` as if it were not there. A
-command is done, or prints that line and leaves its files. A run of the gate tries some allocations
-of each script and command. With `VOLLIKASH_TRIES=all` each is tried, for minutes.
+A line of a script is answered as with memory, or by `error 60 NoMemory` as if it were not there;
+on a store in memory `error 38 StoreFault` may take its place. A command is done, or prints that
+line and leaves its files. A run of the gate tries some allocations of each script and command. With
+`VOLLIKASH_TRIES=all` each is tried, for minutes.
 """
 import random
 import tempfile
 import unittest
 
 from support.program import TOP, TRIES_ALL, main
-from support.trials import CALLS, COMMANDS, SCRIPTS, Calls, Command, Script, build_shim
+from support.trials import (
+    CALLS, COMMANDS, SCRIPTS, Calls, Command, MemoryScript, Script, build_shim,
+)
 
 # How many of the first allocations of a run are tried in the gate, and how many of the others.
 FIRST, OTHERS = 40, 60
@@ -52,6 +55,11 @@ class MemoryTest(unittest.TestCase):
         for what, lines in SCRIPTS.items():
             with self.subTest(what):
                 self.expect_ends(Script(lines))
+
+    def test_scripts_in_memory(self):
+        """The same on a store in memory, which may refuse a line by StoreFault too."""
+        lines = SCRIPTS["a session whose key changes"]
+        self.expect_ends(MemoryScript(lines))
 
     def test_commands(self):
         """Each command is carried out, or leaves its files."""

@@ -9,7 +9,7 @@ import subprocess
 import tempfile
 
 from support.program import PATIENCE, PROGRAM, TESTS, TOP
-from support.samples import CREATE, CREATE_N, DELETE, INSERT, NULL_INSERT, UPDATE
+from support.samples import CREATE, CREATE_N, DELETE, INSERT, NULL_INSERT, STORE_FAULT, UPDATE
 from support.stores import Table, delete, header, insert, read_store, write_store
 
 # The program of calls that no line makes, which prints a line for each of its words.
@@ -149,8 +149,12 @@ class Trial:
 class Script(Trial):
     """Lines that are run on a store in a new file."""
 
+    # The store, and how a line is answered for which there is no memory.
+    store = "store"
+    refusals = (NO_MEMORY,)
+
     def __init__(self, lines):
-        super().__init__(["store", "shell"], "".join(line + "\n" for line in lines).encode())
+        super().__init__([self.store, "shell"], "".join(line + "\n" for line in lines).encode())
         self.lines = lines
 
     def left(self, folder):
@@ -162,13 +166,21 @@ class Script(Trial):
         """All ways in which it may end: as with memory, or with one line refused, or with none
         read.
         """
-        ends = [self.once()]
+        ends, script = [self.once()], type(self)
         for place in range(len(self.lines)):
-            before = Script(self.lines[:place]).once()[0][1]
-            (_, printed, reported), left = Script(self.lines[:place] + self.lines[place + 1:]).once()
-            ends.append(((1, before + NO_MEMORY + printed[len(before):], reported), left))
-        ends.append(((1, "", NO_MEMORY), {}))
+            before = script(self.lines[:place]).once()[0][1]
+            (_, printed, reported), left = script(self.lines[:place] + self.lines[place + 1:]).once()
+            for refusal in self.refusals:
+                ends.append(((1, before + refusal + printed[len(before):], reported), left))
+        ends += (((1, "", refusal), {}) for refusal in self.refusals)
         return ends
+
+
+class MemoryScript(Script):
+    """Lines that are run on a store in memory, whose files may find no memory as they grow."""
+
+    store = ":memory:"
+    refusals = (NO_MEMORY, STORE_FAULT)
 
 
 class Command(Trial):
