@@ -224,14 +224,8 @@ fn writes_and_undoes_what_was_noted(rt: HostRuntime) {
 }
 
 #[test]
-fn numbers_refusals_of_sessions(rt: HostRuntime) {
-    for (fault, code, name) in [
-        (SessionFault::AlreadyAttached, 50, "AlreadyAttached"),
-        (SessionFault::WrongStore, 51, "WrongStore"),
-    ] {
-        assert!(rt;
-            fault.code() == code && fault.class() == 1 && fault.name() == name,
-            "of {name}"
-        );
-    }
+fn names_refusals_of_sessions(rt: HostRuntime) {
+    let (twice, wrong) = (SessionFault::AlreadyAttached, SessionFault::WrongStore);
+    assert!(rt; twice.class() == 1 && twice.name() == "AlreadyAttached");
+    assert!(rt; wrong.class() == 1 && wrong.name() == "WrongStore");
 }
