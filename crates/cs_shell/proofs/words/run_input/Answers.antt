@@ -11,14 +11,14 @@ use Rattle.cs_shell.proofs.words.run_input.Goals as goal
 
 pub returns-in-Ok-clause-ran : goal.returns-in-Ok-clause-ran
 returns-in-Ok-clause-ran g c =
-    let ran : RunsScript g.R.Read.remaining g.W.Write.contents c.run_script.result c.args.input.now c.run_script.new.input c.args.out.now c.run_script.new.out (tables_in (file_state c.in-Ok.store).now) (file_state c.run_script.new.store) =
-    c.run_script.ensures.ran c.memory_files_law.ensures (tables_in (file_state c.in-Ok.store).now) (λ is_open. refl) in
+    let ran : RunsScript g.R.Read.remaining g.W.Write.contents c.run_script-status.result c.args.input.now c.run_script-status.new.input c.args.out.now c.run_script-status.new.out (tables_in (file_state c.in-Ok.store).now) (file_state c.run_script-status.new.store) =
+    c.run_script-status.ensures.ran c.memory_files_law.ensures (tables_in (file_state c.in-Ok.store).now) (λ is_open. refl) in
     inl (
       record {
-        status = c.run_script.result;
+        status = c.run_script-status.result;
         final = ran.last;
         exit_is = c.end_script.ensures.exit;
-        runs = subst (λ (t : State). Runs g.R.Read.remaining g.W.Write.contents LineGives c.run_script.result (beginning t) ran.last c.args.input.now c.run_script.new.input c.args.out.now c.run_script.new.out)
+        runs = subst (λ (t : State). Runs g.R.Read.remaining g.W.Write.contents LineGives c.run_script-status.result (beginning t) ran.last c.args.input.now c.run_script-status.new.input c.args.out.now c.run_script-status.new.out)
             c.in-Ok.ensures.empty ran.runs;
       },
       c.end_script.ensures.told,
