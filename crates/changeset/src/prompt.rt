@@ -1,4 +1,6 @@
 //! A prompt for lines that are typed on a terminal.
+ghost use Rattle.std.specs.Prelude.{◌≡◌, false};
+
 use std::io;
 use std::io::{IsTerminal, Read, Write};
 use std::rt::HostRuntime;
@@ -34,7 +36,9 @@ impl<R: Read, W: Write> Prompted<R, W> {
     }
 
     /// Writes the prompt.
-    fn prompt(&mut self) -> io::Result<()> {
+    fn write_prompt(&mut self) -> io::Result<()>
+        ensures { self.new.input ≡ self.old.input }
+    {
         if !self.has_begun {
             self.has_begun = true;
             self.screen.write_all(BANNER)?;
@@ -42,19 +46,35 @@ impl<R: Read, W: Write> Prompted<R, W> {
         self.screen.write_all(PROMPT)?;
         self.screen.flush()
     }
+
+    /// Writes the prompt, if the lines are typed.
+    fn before_read(&mut self)
+        ensures input { self.new.input ≡ self.old.input }
+        ensures untyped { self.old.is_typed ≡ false → self.new ≡ self.old }
+    {
+        if self.is_typed {
+            let _ = self.write_prompt();
+        }
+    }
+
+    /// Ends the line of the last prompt, if the lines are typed and this is their end.
+    fn after_read(&mut self, read: &io::Result<usize>)
+        ensures input { self.new.input ≡ self.old.input }
+        ensures untyped { self.old.is_typed ≡ false → self.new ≡ self.old }
+    {
+        if self.is_typed && matches!(read, Ok(0)) {
+            let _ = self.screen.write_all(b"\n");
+        }
+    }
 }
 
 impl<R: Read, W: Write> Read for Prompted<R, W> {
     ghost remaining = { λ it. R.remaining it.input };
 
     fn read(&mut self, buf: &mut [u8]) -> io::Result<usize> {
-        if self.is_typed {
-            let _ = self.prompt();
-        }
+        self.before_read();
         let result = self.input.read(buf);
-        if self.is_typed && matches!(result, Ok(0)) {
-            let _ = self.screen.write_all(b"\n");
-        }
+        self.after_read(&result);
         result
     }
 }
