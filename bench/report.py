@@ -49,7 +49,7 @@ class Row(NamedTuple):
 
     def is_open(self, side: int) -> bool:
         """Return whether no run of a side took too long."""
-        return all(pair[side] for pair in self.pairs.values()) or side == 1 and not self.times()
+        return all(pair[side] for pair in self.pairs.values())
 
     def last(self) -> Pair:
         """Return the runs of the largest count that has a time."""
