@@ -1,10 +1,11 @@
-/* Prints COUNT integers whose keys collide under the fixed seed of the program's maps. The low BITS
- * bits of the hash choose the first place of a key, and the seven high ones distinguish the entries
- * there. All of them are 0. The key of an integer is the byte 1 and eight bytes, the most significant
- * first.
- *
- * usage: collide COUNT BITS
- */
+/*
+** Prints COUNT integers whose keys collide under the fixed seed of the program's maps. The low BITS
+** bits of the hash choose the first place of a key, and the seven high ones distinguish the entries
+** there. All of them are 0. The key of an integer is the byte 1 and eight bytes, the most
+** significant first.
+**
+** usage: collide COUNT BITS
+*/
 #include <stdint.h>
 #include <stdio.h>
 #include <stdlib.h>

@@ -1,72 +1,127 @@
 /*
-** Times sqlite3changeset_invert of a file, or sqlite3changeset_concat of two, of SQLite's session
-** extension. Prints the seconds of the shortest of some calls, and the number of bytes of the output,
-** as `calls.c` does for this library.
-**
-** usage: library FILE [FILE2]
+** The calls of SQLite's library that `calls.c` makes: its iterator without values (check), with
+** values (next), and with values that are printed (dump); invert, concat, apply; and its check of a
+** database (integrity).
 */
 #define SQLITE_ENABLE_SESSION 1
 #define SQLITE_ENABLE_PREUPDATE_HOOK 1
 #include <sqlite3.h>
 #include <stdio.h>
-#include <stdlib.h>
-#include <time.h>
+#include <string.h>
 
-enum { RUNS = 5 };
+#include "calls.h"
 
-struct bytes {
-    void *at;
-    int count;
-};
-
-static struct bytes read_file(const char *name)
+static void print(sqlite3_value *value)
 {
-    struct bytes bytes = {NULL, 0};
-    FILE *file = fopen(name, "rb");
-    if (file == NULL || fseek(file, 0, SEEK_END) != 0) {
-        exit(1);
+    const unsigned char *bytes = sqlite3_value_blob(value);
+    switch (sqlite3_value_type(value)) {
+    case SQLITE_INTEGER:
+        printf(" %lld", (long long)sqlite3_value_int64(value));
+        break;
+    case SQLITE_BLOB:
+        fputs(" x'", stdout);
+        for (int place = 0; place < sqlite3_value_bytes(value); place++) {
+            printf("%02x", bytes[place]);
+        }
+        putchar('\'');
+        break;
+    case SQLITE_TEXT:
+        printf(" '%s'", bytes);
+        break;
+    default:
+        fputs(" NULL", stdout);
     }
-    bytes.count = (int)ftell(file);
-    bytes.at = malloc((size_t)bytes.count + 1);
-    rewind(file);
-    if (bytes.at == NULL || fread(bytes.at, 1, (size_t)bytes.count, file) != (size_t)bytes.count) {
-        exit(1);
-    }
-    fclose(file);
-    return bytes;
 }
 
-static double seconds(void)
+static void look_at(sqlite3_value *value, int prints)
 {
-    struct timespec now;
-    clock_gettime(CLOCK_MONOTONIC, &now);
-    return (double)now.tv_sec + (double)now.tv_nsec / 1e9;
+    if (value == NULL) {
+        return;
+    }
+    int kind = sqlite3_value_type(value);
+    sum += kind;
+    sum += kind == SQLITE_INTEGER ? sqlite3_value_int64(value) : sqlite3_value_bytes(value);
+    if (prints) {
+        print(value);
+    }
 }
 
-int main(int count, char **words)
+/* Goes over all changes of a file, and their values unless it is a check. */
+static int pass(const struct bytes *file, const char *operation)
 {
-    double best = 1e9;
-    int made = 0;
-    struct bytes first = read_file(words[1]), second = {NULL, 0};
-    if (count > 2) {
-        second = read_file(words[2]);
-    }
-    for (int run = 0; run < RUNS; run++) {
-        void *out = NULL;
-        double start = seconds();
-        int code = second.at == NULL
-            ? sqlite3changeset_invert(first.count, first.at, &made, &out)
-            : sqlite3changeset_concat(first.count, first.at, second.count, second.at, &made, &out);
-        double taken = seconds() - start;
-        if (code != SQLITE_OK) {
-            fprintf(stderr, "SQLite's result code is %d\n", code);
-            return 1;
+    sqlite3_changeset_iter *changes;
+    int checks = strcmp(operation, "check") == 0, prints = strcmp(operation, "dump") == 0;
+    int code = sqlite3changeset_start(&changes, (int)file->count, file->at);
+    while (code == SQLITE_OK && sqlite3changeset_next(changes) == SQLITE_ROW) {
+        const char *name;
+        int columns, kind, indirect;
+        sqlite3changeset_op(changes, &name, &columns, &kind, &indirect);
+        if (prints) {
+            printf("\n%s %d %d", name, kind, indirect);
         }
-        sqlite3_free(out);
-        if (taken < best) {
-            best = taken;
+        for (int column = 0; column < 2 * columns && !checks; column++) {
+            sqlite3_value *value = NULL;
+            if (column < columns && kind != SQLITE_INSERT) {
+                sqlite3changeset_old(changes, column, &value);
+            } else if (column >= columns && kind != SQLITE_DELETE) {
+                sqlite3changeset_new(changes, column - columns, &value);
+            }
+            look_at(value, prints);
         }
     }
-    printf("%f %d\n", best, made);
-    return 0;
+    return code != SQLITE_OK ? code : sqlite3changeset_finalize(changes);
+}
+
+static int refuse(void *context, int kind, sqlite3_changeset_iter *change)
+{
+    (void)context;
+    (void)kind;
+    (void)change;
+    return SQLITE_CHANGESET_ABORT;
+}
+
+static int expect_whole(void *context, int count, char **values, char **names)
+{
+    (void)context;
+    (void)names;
+    return count != 1 || strcmp(values[0], "ok") != 0;
+}
+
+static int apply_or_check(const char *operation, const char *name, const struct bytes *file)
+{
+    static const char CHECK[] = "PRAGMA integrity_check; PRAGMA foreign_key_check";
+    sqlite3 *base;
+    int code = sqlite3_open(name, &base);
+    if (code == SQLITE_OK && strcmp(operation, "apply") == 0) {
+        code = sqlite3changeset_apply(base, (int)file->count, file->at, NULL, refuse, NULL);
+    } else if (code == SQLITE_OK) {
+        code = sqlite3_exec(base, CHECK, expect_whole, NULL, NULL);
+    }
+    sqlite3_close(base);
+    return code;
+}
+
+int call(const char *operation, const char *name, const struct bytes *files, struct bytes *out)
+{
+    int made = 0, code, first = (int)files[0].count, second = (int)files[1].count;
+    void *bytes = NULL;
+    if (strcmp(operation, "apply") == 0 || strcmp(operation, "integrity") == 0) {
+        return apply_or_check(operation, name, files);
+    }
+    if (strcmp(operation, "invert") == 0) {
+        code = sqlite3changeset_invert(first, files[0].at, &made, &bytes);
+    } else if (strcmp(operation, "concat") == 0) {
+        code = sqlite3changeset_concat(first, files[0].at, second, files[1].at, &made, &bytes);
+    } else {
+        return pass(files, operation);
+    }
+    out->at = bytes;
+    out->count = (size_t)made;
+    return code;
+}
+
+void discard(struct bytes *out)
+{
+    sqlite3_free(out->at);
+    out->at = NULL;
 }

@@ -28,7 +28,7 @@ HERE = pathlib.Path(__file__).resolve().parent
 TOP = HERE.parent.parent
 sys.path.insert(0, str(TOP / "tests"))
 
-from support import iterator, reader  # noqa: E402
+from support import iterator, reader, stores  # noqa: E402
 from support.samples import TO_DAMAGE, damaged  # noqa: E402
 
 BUILT = HERE.parent / "c/out"
@@ -41,8 +41,9 @@ CHECKS = ("check", "check-sanitized", "check-refusing")
 CUT = [TOP / "tests/recorded" / name for name in ("insert-one.cs", "update-one.cs", "delete-one.cs")]
 # How many damaged files are made of each sample, and which.
 DAMAGED, DAMAGE_SEED = 100, 7
-# How a program is compiled that calls SQLite's session extension, and how many times as long as that a pass may take.
-SESSION, TIMES_SQLITE = ("-DSQLITE_ENABLE_SESSION", "-DSQLITE_ENABLE_PREUPDATE_HOOK"), 4
+# How many times as long as SQLite's iterator a pass may take, and the programs in C that make both.
+TIMES_SQLITE = 4
+PASSES = (["bench/ours.c", BUILT / "libvollikash.a"], ["bench/library.c", "-lsqlite3"])
 # The bytes of a file that has too many columns for a test of each value.
 LONG = 20_000
 INSERT, UPDATE, DELETE = (path.read_bytes() for path in CUT)
@@ -338,12 +339,17 @@ class Changes(unittest.TestCase):
     def test_time(self):
         """A million changes take a few times as long as by SQLite's iterator at most, and so do fewer."""
         with tempfile.TemporaryDirectory() as folder:
-            words = ["cc", "-O2", *SESSION, "-I", HEADER.parent, TOP / "bench/iterate.c", BUILT / "libvollikash.a",
-                     "-lsqlite3", "-o", f"{folder}/iterate"]
-            if subprocess.run(words, capture_output=True, check=False).returncode:
-                self.skipTest("there is no sqlite3.h, or no libsqlite3 with the session extension")
+            programs = [f"{folder}/ours", f"{folder}/sqlite"]
+            for path, sources in zip(programs, PASSES):
+                words = ["cc", "-O2", "-I", HEADER.parent, "bench/calls.c", *sources, "-o", path]
+                if subprocess.run(words, cwd=TOP, capture_output=True, check=False).returncode:
+                    self.skipTest("there is no sqlite3.h, or no libsqlite3 with the session extension")
+            file = pathlib.Path(folder, "file")
             for count in (1000, 1_000_000):
-                taken, theirs, _ = run(f"{folder}/iterate", count).split()
+                inserts = (stores.insert(key, "content", None) for key in range(count))
+                file.write_bytes(stores.header("t", 1, 0, 0) + b"".join(inserts))
+                (taken, total), (theirs, their_total) = (run(path, 5, "next", "-", file).split() for path in programs)
+                self.assertEqual(total, their_total)
                 self.assertLess(float(taken), TIMES_SQLITE * float(theirs))
 
 

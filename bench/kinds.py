@@ -1,0 +1,124 @@
+"""What the bench measures: each kind of row, how it is run, and why it takes more than SQLite's."""
+
+from __future__ import annotations
+
+from typing import NamedTuple
+
+from shapes import BLOB, CRAFTED, INSERTS, LONG, MADE, MIX, SHUFFLED, TEN, WIDE, Shape
+
+
+class Kind(NamedTuple):
+    """A kind of row: a command, SQLite's next to it or none, and the shapes that both are run on.
+
+    They run in the folder of the programs and the files. COUNT is the number of entries or rows.
+    The file after "<" is their input. A call prints the time of itself.
+    """
+
+    name: str
+    ours: str
+    theirs: str
+    shapes: tuple[str, ...]
+    why: str = ""  # it takes more time than SQLite's
+    why_memory: str = ""  # it takes more memory
+    most: int = 1_000_000  # entries or rows
+    state: str = ""  # of the store and the database: "before" the file is applied, "full", "opened"
+    is_call: bool = False
+
+    def is_run(self, shape: Shape, count: int) -> bool:
+        """Return whether it is run on so many entries or rows of a shape."""
+        most = shape.most_applied if self.state == "before" else self.most
+        return shape.name in self.shapes and count <= most
+
+    def files(self) -> set[str]:
+        """Return the names of the files that have to be made."""
+        return {self.state, *self.ours.split(), *self.theirs.split()} & MADE
+
+
+ALL = (MIX, INSERTS, SHUFFLED, TEN, WIDE, LONG, BLOB)
+PAIRS = (*ALL, CRAFTED)
+APPLIED = (MIX, INSERTS, TEN, WIDE, LONG, BLOB)
+SCRIPTS = (MIX, INSERTS)
+LOOKED = (MIX, WIDE)
+MANY = 100_000
+
+# What is done here and not by SQLite.
+CHECKS = "the file is checked to its end first, for repeated keys too"
+INVERTS = CHECKS + "; SQLite copies INSERTs unread"
+CHECKS_BOTH = "both files are checked to their ends first; crafted keys collide in the map of keys"
+KEYS = "the places of the keys are kept, to find repeated ones"
+COPIES = "the bytes are made apart, and then copied into the buffer of the caller"
+VALUES = "each call reads its change up to the value: the square of the columns in all"
+RECORDS = "the file is checked page by page and index by index, and then each record is decoded"
+OPENS = "the store is opened first (`opening a store`), and each row is a record of one table"
+IN_FILES = "the store is in files in memory, with a log, and each row is a record of one table"
+SENDS = "each row is a line to the program, another process, and each answer is parsed"
+RECORDED = SENDS + "; SQLite's side has no session"
+UNKNOWN = "no reason is known"
+
+
+def call(name: str, files: str, shapes: tuple[str, ...], why: str, why_memory: str) -> Kind:
+    """Return the kind of a call of the C library, next to SQLite's."""
+    ours, theirs = f"./calls 5 {name} out {files}", f"./library 5 {name} other {files}"
+    return Kind(f"`vollikash_{name}`", ours, theirs, shapes, why, why_memory, is_call=True)
+
+
+def command(name: str, words: str, theirs: str, shapes: tuple[str, ...], why: str) -> Kind:
+    """Return the kind of a command on files."""
+    ours, theirs = f"./changeset file {name}{words}", f"./library 1 {theirs}"
+    return Kind(f"`changeset {name}`", ours, theirs, shapes, why, KEYS)
+
+
+def script(name: str, store: str, lines: str, asked: str, why: str = "") -> Kind:
+    """Return the kind of a script of lines."""
+    ours, theirs = f"./changeset {store} shell < {lines}", asked and f"./sqlite < {asked}"
+    return Kind(f"script{name}", ours, theirs, SCRIPTS, why, UNKNOWN, MANY)
+
+
+def store(call: str, name: str, theirs: str, why: str, state: str = "") -> Kind:
+    """Return the kind of a call of a store from Python."""
+    ours, theirs = f"./package ours {call} store COUNT", f"./package sqlite {theirs} base COUNT"
+    return Kind(f"`Store.{name}", ours, theirs, (INSERTS,), why, UNKNOWN, MANY, state)
+
+
+def look(name: str, file: str = "file", theirs: str = "") -> Kind:
+    """Return the kind of a call on changes from Python."""
+    ours = f"./package ours {name} {file}"
+    return Kind(f"`{name}`", ours, theirs, LOOKED, UNKNOWN, UNKNOWN, MANY)
+
+
+KINDS = (
+    call("invert", "file", ALL, INVERTS, COPIES),
+    call("concat", "file more", PAIRS, CHECKS_BOTH, COPIES),
+    call("check", "file", ALL, CHECKS, KEYS),
+    call("next", "file", ALL, VALUES, UNKNOWN),
+    command("invert", " out", "invert other file", ALL, INVERTS),
+    command("concat", " more out", "concat other file more", PAIRS, CHECKS_BOTH),
+    command("dump", "", "dump other file", ALL, CHECKS),
+    command("sql", "", "dump other file", ALL, CHECKS),
+    command("apply", " store", "apply base file", APPLIED, OPENS)._replace(
+        why_memory=UNKNOWN, state="before"
+    ),
+    Kind(
+        "opening a store",
+        "./changeset none apply store",
+        "./library 1 integrity store",
+        (MIX, TEN, WIDE, LONG),
+        RECORDS,
+        UNKNOWN,
+        state="opened",
+    ),
+    script("", "store", "lines", "asked", OPENS),
+    script(" in memory", ":memory:", "lines", "memory", IN_FILES),
+    script(" with a session", "store", "session", "asked_session", OPENS),
+    script(" with a session, in memory", ":memory:", "session", "memory_session", IN_FILES),
+    script(" with an undo", "store", "undo", ""),
+    script(" with an undo, in memory", ":memory:", "undo", ""),
+    store("insert", "insert`", "insert", SENDS),
+    store("insert_in_session", "insert` in a session", "insert", RECORDED),
+    store("insert_many", "insert_many`", "insert_many", SENDS),
+    store("rows", "rows`", "rows", "the store is opened first; " + SENDS, "full"),
+    look("changes", theirs="./package sqlite changes file"),
+    look("Builder"),
+    look("write_json"),
+    look("read_json", "json"),
+)

@@ -1,0 +1,54 @@
+/* The calls of Vollikash that `calls.c` makes: check, next, invert, concat. */
+#include <stdlib.h>
+#include <string.h>
+
+#include "calls.h"
+#include "vollikash.h"
+
+/* Goes over all changes of a file and their values. */
+static int pass(const struct bytes *file)
+{
+    struct vollikash_change change;
+    struct vollikash_fault fault;
+    struct vollikash_field value;
+    size_t place = 0;
+    int code;
+    while ((code = vollikash_next(file->at, file->count, &place, &change, &fault)) == 0) {
+        for (int side = VOLLIKASH_OLD; side <= VOLLIKASH_NEW; side++) {
+            for (size_t column = 0; column < change.columns; column++) {
+                vollikash_value(file->at, file->count, &change, side, column, &value);
+                sum += value.kind + value.integer + (long long)value.length;
+            }
+        }
+    }
+    return code == VOLLIKASH_DONE ? VOLLIKASH_OK : code;
+}
+
+int call(const char *operation, const char *name, const struct bytes *files, struct bytes *out)
+{
+    struct vollikash_fault fault;
+    const struct bytes *first = &files[0], *second = &files[1];
+    size_t room = first->count + second->count;
+    (void)name;
+    if (strcmp(operation, "check") == 0) {
+        return vollikash_check(first->at, first->count, &fault);
+    }
+    if (strcmp(operation, "next") == 0) {
+        return pass(first);
+    }
+    out->at = malloc(room + 1);
+    if (out->at == NULL) {
+        return VOLLIKASH_NO_MEMORY;
+    }
+    if (strcmp(operation, "invert") == 0) {
+        return vollikash_invert(first->at, first->count, out->at, room, &out->count, &fault);
+    }
+    return vollikash_concat(first->at, first->count, second->at, second->count, out->at, room,
+                            &out->count, &fault);
+}
+
+void discard(struct bytes *out)
+{
+    free(out->at);
+    out->at = NULL;
+}
