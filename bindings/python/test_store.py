@@ -7,7 +7,6 @@ import concurrent.futures
 import contextlib
 import fcntl
 import gc
-import importlib.util
 import os
 import pathlib
 import pickle
@@ -20,7 +19,6 @@ import time
 import types
 import unittest
 import unittest.mock
-import venv
 
 import vollikash
 from vollikash import ChangesetError, ConflictError, ProgramError, StoreError
@@ -719,38 +717,6 @@ class Loads(Folder):
                 for key in range(9):
                     store.insert("t", key, long)
             self.assertEqual(len(list(store.rows("t"))), 2)
-
-
-class Installed(Folder):
-    """The package where pip has put it, which carries the library and the program."""
-
-    @unittest.skipUnless(importlib.util.find_spec("ensurepip"), "this Python makes no environments with pip")
-    def test_ten_lines(self):
-        """An empty environment has them, and runs a store from another folder."""
-        where = self.folder / "environment"
-        venv.create(where, with_pip=True)
-        options = ["--disable-pip-version-check", "install", "--no-index", "--quiet"]
-        pip = [where / "bin/python", "-m", "pip", *options, str(HERE)]
-        subprocess.run(pip, check=True, capture_output=True)
-        (self.folder / "main.py").write_text(textwrap.dedent("""
-            import vollikash
-
-            with vollikash.open("notes.db") as store:
-                store.create("t", ["a", "b"], key=["a"])
-                with store.session("t") as session:
-                    store.insert("t", 1, "x")
-                    changes = session.changeset()
-                    session.undo()
-                store.apply(changes, conflict="replace")
-                print(list(store.rows("t")), vollikash.dump(changes), end="")
-        """))
-        ours = ("VOLLIKASH", "PYTHON")
-        environment = {name: value for name, value in os.environ.items() if not name.startswith(ours)}
-        command = [where / "bin/python", "main.py"]
-        ran = subprocess.run(
-            command, cwd=self.folder, env=environment, capture_output=True, text=True, check=True
-        )
-        self.assertEqual(ran.stdout, "[(1, 'x')] table 't' columns 2 flags 1,0\ninsert 0 new 1,'x'\n")
 
 
 if __name__ == "__main__":
