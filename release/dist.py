@@ -44,8 +44,8 @@ INSTALLED = {
 }
 
 # What has the same name in the archive as in the repository, tests aside.
-DOCUMENTS = ("CHANGELOG.md", "CONTRIBUTING.md", "README.md", "docs/*.md", "examples/**/*.*")
-KINDS = {".md", ".py", ".c", ".cs"}
+DOCUMENTS = ("CHANGELOG.md", "CONTRIBUTING.md", "README.md", "docs/*.md", "docs/*.png", "examples/**/*.*")
+KINDS = {".md", ".py", ".c", ".cs", ".png"}
 
 # Exits with 0 if a Python can build the wheel.
 HAS_SETUPTOOLS = """

@@ -481,7 +481,7 @@ class Making(Folder):
     def test_table_that_is_missing(self):
         self.assertEqual(
             self.run_raw("select", "a.cs", "--table", "none"),
-            (0, b"", b"a.cs: no table 'none' is there, but 'notes', 'two words'\n"),
+            (1, b"", b"a.cs: it has no table 'none'. Its tables are: 'notes', 'two words'\n"),
         )
 
     def test_refusals(self):
@@ -512,8 +512,8 @@ class Making(Folder):
         """The bytes of a changeset are not printed on a terminal that nobody named."""
         status, printed = self.on_terminal("invert", "a.cs")
         self.assertEqual((status, printed), (1, (
-            "standard output: error 72 OutputFault: it is a terminal. Name a file by -o, or - to "
-            "print the bytes of the changeset\n"
+            "standard output: error 72 OutputFault: it is a terminal. Name a file with -o, or use "
+            "-o - to print the bytes.\n"
         )))
         status, printed = self.on_terminal("invert", "b.cs", "-o", "-")
         self.assertEqual((status, printed.encode()), (0, vollikash.invert(self.key)))
@@ -846,8 +846,7 @@ class Applies(Folder):
         with self.start("apply", "a.cs", "s.db", "--interactive", start_new_session=True) as process:
             _, said = process.communicate(timeout=PATIENCE)
         self.assertEqual((process.returncode, said), (
-            1, b"vollikash: --interactive asks on a terminal, and there is none. Choose by --data and "
-               b"so on\n"
+            1, b"vollikash: --interactive needs a terminal. Use --data, --notfound and so on instead\n"
         ))
 
 
@@ -903,7 +902,7 @@ class Shells(Folder):
             "long: error 63 ScriptTooLong: a line takes a file of at most 8380416 bytes",
             "the shell: .write SLOT FILE is expected", "error 62 EmptySlot",
             "none: error 71 InputFault: No such file or directory", "the shell: .read FILE is expected",
-            "again: more than 16 files read one another",
+            "again: .read is nested more than 16 deep",
             "none/x: error 72 OutputFault: No such file or directory", "error 61 Syntax 7",
         ])
 
@@ -928,7 +927,7 @@ class Shells(Folder):
         typed += [(b"> ", b"\x1b[A\x1b[A\r"), (b"> ", b"\x04")]
         status, printed = self.on_terminal("shell", "s.db", typed=typed, HOME=str(self.folder))
         self.assertEqual(status, 0)
-        self.assertIn("\nerror 61 Syntax 1: no line begins so. ", printed)
+        self.assertIn("\nerror 61 Syntax 1: not understood at ", printed)
         self.assertEqual(printed.count("error 61 Syntax 1"), 2)
         self.assertIn("\n1|'\\x1b[31mz'\n", printed)
         history = (self.folder / ".vollikash_history").read_text().splitlines()

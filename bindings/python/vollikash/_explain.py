@@ -19,7 +19,7 @@ _AGAIN = "Record the changeset again."
 _SENTENCES = {
     Code.TRUNCATED: "the file ends here. Get the whole file.",
     Code.NOT_TABLE: "no table begins here. Check that the file is a changeset.",
-    Code.PATCHSET: "a patchset begins here. Record it by sqlite3session_changeset.",
+    Code.PATCHSET: "a patchset begins here. Record it with sqlite3session_changeset.",
     Code.BAD_VARINT: f"a count that is above 2147483647 or not in its shortest form. {_AGAIN}",
     Code.COLUMN_COUNT: f"no column, or more than 32767 columns. {_AGAIN}",
     Code.NO_KEY: f"no key column. {_AGAIN}",

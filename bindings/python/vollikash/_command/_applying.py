@@ -5,12 +5,13 @@ from typing import Dict, List, Mapping, Sequence, TextIO, Tuple, cast
 
 from .._deciding import PendingConflict
 from .._errors import ChangesetError, Code, ConflictError, ProgramError, StoreError
+from .._files import check
 from .._lines import Choice, Conflict, Kind, Report
 from .._store import Store, open as open_store
 from ._messages import CONFLICTS, Failure, of_changeset, of_conflict, of_store
 from ._progress import Progress
 from ._show import Lines
-from ._streams import Input, read_input, text_output
+from ._streams import Input, made, read_input, text_output
 from ._texts import Paint, identifier, is_terminal, literal, literals, printable
 
 # A store takes its time: Ctrl-C ends it.
@@ -63,7 +64,7 @@ class _Questions:
         try:
             return open("/dev/tty", errors="replace"), open("/dev/tty", "w", errors="replace")
         except OSError:
-            why = "--interactive asks on a terminal, and there is none. Choose by --data and so on"
+            why = "--interactive needs a terminal. Use --data, --notfound and so on instead"
             raise Failure("vollikash", why) from None
 
     def __call__(self, conflict: PendingConflict) -> Choice:
@@ -135,6 +136,7 @@ def _failure(given: Input, store: str, error: Exception) -> Failure:
 def apply(arguments: argparse.Namespace) -> int:
     """Apply a changeset to a store, and print the report."""
     given, path = read_input(arguments.file[0]), arguments.store
+    made(given, check)  # before a store is made
     try:
         with Progress(path, not arguments.interactive):
             with open_store(path, timeout=PATIENCE) as store:

@@ -6,7 +6,7 @@ from .._files import invert as inverted, number_keys as numbered
 from .._merging import concat as concatenated
 from .._tables import select as selected, stat
 from .._values import shown
-from ._messages import Failure, complain, of_changeset
+from ._messages import Failure, of_changeset
 from ._progress import waited
 from ._streams import made, read_input, write_bytes
 
@@ -44,6 +44,6 @@ def select(arguments: argparse.Namespace) -> int:
     for name in arguments.table:
         if name not in tables:
             there = ", ".join(map(shown, tables)) or "none"
-            complain(Failure(given.name, f"no table {shown(name)} is there, but {there}"))
+            raise Failure(given.name, f"it has no table {shown(name)}. Its tables are: {there}")
     write_bytes(arguments.output, made(given, lambda data: selected(data, arguments.table)))
     return 0

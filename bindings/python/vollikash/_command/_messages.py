@@ -16,7 +16,7 @@ SENTENCES: Mapping[int, str] = {
     Code.ROW_WIDTH: "a row has one value for each column.",
     Code.NULL_IN_KEY: "a key column is not NULL.",
     Code.DAMAGED_STORE: "it has a table `rec` that is declared otherwise, or invalid records. "
-    "Restore a backup, or take another file.",
+    "Rename a table `rec` of your own, restore a backup, or take another file.",
     Code.STORE_FAULT: "a store, or a path for a new one, is expected. It cannot be opened or "
     "written.",
     Code.NOT_NULL: "a column that refuses NULL has a value.",
@@ -26,8 +26,7 @@ SENTENCES: Mapping[int, str] = {
     Code.SCHEMA: "a table has other columns or another key in the second changeset.",
     Code.ALREADY_ATTACHED: "the session has the table.",
     Code.NO_MEMORY: "memory ran out.",
-    Code.SYNTAX: "no line begins so. The number is the byte of the first word that does not fit; "
-    ".help has the lines.",
+    Code.SYNTAX: "not understood at this byte of the line. .help lists the commands.",
     Code.EMPTY_SLOT: "nothing was put into the slot. Use .import or .load.",
     Code.SCRIPT_TOO_LONG: "the program has taken all lines that it takes. Start the shell again.",
     Code.NO_SESSION: "no session is open. Use .session open.",

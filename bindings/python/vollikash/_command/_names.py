@@ -65,7 +65,7 @@ class Names:
             if schema is not None and is_start(schema, flags):
                 return schema.columns[:len(flags)]
         why = f"no table {shown(table)} has the columns and the key that the changeset has"
-        complain(Failure(self._path, f"{why}: they are called c1 to {names[-1]}"))
+        complain(Failure(self._path, f"{why}: its columns are shown as c1 to {names[-1]}"))
         return names
 
     def _ordinary(self, table: str) -> Optional[Schema]:

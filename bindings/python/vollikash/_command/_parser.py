@@ -67,7 +67,7 @@ def _add_output(command: argparse.ArgumentParser) -> None:
 def _add_schema(command: argparse.ArgumentParser) -> None:
     """Add the option that names a database."""
     command.add_argument(
-        "--schema", metavar="DATABASE", help="a database whose tables have the names of columns"
+        "--schema", metavar="DATABASE", help="a database with the names of the columns"
     )
 
 
@@ -77,7 +77,7 @@ def _add_looking(words: _Words) -> None:
         "show", "print each change on a line", _show.show, "show --schema app.db edit.cs"
     )
     _add_files(show)
-    show.add_argument("--json", action="store_true", help="print JSON, which has long values whole")
+    show.add_argument("--json", action="store_true", help="print JSON; long values are not cut")
     _add_schema(show)
     _add_files(words.command(
         "stat", "count the changes of each table", _counts.stat, "stat monday.cs tuesday.cs"
@@ -109,6 +109,7 @@ def _add_making(words: _Words) -> None:
         "select", "keep some tables of a changeset", _making.select,
         "select edit.cs --table notes tags -o notes.cs",
     )
+    select.usage = "%(prog)s [-h] FILE --table T [T ...] [-o OUT]"
     _add_file(select)
     select.add_argument(
         "--table", metavar="T", nargs="+", action="extend", required=True, help="a table to keep"
@@ -128,13 +129,13 @@ def _add_stores(words: _Words) -> None:
         "apply", "apply a changeset to a store", _applying.apply, "apply edit.cs notes.db"
     )
     _add_file(apply)
-    apply.add_argument("store", metavar="STORE", help="the file of a store")
+    apply.add_argument("store", metavar="STORE", help="the file of a store, made if there is none")
     for kind, which in _CONFLICTS.items():
         apply.add_argument(
-            f"--{kind}", choices=CHOICES, metavar="C", help=f"what is done about {which}"
+            f"--{kind}", choices=CHOICES, metavar="C", help=f"omit, replace or abort (default): {which}"
         )
     apply.add_argument(
-        "--ignore-noop", action="store_true", help="ignore conflicts of what would change nothing"
+        "--ignore-noop", action="store_true", help="ignore changes that would change nothing"
     )
     apply.add_argument("--interactive", action="store_true", help="ask about each conflict")
     shell = words.command(
@@ -157,8 +158,10 @@ def parsed(words: Optional[Sequence[str]] = None) -> argparse.Namespace:
     whole = parser()
     arguments = whole.parse_args(words)
     if arguments.file.count("-") > 1:
-        whole.error("- is standard input, and is named once")
+        whole.error("- can be given only once")
     for name in (*arguments.file, getattr(arguments, "store", "-")):
         if not name or "\0" in os.fsdecode(name):
             whole.error("a name is empty")
+    if arguments.command == "apply" and arguments.store == "-":
+        whole.error("a store cannot be -")
     return arguments

@@ -146,7 +146,7 @@ class _Shell:
         """Run the lines of a file."""
         name, = self._words(rest, ".read FILE", 1)
         if self._depth == _DEEPEST:
-            raise Failure(name, f"more than {_DEEPEST} files read one another")
+            raise Failure(name, f".read is nested more than {_DEEPEST} deep")
         try:
             with open(name, "rb") as file:
                 lines = file.readlines()
@@ -200,7 +200,7 @@ def _history() -> Iterator[None]:
 def _typed(shell: _Shell) -> None:
     """Run the lines that a person types."""
     allow_all(sys.stdin, "surrogateescape")
-    print("Type .help for the lines that there are.")
+    print("Type .help for a list of commands.")
     with _history():
         while not shell.has_ended:
             try:

@@ -84,7 +84,7 @@ def text_output() -> TextIO:
 def write_bytes(out: Optional[str], data: bytes) -> None:
     """Write a changeset into OUT, whole or not at all. Raise `Failure`."""
     if out is None and is_terminal(sys.stdout):
-        why = "it is a terminal. Name a file by -o, or - to print the bytes of the changeset"
+        why = "it is a terminal. Name a file with -o, or use -o - to print the bytes."
         raise Failure("standard output", why, Code.OUTPUT_FAULT)
     write_pieces(out, [data])
 
