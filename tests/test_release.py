@@ -33,6 +33,12 @@ PYTHON = dist.python_with_setuptools()
 IS_BUILT = all(path.exists() for path in dist.BUILDERS)
 HAS_COMMAND = (PACKAGE / "__main__.py").exists()
 
+# A tree without commits has no date.
+try:
+    DATE = dist.date_of_tree()
+except SystemExit:
+    DATE = 1_700_000_000
+
 needs_release = unittest.skipUnless(IS_BUILT and PYTHON, "the program, the library or setuptools is missing")
 
 # What the archive has, documents aside.
@@ -60,7 +66,9 @@ WHERE = "from vollikash import _files, _process; print(_files._find(), _process.
 def environment(*folders, **others):
     """What a program finds: the tools of the system and these folders, but nothing of the repository."""
     path = os.pathsep.join([*map(str, folders), *os.defpath.split(os.pathsep)])
-    return {"PATH": path, "HOME": os.devnull, "LANG": "C.UTF-8", "PIP_NO_INDEX": "1", **others}
+    return {
+        "PATH": path, "HOME": os.devnull, "LANG": "C.UTF-8", "PIP_NO_INDEX": "1", "SOURCE_DATE_EPOCH": str(DATE), **others,
+    }
 
 
 def run(*words, **options):
@@ -184,7 +192,7 @@ class Archive(unittest.TestCase):
         with tarfile.open(release().folder / f"{dist.NAME}.tar.gz") as archive:
             members = archive.getmembers()
         self.assertEqual({(member.uid, member.gid, member.uname, member.gname) for member in members}, {(0, 0, "", "")})
-        self.assertEqual({member.mtime for member in members}, {dist.date_of_tree()})
+        self.assertEqual({member.mtime for member in members}, {DATE})
         executable = {member.name.split("/", 1)[1] for member in members if member.isreg() and member.mode != 0o644}
         programs = {"examples/notes/notes.py", "examples/sync/sync.py"}
         self.assertEqual(executable, {"bin/changeset", f"lib/libvollikash.so.{dist.VERSION}", *programs})
