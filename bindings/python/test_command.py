@@ -4,6 +4,7 @@ headless Chromium if that is there.
 
 usage: bindings/python/test_command.py
 """
+import contextlib
 import ctypes
 import functools
 import json
@@ -740,6 +741,22 @@ class Applies(Folder):
         (self.folder / "s.db").unlink()
         self.store((1, "x"), (2, "gone"))
         self.expect(["apply", "-", name], wanted, given=self.data)
+
+    def test_new_store(self):
+        """A store that is made is named, and a damaged file or - makes none."""
+        for name, said in (
+            ("new.db", "new.db: a new store is made\n"),
+            ("app.db", "app.db: the database becomes a store, by a table rec\n"),
+        ):
+            with contextlib.closing(sqlite3.connect(self.folder / "app.db")) as base:
+                base.execute("CREATE TABLE IF NOT EXISTS own(a)")
+            self.make("cut.cs", self.data[:-1])
+            self.assertEqual(self.run_text("apply", "cut.cs", name)[0], 1)
+            status, printed, reported = self.run_text("apply", "a.cs", name)
+            self.assertEqual((status, printed.splitlines()[-1], reported), (0, "applied 0", said))
+            self.assertEqual(self.run_text("apply", "a.cs", name)[2], "")
+        self.assertEqual(self.run_text("apply", "a.cs", "-")[0], 2)
+        self.assertFalse((self.folder / "-").exists())
 
     def test_report(self):
         """The lines of the program, each with the key and the reason."""

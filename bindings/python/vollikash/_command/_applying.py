@@ -1,5 +1,7 @@
 """`vollikash apply`: as `changeset FILE apply STORE`, with reasons in words."""
 import argparse
+import contextlib
+import os
 import sys
 from typing import Dict, List, Mapping, Sequence, TextIO, Tuple, cast
 
@@ -8,11 +10,12 @@ from .._errors import ChangesetError, Code, ConflictError, ProgramError, StoreEr
 from .._files import check
 from .._lines import Choice, Conflict, Kind, Report
 from .._store import Store, open as open_store
-from ._messages import CONFLICTS, Failure, of_changeset, of_conflict, of_store
+from ._messages import CONFLICTS, Failure, complain, of_changeset, of_conflict, of_store
+from ._names import opened
 from ._progress import Progress
 from ._show import Lines
 from ._streams import Input, made, read_input, text_output
-from ._texts import Paint, identifier, is_terminal, literal, literals, printable
+from ._texts import Paint, identifier, is_terminal, literal, literals, printable, title
 
 # A store takes its time: Ctrl-C ends it.
 PATIENCE = 86400.0
@@ -133,10 +136,25 @@ def _failure(given: Input, store: str, error: Exception) -> Failure:
     return Failure(store, str(error))
 
 
+def _made_by(path: str) -> str:
+    """Return what the first opening of a store makes, or an empty text."""
+    if path == ":memory:":
+        return ""
+    if not os.path.exists(path):
+        return "a new store is made"
+    try:
+        with contextlib.closing(opened(path)) as base:
+            known = base.execute("SELECT 1 FROM sqlite_master WHERE name = 'rec'").fetchone()
+    except Failure:
+        return ""
+    return "" if known else "the database becomes a store, by a table rec"
+
+
 def apply(arguments: argparse.Namespace) -> int:
     """Apply a changeset to a store, and print the report."""
     given, path = read_input(arguments.file[0]), arguments.store
     made(given, check)  # before a store is made
+    new = _made_by(path)
     try:
         with Progress(path, not arguments.interactive):
             with open_store(path, timeout=PATIENCE) as store:
@@ -145,5 +163,7 @@ def apply(arguments: argparse.Namespace) -> int:
         raise _failure(given, path, error) from None
     except MemoryError:
         raise Failure(path, "memory ran out", Code.NO_MEMORY) from None
+    if new:
+        complain(f"{title(path)}: {new}")
     _print_report(report)
     return 0

@@ -27,7 +27,7 @@ def _reading(path: str) -> Iterator[None]:
         raise Failure(path, why) from None
 
 
-def _opened(path: str) -> "sqlite3.Connection":
+def opened(path: str) -> "sqlite3.Connection":
     """Return a connection that reads a database. Raise `Failure`."""
     import sqlite3
 
@@ -44,7 +44,7 @@ class Names:
     def __init__(self, path: Optional[str]) -> None:
         self._path = path
         self._known: Dict[Tuple[str, bytes], Sequence[str]] = {}
-        self._base = None if path is None else _opened(path)
+        self._base = None if path is None else opened(path)
         # A store has its declarations elsewhere than an ordinary database.
         is_read = path is not None and not is_unfinished(path)
         self._stored = read_schemas(path) if path is not None and is_read else {}
