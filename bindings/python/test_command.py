@@ -349,10 +349,10 @@ class Looking(Folder):
         status, printed, said = self.run_text("show", "--schema", schema, "a.cs")
         self.assertEqual((status, printed), (0, self.run_text("show", "a.cs")[1]))
         self.assertEqual(said, (
-            "app.db: no table 'notes' has the columns and the key that the changeset has: they are "
-            "called c1 to c3\n"
-            "app.db: no table 'two words' has the columns and the key that the changeset has: they "
-            "are called c1 to c2\n"
+            "app.db: no table 'notes' has the columns and the key that the changeset has: its "
+            "columns are shown as c1 to c3\n"
+            "app.db: no table 'two words' has the columns and the key that the changeset has: its "
+            "columns are shown as c1 to c2\n"
         ))
 
     def test_names_of_a_store(self):
