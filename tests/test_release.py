@@ -67,7 +67,8 @@ def environment(*folders, **others):
     """What a program finds: the tools of the system and these folders, but nothing of the repository."""
     path = os.pathsep.join([*map(str, folders), *os.defpath.split(os.pathsep)])
     return {
-        "PATH": path, "HOME": os.devnull, "LANG": "C.UTF-8", "PIP_NO_INDEX": "1", "SOURCE_DATE_EPOCH": str(DATE), **others,
+        "PATH": path, "HOME": os.devnull, "LANG": "C.UTF-8", "PIP_NO_INDEX": "1",
+        "SOURCE_DATE_EPOCH": str(DATE), **others,
     }
 
 
