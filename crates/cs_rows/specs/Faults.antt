@@ -43,6 +43,11 @@ name_of NoMemory = codes "NoMemory"
 pub data IsStoreFault : StoreError → Type 0 where
   refused_for : (cause : Cause) → IsStoreFault (StoreFault cause)
 
+-- a fault of the database has such a cause
+abbrev pub IsCaused : (Cause → Type 0) → StoreError → Type 0
+IsCaused Fails (StoreFault cause) = Fails cause
+IsCaused Fails _ = Unit {0}
+
 -- memory ran out, or the database refused
 abbrev pub IsResource : StoreError → Type 0
 IsResource e = (e ≡ NoMemory) ⊎ IsStoreFault e

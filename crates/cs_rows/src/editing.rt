@@ -6,10 +6,10 @@ ghost use Rattle.cs_value.specs.Value.{IsRow};
 ghost use Rattle.cs_value.specs.Table.{IsKeyedRow};
 ghost use Rattle.cs_value.specs.State.{State, IsRowAt, schema_at, row_at, with_row, without_row};
 ghost use Rattle.cs_rows.specs.Rows.{IsDeclared, Fits};
-ghost use Rattle.cs_rows.specs.Faults.{IsResource, IsEditRefusal};
+ghost use Rattle.cs_rows.specs.Faults.{IsCaused, IsResource, IsEditRefusal};
 ghost use Rattle.cs_rows.specs.Editing.{edited, written_of, row_fault, in_table, inserted, updated, deleted};
 ghost use Rattle.cs_rows.specs.declared.fault.StoreError.TheVariants.{NoTable as NoSuchTable};
-ghost use Rattle.cs_rows.specs.declared.fault.StoreError.TheVariants.{NoRow as NoSuchRow, KeyTaken as TakenKey};
+ghost use Rattle.cs_rows.specs.declared.fault.StoreError.TheVariants.{NoRow as NoSuchRow, KeyTaken as TakenKey, NoMemory as OutOfMemory};
 
 use crate::edit::{Edit, Written};
 use crate::fault::StoreError;
@@ -36,6 +36,7 @@ pub fn edit_in<B: Rows>(
     ensures refused { B.is_honest rows.new → IfErr result (λ e. (edited (B.state rows.old) edit.now ≡ Err e)
         ⊎ IsResource e) }
     ensures named { IfErr result IsEditRefusal }
+    ensures caused { B.is_honest rows.new → IfErr result (IsCaused (B.fails_for rows.new)) }
     ensures was_honest { B.is_honest rows.new → B.is_honest rows.old }
     ensures kept { B.keeps rows.old rows.new }
     ensures leaves { (held : State) → B.leaves_only rows.old held → B.leaves_only rows.new held }
@@ -54,6 +55,7 @@ fn find_schema<B: Rows>(alloc: Global, rows: &mut B, table: &str) -> Result<Sche
     ensures refused { B.is_honest rows.new → IfErr result (λ e. ((e ≡ NoSuchTable)
         × (schema_at (B.state rows.old) table.now ≡ None)) ⊎ IsResource e) }
     ensures named { IfErr result IsEditRefusal }
+    ensures caused { B.is_honest rows.new → IfErr result (IsCaused (B.fails_for rows.new)) }
     ensures was_honest { B.is_honest rows.new → B.is_honest rows.old }
     ensures kept { B.keeps rows.old rows.new }
 {
@@ -71,6 +73,7 @@ fn find_row<B: Rows>(alloc: Global, rows: &mut B, table: &str, key: &Key) -> Res
     ensures refused { B.is_honest rows.new → IfErr result (λ e. ((e ≡ NoSuchRow)
         × (row_at (B.state rows.old) table.now key.now ≡ None)) ⊎ IsResource e) }
     ensures named { IfErr result IsEditRefusal }
+    ensures caused { B.is_honest rows.new → IfErr result (IsCaused (B.fails_for rows.new)) }
     ensures was_honest { B.is_honest rows.new → B.is_honest rows.old }
     ensures kept { B.keeps rows.old rows.new }
 {
@@ -93,6 +96,7 @@ fn check_vacant<B: Rows>(
     ensures refused { B.is_honest rows.new → IfErr result (λ e. ((e ≡ TakenKey)
         × IsSome (row_at (B.state rows.old) table.now key.now)) ⊎ IsResource e) }
     ensures named { IfErr result IsEditRefusal }
+    ensures caused { B.is_honest rows.new → IfErr result (IsCaused (B.fails_for rows.new)) }
     ensures was_honest { B.is_honest rows.new → B.is_honest rows.old }
     ensures kept { B.keeps rows.old rows.new }
 {
@@ -108,6 +112,7 @@ fn key_for(alloc: Global, schema: &Schema, row: &Row) -> Result<Key, StoreError>
     ensures fits { OnOk result (row_fault schema.now row.now ≡ None) }
     ensures refused { IfErr result (λ e. (row_fault schema.now row.now ≡ Some e) ⊎ IsResource e) }
     ensures named { IfErr result IsEditRefusal }
+    ensures caused { IfErr result (IsCaused (λ _. ⊥)) }
 {
     if row.values().len() != schema.flags().len() {
         return Err(StoreError::RowWidth);
@@ -125,7 +130,7 @@ fn key_for(alloc: Global, schema: &Schema, row: &Row) -> Result<Key, StoreError>
 fn note(alloc: Global, table: RcStr, key: &Key, former: Option<Row>) -> Result<Written, StoreError>
     ensures noted { IfOk result (λ w. written_of w
         ≡ record { table = rc_str_bytes table; key = key.now; former = former }) }
-    ensures refused { IfErr result IsResource }
+    ensures refused { IfErr result (λ e. e ≡ OutOfMemory) }
 {
     Ok(Written {
         table,
@@ -143,7 +148,7 @@ fn note_one(
 ) -> Result<Vec<Written>, StoreError>
     ensures noted { IfOk result (λ w. map written_of w.items
         ≡ record { table = table.now; key = key.now; former = former } ∷ []) }
-    ensures refused { IfErr result IsResource }
+    ensures refused { IfErr result (λ e. e ≡ OutOfMemory) }
 {
     let table = RcStr::from_str(alloc, table)?;
     let mut written = Vec::new(alloc);
@@ -162,7 +167,7 @@ fn note_move(
     ensures noted { IfOk result (λ w. map written_of w.items
         ≡ record { table = table.now; key = key.now; former = Some former }
         ∷ record { table = table.now; key = next.now; former = None } ∷ []) }
-    ensures refused { IfErr result IsResource }
+    ensures refused { IfErr result (λ e. e ≡ OutOfMemory) }
 {
     let table = RcStr::from_str(alloc, table)?;
     let mut written = Vec::new(alloc);
@@ -183,6 +188,7 @@ fn insert_row<B: Rows>(
     ensures refused { B.is_honest rows.new
         → IfErr result (λ e. (inserted (B.state rows.old) table.now row.now ≡ Err e) ⊎ IsResource e) }
     ensures named { IfErr result IsEditRefusal }
+    ensures caused { B.is_honest rows.new → IfErr result (IsCaused (B.fails_for rows.new)) }
     ensures was_honest { B.is_honest rows.new → B.is_honest rows.old }
     ensures kept { B.keeps rows.old rows.new }
 {
@@ -209,6 +215,7 @@ fn replace_row<B: Rows>(
     ensures told { IfOk result (λ w. map written_of w.items
         ≡ record { table = table.now; key = key.now; former = Some former } ∷ []) }
     ensures refused { IfErr result IsResource }
+    ensures caused { B.is_honest rows.new → IfErr result (IsCaused (B.fails_for rows.new)) }
     ensures was_honest { B.is_honest rows.new → B.is_honest rows.old }
     ensures kept { B.keeps rows.old rows.new }
 {
@@ -238,6 +245,7 @@ fn move_row<B: Rows>(
     ensures refused { B.is_honest rows.new → IfErr result (λ e. ((e ≡ TakenKey)
         × IsSome (row_at (B.state rows.old) table.now next.now)) ⊎ IsResource e) }
     ensures named { IfErr result IsEditRefusal }
+    ensures caused { B.is_honest rows.new → IfErr result (IsCaused (B.fails_for rows.new)) }
     ensures was_honest { B.is_honest rows.new → B.is_honest rows.old }
     ensures kept { B.keeps rows.old rows.new }
 {
@@ -261,6 +269,7 @@ fn update_row<B: Rows>(
     ensures refused { B.is_honest rows.new
         → IfErr result (λ e. (updated (B.state rows.old) table.now key.now row.now ≡ Err e) ⊎ IsResource e) }
     ensures named { IfErr result IsEditRefusal }
+    ensures caused { B.is_honest rows.new → IfErr result (IsCaused (B.fails_for rows.new)) }
     ensures was_honest { B.is_honest rows.new → B.is_honest rows.old }
     ensures kept { B.keeps rows.old rows.new }
 {
@@ -286,6 +295,7 @@ fn delete_row<B: Rows>(
     ensures refused { B.is_honest rows.new
         → IfErr result (λ e. (deleted (B.state rows.old) table.now key.now ≡ Err e) ⊎ IsResource e) }
     ensures named { IfErr result IsEditRefusal }
+    ensures caused { B.is_honest rows.new → IfErr result (IsCaused (B.fails_for rows.new)) }
     ensures was_honest { B.is_honest rows.new → B.is_honest rows.old }
     ensures kept { B.keeps rows.old rows.new }
 {

@@ -228,6 +228,8 @@ impl Rows for MemRows {
 
     ghost leaves_still = { λ _ _ _ _ _. tt };
 
+    ghost fails_for = { λ _ _. ⊥ };
+
     fn schema(&mut self, alloc: Global, table: &str) -> Result<Option<Schema>, StoreError>
         ensures found { IfOk result (λ o. o ≡ schema_at self.old table.now) }
         ensures unchanged { self.new ≡ self.old }

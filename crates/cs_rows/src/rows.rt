@@ -2,7 +2,7 @@
 ghost use Rattle.std.specs.Prelude.{◌≡◌, IfOk, IfErr, OnOk, IfSome};
 ghost use Rattle.std.specs.FinMap as map;
 ghost use Rattle.cs_value.specs.State.{State, schema_at, row_at, rows_at, with_row, without_row};
-ghost use Rattle.cs_rows.specs.Faults.{IsResource, IsReadRefusal};
+ghost use Rattle.cs_rows.specs.Faults.{IsCaused, IsResource, IsReadRefusal};
 ghost use Rattle.cs_rows.specs.Rows.{IsDeclared, Fits};
 
 use crate::fault::StoreError;
@@ -15,6 +15,8 @@ use std::alloc::Global;
 /// After a refusal nothing is said of what is held, unless the type says it: a batch is then
 /// dropped, which takes its store back to where it began. What a crash leaves is kept by each call.
 pub trait Rows {
+    ghost use Rattle.cs_rows.specs.declared.fault.Cause.{Cause};
+
     // What is held.
     ghost state: { Self → State };
 
@@ -33,12 +35,16 @@ pub trait Rows {
 
     ghost leaves_still: { (a b : Self) (held : State) → keeps a b → leaves_only a held → leaves_only b held };
 
+    // What holds the rows failed a call for this cause, which left them as they are.
+    ghost fails_for: { Self → Cause → Type 0 };
+
     /// The schema of a table, and none where no table has the name.
     fn schema(&mut self, alloc: Global, table: &str) -> Result<Option<Schema>, StoreError>
         ensures found { is_honest self.new → IfOk result (λ o. o ≡ schema_at (state self.old) table.now) }
         ensures same { is_honest self.new → OnOk result (state self.new ≡ state self.old) }
         ensures refused { is_honest self.new → IfErr result IsResource }
         ensures named { IfErr result IsReadRefusal }
+        ensures caused { is_honest self.new → IfErr result (IsCaused (fails_for self.new)) }
         ensures was_honest { is_honest self.new → is_honest self.old }
         ensures kept { keeps self.old self.new };
 
@@ -50,6 +56,7 @@ pub trait Rows {
         ensures same { is_honest self.new → OnOk result (state self.new ≡ state self.old) }
         ensures refused { is_honest self.new → IfErr result IsResource }
         ensures named { IfErr result IsReadRefusal }
+        ensures caused { is_honest self.new → IfErr result (IsCaused (fails_for self.new)) }
         ensures was_honest { is_honest self.new → is_honest self.old }
         ensures kept { keeps self.old self.new };
 
@@ -59,6 +66,7 @@ pub trait Rows {
         ensures set { is_honest self.new → OnOk result (state self.new
             ≡ with_row (state self.old) table.now key.now row.now) }
         ensures named { IfErr result IsResource }
+        ensures caused { is_honest self.new → IfErr result (IsCaused (fails_for self.new)) }
         ensures was_honest { is_honest self.new → is_honest self.old }
         ensures kept { keeps self.old self.new };
 
@@ -68,6 +76,7 @@ pub trait Rows {
         ensures removed { is_honest self.new → OnOk result (state self.new
             ≡ without_row (state self.old) table.now key.now) }
         ensures named { IfErr result IsResource }
+        ensures caused { is_honest self.new → IfErr result (IsCaused (fails_for self.new)) }
         ensures was_honest { is_honest self.new → is_honest self.old }
         ensures kept { keeps self.old self.new };
 
@@ -79,6 +88,7 @@ pub trait Rows {
         ensures same { is_honest self.new → OnOk result (state self.new ≡ state self.old) }
         ensures refused { is_honest self.new → IfErr result IsResource }
         ensures named { IfErr result IsReadRefusal }
+        ensures caused { is_honest self.new → IfErr result (IsCaused (fails_for self.new)) }
         ensures was_honest { is_honest self.new → is_honest self.old }
         ensures kept { keeps self.old self.new };
 }

@@ -96,6 +96,11 @@ abbrev pub IsOfStore : (StoreError → Type 0) → ApplyFault → Type 0
 IsOfStore Is (Store error) = Is error
 IsOfStore Is fault = ⊥
 
+-- a fault of the database has such a cause
+abbrev pub IsCaused : (Cause → Type 0) → ApplyFault → Type 0
+IsCaused Fails (Store error) = of_store.IsCaused Fails error
+IsCaused Fails fault = Unit {0}
+
 -- memory ran out, or the database refused
 abbrev pub IsResource : ApplyFault → Type 0
 IsResource fault = (fault ≡ NoMemory) ⊎ IsOfStore IsStoreFault fault

@@ -70,6 +70,7 @@ pub(crate) fn apply_entry<B: Rows, H: Fn(&Conflict) -> Choice>(
     ensures reported { noop ≡ Reported → report.new.ignored ≡ report.old.ignored }
     ensures refused { B.is_honest rows.new → IfErr result IsResource }
     ensures named { IfErr result IsStoreRefusal }
+    ensures caused { B.is_honest rows.new → IfErr result (IsCaused (B.fails_for rows.new)) }
     ensures was_honest { B.is_honest rows.new → B.is_honest rows.old }
     ensures kept { B.keeps rows.old rows.new }
 {
@@ -206,6 +207,7 @@ fn carry_out<B: Rows>(
     ensures told { OnOk result (map written_of written.new.items ≡ map written_of written.old.items
         ++ record { table = rc_str_bytes table.now; key = key; former = current } ∷ []) }
     ensures refused { IfErr result IsResource }
+    ensures caused { B.is_honest rows.new → IfErr result (IsCaused (B.fails_for rows.new)) }
     ensures was_honest { B.is_honest rows.new → B.is_honest rows.old }
     ensures kept { B.keeps rows.old rows.new }
 {
@@ -238,6 +240,7 @@ fn write<B: Rows>(
         ≡ with_result (B.state rows.old) table.now key.now
         (row_of_change entry.now.flags entry.now.entry.change (option_map (λ r. r.now) current.entry))) }
     ensures refused { IfErr result IsResource }
+    ensures caused { B.is_honest rows.new → IfErr result (IsCaused (B.fails_for rows.new)) }
     ensures was_honest { B.is_honest rows.new → B.is_honest rows.old }
     ensures kept { B.keeps rows.old rows.new }
 {

@@ -39,6 +39,7 @@ pub fn run_changeset_in<B: Rows, H: Fn(&Conflict) -> Choice>(
         (Refuses (FnReturnsAt H.Fn handler.now) Reported (file_bytes changeset.now) direction (B.state rows.old)) }
     ensures named { IfErr result IsNamed }
     ensures read { IfErr result IsNoReadFault }
+    ensures caused { B.is_honest rows.new → IfErr result (IsCaused (B.fails_for rows.new)) }
     ensures was_honest { B.is_honest rows.new → B.is_honest rows.old }
     ensures kept { B.keeps rows.old rows.new }
 {
@@ -70,6 +71,7 @@ fn take_group<B: Rows, H: Fn(&Conflict) -> Choice>(
     ensures reported { OnOk result ((run.new.noop ≡ Reported) × (run.new.report.ignored ≡ 0)) }
     ensures refused { B.is_honest rows.new → IfErr result IsResource }
     ensures named { IfErr result IsStoreRefusal }
+    ensures caused { B.is_honest rows.new → IfErr result (IsCaused (B.fails_for rows.new)) }
     ensures was_honest { B.is_honest rows.new → B.is_honest rows.old }
     ensures kept { B.keeps rows.old rows.new }
 {

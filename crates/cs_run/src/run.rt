@@ -79,6 +79,7 @@ impl Run {
         ensures noop { self.new.noop ≡ self.old.noop }
         ensures refused { B.is_honest rows.new → IfErr result IsResource }
         ensures named { IfErr result IsStoreRefusal }
+        ensures caused { B.is_honest rows.new → IfErr result (IsCaused (B.fails_for rows.new)) }
         ensures was_honest { B.is_honest rows.new → B.is_honest rows.old }
         ensures kept { B.keeps rows.old rows.new }
     {
@@ -135,6 +136,7 @@ impl Run {
         ensures noop { self.new.noop ≡ self.old.noop }
         ensures refused { B.is_honest rows.new → IfErr result IsResource }
         ensures named { IfErr result IsStoreRefusal }
+        ensures caused { B.is_honest rows.new → IfErr result (IsCaused (B.fails_for rows.new)) }
         ensures was_honest { B.is_honest rows.new → B.is_honest rows.old }
         ensures kept { B.keeps rows.old rows.new }
     {

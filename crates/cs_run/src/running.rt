@@ -59,6 +59,7 @@ pub fn run_in<B: Rows, H: Fn(&Conflict) -> Choice>(
     ensures refused { B.is_honest rows.new → IfErr result
         (Refuses (FnReturnsAt H.Fn handler.now) noop file.now direction (B.state rows.old)) }
     ensures named { IfErr result IsNamed }
+    ensures caused { B.is_honest rows.new → IfErr result (IsCaused (B.fails_for rows.new)) }
     ensures was_honest { B.is_honest rows.new → B.is_honest rows.old }
     ensures kept { B.keeps rows.old rows.new }
     ensures leaves { (held : State) → B.leaves_only rows.old held → B.leaves_only rows.new held }
