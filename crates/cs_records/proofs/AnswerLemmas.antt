@@ -115,8 +115,8 @@ overlay_none db tree =
     elim (nat_le (2 ^ 31) tree) as (λ b. unwrap_or (cond b (slice_get none (tree - 2 ^ 31)) None) (db tree) ≡ db tree) [ true ↦ refl | false ↦ refl ]
 
 -- a text that is that query shows it
-pub shows_chosen : (sql : List ℕ) (tree : ℕ) (terms project : List Term) (order : List (Term × Key)) (params : Row) (old new : State) (rows : List Row)
-    → IsSelect old.now.schema sql (plain_query tree terms project order) → Shown sql params old new rows
+pub shows_chosen : {count : ℕ} (sql : List ℕ) (tree : ℕ) (terms project : List Term) (order : List (Term × Key)) (params : Row) (old new : State) (rows : List Row)
+    → IsSelect old.now.schema sql count (plain_query tree terms project order) → Shown sql params old new rows
     → ShowsChosen (plain_query tree terms project order) (old.now.trees tree) params rows
 shows_chosen sql tree terms project order params old new rows asks shown =
     let q = plain_query tree terms project order in

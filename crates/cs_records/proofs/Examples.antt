@@ -1,5 +1,5 @@
 -- The table that its text makes, schemas that declare it, and schemas that do not, worked as examples.
-use Rattle.std.proofs.Common.{◌≡◌, ◌≢◌, inl, ℕ, true, false, List, [], ◌∷◌, ◌++◌, codes, None, Result, Ok, Err, true≢false, refl, ap, arith}
+use Rattle.std.proofs.Common.{◌≡◌, ◌≢◌, ◌≤◌, length, inl, ℕ, true, false, List, [], ◌∷◌, ◌++◌, codes, None, Result, Ok, Err, true≢false, refl, ap, arith}
 use Rattle.std.proofs.lemmas.List.Elements.{All-from_recursion}
 use Rattle.sqlite_value.specs.Keys.{plain}
 use Rattle.sqlite_schema.specs.declared.schema.Kind.TheVariants as kind
@@ -46,73 +46,73 @@ records_after = schema_of (own_table 0 ∷ records_table 1 ∷ []) (records_tabl
 -- ---- the texts under them
 
 -- what is asked of a text that is compiled
-abbrev Says : (Command → Type 0) → Result Compiled CompileError → Type 0
-Says Is (Ok it) = (it.returning ≡ None) × (it.formats ≡ []) × Is it.command
-Says Is (Err e) = ⊥
+abbrev Says : List ℕ → ℕ → (Command → Type 0) → Result Compiled CompileError → Type 0
+Says sql count Is (Ok it) = (it.returning ≡ None) × (it.formats ≡ []) × (length sql ≤ it.tail) × (count ≡ length it.names) × Is it.command
+Says sql count Is (Err e) = ⊥
 
-said : (schema : Schema) (sql : List ℕ) (Is : Command → Type 0) → Says Is (compiled schema sql) → IsStatement schema sql Is
-said schema sql Is says = by (compiled schema sql) refl says
+said : (schema : Schema) (sql : List ℕ) (count : ℕ) (Is : Command → Type 0) → Says sql count Is (compiled schema sql) → IsStatement schema sql count Is
+said schema sql count Is says = by (compiled schema sql) refl says
   where
-    by : (r : Result Compiled CompileError) → compiled schema sql ≡ r → Says Is r → IsStatement schema sql Is
-    by (Ok it) is h = (it, record { is = is; returns_nothing = h.0; reads_no_time = h.1 }, h.2)
+    by : (r : Result Compiled CompileError) → compiled schema sql ≡ r → Says sql count Is r → IsStatement schema sql count Is
+    by (Ok it) is h = (it, record { is = is; returns_nothing = h.0; reads_no_time = h.1; whole = h.2; given = h.3 }, h.4)
     by (Err e) is none = absurd none
 
 -- a query, and a command
-abbrev Selects : Schema → List ℕ → Query → Type 0
-Selects schema sql query = Says (λ its. IsSelectOf its (alone query)) (compiled schema sql)
+abbrev Selects : Schema → List ℕ → ℕ → Query → Type 0
+Selects schema sql count query = Says sql count (λ its. IsSelectOf its (alone query)) (compiled schema sql)
 
-abbrev Commands : Schema → List ℕ → Command → Type 0
-Commands schema sql command = Says (λ its. its ≡ command) (compiled schema sql)
+abbrev Commands : Schema → List ℕ → ℕ → Command → Type 0
+Commands schema sql count command = Says sql count (λ its. its ≡ command) (compiled schema sql)
 
 -- the statements on a table at this place, with this tree
 record Texts (schema : Schema) (place tree : ℕ) : Type 0 where
-  finds : Selects schema find_text (find_query tree)
-  lists : Selects schema list_text (list_query tree)
-  scans : Selects schema scan_text (scan_query tree)
-  inserts : Commands schema (put_text true) (put_command place tree true)
-  puts : Commands schema (put_text false) (put_command place tree false)
-  removes : Commands schema remove_text (remove_command place tree)
+  finds : Selects schema find_text 2 (find_query tree)
+  lists : Selects schema list_text 1 (list_query tree)
+  scans : Selects schema scan_text 0 (scan_query tree)
+  inserts : Commands schema (put_text true) 3 (put_command place tree true)
+  puts : Commands schema (put_text false) 3 (put_command place tree false)
+  removes : Commands schema remove_text 2 (remove_command place tree)
 
 statements : (schema : Schema) (place tree : ℕ) → Texts schema place tree → AreStatements schema place tree
 statements schema place tree t = record {
-  finds = said schema find_text (λ its. IsSelectOf its (alone (find_query tree))) t.finds;
-  lists = said schema list_text (λ its. IsSelectOf its (alone (list_query tree))) t.lists;
-  scans = said schema scan_text (λ its. IsSelectOf its (alone (scan_query tree))) t.scans;
+  finds = said schema find_text 2 (λ its. IsSelectOf its (alone (find_query tree))) t.finds;
+  lists = said schema list_text 1 (λ its. IsSelectOf its (alone (list_query tree))) t.lists;
+  scans = said schema scan_text 0 (λ its. IsSelectOf its (alone (scan_query tree))) t.scans;
   writes = record {
-    inserts = said schema (put_text true) (λ its. its ≡ put_command place tree true) t.inserts;
-    puts = said schema (put_text false) (λ its. its ≡ put_command place tree false) t.puts;
-    removes = said schema remove_text (λ its. its ≡ remove_command place tree) t.removes;
+    inserts = said schema (put_text true) 3 (λ its. its ≡ put_command place tree true) t.inserts;
+    puts = said schema (put_text false) 3 (λ its. its ≡ put_command place tree false) t.puts;
+    removes = said schema remove_text 2 (λ its. its ≡ remove_command place tree) t.removes;
   };
 }
 
-puts_alone : Commands records_alone (put_text false) (put_command 0 0 false)
+puts_alone : Commands records_alone (put_text false) 3 (put_command 0 0 false)
 unfolding compiled first everything
-puts_alone = (refl, refl, refl)
+puts_alone = (refl, refl, omega arith, refl, refl)
 
 texts_alone : Texts records_alone 0 0
 unfolding compiled first everything
 texts_alone = record {
-  finds = (refl, refl, (_, refl));
-  lists = (refl, refl, (_, refl));
-  scans = (refl, refl, (_, refl));
-  inserts = (refl, refl, refl);
+  finds = (refl, refl, omega arith, refl, (_, refl));
+  lists = (refl, refl, omega arith, refl, (_, refl));
+  scans = (refl, refl, omega arith, refl, (_, refl));
+  inserts = (refl, refl, omega arith, refl, refl);
   puts = puts_alone;
-  removes = (refl, refl, refl);
+  removes = (refl, refl, omega arith, refl, refl);
 }
 
-puts_after : Commands records_after (put_text false) (put_command 1 1 false)
+puts_after : Commands records_after (put_text false) 3 (put_command 1 1 false)
 unfolding compiled first everything
-puts_after = (refl, refl, refl)
+puts_after = (refl, refl, omega arith, refl, refl)
 
 texts_after : Texts records_after 1 1
 unfolding compiled first everything
 texts_after = record {
-  finds = (refl, refl, (_, refl));
-  lists = (refl, refl, (_, refl));
-  scans = (refl, refl, (_, refl));
-  inserts = (refl, refl, refl);
+  finds = (refl, refl, omega arith, refl, (_, refl));
+  lists = (refl, refl, omega arith, refl, (_, refl));
+  scans = (refl, refl, omega arith, refl, (_, refl));
+  inserts = (refl, refl, omega arith, refl, refl);
   puts = puts_after;
-  removes = (refl, refl, refl);
+  removes = (refl, refl, omega arith, refl, refl);
 }
 
 -- ---- what they declare
@@ -132,6 +132,7 @@ alone_declares = record {
   place = 0;
   named = refl;
   table = refl;
+  stored = omega arith;
   apart = All-from_recursion (IsApart 0) (records_table 0 ∷ []) (records_apart 0, tt);
   keyed = All-from_recursion (IsOfKey 0) records_alone.indexes ((λ unique on keys. refl), tt);
   statements = statements records_alone 0 0 texts_alone;
@@ -144,6 +145,7 @@ after_declares = record {
   place = 1;
   named = refl;
   table = refl;
+  stored = omega arith;
   apart = All-from_recursion (IsApart 1) records_after.tables (own_apart 0 1 (λ same. omega arith), (records_apart 1, tt));
   keyed = All-from_recursion (IsOfKey 1) records_after.indexes ((λ unique on keys. refl), ((λ unique on keys. refl), tt));
   statements = statements records_after 1 1 texts_after;

@@ -101,6 +101,11 @@ first_found (Some v) rows row value is first shows =
     let both : Blob v ≡ Blob value = subst (λ r. column r 0 ≡ Blob value) same shows in
     cc
 
+-- that row shows a blob
+pub first_blob : (o : Option (List ℕ)) (rows : List Row) (row : Row) → rows ≡ found_rows o → Some row ≡ slice_get rows 0 → (value : List ℕ) × (row ≡ Blob value ∷ [])
+first_blob None rows row is first = absurd (let none = rw is at first in cc)
+first_blob (Some value) rows row is first = (value, let some = rw is at first in cc)
+
 pub none_found : (o : Option (List ℕ)) (rows : List Row) → rows ≡ found_rows o → None ≡ slice_get rows 0 → None ≡ o
 none_found None rows is none = refl
 none_found (Some v) rows is none = absurd (let some = rw is at none in cc)

@@ -1,6 +1,7 @@
 pub mod AddLemmas
 pub mod AnswerLemmas
 pub mod ContentLemmas
+pub mod FailureLemmas
 pub mod EditLemmas
 pub mod Examples
 pub mod FoundRows
@@ -9,6 +10,7 @@ pub mod OrderLemmas
 pub mod PutLemmas
 pub mod QueryLemmas
 pub mod QueryTexts
+pub mod ReadFailures
 pub mod RemoveLemmas
 pub mod RowLemmas
 pub mod ScanLemmas

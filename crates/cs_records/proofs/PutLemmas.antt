@@ -12,7 +12,7 @@ use Rattle.cs_records.proofs.QueryTexts.{command_is, command_plain}
 use Rattle.cs_records.proofs.StatementLemmas.{inside_keeps_crash, write_goes_on}
 
 -- each of the two is its command
-puts_as : (schema : Schema) (declares : DeclaresRecords schema) (is_new : Bool) → IsCommand schema (put_text is_new) (put_command declares.place (records_tree schema) is_new)
+puts_as : (schema : Schema) (declares : DeclaresRecords schema) (is_new : Bool) → IsCommand schema (put_text is_new) 3 (put_command declares.place (records_tree schema) is_new)
 puts_as schema declares true = declares.statements.writes.inserts
 puts_as schema declares false = declares.statements.writes.puts
 
@@ -22,7 +22,7 @@ module _ (is_new : Bool) (old new : State) (params : Row) (count : ℕ) (declare
       → Writes old new None (put_command declares.place (records_tree old.now.schema) is_new) (statement_of (put_text is_new) (understood old.now.schema (put_text is_new))) params count
   put_writes h = at is_new (puts_as old.now.schema declares is_new) h
     where
-      at : (is_new : Bool) → IsCommand old.now.schema (put_text is_new) (put_command declares.place (records_tree old.now.schema) is_new) → Executes (put_text is_new) params old new (Ok count)
+      at : (is_new : Bool) → IsCommand old.now.schema (put_text is_new) 3 (put_command declares.place (records_tree old.now.schema) is_new) → Executes (put_text is_new) params old new (Ok count)
           → Writes old new None (put_command declares.place (records_tree old.now.schema) is_new) (statement_of (put_text is_new) (understood old.now.schema (put_text is_new))) params count
       at true its = runs_as (put_text true) params old new old.now.schema refl (put_command declares.place (records_tree old.now.schema) true) (command_is _ _ _ its) (command_plain _ _ _ its) count
       at false its = runs_as (put_text false) params old new old.now.schema refl (put_command declares.place (records_tree old.now.schema) false) (command_is _ _ _ its) (command_plain _ _ _ its) count

@@ -82,14 +82,14 @@ pub unlisted : (schema : Schema) (sql : List ℕ) (it : Compiled) → compiled s
 unlisted schema sql it is = rw is refl
 
 -- and is as plain as it says
-pub plainly : (schema : Schema) (sql : List ℕ) (it : Compiled) → IsPlainStatement schema sql it → IsPlain (understood schema sql)
+pub plainly : {count : ℕ} (schema : Schema) (sql : List ℕ) (it : Compiled) → IsPlainStatement schema sql count it → IsPlain (understood schema sql)
 plainly schema sql it plain = subst IsPlain (sym (understood_is schema sql it plain.is)) (plain.returns_nothing, plain.reads_no_time)
 
 -- its command is the one that it says
-pub commands : (schema : Schema) (sql : List ℕ) (it : Compiled) → IsPlainStatement schema sql it → command_of (understood schema sql) ≡ it.command
+pub commands : {count : ℕ} (schema : Schema) (sql : List ℕ) (it : Compiled) → IsPlainStatement schema sql count it → command_of (understood schema sql) ≡ it.command
 commands schema sql it plain = ap command_of (understood_is schema sql it plain.is)
 
-module _ (schema : Schema) (sql : List ℕ) (command : Command) (its : IsCommand schema sql command) where
+module _ {count : ℕ} (schema : Schema) (sql : List ℕ) (command : Command) (its : IsCommand schema sql count command) where
   pub command_is : command_of (understood schema sql) ≡ command
   command_is = commands schema sql its.0 its.1 ∙ its.2
 

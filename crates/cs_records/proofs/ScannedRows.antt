@@ -238,7 +238,7 @@ rising_of rows None none = subst AreRisingNumbers (sym none) (record { each = tt
 rising_of rows (Some last) up = up.numbers
 
 -- the text runs no recursion, so the first rows are those of an answer
-scan_ends : (schema : Schema) (tree : ℕ) (c : Compiled) (db : Database) (params : Row) → IsSelect schema scan_text (scan_query tree) → understood schema scan_text ≡ Ok c → EndsIn c.command db params
+scan_ends : (schema : Schema) (tree : ℕ) (c : Compiled) (db : Database) (params : Row) → IsSelect schema scan_text 0 (scan_query tree) → understood schema scan_text ≡ Ok c → EndsIn c.command db params
 scan_ends schema tree c db params asks is =
     let command : c.command ≡ Select (alone (scan_query tree)) asks.2.0 = ap command_of (sym is) ∙ commands schema scan_text asks.0 asks.1 ∙ asks.2.1 in
     subst (λ k. EndsIn k db params) (sym command) tt

@@ -15,7 +15,7 @@ use Rattle.sqlite_rules.specs.declared.action.Deed.{Deed}
 use Rattle.sqlite_rules.specs.Edit.{Edit, taken_by, Applies}
 use Rattle.sqlite_rules.specs.Action.{works, work_for, work_by, Writes as WritesEdit}
 use Rattle.sqlite_rules.proofs.ListLemmas.{all_has, all_from, has_found}
-use Rattle.sqlite.specs.Does.{Tally, AtPlace, OnRows}
+use Rattle.sqlite.specs.Does.{Tally, AtPlace, OnRows, Does}
 use Rattle.sqlite_value.specs.Order.{Row}
 use Rattle.sqlite_trees.specs.Tree.{Trees}
 use Rattle.sqlite_schema.specs.declared.schema.Schema.{Schema}
@@ -25,13 +25,18 @@ use Rattle.sqlite_schema.specs.declared.command.Returning.{Returning}
 use Rattle.sqlite_resolve.specs.declared.compiled.Compiled.{Compiled}
 use Rattle.sqlite_resolve.specs.declared.error.CompileError.{CompileError}
 use Rattle.sqlite.specs.declared.error.Error.{Error}
+use Rattle.sqlite.specs.declared.error.Error.TheVariants.{SqliteFailure}
+use Rattle.sqlite.specs.declared.error.ErrorCode.TheVariants.{OutOfMemory}
+use Rattle.sqlite_trees.specs.declared.error.StoreError.TheVariants as cause
+use Rattle.sqlite.specs.Clock.{timed}
 use Rattle.sqlite.specs.Given.{IsPlain}
 use Rattle.sqlite.specs.Listing.{understood}
 use Rattle.sqlite.specs.Calls.{IsWrite}
 use Rattle.sqlite.specs.Effect.{is_query}
-use Rattle.sqlite.specs.State.{State, mode_of, Shows, Writes, HasCleanDisk, Survives, is_pragma, ExecutesIn, Executes, IsNotRun, IsNoStatement, IsUnchanged, IsRolledBack, IsMisplaced, MayCommit, RunsCommand, CommitsBy, shows_rows}
+use Rattle.sqlite.specs.State.{State, mode_of, Shows, Writes, HasCleanDisk, Survives, is_pragma, ExecutesIn, Executes, IsNotRun, IsNoStatement, IsUnchanged, IsRolledBack, IsMisplaced, Fails, MayCommit, RunsCommand, CommitsBy, shows_rows, text_of}
 use Rattle.sqlite.proofs.Callers.{command_of, statement_of, one_step}
 use Rattle.sqlite.proofs.StateLemmas.{survives_weaker}
+use Rattle.cs_records.specs.Failing.{HasDiskFailed}
 use Rattle.cs_records.specs.Records.{table_name, records_tree, IsApart, DeclaresRecords, Rests, KeepsCrash, GoesOn, IsUndone}
 use Rattle.cs_records.proofs.RowLemmas.{same_is}
 
@@ -70,7 +75,7 @@ no_fault sql count (Ok c) fault whole e = absurd (cc)
 no_fault sql count (Err other) fault whole e = whole
 
 -- and it is run
-is_statement : (s : State) (sql : List ℕ) (params : Row) (e : Error) → IsWhole sql (length params) (understood s.now.schema sql) → ¬ IsNoStatement s sql params e
+pub is_statement : (s : State) (sql : List ℕ) (params : Row) (e : Error) → IsWhole sql (length params) (understood s.now.schema sql) → ¬ IsNoStatement s sql params e
 is_statement s sql params e whole (inl fault) = no_fault sql (length params) _ fault.0 whole fault.1
 is_statement s sql params e whole (inr it) =
     let known = subst (IsWhole sql (length params)) it.1 whole in
@@ -79,6 +84,29 @@ is_statement s sql params e whole (inr it) =
       | inr (inl counts) ↦ counts.0 known.1
       | inr (inr time) ↦ time.0 known.2
     ]
+
+-- the command cannot store what it would write
+abbrev pub IsTooBig : State → Command → Type 0
+IsTooBig s command = (text : List ℕ) × (params : Row) × Does s.step_limit (mode_of s) params s.now text None command (Err None)
+
+-- the disk failed, which is counted, or a failure before has shut the connection, unless memory ran out or what is written
+-- is too big
+pub by_disk : (old new : State) (e : Error) (too_big : Type 0) → ¬ too_big → e ≢ SqliteFailure OutOfMemory → Fails old new too_big e → HasDiskFailed old new
+by_disk old new e too_big fits other (cause.OutOfMemory, is, why, back, tells) = absurd (other is)
+by_disk old new e too_big fits other (cause.Io, is, why, back, tells) = inl why
+by_disk old new e too_big fits other (cause.Corrupt, is, why, back, tells) = inl why
+by_disk old new e too_big fits other (cause.Full, is, why, back, tells) = inl why
+by_disk old new e too_big fits other (cause.Broken, is, why, back, tells) = inr why
+by_disk old new e too_big fits other (cause.Unstorable, is, why, back, tells) = absurd (fits why)
+
+-- a failure, where what is too big is so for another reason too
+fails_so : (old new : State) (e : Error) (one other : Type 0) → (one → other) → Fails old new one e → Fails old new other e
+fails_so old new e one other so (cause.OutOfMemory, is, why, back, tells) = (cause.OutOfMemory, is, why, back, tells)
+fails_so old new e one other so (cause.Io, is, why, back, tells) = (cause.Io, is, why, back, tells)
+fails_so old new e one other so (cause.Corrupt, is, why, back, tells) = (cause.Corrupt, is, why, back, tells)
+fails_so old new e one other so (cause.Full, is, why, back, tells) = (cause.Full, is, why, back, tells)
+fails_so old new e one other so (cause.Broken, is, why, back, tells) = (cause.Broken, is, why, back, tells)
+fails_so old new e one other so (cause.Unstorable, is, why, back, tells) = (cause.Unstorable, is, so why, back, tells)
 
 -- a command that shows no rows shows none without RETURNING
 quiet_is : (a b : Bool) → a || b ≡ false → a || (b || false) ≡ false
@@ -98,11 +126,11 @@ module _ (sql : List ℕ) (params : Row) (schema : Schema) (command : Command) (
 
   -- where it is no write, its failure rolls back, or it was not in its place
   pub fails_as : ¬ IsWrite command → is_query command || is_pragma command ≡ false → (old new : State) (e : Error) → old.now.schema ≡ schema → IsWhole sql (length params) (understood schema sql)
-      → Executes sql params old new (Err e) → IsRolledBack old new ⊎ (IsMisplaced old command e × IsUnchanged old new)
+      → Executes sql params old new (Err e) → Fails old new (IsTooBig old command) e ⊎ (IsMisplaced old command e × IsUnchanged old new)
   unfolding ExecutesIn IsNotRun
   fails_as reads quiet old new e has whole (inl (inl it)) =
       absurd (is_statement old sql params e (subst (λ of. IsWhole sql (length params) (understood of sql)) (sym has) whole) it.0)
-  fails_as reads quiet old new e has whole (inl (inr fails)) = inl fails.3
+  fails_as reads quiet old new e has whole (inl (inr fails)) = inl (fails_so old new e ⊥ (IsTooBig old command) (λ none. absurd none) fails)
   fails_as reads quiet old new e has whole (inr ran) =
       let c = ran.0 in
       let known = sym ran.1.is ∙ ap (λ of. understood of sql) has in
@@ -114,7 +142,7 @@ module _ (sql : List ℕ) (params : Row) (schema : Schema) (command : Command) (
         | inl (inl misplaced, same) ↦ inr (rw command_is at misplaced, same)
         | inl (inr (inl writes, refused), same) ↦ absurd (reads (rw command_is at writes))
         | inl (inr (inr returns, refused), same) ↦ absurd (let no = rw none at returns in cc)
-        | inr fails ↦ inl fails.3
+        | inr fails ↦ inl (fails_so old new e _ (IsTooBig old command) (λ big. (text_of sql c, timed params c.formats ran.1.now, rw (command_is, none) at big)) fails)
       ]
 
 -- the text is a statement under the schema, and does not end a transaction

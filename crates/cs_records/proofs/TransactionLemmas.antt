@@ -1,18 +1,21 @@
 -- What BEGIN, COMMIT and ROLLBACK do, whatever the schema.
-use Rattle.std.proofs.Common.{◌≡◌, ◌⊎◌, inl, inr, ℕ, List, [], true, false, codes, Ok, Err, Result, IsTrue, refl, arith}
+use Rattle.std.proofs.Common.{◌≡◌, ◌≢◌, ◌⊎◌, inl, inr, ℕ, List, [], true, false, codes, Ok, Err, Result, IsTrue, refl, arith}
 use Rattle.std.proofs.lemmas.Bool.{both_ways}
 use Rattle.sqlite_schema.specs.declared.schema.Schema.{Schema}
 use Rattle.sqlite_schema.specs.declared.command.Command.{Command}
 use Rattle.sqlite_schema.specs.declared.command.Command.TheVariants.{Begin, Commit, Rollback}
 use Rattle.sqlite_tied.specs.Compute.{everything}
 use Rattle.sqlite.specs.declared.error.Error.{Error}
+use Rattle.sqlite.specs.declared.error.Error.TheVariants.{SqliteFailure}
+use Rattle.sqlite.specs.declared.error.ErrorCode.TheVariants.{OutOfMemory}
 use Rattle.sqlite.specs.Given.{IsPlain}
 use Rattle.sqlite.specs.Listing.{understood}
 use Rattle.sqlite.specs.State.{State, Shows, Survives, Executes, CommitsBy, IsMisplaced}
 use Rattle.sqlite.proofs.StateLemmas.{survives_weaker}
 use Rattle.sqlite.proofs.Callers.{command_of, runs_as}
 use Rattle.cs_records.specs.Records.{IsUndone, KeepsCrash}
-use Rattle.cs_records.proofs.StatementLemmas.{IsWhole, commits_as, fails_as, undone_by}
+use Rattle.cs_records.specs.Failing.{HasDiskFailed}
+use Rattle.cs_records.proofs.StatementLemmas.{IsWhole, by_disk, commits_as, fails_as, undone_by}
 
 abbrev begin_text : List ℕ
 begin_text = codes "BEGIN"
@@ -32,6 +35,10 @@ module _ (schema : Schema) where
   begin_plain : IsPlain (understood schema begin_text)
   unfolding understood everything
   begin_plain = (refl, refl)
+
+  begin_whole : IsWhole begin_text 0 (understood schema begin_text)
+  unfolding understood everything
+  begin_whole = (omega arith, refl, refl)
 
   commit_is : command_of (understood schema commit_text) ≡ Commit
   unfolding understood everything
@@ -57,6 +64,13 @@ module _ (schema : Schema) where
   unfolding understood everything
   roll_back_whole = (omega arith, refl, refl)
 
+-- BEGIN is out of place where one is open
+inside : (s : State) (e : Error) → IsMisplaced s Begin e → IsTrue s.in_transaction
+inside s e (inl (_, inl begins)) = begins.1
+inside s e (inl (_, inr (inl commits, _))) = absurd (cc)
+inside s e (inl (_, inr (inr rolls_back, _))) = absurd (cc)
+inside s e (inr named) = absurd (elim named.2 [ inl release ↦ cc | inr back ↦ cc ])
+
 -- COMMIT and ROLLBACK are out of place where no transaction is open
 outside : (s : State) (command : Command) (e : Error) → (command ≡ Commit) ⊎ (command ≡ Rollback) → IsMisplaced s command e → s.in_transaction ≡ false
 outside s command e ends (inl (_, inl begins)) = absurd (let is = begins.0 in elim ends [ inl commits ↦ cc | inr rolls_back ↦ cc ])
@@ -72,6 +86,14 @@ module _ (old new : State) where
   begins count h =
       let ran = runs_as begin_text [] old new old.now.schema refl Begin (begin_is old.now.schema) (begin_plain old.now.schema) count h in
       (ran.0, ran.1)
+
+  -- outside a transaction BEGIN fails only by the disk, or for memory
+  pub begin_fails : old.in_transaction ≡ false → (e : Error) → e ≢ SqliteFailure OutOfMemory → Executes begin_text [] old new (Err e) → HasDiskFailed old new
+  begin_fails outside e other h =
+      elim (fails_as begin_text [] old.now.schema Begin (begin_is old.now.schema) (begin_plain old.now.schema) (λ none. none) refl old new e refl (begin_whole old.now.schema) h) [
+        | inl fails ↦ by_disk old new e _ (λ big. let refused = big.2 in cc) other fails
+        | inr misplaced ↦ absurd (both_ways _ outside (inside old e misplaced.0))
+      ]
 
   -- BEGIN commits nothing
   pub begin_keeps_crash : Survives old new (CommitsBy begin_text [] old) → KeepsCrash old new
@@ -92,7 +114,15 @@ module _ (old new : State) where
   pub commit_undone : IsTrue old.in_transaction → (e : Error) → Executes commit_text [] old new (Err e) → IsUndone old new
   commit_undone inside e h =
       elim (fails_as commit_text [] old.now.schema Commit (commit_is old.now.schema) (commit_plain old.now.schema) (λ none. none) refl old new e refl (commit_whole old.now.schema) h) [
-        | inl back ↦ undone_by old new back
+        | inl back ↦ undone_by old new back.3
+        | inr misplaced ↦ absurd (both_ways _ (outside old Commit e (inl refl) misplaced.0) inside)
+      ]
+
+  -- inside a transaction COMMIT fails only by the disk, or for memory
+  pub commit_fails : IsTrue old.in_transaction → (e : Error) → e ≢ SqliteFailure OutOfMemory → Executes commit_text [] old new (Err e) → HasDiskFailed old new
+  commit_fails inside e other h =
+      elim (fails_as commit_text [] old.now.schema Commit (commit_is old.now.schema) (commit_plain old.now.schema) (λ none. none) refl old new e refl (commit_whole old.now.schema) h) [
+        | inl fails ↦ by_disk old new e _ (λ big. let refused = big.2 in cc) other fails
         | inr misplaced ↦ absurd (both_ways _ (outside old Commit e (inl refl) misplaced.0) inside)
       ]
 
@@ -110,7 +140,7 @@ module _ (old new : State) where
       undone_by old new (runs_as roll_back_text [] old new old.now.schema refl Rollback (roll_back_is old.now.schema) (roll_back_plain old.now.schema) count h).1
   roll_back_undone inside (Err e) h =
       elim (fails_as roll_back_text [] old.now.schema Rollback (roll_back_is old.now.schema) (roll_back_plain old.now.schema) (λ none. none) refl old new e refl (roll_back_whole old.now.schema) h) [
-        | inl back ↦ undone_by old new back
+        | inl back ↦ undone_by old new back.3
         | inr misplaced ↦ absurd (both_ways _ (outside old Rollback e (inr refl) misplaced.0) inside)
       ]
 

@@ -1,3 +1,4 @@
+pub mod Failing
 pub mod Faults
 pub mod Layout
 pub mod Meaning

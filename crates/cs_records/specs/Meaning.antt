@@ -15,13 +15,13 @@ IsMeant command place tree meant.Remove = command ≡ remove_command place tree
 
 -- each text that writes is a statement on that table
 pub record AreWrites (schema : Schema) (place tree : ℕ) : Type 0 where
-  pub inserts : IsCommand schema (put_text true) (put_command place tree true)
-  pub puts : IsCommand schema (put_text false) (put_command place tree false)
-  pub removes : IsCommand schema remove_text (remove_command place tree)
+  pub inserts : IsCommand schema (put_text true) 3 (put_command place tree true)
+  pub puts : IsCommand schema (put_text false) 3 (put_command place tree false)
+  pub removes : IsCommand schema remove_text 2 (remove_command place tree)
 
 -- each text is a statement on that table
 pub record AreStatements (schema : Schema) (place tree : ℕ) : Type 0 where
-  pub finds : IsSelect schema find_text (find_query tree)
-  pub lists : IsSelect schema list_text (list_query tree)
-  pub scans : IsSelect schema scan_text (scan_query tree)
+  pub finds : IsSelect schema find_text 2 (find_query tree)
+  pub lists : IsSelect schema list_text 1 (list_query tree)
+  pub scans : IsSelect schema scan_text 0 (scan_query tree)
   pub writes : AreWrites schema place tree

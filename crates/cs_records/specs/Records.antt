@@ -1,6 +1,6 @@
 -- Records in one SQL table: a record has the name of a table, a key and a value, and no two records have both the name
 -- and the key.
-use Rattle.std.specs.Prelude.{bytes_eq, ◌⊎◌, ◌≡◌, ◌≢◌, ◌<ℤ◌, ℕ, ℤ, Bool, true, false, ◌&&◌, if◌then◌else◌, List, [], ◌∷◌, codes}
+use Rattle.std.specs.Prelude.{bytes_eq, ◌⊎◌, ◌≡◌, ◌≢◌, ◌<◌, ◌^◌, ◌<ℤ◌, ℕ, ℤ, Bool, true, false, ◌&&◌, if◌then◌else◌, List, [], ◌∷◌, codes}
 use Rattle.std.specs.Prelude.{Option, Some, None, option_map, option_and_then, unwrap_or, slice_get, Result, Ok, Err, ⊤, IsTrue, IfSome, All, AllPairs}
 use Rattle.std.specs.List.{AllByRecursion, find}
 use Rattle.std.specs.Cmp.Lexicographic.{slice_cmp}
@@ -81,11 +81,12 @@ pub record IsApart (tree : ℕ) (table : Table) : Type 0 where
 abbrev pub IsOfKey : ℕ → Index → Type 0
 IsOfKey tree index = IsTrue index.is_unique → index.table ≡ tree → index.columns ≡ 1 ∷ 2 ∷ [] → index.order ≡ plain
 
--- the schema declares the table of records, and each text of a statement on records is that statement on the table
+-- the schema declares the table of records, which is stored, and each text of a statement on records is that statement on the table
 pub record DeclaresRecords (schema : Schema) : Type 0 where
   pub place : ℕ
   pub named : table_named schema table_name ≡ Some place
   pub table : slice_get schema.tables place ≡ Some (records_table (records_tree schema))
+  pub stored : records_tree schema < 2 ^ 31
   pub apart : All (IsApart (records_tree schema)) schema.tables
   pub keyed : All (IsOfKey (records_tree schema)) schema.indexes
   pub statements : AreStatements schema place (records_tree schema)
@@ -264,6 +265,10 @@ IsQuery sql = (schema : Schema) → ShowsOnly (understood schema sql)
 -- a key and a value, in a row that a query shows
 abbrev pub shown_keyed : Row → List ℕ × List ℕ
 shown_keyed row = (content (column row 0), content (column row 1))
+
+-- the row shows two blobs
+abbrev pub ShowsKeyed : Row → Type 0
+ShowsKeyed row = (key value : List ℕ) × (row ≡ Blob key ∷ Blob value ∷ [])
 
 -- the row shows this number first, and it is above the last one
 abbrev pub HasNumberAbove : Option ℤ → Row → ℤ → Type 0

@@ -1,5 +1,5 @@
 -- The texts of SQL that read and write records, and what they are on a table of records.
-use Rattle.std.specs.Prelude.{◌≡◌, ℕ, pos, negsuc, Bool, true, false, List, [], ◌∷◌, map, slice_range, codes, Some, None, Ok}
+use Rattle.std.specs.Prelude.{◌≡◌, ◌≤◌, ℕ, pos, negsuc, Bool, true, false, List, [], ◌∷◌, length, map, slice_range, codes, Some, None, Ok}
 use Rattle.sqlite_value.specs.declared.value.Value.TheVariants as value
 use Rattle.sqlite_value.specs.declared.keys.Collation.TheVariants.{Binary}
 use Rattle.sqlite_value.specs.declared.keys.Key.{Key}
@@ -132,27 +132,29 @@ remove_command place tree = Delete place (alone (key_query tree))
 
 -- ---- under a schema
 
--- the text is this statement, which has no RETURNING and does not read the time
-pub record IsPlainStatement (schema : Schema) (sql : List ℕ) (it : Compiled) : Type 0 where
+-- the whole text is this statement with so many parameters, which has no RETURNING and does not read the time
+pub record IsPlainStatement (schema : Schema) (sql : List ℕ) (count : ℕ) (it : Compiled) : Type 0 where
   pub is : compiled schema sql ≡ Ok it
   pub returns_nothing : it.returning ≡ None
   pub reads_no_time : it.formats ≡ []
+  pub whole : length sql ≤ it.tail
+  pub given : count ≡ length it.names
 
 -- and its command is such a one
-abbrev pub IsStatement : Schema → List ℕ → (Command → Type 0) → Type 0
-IsStatement schema sql Is = (it : Compiled) × IsPlainStatement schema sql it × Is it.command
+abbrev pub IsStatement : Schema → List ℕ → ℕ → (Command → Type 0) → Type 0
+IsStatement schema sql count Is = (it : Compiled) × IsPlainStatement schema sql count it × Is it.command
 
-abbrev pub IsCommand : Schema → List ℕ → Command → Type 0
-IsCommand schema sql command = IsStatement schema sql (λ its. its ≡ command)
+abbrev pub IsCommand : Schema → List ℕ → ℕ → Command → Type 0
+IsCommand schema sql count command = IsStatement schema sql count (λ its. its ≡ command)
 
 -- the command is this query, whatever the names of its columns
 abbrev pub IsSelectOf : Command → Program → Type 0
 IsSelectOf command program = (names : List (List ℕ)) × (command ≡ Select program names)
 
-abbrev pub IsSelect : Schema → List ℕ → Query → Type 0
-IsSelect schema sql q = IsStatement schema sql (λ its. IsSelectOf its (alone q))
+abbrev pub IsSelect : Schema → List ℕ → ℕ → Query → Type 0
+IsSelect schema sql count q = IsStatement schema sql count (λ its. IsSelectOf its (alone q))
 
 -- the text that makes the table does so, as the whole of its text
 abbrev pub Creates : Schema → Type 0
 Creates schema =
-    (it : Compiled) × IsPlainStatement schema create_text it × (it.command ≡ CreateTable) × (slice_range create_text it.start it.end ≡ create_text)
+    (it : Compiled) × IsPlainStatement schema create_text 0 it × (it.command ≡ CreateTable) × (slice_range create_text it.start it.end ≡ create_text)

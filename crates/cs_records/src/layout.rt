@@ -1,5 +1,5 @@
 //! What a database declares, compared with the table of records.
-ghost use Rattle.std.specs.Prelude.{◌≡◌, ◌≢◌, ◌↔◌, [], ◌∷◌, true, false, None, IsTrue, All, IfOk};
+ghost use Rattle.std.specs.Prelude.{◌≡◌, ◌≢◌, ◌<◌, ◌^◌, ◌↔◌, [], ◌∷◌, true, false, None, IsTrue, All, IfOk};
 ghost use Rattle.sqlite_value.specs.Keys.{plain};
 ghost use Rattle.sqlite_schema.specs.Names.{same_name, table_named};
 ghost use Rattle.cs_records.specs.Layout.{IsDeclaration};
@@ -64,13 +64,16 @@ fn without_table(schema: &Schema) -> Declaration
     }
 }
 
-/// Whether the table with this tree shares it with no other, no table refers to it, and indexes compare the keys of its
-/// rows by their bytes.
+/// Whether the table with this tree is stored and shares it with no other, no table refers to it, and indexes compare
+/// the keys of its rows by their bytes.
 fn is_apart(schema: &Schema, tree: u32) -> bool
-    ensures { IsTrue result → All (IsApart tree) schema.now.tables
+    ensures { IsTrue result → (tree < 2 ^ 31) × All (IsApart tree) schema.now.tables
         × All (IsOfKey tree) schema.now.indexes }
 {
-    are_tables_apart(schema.tables.as_slice(), tree) && are_of_key(schema.indexes.as_slice(), tree)
+    // from this number on are the tables that a statement computes
+    tree < 0x8000_0000
+        && are_tables_apart(schema.tables.as_slice(), tree)
+        && are_of_key(schema.indexes.as_slice(), tree)
 }
 
 fn are_tables_apart(tables: &[Table], tree: u32) -> bool

@@ -18,20 +18,24 @@ use sqlite_schema::program::Program;
 use sqlite_schema::schema::Schema;
 use std::alloc::Global;
 
-/// The statement of the text under the schema, if it has no RETURNING and does not read the time.
+/// The statement of the text under the schema, if it is all of the text, has so many parameters and no RETURNING, and
+/// does not read the time.
 fn plain_statement(
     alloc: Global,
     schema: &Schema,
     sql: &str,
+    count: usize,
 ) -> Result<Option<Compiled>, RecordsError>
-    ensures { IfOk result (λ found. IfSome found (IsPlainStatement schema.now sql.now)) }
+    ensures { IfOk result (λ found. IfSome found (IsPlainStatement schema.now sql.now count)) }
 {
     let it = match compile(alloc, schema, sql.as_bytes()) {
         Ok(it) => it,
         Err(CompileError::OutOfMemory) => return Err(RecordsError::NoMemory),
         Err(_) => return Ok(None),
     };
-    if it.returning.is_some() || !it.formats.is_empty() {
+    let is_plain = it.returning.is_none() && it.formats.is_empty();
+    let is_whole = sql.len() <= it.tail && it.names.len() == count;
+    if !is_plain || !is_whole {
         drop(it);
         return Ok(None);
     }
@@ -182,19 +186,20 @@ fn is_meant(
     }
 }
 
-/// Whether the text is that statement under the schema.
+/// Whether the text is that statement under the schema, with so many parameters.
 fn is_statement(
     alloc: Global,
     schema: &Schema,
     sql: &str,
+    count: usize,
     place: usize,
     tree: u32,
     meant: Meant<'_>,
 ) -> Result<bool, RecordsError>
     ensures { IfOk result (λ yes. IsTrue yes
-        → IsStatement schema.now sql.now (λ command. IsMeant command place tree meant.entry)) }
+        → IsStatement schema.now sql.now count (λ command. IsMeant command place tree meant.entry)) }
 {
-    let Some(it) = plain_statement(alloc, schema, sql)? else {
+    let Some(it) = plain_statement(alloc, schema, sql, count)? else {
         return Ok(false);
     };
     let is_it = is_meant(alloc, &it.command, place, tree, meant);
@@ -204,31 +209,31 @@ fn is_statement(
 
 /// Whether the text that finds a record does so.
 fn finds(alloc: Global, schema: &Schema, tree: u32) -> Result<bool, RecordsError>
-    ensures { IfOk result (λ yes. IsTrue yes → IsSelect schema.now find_text (find_query tree)) }
+    ensures { IfOk result (λ yes. IsTrue yes → IsSelect schema.now find_text 2 (find_query tree)) }
 {
     let shape = Shape {
         filter: &[Expected::Equal(1, 0), Expected::Equal(2, 1)],
         project: &[Expected::Column(1, 3)],
         order: &[],
     };
-    is_statement(alloc, schema, texts::FIND, 0, tree, Meant::Select(&shape))
+    is_statement(alloc, schema, texts::FIND, 2, 0, tree, Meant::Select(&shape))
 }
 
 /// Whether the text that lists the records under a name does so.
 fn lists(alloc: Global, schema: &Schema, tree: u32) -> Result<bool, RecordsError>
-    ensures { IfOk result (λ yes. IsTrue yes → IsSelect schema.now list_text (list_query tree)) }
+    ensures { IfOk result (λ yes. IsTrue yes → IsSelect schema.now list_text 1 (list_query tree)) }
 {
     let shape = Shape {
         filter: &[Expected::Equal(1, 0)],
         project: &[Expected::Column(1, 2), Expected::Column(1, 3)],
         order: &[2],
     };
-    is_statement(alloc, schema, texts::LIST, 0, tree, Meant::Select(&shape))
+    is_statement(alloc, schema, texts::LIST, 1, 0, tree, Meant::Select(&shape))
 }
 
 /// Whether the text that shows all records does so.
 fn scans(alloc: Global, schema: &Schema, tree: u32) -> Result<bool, RecordsError>
-    ensures { IfOk result (λ yes. IsTrue yes → IsSelect schema.now scan_text (scan_query tree)) }
+    ensures { IfOk result (λ yes. IsTrue yes → IsSelect schema.now scan_text 0 (scan_query tree)) }
 {
     let shape = Shape {
         filter: &[],
@@ -240,7 +245,7 @@ fn scans(alloc: Global, schema: &Schema, tree: u32) -> Result<bool, RecordsError
         ],
         order: &[0],
     };
-    is_statement(alloc, schema, texts::SCAN, 0, tree, Meant::Select(&shape))
+    is_statement(alloc, schema, texts::SCAN, 0, 0, tree, Meant::Select(&shape))
 }
 
 /// Whether the texts that write records do so.
@@ -248,9 +253,9 @@ fn are_writes(alloc: Global, schema: &Schema, place: usize, tree: u32) -> Result
     ensures { IfOk result (λ yes. IsTrue yes → AreWrites schema.now place tree) }
 {
     Ok(
-        is_statement(alloc, schema, texts::INSERT, place, tree, Meant::Insert)?
-            && is_statement(alloc, schema, texts::PUT, place, tree, Meant::Put)?
-            && is_statement(alloc, schema, texts::REMOVE, place, tree, Meant::Remove)?,
+        is_statement(alloc, schema, texts::INSERT, 3, place, tree, Meant::Insert)?
+            && is_statement(alloc, schema, texts::PUT, 3, place, tree, Meant::Put)?
+            && is_statement(alloc, schema, texts::REMOVE, 2, place, tree, Meant::Remove)?,
     )
 }
 
@@ -276,7 +281,7 @@ pub(crate) fn are_statements(
 pub(crate) fn creates(alloc: Global, schema: &Schema) -> Result<bool, RecordsError>
     ensures { IfOk result (λ yes. IsTrue yes → Creates schema.now) }
 {
-    let Some(it) = plain_statement(alloc, schema, texts::CREATE)? else {
+    let Some(it) = plain_statement(alloc, schema, texts::CREATE, 0)? else {
         return Ok(false);
     };
     let is_whole = it.start == 0 && it.end == texts::CREATE.len();

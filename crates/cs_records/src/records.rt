@@ -1,10 +1,13 @@
 //! The table of records, one statement at a time: a record has the name of a table, a key and a
 //! value. A call that is refused leaves the database as it was, or takes it back to its last commit.
-ghost use Rattle.std.specs.Prelude.{◌≡◌, [], Some, None, option_map, map, IsTrue, IfOk, OnOk, OnErr};
-ghost use Rattle.sqlite.specs.State.{HasCleanDisk, IsUnchanged, KeepsCommit, Shown, Survives};
+ghost use Rattle.std.specs.Prelude.{◌≡◌, [], Some, None, option_map, map, IsTrue, IfOk, IfErr, OnOk, OnErr};
+ghost use Rattle.std.specs.List.{AllByRecursion};
+ghost use Rattle.sqlite.specs.State.{FailsToQuery, HasCleanDisk, IsUnchanged, KeepsCommit, Shown, Survives};
 ghost use Rattle.sqlite.specs.Held.{state};
 ghost use Rattle.sqlite.specs.Values.{bound};
-ghost use Rattle.cs_records.specs.Records.{HoldsRecords, Sets, ListsTable};
+ghost use Rattle.cs_records.specs.declared.fault.RecordsError.TheVariants.{NoMemory as OutOfMemory};
+ghost use Rattle.cs_records.specs.Failing.{CannotRead, FailsAt, IsFailure, puts, removes};
+ghost use Rattle.cs_records.specs.Records.{HoldsRecords, Sets, ListsTable, ShowsKeyed};
 ghost use Rattle.cs_records.specs.Records.{records_in, Makes, Rests, GoesOn, KeepsCrash};
 ghost use Rattle.cs_records.specs.Records.{IsQuery, shown_keyed};
 ghost use Rattle.cs_records.specs.Records.{LacksRecords, KeepsOthers, record_rows};
@@ -48,6 +51,8 @@ fn query_rows<S: Alter>(
         → OnOk result (IsUnchanged (state S.Store conn.old) (state S.Store conn.new)) }
     ensures rests { HasCleanDisk (state S.Store conn.new)
         → OnErr result (Rests (state S.Store conn.old) (state S.Store conn.new)) }
+    ensures failed { HasCleanDisk (state S.Store conn.new) → IfErr result (IsFailure
+        (FailsToQuery sql.now (bound params.now) (state S.Store conn.old) (state S.Store conn.new))) }
     ensures keeps_crash { KeepsCrash (state S.Store conn.old) (state S.Store conn.new) }
 {
     Ok(conn.query_all(sql, params)?)
@@ -65,6 +70,8 @@ pub fn find_record<S: Alter>(
         → OnOk result (IsUnchanged (state S.Store conn.old) (state S.Store conn.new)) }
     ensures rests { HasCleanDisk (state S.Store conn.new)
         → OnErr result (Rests (state S.Store conn.old) (state S.Store conn.new)) }
+    ensures failed { HasCleanDisk (state S.Store conn.new) → HoldsRecords (state S.Store conn.old).now → IfErr result
+        (IsFailure (λ _. CannotRead (state S.Store conn.old) (state S.Store conn.new))) }
     ensures keeps_crash { KeepsCrash (state S.Store conn.old) (state S.Store conn.new) }
 {
     let rows = query_rows(conn, texts::FIND, params![tab, key])?;
@@ -100,6 +107,8 @@ pub fn put_record<S: Alter>(
         → OnOk result (GoesOn (state S.Store conn.old) (state S.Store conn.new)) }
     ensures rests { HasCleanDisk (state S.Store conn.new)
         → OnErr result (Rests (state S.Store conn.old) (state S.Store conn.new)) }
+    ensures failed { HasCleanDisk (state S.Store conn.new) → IfErr result
+        (IsFailure (FailsAt (state S.Store conn.old) (state S.Store conn.new) (puts is_new tab.now key.now value.now))) }
     ensures was_clean { HasCleanDisk (state S.Store conn.new) → HasCleanDisk (state S.Store conn.old) }
     ensures survives { (HasCleanDisk (state S.Store conn.old) → HoldsRecords (state S.Store conn.old).now)
         → (HasCleanDisk (state S.Store conn.old) → IsTrue (state S.Store conn.old).in_transaction)
@@ -122,6 +131,8 @@ pub fn remove_record<S: Alter>(
         → OnOk result (GoesOn (state S.Store conn.old) (state S.Store conn.new)) }
     ensures rests { HasCleanDisk (state S.Store conn.new)
         → OnErr result (Rests (state S.Store conn.old) (state S.Store conn.new)) }
+    ensures failed { HasCleanDisk (state S.Store conn.new) → IfErr result
+        (IsFailure (FailsAt (state S.Store conn.old) (state S.Store conn.new) (removes tab.now key.now))) }
     ensures survives { (HasCleanDisk (state S.Store conn.old) → HoldsRecords (state S.Store conn.old).now)
         → (HasCleanDisk (state S.Store conn.old) → IsTrue (state S.Store conn.old).in_transaction)
         → KeepsCrash (state S.Store conn.old) (state S.Store conn.new) }
@@ -133,6 +144,7 @@ pub fn remove_record<S: Alter>(
 /// A key and a value in a row that shows them.
 fn read_keyed(row: &Row) -> Result<Keyed, RecordsError>
     ensures read { IfOk result (λ keyed. keyed ≡ shown_keyed row.now) }
+    ensures failed { ShowsKeyed row.now → IfErr result (λ e. e ≡ OutOfMemory) }
 {
     Ok(Keyed {
         key: row.get(0)?,
@@ -143,6 +155,7 @@ fn read_keyed(row: &Row) -> Result<Keyed, RecordsError>
 /// What the rows of a listing under a name hold.
 fn keyed_rows(alloc: Global, rows: &[Row]) -> Result<Vec<Keyed>, RecordsError>
     ensures read { IfOk result (λ listed. listed.items ≡ map shown_keyed rows.now) }
+    ensures failed { AllByRecursion ShowsKeyed rows.now → IfErr result (λ e. e ≡ OutOfMemory) }
 {
     let mut listed = Vec::new(alloc);
     for row in rows {
@@ -163,6 +176,8 @@ pub fn list_records<S: Alter>(
         → OnOk result (IsUnchanged (state S.Store conn.old) (state S.Store conn.new)) }
     ensures rests { HasCleanDisk (state S.Store conn.new)
         → OnErr result (Rests (state S.Store conn.old) (state S.Store conn.new)) }
+    ensures failed { HasCleanDisk (state S.Store conn.new) → HoldsRecords (state S.Store conn.old).now → IfErr result
+        (IsFailure (λ _. CannotRead (state S.Store conn.old) (state S.Store conn.new))) }
     ensures keeps_crash { KeepsCrash (state S.Store conn.old) (state S.Store conn.new) }
 {
     let rows = query_rows(conn, texts::LIST, params![tab])?;

@@ -1,7 +1,8 @@
 //! The transactions of a connection, by the texts that begin and end them.
-ghost use Rattle.std.specs.Prelude.{◌≡◌, true, false, IsTrue, IfErr, OnOk, OnErr};
+ghost use Rattle.std.specs.Prelude.{◌≡◌, ◌⊎◌, true, false, IsTrue, IfErr, OnOk, OnErr};
 ghost use Rattle.sqlite.specs.State.{HasCleanDisk, Shows, Survives};
 ghost use Rattle.sqlite.specs.Held.{state};
+ghost use Rattle.cs_records.specs.Failing.{HasDiskFailed, IsFailure};
 ghost use Rattle.cs_records.specs.Records.{IsUndone, KeepsContent, KeepsCrash};
 
 use crate::fault::RecordsError;
@@ -17,6 +18,9 @@ pub fn begin<S: Alter>(conn: &mut Connection<S>) -> Result<(), RecordsError>
         → OnOk result ((state S.Store conn.old).now ≡ (state S.Store conn.old).committed) }
     ensures kept { HasCleanDisk (state S.Store conn.new)
         → OnErr result (KeepsContent (state S.Store conn.old) (state S.Store conn.new)) }
+    ensures failed { HasCleanDisk (state S.Store conn.new)
+        → IfErr result (IsFailure (λ _. IsTrue (state S.Store conn.old).in_transaction
+        ⊎ HasDiskFailed (state S.Store conn.old) (state S.Store conn.new))) }
     ensures survives { KeepsCrash (state S.Store conn.old) (state S.Store conn.new) }
 {
     if !conn.is_autocommit() {
@@ -34,6 +38,9 @@ pub fn commit<S: Alter>(conn: &mut Connection<S>) -> Result<(), RecordsError>
         (state S.Store conn.old).now (state S.Store conn.old).now false) }
     ensures undone { HasCleanDisk (state S.Store conn.new)
         → OnErr result (IsUndone (state S.Store conn.old) (state S.Store conn.new)) }
+    ensures failed { HasCleanDisk (state S.Store conn.new)
+        → IfErr result (IsFailure (λ _. ((state S.Store conn.old).in_transaction ≡ false)
+        ⊎ HasDiskFailed (state S.Store conn.old) (state S.Store conn.new))) }
     ensures survives { Survives (state S.Store conn.old) (state S.Store conn.new)
         (λ db. (db ≡ (state S.Store conn.old).now.trees) × IsTrue (state S.Store conn.old).in_transaction) }
 {

@@ -1,4 +1,5 @@
--- `records::remove_record`: the clauses `rests`, `survives`, `removed` and `goes_on`.
+-- `records::remove_record`: the clauses `rests`, `failed`, `survives`, `removed` and `goes_on`.
+use Rattle.cs_records.proofs.FailureLemmas.{failure}
 use Rattle.cs_records.proofs.QueryLemmas.{on_err}
 use Rattle.cs_records.proofs.StatementLemmas.{refusal_rests}
 use Rattle.cs_records.proofs.RemoveLemmas.{removes, remove_goes_on, remove_keeps_crash}
@@ -6,6 +7,11 @@ use Rattle.cs_records.proofs.records.remove_record.Goals as goal
 
 pub returns-in_err-execute-clause-rests : goal.returns-in_err-execute-clause-rests
 returns-in_err-execute-clause-rests g c clean = on_err c.from_residual.result _ (refusal_rests _ _ _ _ _ (c.in_err-execute.ensures.runs clean))
+
+pub returns-in_err-execute-clause-failed : goal.returns-in_err-execute-clause-failed
+returns-in_err-execute-clause-failed g c clean =
+    failure c.from_residual.result _ c.in_err-execute.field-0.0 c.from_residual.ensures.1
+    (λ other. rw (c.params-to_sql.ensures, c.params-to_sql-2.ensures) at (c.in_err-execute.ensures.runs clean))
 
 pub returns-in_err-execute-clause-survives : goal.returns-in_err-execute-clause-survives
 returns-in_err-execute-clause-survives g c has inside = remove_keeps_crash _ _ _ (λ clean. (has clean).declares) inside c.execute.ensures.survives

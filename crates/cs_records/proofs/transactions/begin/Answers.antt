@@ -1,9 +1,10 @@
--- `transactions::begin`: the clauses `kept`, `survives`, `begun` and `settled`.
-use Rattle.std.proofs.Common.{not, ap, ◌∙◌, refl}
+-- `transactions::begin`: the clauses `kept`, `failed`, `survives`, `begun` and `settled`.
+use Rattle.std.proofs.Common.{inr, not, ap, ◌∙◌, refl}
 use Rattle.cs_records.proofs.QueryLemmas.{on_err}
+use Rattle.cs_records.proofs.FailureLemmas.{failure}
 use Rattle.cs_records.proofs.StatementLemmas.{refusal_rests}
 use Rattle.cs_records.proofs.ContentLemmas.{rests_keeps_content, in_autocommit}
-use Rattle.cs_records.proofs.TransactionLemmas.{begins, begin_keeps_crash}
+use Rattle.cs_records.proofs.TransactionLemmas.{begins, begin_fails, begin_keeps_crash}
 use Rattle.cs_records.proofs.transactions.begin.Goals as goal
 
 pub returns-in_err-execute-clause-kept : goal.returns-in_err-execute-clause-kept
@@ -25,3 +26,8 @@ returns-clause-settled g c clean =
 
 pub returns-clause-survives : goal.returns-clause-survives
 returns-clause-survives g c = begin_keeps_crash _ _ c.execute.ensures.survives
+
+pub returns-in_err-execute-clause-failed : goal.returns-in_err-execute-clause-failed
+returns-in_err-execute-clause-failed g c clean =
+    failure c.from_residual.result _ c.in_err-execute.field-0.0 c.from_residual.ensures.1
+    (λ other. inr (begin_fails _ _ (in_autocommit _ c.if-not-is_autocommit.ensures.value) _ other (c.in_err-execute.ensures.runs clean)))

@@ -1,10 +1,11 @@
--- `transactions::commit`: the clauses `undone`, `survives` and `committed`.
-use Rattle.std.proofs.Common.{refl}
+-- `transactions::commit`: the clauses `undone`, `failed`, `survives` and `committed`.
+use Rattle.std.proofs.Common.{inr, refl}
 use Rattle.sqlite.specs.Held.{state}
 use Rattle.cs_records.proofs.ContentLemmas.{idle_undone, idle_survives}
+use Rattle.cs_records.proofs.FailureLemmas.{failure}
 use Rattle.cs_records.proofs.QueryLemmas.{on_err}
 use Rattle.cs_records.proofs.ContentLemmas.{in_autocommit, in_transaction}
-use Rattle.cs_records.proofs.TransactionLemmas.{commits, commit_undone, commit_survives}
+use Rattle.cs_records.proofs.TransactionLemmas.{commits, commit_fails, commit_undone, commit_survives}
 use Rattle.cs_records.proofs.transactions.commit.Goals as goal
 
 pub returns-then-is_autocommit-clause-undone : goal.returns-then-is_autocommit-clause-undone
@@ -17,6 +18,11 @@ returns-then-is_autocommit-clause-survives g c = idle_survives (state g.S.Store 
 
 pub returns-in_err-execute-clause-undone : goal.returns-in_err-execute-clause-undone
 returns-in_err-execute-clause-undone g c clean = on_err c.from_residual.result _ (commit_undone _ _ (in_transaction _ c.if-is_autocommit.ensures.value) _ (c.in_err-execute.ensures.runs clean))
+
+pub returns-in_err-execute-clause-failed : goal.returns-in_err-execute-clause-failed
+returns-in_err-execute-clause-failed g c clean =
+    failure c.from_residual.result _ c.in_err-execute.field-0.0 c.from_residual.ensures.1
+    (λ other. inr (commit_fails _ _ (in_transaction _ c.if-is_autocommit.ensures.value) _ other (c.in_err-execute.ensures.runs clean)))
 
 pub returns-in_err-execute-clause-survives : goal.returns-in_err-execute-clause-survives
 returns-in_err-execute-clause-survives g c = commit_survives _ _ (in_transaction _ c.if-is_autocommit.ensures.value) c.execute.ensures.survives
