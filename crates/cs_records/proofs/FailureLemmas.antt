@@ -1,11 +1,10 @@
 -- With which errors a call on records fails.
-use Rattle.std.proofs.Common.{rules, ◌≡◌, ◌≢◌, ◌⊎◌, inl, inr, ℕ, ◌<◌, ◌≤◌, List, [], ◌∷◌, length, Result, Ok, Err, IfErr, IsErrAnd, refl, sym, ap, subst, ◌∙◌, arith}
+use Rattle.std.proofs.Common.{◌≡◌, ◌≢◌, ℕ, ◌<◌, List, length, Result, Ok, Err, IfErr, IsErrAnd, sym, ap, subst, ◌∙◌}
 use Rattle.sqlite_value.specs.declared.value.Value.TheVariants.{Blob}
 use Rattle.sqlite_value.specs.Order.{Row, column}
 use Rattle.sqlite.specs.declared.error.Error.{Error}
 use Rattle.sqlite.specs.declared.error.Error.TheVariants as error
 use Rattle.sqlite.specs.declared.error.ErrorCode.TheVariants as code
-use Rattle.sqlite.specs.Reading.{IsReadError}
 use Rattle.cs_records.specs.declared.fault.RecordsError.{RecordsError}
 use Rattle.cs_records.specs.declared.fault.RecordsError.TheVariants.{NoMemory, Database}
 use Rattle.cs_records.specs.Faults.{refusal_of}

@@ -18,7 +18,7 @@ use Rattle.sqlite.specs.Effect.{Database, IsDatabase}
 use Rattle.sqlite.specs.Does.{Tally, lacks_sequence, sequence_text, MakesSequence}
 use Rattle.sqlite.specs.State.{State, HasCleanDisk, Survives, Writes, Executes, CommitsBy}
 use Rattle.sqlite.proofs.Callers.{statement_of, runs_as}
-use Rattle.cs_records.specs.Records.{records_table, records_tree, record_rows, table_name, LacksRecords, IsDeclaredOtherwise, DeclaresRecords, HoldsRecords, AreNumbered, Adds, Makes, IsOther, with_records, AddsCounts, AddsRecords, KeepsOthers, by_one, by_each, GoesOn, KeepsCrash}
+use Rattle.cs_records.specs.Records.{records_table, records_tree, record_rows, table_name, LacksRecords, IsDeclaredOtherwise, DeclaresRecords, HoldsRecords, AreNumbered, Adds, Makes, IsOther, with_records, AddsAlone, AddsCounts, AddsRecords, KeepsOthers, by_one, by_each, GoesOn, KeepsCrash}
 use Rattle.cs_records.specs.Statements.{create_text, Creates}
 use Rattle.cs_records.proofs.QueryTexts.{understood_is, plainly, commands}
 use Rattle.cs_records.proofs.StatementLemmas.{went, same_value, inside_keeps_crash, write_goes_on}
@@ -40,9 +40,9 @@ adds text old new made = record { table = made.table; defined = made.defined; fr
 
 -- and one in which SQL counts, where a table wants it and there is none
 counted : (first new : Database) (lacks : Bool) → lacks_sequence first.schema ≡ lacks → MakesSequence first (Ok new)
-    → (new ≡ first) ⊎ (IsTrue (lacks_sequence first.schema) × Adds sequence_text first new)
+    → ((lacks_sequence first.schema ≡ false) × (new ≡ first)) ⊎ (IsTrue (lacks_sequence first.schema) × Adds sequence_text first new)
 counted first new true lacks h = inr (lacks, adds sequence_text first new (rw lacks at h))
-counted first new false has h = inl (same_value (rw has at h))
+counted first new false has h = inl (has, same_value (rw has at h))
 
 -- so the text makes the table
 pub makes : (old new : State) (count : ℕ) → Creates old.now.schema → Executes create_text [] old new (Ok count) → Makes old.now new.now
@@ -55,7 +55,7 @@ makes old new count creates h =
       sound = w.sound;
       first = parts.0;
       adds = adds create_text old.now parts.0 parts.1;
-      counts = subst (λ (d : Database). (d ≡ parts.0) ⊎ (IsTrue (lacks_sequence parts.0.schema) × Adds sequence_text parts.0 d)) now (counted parts.0 all.0 (lacks_sequence parts.0.schema) refl parts.2);
+      counts = subst (λ (d : Database). ((lacks_sequence parts.0.schema ≡ false) × (d ≡ parts.0)) ⊎ (IsTrue (lacks_sequence parts.0.schema) × Adds sequence_text parts.0 d)) now (counted parts.0 all.0 (lacks_sequence parts.0.schema) refl parts.2);
       frozen = w.frozen;
     }
 
@@ -138,7 +138,7 @@ made_keeps old new made =
     let one = made_schema old made.first made.adds in
     record {
       rows = λ table has other. elim made.counts [
-        | inl same ↦ subst (λ (d : Database). d.trees table.tree ≡ old.trees table.tree) (sym same) (table_stays create_text old made.first made.adds table has).1
+        | inl same ↦ subst (λ (d : Database). d.trees table.tree ≡ old.trees table.tree) (sym same.1) (table_stays create_text old made.first made.adds table has).1
         | inr more ↦
             let first = table_stays create_text old made.first made.adds table has in
             (table_stays sequence_text made.first new more.1 table first.0).1 ∙ first.1
@@ -146,7 +146,7 @@ made_keeps old new made =
       schema = inr (record {
         lacks = one.0;
         adds = elim made.counts [
-          | inl same ↦ inl (ap (λ (d : Database). d.schema) same ∙ one.1)
+          | inl same ↦ inl (subst (λ (s : Schema). AddsAlone s new) one.1 (record { has = same.0; is = ap (λ (d : Database). d.schema) same.1 }))
           | inr more ↦ inr (subst (λ (s : Schema). AddsCounts s new) one.1 (record {
             lacks = more.0;
             table = more.1.table;
@@ -168,7 +168,7 @@ tables_stay old new keeps table has = elim keeps.schema [
   | inr added ↦
       let more : Has (with_records old.schema).tables table = has_left old.schema.tables _ table has in
       elim added.adds [
-        | inl one ↦ subst (λ (s : Schema). Has s.tables table) (sym one) more
+        | inl one ↦ subst (λ (s : Schema). Has s.tables table) (sym one.is) more
         | inr two ↦ subst (λ (s : Schema). Has s.tables table) (sym two.is) (has_left (with_records old.schema).tables _ table more)
       ]
 ]
@@ -176,7 +176,7 @@ tables_stay old new keeps table has = elim keeps.schema [
 -- the table of records is not added twice
 added_once : (old new : Database) → AddsRecords old new → LacksRecords new.schema → ⊥
 added_once old new added lacks = unlisted new.schema made lacks refl (elim added.adds [
-  | inl one ↦ subst (λ (s : Schema). Has s.tables made) (sym one) listed
+  | inl one ↦ subst (λ (s : Schema). Has s.tables made) (sym one.is) listed
   | inr two ↦ subst (λ (s : Schema). Has s.tables made) (sym two.is) (has_left (with_records old.schema).tables _ made listed)
 ])
   where
@@ -213,14 +213,14 @@ schema_then old mid new one two = elim one.schema [
     | inl still ↦ inl (still ∙ same)
     | inr added ↦ inr (record {
       lacks = subst LacksRecords same added.lacks;
-      adds = subst (λ s. (new.schema ≡ with_records s) ⊎ AddsCounts (with_records s) new) same added.adds;
+      adds = subst (λ s. AddsAlone (with_records s) new ⊎ AddsCounts (with_records s) new) same added.adds;
     })
   ]
   | inr added ↦ elim two.schema [
     | inl still ↦ inr (record {
       lacks = added.lacks;
       adds = elim added.adds [
-        | inl is ↦ inl (still ∙ is)
+        | inl alone ↦ inl (record { has = alone.has; is = still ∙ alone.is })
         | inr counts ↦ inr (counts_stay old mid new counts two (sym still))
       ];
     })
@@ -275,7 +275,7 @@ first_empty old new added lacks table is has =
 
 made_empty : (old new : Database) → Makes old new → LacksRecords old.schema → (table : Table) → table.name ≡ table_name → Has new.schema.tables table → new.trees table.tree ≡ []
 made_empty old new made lacks table is has = elim made.counts [
-  | inl same ↦ subst (λ (d : Database). d.trees table.tree ≡ []) (sym same) (first_empty old made.first made.adds lacks table is (subst (λ (d : Database). Has d.schema.tables table) same has))
+  | inl same ↦ subst (λ (d : Database). d.trees table.tree ≡ []) (sym same.1) (first_empty old made.first made.adds lacks table is (subst (λ (d : Database). Has d.schema.tables table) same.1 has))
   | inr more ↦ of_two more.1
 ]
   where

@@ -199,10 +199,15 @@ pub record AddsCounts (schema : Schema) (new : Database) : Type 0 where
   pub is : new.schema ≡ created schema table
   pub empty : new.trees (next_tree schema) ≡ []
 
--- the table of records is added where nothing has its name, and then that of counts if SQL misses it
+-- no table of the schema counts its rows, or the table in which SQL counts is there: nothing else is added
+pub record AddsAlone (schema : Schema) (new : Database) : Type 0 where
+  pub has : lacks_sequence schema ≡ false
+  pub is : new.schema ≡ schema
+
+-- the table of records is added where nothing has its name, and then that of counts exactly if SQL misses it
 pub record AddsRecords (old new : Database) : Type 0 where
   pub lacks : LacksRecords old.schema
-  pub adds : (new.schema ≡ with_records old.schema) ⊎ AddsCounts (with_records old.schema) new
+  pub adds : AddsAlone (with_records old.schema) new ⊎ AddsCounts (with_records old.schema) new
 
 -- Each other table has its rows, and what SQL here does not understand is spared. Every table, index and view is
 -- declared as it was, and nothing is added but the table of records and that of counts.
@@ -211,12 +216,12 @@ pub record KeepsOthers (old new : Database) : Type 0 where
   pub schema : (new.schema ≡ old.schema) ⊎ AddsRecords old new
   pub frozen : IsSpared old new
 
--- the table is added that the text for the table of records defines, and then that of counts if SQL misses it
+-- the table is added that the text for the table of records defines, and then that of counts exactly if SQL misses it
 pub record Makes (old new : Database) : Type 0 where
   pub sound : IsDatabase new
   pub first : Database
   pub adds : Adds create_text old first
-  pub counts : (new ≡ first) ⊎ (IsTrue (lacks_sequence first.schema) × Adds sequence_text first new)
+  pub counts : ((lacks_sequence first.schema ≡ false) × (new ≡ first)) ⊎ (IsTrue (lacks_sequence first.schema) × Adds sequence_text first new)
   pub frozen : SparesFrozen old new
 
 -- the records are as before but for this one, and so is all else

@@ -216,7 +216,15 @@ fn finds(alloc: Global, schema: &Schema, tree: u32) -> Result<bool, RecordsError
         project: &[Expected::Column(1, 3)],
         order: &[],
     };
-    is_statement(alloc, schema, texts::FIND, 2, 0, tree, Meant::Select(&shape))
+    is_statement(
+        alloc,
+        schema,
+        texts::FIND,
+        2,
+        0,
+        tree,
+        Meant::Select(&shape),
+    )
 }
 
 /// Whether the text that lists the records under a name does so.
@@ -228,7 +236,15 @@ fn lists(alloc: Global, schema: &Schema, tree: u32) -> Result<bool, RecordsError
         project: &[Expected::Column(1, 2), Expected::Column(1, 3)],
         order: &[2],
     };
-    is_statement(alloc, schema, texts::LIST, 1, 0, tree, Meant::Select(&shape))
+    is_statement(
+        alloc,
+        schema,
+        texts::LIST,
+        1,
+        0,
+        tree,
+        Meant::Select(&shape),
+    )
 }
 
 /// Whether the text that shows all records does so.
@@ -245,7 +261,15 @@ fn scans(alloc: Global, schema: &Schema, tree: u32) -> Result<bool, RecordsError
         ],
         order: &[0],
     };
-    is_statement(alloc, schema, texts::SCAN, 0, 0, tree, Meant::Select(&shape))
+    is_statement(
+        alloc,
+        schema,
+        texts::SCAN,
+        0,
+        0,
+        tree,
+        Meant::Select(&shape),
+    )
 }
 
 /// Whether the texts that write records do so.
