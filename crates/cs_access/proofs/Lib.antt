@@ -1,3 +1,4 @@
+pub mod FailureLemmas
 pub mod KnownLemmas
 pub mod ReadLemmas
 pub mod StoreLemmas

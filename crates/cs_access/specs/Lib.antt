@@ -1,6 +1,7 @@
 pub mod Refusals
 pub mod Store
 pub mod Crash
+pub mod Failing
 pub mod Laws
 pub use Rattle.cs_stored.specs.Declaration
 pub use Rattle.cs_stored.specs.Stored

@@ -2,7 +2,7 @@
 ghost use Rattle.std.specs.FinMap as map;
 ghost use Rattle.cs_rows.specs.declared.fault.StoreError.TheVariants.{DamagedStore as Damaged};
 ghost use Rattle.std.specs.Prelude.{◌≡◌, ◌⊎◌, map as map_list, IsTrue, OnOk, IfOk};
-ghost use Rattle.std.specs.Prelude.{IfErr, IfSome, Option, Some, None, ℕ, List, [], ◌∷◌, option_map, string_bytes};
+ghost use Rattle.std.specs.Prelude.{IfErr, IfSome, Option, Some, None, ℕ, List, [], ◌∷◌, false, option_map, string_bytes};
 ghost use Rattle.std.specs.List.{AllByRecursion};
 ghost use Rattle.cs_value.specs.Table.{IsName};
 ghost use Rattle.cs_value.specs.declared.value.OwnedValue.{OwnedValue};
@@ -12,7 +12,9 @@ ghost use Rattle.cs_value.specs.State.{with_row, without_row};
 ghost use Rattle.cs_stored.specs.Declaration.{declaration_bytes};
 ghost use Rattle.sqlite.specs.State.{HasCleanDisk};
 ghost use Rattle.sqlite.specs.Held.{state};
-ghost use Rattle.cs_rows.specs.Faults.{IsResource, IsReadRefusal};
+ghost use Rattle.cs_rows.specs.Faults.{IsCaused, IsResource, IsReadRefusal};
+ghost use Rattle.cs_records.specs.Failing.{CannotRead, puts, removes};
+ghost use Rattle.cs_access.specs.Failing.{FailsToWrite};
 ghost use Rattle.cs_rows.specs.Rows.{IsDeclared, Fits, IsRowIn};
 ghost use Rattle.cs_access.specs.Store.{IsSound, KeepsStore, Recovers, RecoversList, RefusesShut};
 ghost use Rattle.cs_access.specs.Store.{AddsTable, AreNamed, AreStored, HoldsState, tables_in};
@@ -38,6 +40,8 @@ pub fn find_schema<S: Alter>(
     ensures refused { IsSound (state S.Store conn.old) → HasCleanDisk (state S.Store conn.new)
         → IfErr result IsResource }
     ensures shut { HasCleanDisk (state S.Store conn.new) → RefusesShut (state S.Store conn.old) IsResource result }
+    ensures caused { IsSound (state S.Store conn.old) → HasCleanDisk (state S.Store conn.new)
+        → IfErr result (IsCaused (λ _. CannotRead (state S.Store conn.old) (state S.Store conn.new))) }
     ensures named { IfErr result IsReadRefusal }
     ensures kept { KeepsStore (state S.Store conn.old) (state S.Store conn.new) }
 {
@@ -59,6 +63,7 @@ fn schema_in(alloc: Global, stored: Option<Vec<u8>>) -> Result<Option<Schema>, S
     ensures found { (o : Option SchemaData) → IfSome o IsSchema
         → option_map (λ v. v.items) stored ≡ option_map declaration_bytes o
         → Recovers result o }
+    ensures caused { IfErr result (IsCaused (λ _. ⊥)) }
     ensures named { IfErr result IsReadRefusal }
 {
     match stored {
@@ -83,6 +88,8 @@ pub fn find_row<S: Alter>(
     ensures fits { IsSound (state S.Store conn.old) → HasCleanDisk (state S.Store conn.new)
         → schema_at (tables_in (state S.Store conn.old).now) name.now ≡ Some schema.now
         → IfOk result (λ o. IfSome o (Fits (tables_in (state S.Store conn.old).now) name.now key.now)) }
+    ensures caused { IsSound (state S.Store conn.old) → HasCleanDisk (state S.Store conn.new)
+        → IfErr result (IsCaused (λ _. CannotRead (state S.Store conn.old) (state S.Store conn.new))) }
     ensures named { IfErr result IsReadRefusal }
     ensures kept { KeepsStore (state S.Store conn.old) (state S.Store conn.new) }
 {
@@ -100,6 +107,7 @@ fn row_in(
 ) -> Result<Option<Row>, StoreError>
     ensures found { (o : Option (List OwnedValue)) → IfSome o (IsRowIn schema.now)
         → option_map (λ v. v.items) stored ≡ option_map row_bytes o → Recovers result o }
+    ensures caused { IfErr result (IsCaused (λ _. ⊥)) }
     ensures named { IfErr result IsReadRefusal }
 {
     match stored {
@@ -120,6 +128,8 @@ pub fn list_rows<S: Alter>(
         → RecoversList result (map.values (rows_at (tables_in (state S.Store conn.old).now) name.now)) }
     ensures same { HasCleanDisk (state S.Store conn.new) → OnOk result ((state S.Store conn.new).now
         ≡ (state S.Store conn.old).now) }
+    ensures caused { IsSound (state S.Store conn.old) → HasCleanDisk (state S.Store conn.new)
+        → IfErr result (IsCaused (λ _. CannotRead (state S.Store conn.old) (state S.Store conn.new))) }
     ensures named { IfErr result IsReadRefusal }
     ensures kept { KeepsStore (state S.Store conn.old) (state S.Store conn.new) }
 {
@@ -134,6 +144,7 @@ fn rows_in(alloc: Global, schema: &Schema, listed: &[Keyed]) -> Result<Vec<Row>,
     ensures read { IfOk result (λ rows. AreStored schema.now (map_list (λ e. e.1) listed.now) rows.items) }
     ensures refused { IfErr result (λ e. ((e ≡ Damaged) × ((rows : List (List OwnedValue))
         → ¬ (AreStored schema.now (map_list (λ e. e.1) listed.now) rows))) ⊎ IsResource e) }
+    ensures caused { IfErr result (IsCaused (λ _. ⊥)) }
 {
     let mut rows = Vec::new(alloc);
     for record in listed {
@@ -164,6 +175,8 @@ pub fn put_row<S: Alter>(
         → OnOk result (tables_in (state S.Store conn.new).now
         ≡ with_row (tables_in (state S.Store conn.old).now) name.now key.now row.now) }
     ensures refused { IfErr result IsResource }
+    ensures caused { HasCleanDisk (state S.Store conn.new) → IfErr result (IsCaused (FailsToWrite (state S.Store conn.old) (state S.Store conn.new)
+        (puts is_new name.now key.now (row_bytes row.now)))) }
     ensures kept { IsSound (state S.Store conn.old) → IsTrue (state S.Store conn.old).in_transaction
         → KeepsStore (state S.Store conn.old) (state S.Store conn.new) }
 {
@@ -184,6 +197,8 @@ pub fn remove_row<S: Alter>(
         → OnOk result (tables_in (state S.Store conn.new).now
         ≡ without_row (tables_in (state S.Store conn.old).now) name.now key.now) }
     ensures refused { IfErr result IsResource }
+    ensures caused { HasCleanDisk (state S.Store conn.new) → IfErr result (IsCaused (FailsToWrite (state S.Store conn.old) (state S.Store conn.new)
+        (removes name.now key.now))) }
     ensures kept { IsSound (state S.Store conn.old) → IsTrue (state S.Store conn.old).in_transaction
         → KeepsStore (state S.Store conn.old) (state S.Store conn.new) }
 {
@@ -202,6 +217,8 @@ pub fn list_tables<S: Alter>(
     ensures refused { IsSound (state S.Store conn.old) → HasCleanDisk (state S.Store conn.new)
         → IfErr result IsResource }
     ensures shut { HasCleanDisk (state S.Store conn.new) → RefusesShut (state S.Store conn.old) IsResource result }
+    ensures caused { IsSound (state S.Store conn.old) → HasCleanDisk (state S.Store conn.new)
+        → IfErr result (IsCaused (λ _. CannotRead (state S.Store conn.old) (state S.Store conn.new))) }
     ensures named { IfErr result IsReadRefusal }
     ensures kept { KeepsStore (state S.Store conn.old) (state S.Store conn.new) }
 {
@@ -215,6 +232,7 @@ pub fn list_tables<S: Alter>(
 fn names_behind(alloc: Global, listed: &[Keyed]) -> Result<Vec<String>, StoreError>
     ensures read { (names : List (List ℕ)) → map_list (λ e. e.0) listed.now ≡ [] ∷ names → AllByRecursion IsName names
         → AreNamed result names }
+    ensures caused { IfErr result (IsCaused (λ _. ⊥)) }
     ensures named { IfErr result IsReadRefusal }
 {
     match listed {
@@ -228,6 +246,7 @@ fn names_of(alloc: Global, listed: &[Keyed]) -> Result<Vec<String>, StoreError>
     ensures read { IfOk result (λ names. map_list string_bytes names.items ≡ map_list (λ e. e.0) listed.now) }
     ensures refused { IfErr result (λ e. ((e ≡ Damaged) × (¬ AllByRecursion IsName (map_list (λ e. e.0) listed.now)))
         ⊎ IsResource e) }
+    ensures caused { IfErr result (IsCaused (λ _. ⊥)) }
 {
     let mut names = Vec::new(alloc);
     for record in listed {
@@ -254,6 +273,8 @@ pub fn put_table<S: Alter>(
         → OnOk result (AddsTable (tables_in (state S.Store conn.old).now) name.now schema.now
         (tables_in (state S.Store conn.new).now)) }
     ensures refused { IfErr result IsResource }
+    ensures caused { HasCleanDisk (state S.Store conn.new) → IfErr result (IsCaused (FailsToWrite (state S.Store conn.old) (state S.Store conn.new)
+        (puts false [] name.now (declaration_bytes schema.now)))) }
     ensures kept { IsSound (state S.Store conn.old) → IsTrue (state S.Store conn.old).in_transaction
         → KeepsStore (state S.Store conn.old) (state S.Store conn.new) }
 {

@@ -4,7 +4,9 @@ ghost use Rattle.sqlite.specs.State.{HasCleanDisk, Shows, Survives};
 ghost use Rattle.sqlite.specs.Held.{state};
 ghost use Rattle.cs_value.specs.Table.{IsName};
 ghost use Rattle.cs_rows.specs.declared.fault.StoreError.TheVariants.{TableExists as TakenName};
-ghost use Rattle.cs_rows.specs.Faults.{IsResource, IsReadRefusal};
+ghost use Rattle.cs_rows.specs.Faults.{IsCaused, IsResource, IsReadRefusal};
+ghost use Rattle.cs_records.specs.Failing.{HasDiskFailed};
+ghost use Rattle.cs_access.specs.Failing.{HasFailed};
 ghost use Rattle.cs_rows.specs.Rows.{IsDeclared};
 ghost use Rattle.cs_records.specs.Records.{IsUndone, KeepsCrash, KeepsOthers};
 ghost use Rattle.cs_access.specs.Crash.{IsAtomic, LeavesOnly};
@@ -37,6 +39,8 @@ impl<S: Alter> SqlBatch<'_, S> {
             (tables_in (state S.Store self.new.store.now).now)) }
         ensures refused { HasCleanDisk (state S.Store self.new.store.now) → IfErr result (λ e. ((e ≡ TakenName)
             × IsDeclared (tables_in (state S.Store self.old.store.now).now) name.now) ⊎ IsResource e) }
+        ensures caused { HasCleanDisk (state S.Store self.new.store.now)
+            → IfErr result (IsCaused (HasFailed S.Store self.new.store.now)) }
         ensures named { IfErr result (λ e. (e ≡ TakenName) ⊎ IsReadRefusal e) }
         ensures same_reference { self.new.store.ghost_name ≡ self.old.store.ghost_name }
         ensures kept { KeepsStore (state S.Store self.old.store.now) (state S.Store self.new.store.now) }
@@ -61,6 +65,9 @@ impl<S: Alter> SqlBatch<'_, S> {
         ensures undone { HasCleanDisk (state S.Store self.exit.0.now)
             → OnErr result (IsUndone (state S.Store self.entry.store.now) (state S.Store self.exit.0.now)) }
         ensures refused { IfErr result IsResource }
+        ensures caused { HasCleanDisk (state S.Store self.exit.0.now)
+            → IfErr result (IsCaused (λ _. ((state S.Store self.entry.store.now).in_transaction ≡ false)
+            ⊎ HasDiskFailed (state S.Store self.entry.store.now) (state S.Store self.exit.0.now))) }
         ensures atomic { IsAtomic IsInside (λ left. left ≡ tables_in (state S.Store self.entry.store.now).now)
             (state S.Store self.entry.store.now) (state S.Store self.exit.0.now) }
         ensures left { OnOk result (LeavesOnly (λ left. left ≡ tables_in (state S.Store self.entry.store.now).now)
@@ -91,6 +98,7 @@ impl<S: Alter> Rows for SqlBatch<'_, S> {
     ghost use Rattle.sqlite.specs.State.{HasCleanDisk};
     ghost use Rattle.sqlite.specs.Held.{state as shown};
     ghost use Rattle.cs_access.specs.Crash.{LeavesOnly};
+    ghost use Rattle.cs_access.specs.Failing.{HasFailed};
     ghost use Rattle.cs_access.specs.Store.{KeepsStore, tables_in};
     ghost use Rattle.cs_access.specs.Laws as laws;
 
@@ -108,6 +116,8 @@ impl<S: Alter> Rows for SqlBatch<'_, S> {
     ghost leaves_only = { λ b held. LeavesOnly (λ left. left ≡ held) (shown S.Store b.store.now) };
 
     ghost leaves_still = { λ a b held kept leaves. laws.leaves_then kept.1 leaves };
+
+    ghost fails_for = { λ b cause. HasFailed S.Store b.store.now cause };
 
     fn schema(&mut self, alloc: Global, table: &str) -> Result<Option<Schema>, StoreError> {
         self.store.schema(alloc, table)
