@@ -19,6 +19,7 @@ use Rattle.cs_wire.specs.Items.{FlaggedEntry}
 use Rattle.cs_wire.specs.Views.{inverse_entry}
 use Rattle.cs_wire.proofs.CursorLemmas.{last_flags-last, with_entry-last}
 use Rattle.cs_entries.proofs.InverseLemmas.{key_of-inverse}
+use Rattle.cs_rows.specs.declared.fault.Cause.{Cause}
 use Rattle.cs_group.specs.Applying.{refuses_at}
 use Rattle.cs_group.specs.declared.judging.Judgement.TheVariants.{Compatible}
 use Rattle.cs_group.specs.Inverse.{inverse_group}
@@ -30,7 +31,7 @@ use Rattle.cs_run.specs.declared.report.Report.{Report}
 use Rattle.cs_run.specs.declared.run.Run.{Run}
 use Rattle.cs_run.specs.declared.running.Direction.{Direction}
 use Rattle.cs_run.specs.declared.running.Direction.TheVariants.{Forward, Inverse}
-use Rattle.cs_run.specs.Running.{Applies, Handler, IsNamed, IsNoReadFault, IsReadAs, Refuses}
+use Rattle.cs_run.specs.Running.{Applies, Handler, IsCaused, IsNamed, IsNoReadFault, IsReadAs, Refuses}
 use Rattle.cs_run.specs.Steps.{HasTable, header_in}
 use Rattle.cs_run.specs.Run.{IsAtStart, IsBehind, IsNewEntry, TakesTable, answer_of, directed, directed_entry, directed_group, group_of, outcome_of}
 use Rattle.cs_run.proofs.StepLemmas.{each_both}
@@ -229,6 +230,16 @@ read_by None (Some (Misused conflict)) report = tt
 
 pub outcome_read : (run : Run) (result : Result Report ApplyFault) → result ≡ answer_of run → IfErr result IsNoReadFault
 outcome_read run result same = rw same (read_by run.wider run.ended run.report)
+
+-- nor of the database
+caused_by : (Fails : Cause → Type 0) (w : Option ℕ) (o : Option Ending) (report : Report) → IfErr (outcome_of w o report) (IsCaused Fails)
+caused_by Fails (Some place) o report = tt
+caused_by Fails None None report = tt
+caused_by Fails None (Some (Aborted conflict)) report = tt
+caused_by Fails None (Some (Misused conflict)) report = tt
+
+pub outcome_caused : (Fails : Cause → Type 0) (run : Run) (result : Result Report ApplyFault) → result ≡ answer_of run → IfErr result (IsCaused Fails)
+outcome_caused Fails run result same = rw same (caused_by Fails run.wider run.ended run.report)
 
 -- ---- a changeset, group by group
 

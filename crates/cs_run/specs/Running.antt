@@ -7,6 +7,8 @@ use Rattle.cs_wire.specs.ReadFaults.{ReadFails}
 use Rattle.cs_rows.specs.declared.fault.StoreError.{StoreError}
 use Rattle.cs_rows.specs.declared.fault.StoreError.TheVariants.{DamagedStore}
 use Rattle.cs_rows.specs.Faults.{IsStoreFault}
+use Rattle.cs_rows.specs.Faults as stores
+use Rattle.cs_rows.specs.declared.fault.Cause.{Cause}
 use Rattle.cs_rows.specs.Editing.{written_of}
 use Rattle.cs_group.specs.declared.conflict.Choice.{Choice}
 use Rattle.cs_group.specs.declared.conflict.Choice.TheVariants as choice
@@ -98,7 +100,7 @@ IsOfStore Is fault = ⊥
 
 -- a fault of the database has such a cause
 abbrev pub IsCaused : (Cause → Type 0) → ApplyFault → Type 0
-IsCaused Fails (Store error) = of_store.IsCaused Fails error
+IsCaused Fails (Store error) = stores.IsCaused Fails error
 IsCaused Fails fault = Unit {0}
 
 -- memory ran out, or the database refused

@@ -10,7 +10,7 @@ ghost use Rattle.cs_group.specs.declared.conflict.Noop.TheVariants.{Report as Re
 ghost use Rattle.cs_group.specs.Conflicts.{kind_between, is_refused as breaks_rule, row_after as row_of_change, ends};
 ghost use Rattle.cs_group.specs.Applying.{conflict_with, refuses_at};
 ghost use Rattle.cs_run.specs.declared.entry.Settled.TheVariants.{Carried as CarriedOut};
-ghost use Rattle.cs_run.specs.Running.{IsResource};
+ghost use Rattle.cs_run.specs.Running.{IsCaused, IsResource};
 ghost use Rattle.cs_run.specs.Steps.{HasTable, ComesTo, IsStoreRefusal, SettlesAs, AnswersAs, is_ignored, is_left_out, header_in, placed_in_table, settled_as, with_result};
 
 use crate::conflict::{Conflict, Met};

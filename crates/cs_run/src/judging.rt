@@ -3,7 +3,7 @@ ghost use Rattle.std.specs.Prelude.{◌≡◌, IfOk, IfErr, OnOk, option_map};
 ghost use Rattle.cs_value.specs.State.{schema_at};
 ghost use Rattle.cs_group.specs.Judging.{judgement};
 ghost use Rattle.cs_group.specs.Applying.{refuses_at};
-ghost use Rattle.cs_run.specs.Running.{IsResource};
+ghost use Rattle.cs_run.specs.Running.{IsCaused, IsResource};
 ghost use Rattle.cs_run.specs.Steps.{IsStoreRefusal};
 
 use crate::fault::ApplyFault;

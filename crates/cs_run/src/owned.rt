@@ -5,7 +5,7 @@ ghost use Rattle.std.specs.Fn.{FnReturnsAt};
 ghost use Rattle.cs_value.specs.State.{State};
 ghost use Rattle.cs_wire.specs.Changeset.{GroupData, file_bytes};
 ghost use Rattle.cs_group.specs.declared.conflict.Noop.TheVariants.{Report as Reported};
-ghost use Rattle.cs_run.specs.Running.{Applies, Refuses, IsNamed, IsNoReadFault, IsResource};
+ghost use Rattle.cs_run.specs.Running.{Applies, Refuses, IsCaused, IsNamed, IsNoReadFault, IsResource};
 ghost use Rattle.cs_run.specs.Steps.{IsStoreRefusal};
 ghost use Rattle.cs_run.specs.Run.{IsBehind, directed_group};
 

@@ -9,7 +9,7 @@ ghost use Rattle.cs_wire.specs.Headers.{header_of};
 ghost use Rattle.cs_group.specs.Applying.{refuses_at};
 ghost use Rattle.cs_group.specs.declared.judging.Judgement.TheVariants.{Compatible as CompatibleTable};
 ghost use Rattle.cs_group.specs.declared.conflict.Noop.TheVariants.{Report as Reported};
-ghost use Rattle.cs_run.specs.Running.{IsResource};
+ghost use Rattle.cs_run.specs.Running.{IsCaused, IsResource};
 ghost use Rattle.cs_run.specs.Steps.{HasTable, IsStoreRefusal, header_in};
 ghost use Rattle.cs_run.specs.Run.{IsAtStart, IsBehind, IsNewEntry, TakesEntries, TakesTable, answer_of, group_of};
 

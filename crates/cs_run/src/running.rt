@@ -3,7 +3,7 @@ ghost use Rattle.std.specs.Prelude.{◌≡◌, IfOk, IfErr};
 ghost use Rattle.std.specs.Fn.{FnReturnsAt};
 ghost use Rattle.cs_value.specs.State.{State};
 ghost use Rattle.cs_wire.specs.Entry.{IsEntry};
-ghost use Rattle.cs_run.specs.Running.{Applies, Refuses, IsNamed};
+ghost use Rattle.cs_run.specs.Running.{Applies, Refuses, IsCaused, IsNamed};
 ghost use Rattle.cs_run.specs.Run.{directed_entry};
 
 use crate::conflict::Conflict;

@@ -1,12 +1,12 @@
--- `owned::run_changeset_in`: the invariant of the loop at `group`, the clauses `applied`, `refused`, `named` and
--- `read`.
+-- `owned::run_changeset_in`: the invariant of the loop at `group`, the clauses `applied`, `refused`, `named`, `read`
+-- and `caused`.
 use Rattle.std.proofs.Common.{◌≡◌, ◌<◌, ◌+◌, ℕ, List, length, get_or, refl, ap, ◌∙◌}
 use Rattle.std.specs.Fn.{FnReturnsAt}
 use Rattle.std.proofs.lemmas.List.{take_all}
 use Rattle.cs_wire.specs.Changeset.{GroupData, file_bytes}
 use Rattle.cs_run.specs.Run.{directed}
 use Rattle.cs_run.proofs.BehindLemmas.{behind_start}
-use Rattle.cs_run.proofs.DirectedLemmas.{directed_none, group_names, groups_more, outcome_named, outcome_read, read_as, run_outcome}
+use Rattle.cs_run.proofs.DirectedLemmas.{directed_none, group_names, groups_more, outcome_caused, outcome_named, outcome_read, read_as, run_outcome}
 use Rattle.cs_run.proofs.owned.run_changeset_in.Goals as goal
 
 pub loop-group-init : goal.loop-group-init
@@ -62,3 +62,6 @@ returns-clause-named g c = outcome_named c.loop-group.run c.finish.result c.fini
 
 pub returns-clause-read : goal.returns-clause-read
 returns-clause-read g c = outcome_read c.loop-group.run c.finish.result c.finish.ensures
+
+pub returns-clause-caused : goal.returns-clause-caused
+returns-clause-caused g c = λ honest. outcome_caused (g.B.Rows.fails_for c.loop-group.rows) c.loop-group.run c.finish.result c.finish.ensures

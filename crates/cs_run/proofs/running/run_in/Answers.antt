@@ -1,10 +1,10 @@
--- `running::run_in`: the invariant of the loop, what `take_entry` asks for, the clauses `applied`, `refused` and
--- `named`.
+-- `running::run_in`: the invariant of the loop, what `take_entry` asks for, the clauses `applied`, `refused`, `named`
+-- and `caused`.
 use Rattle.std.proofs.Common.{Option, Ok, refl, ap, ◌∙◌, arith}
 use Rattle.std.specs.Fn.{FnReturnsAt}
 use Rattle.cs_wire.specs.declared.item.Item.{Item}
 use Rattle.cs_run.specs.Run.{directed}
-use Rattle.cs_run.proofs.DirectedLemmas.{front_start, front_table, front_has_table, front_has_rules, front_entry, outcome_named, read_as, run_outcome}
+use Rattle.cs_run.proofs.DirectedLemmas.{front_start, front_table, front_has_table, front_has_rules, front_entry, outcome_caused, outcome_named, read_as, run_outcome}
 use Rattle.cs_run.proofs.running.run_in.Goals as goal
 
 pub items-init : goal.items-init
@@ -83,3 +83,6 @@ returns-clause-refused g c = λ honest.
 
 pub returns-clause-named : goal.returns-clause-named
 returns-clause-named g c = outcome_named c.items.run c.finish.result c.finish.ensures
+
+pub returns-clause-caused : goal.returns-clause-caused
+returns-clause-caused g c = λ honest. outcome_caused (g.B.Rows.fails_for c.items.rows) c.items.run c.finish.result c.finish.ensures
