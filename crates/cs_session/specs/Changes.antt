@@ -4,6 +4,8 @@ use Rattle.cs_value.specs.State.{State}
 use Rattle.cs_rows.specs.declared.fault.StoreError.{StoreError}
 use Rattle.cs_rows.specs.declared.fault.StoreError.TheVariants.{DamagedStore}
 use Rattle.cs_rows.specs.Faults.{IsStoreFault}
+use Rattle.cs_rows.specs.Faults as stores
+use Rattle.cs_rows.specs.declared.fault.Cause.{Cause}
 use Rattle.cs_session.specs.declared.fault.SessionFault.{SessionFault}
 use Rattle.cs_session.specs.declared.fault.SessionFault.TheVariants.{Store, WrongStore, NoMemory}
 use Rattle.cs_session.specs.FirstImages.{AttachedTable, Notes, HasAttached}
@@ -28,6 +30,11 @@ LacksNamed state name notes = Any (λ t. (t.name ≡ name) × (¬ HasAttached st
 abbrev pub IsOfStore : (StoreError → Type 0) → SessionFault → Type 0
 IsOfStore Is (Store error) = Is error
 IsOfStore Is fault = ⊥
+
+-- a fault of the database has such a cause
+abbrev pub IsCaused : (Cause → Type 0) → SessionFault → Type 0
+IsCaused Fails (Store error) = stores.IsCaused Fails error
+IsCaused Fails fault = Unit {0}
 
 -- memory ran out, or the database refused
 abbrev pub IsResource : SessionFault → Type 0

@@ -10,7 +10,7 @@ ghost use Rattle.cs_store.specs.Records.{KeepsContent, KeepsOthers};
 ghost use Rattle.cs_store.specs.Store.{IsAtRest, RefusesShut, tables_in};
 ghost use Rattle.cs_run.specs.declared.running.Direction.TheVariants.{Forward as ForwardRun};
 ghost use Rattle.cs_apply.specs.Crash.{AppliesInto};
-ghost use Rattle.cs_session.specs.Changes.{IsResource};
+ghost use Rattle.cs_session.specs.Changes.{IsCaused, IsResource};
 ghost use Rattle.cs_session.specs.FirstImages.{IsNotes};
 ghost use Rattle.cs_session.specs.Recording.{RecordsApply, RefusesApply, IsApplyRefusal};
 ghost use Rattle.cs_session.specs.Views.{attached_of, kept_of, IsSettled};
@@ -130,6 +130,7 @@ fn apply_rows<B: Rows, H: Fn(&Conflict) -> Choice>(
     ensures refused { B.is_honest rows.new → IfErr result (RefusesApply (FnReturnsAt H.Fn handler.now)
         noop file.now (B.state rows.old) (map attached_of tables.old)) }
     ensures named { IfErr result IsApplyRefusal }
+    ensures caused { B.is_honest rows.new → IfErr result (IsCaused (B.fails_for rows.new)) }
     ensures was_honest { B.is_honest rows.new → B.is_honest rows.old }
     ensures kept { B.keeps rows.old rows.new }
 {

@@ -6,7 +6,7 @@ ghost use Rattle.cs_wire.specs.Entry.{IsChange, IsEntry, key_of};
 ghost use Rattle.cs_group.specs.Net.{net_row_change as change_between};
 ghost use Rattle.cs_session.specs.FirstImages.{IsNotes, IsAttachedTable, HasAttached};
 ghost use Rattle.cs_session.specs.FirstImages.{entry_since, net_group, recorded_changes};
-ghost use Rattle.cs_session.specs.Changes.{HasTables, RefusesChanges, IsChangesRefusal, IsResource};
+ghost use Rattle.cs_session.specs.Changes.{HasTables, RefusesChanges, IsCaused, IsChangesRefusal, IsResource};
 ghost use Rattle.cs_session.specs.Views.{attached_of};
 
 use crate::attached::Attached;
@@ -36,6 +36,7 @@ pub(crate) fn net_changeset<B: Rows>(
     ensures refused { B.is_honest rows.new
         → IfErr result (RefusesChanges (B.state rows.old) (map attached_of tables.now)) }
     ensures named { IfErr result IsChangesRefusal }
+    ensures caused { B.is_honest rows.new → IfErr result (IsCaused (B.fails_for rows.new)) }
     ensures was_honest { B.is_honest rows.new → B.is_honest rows.old }
     ensures kept { B.keeps rows.old rows.new }
 {
@@ -63,6 +64,7 @@ fn table_changes<B: Rows>(
     ensures same { B.is_honest rows.new → OnOk result (B.state rows.new ≡ B.state rows.old) }
     ensures refused { B.is_honest rows.new → IfErr result IsResource }
     ensures named { IfErr result IsChangesRefusal }
+    ensures caused { B.is_honest rows.new → IfErr result (IsCaused (B.fails_for rows.new)) }
     ensures was_honest { B.is_honest rows.new → B.is_honest rows.old }
     ensures kept { B.keeps rows.old rows.new }
 {
@@ -91,6 +93,7 @@ fn table_entries<B: Rows>(
     ensures same { B.is_honest rows.new → OnOk result (B.state rows.new ≡ B.state rows.old) }
     ensures refused { B.is_honest rows.new → IfErr result IsResource }
     ensures named { IfErr result IsChangesRefusal }
+    ensures caused { B.is_honest rows.new → IfErr result (IsCaused (B.fails_for rows.new)) }
     ensures was_honest { B.is_honest rows.new → B.is_honest rows.old }
     ensures kept { B.keeps rows.old rows.new }
 {
@@ -123,6 +126,7 @@ fn row_change<B: Rows>(
     ensures same { B.is_honest rows.new → OnOk result (B.state rows.new ≡ B.state rows.old) }
     ensures refused { B.is_honest rows.new → IfErr result IsResource }
     ensures named { IfErr result IsChangesRefusal }
+    ensures caused { B.is_honest rows.new → IfErr result (IsCaused (B.fails_for rows.new)) }
     ensures was_honest { B.is_honest rows.new → B.is_honest rows.old }
     ensures kept { B.keeps rows.old rows.new }
 {

@@ -4,7 +4,7 @@ ghost use Rattle.cs_value.specs.State.{IsRowAt};
 ghost use Rattle.cs_session.specs.declared.fault.SessionFault.TheVariants.{NoMemory as OutOfMemory};
 ghost use Rattle.cs_session.specs.FirstImages.{HasAttached};
 ghost use Rattle.cs_session.specs.Noting.{AreApart, IsDamage};
-ghost use Rattle.cs_session.specs.Changes.{HasTables, HasNamed, RefusesTable, RefusesNamed, RefusesChanges, IsChangesRefusal};
+ghost use Rattle.cs_session.specs.Changes.{HasTables, HasNamed, RefusesTable, RefusesNamed, RefusesChanges, IsCaused, IsChangesRefusal};
 ghost use Rattle.cs_session.specs.Views.{attached_of};
 
 use crate::attached::Attached;
@@ -25,6 +25,7 @@ pub(crate) fn check_tables<B: Rows>(
     ensures refused { B.is_honest rows.new
         → IfErr result (RefusesChanges (B.state rows.old) (map attached_of tables.now)) }
     ensures named { IfErr result IsChangesRefusal }
+    ensures caused { B.is_honest rows.new → IfErr result (IsCaused (B.fails_for rows.new)) }
     ensures was_honest { B.is_honest rows.new → B.is_honest rows.old }
     ensures kept { B.keeps rows.old rows.new }
 {
@@ -48,6 +49,7 @@ pub(crate) fn check_named<B: Rows>(
     ensures refused { B.is_honest rows.new
         → IfErr result (RefusesNamed (B.state rows.old) name.now (map attached_of tables.now)) }
     ensures named { IfErr result IsChangesRefusal }
+    ensures caused { B.is_honest rows.new → IfErr result (IsCaused (B.fails_for rows.new)) }
     ensures was_honest { B.is_honest rows.new → B.is_honest rows.old }
     ensures kept { B.keeps rows.old rows.new }
 {
@@ -67,6 +69,7 @@ pub(crate) fn check_table<B: Rows>(
     ensures same { B.is_honest rows.new → OnOk result (B.state rows.new ≡ B.state rows.old) }
     ensures refused { B.is_honest rows.new → IfErr result (RefusesTable (B.state rows.old) (attached_of table.now)) }
     ensures named { IfErr result IsChangesRefusal }
+    ensures caused { B.is_honest rows.new → IfErr result (IsCaused (B.fails_for rows.new)) }
     ensures was_honest { B.is_honest rows.new → B.is_honest rows.old }
     ensures kept { B.keeps rows.old rows.new }
 {

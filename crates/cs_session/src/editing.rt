@@ -8,7 +8,7 @@ ghost use Rattle.cs_store.specs.Crash.{CanBegin, IsAtomic, LeavesOnly};
 ghost use Rattle.cs_store.specs.Editing.{EditsInto};
 ghost use Rattle.cs_store.specs.Records.{KeepsContent, KeepsOthers};
 ghost use Rattle.cs_store.specs.Store.{IsAtRest, RefusesShut, tables_in};
-ghost use Rattle.cs_session.specs.Changes.{IsResource};
+ghost use Rattle.cs_session.specs.Changes.{IsCaused, IsResource};
 ghost use Rattle.cs_session.specs.FirstImages.{IsNotes};
 ghost use Rattle.cs_session.specs.Recording.{Records, RefusesEdit, IsEditRefusal, table_of};
 ghost use Rattle.cs_session.specs.Views.{attached_of, kept_of, IsSettled};
@@ -117,6 +117,7 @@ fn edit_rows<B: Rows>(
     ensures refused { B.is_honest rows.new
         → IfErr result (RefusesEdit (B.state rows.old) edit.now (map attached_of tables.old)) }
     ensures named { IfErr result IsEditRefusal }
+    ensures caused { B.is_honest rows.new → IfErr result (IsCaused (B.fails_for rows.new)) }
     ensures was_honest { B.is_honest rows.new → B.is_honest rows.old }
     ensures kept { B.keeps rows.old rows.new }
 {

@@ -2,7 +2,7 @@
 ghost use Rattle.std.specs.Prelude.{◌≡◌, map, IfOk, IfErr};
 ghost use Rattle.cs_value.specs.State.{IsState};
 ghost use Rattle.cs_session.specs.FirstImages.{IsNotes};
-ghost use Rattle.cs_session.specs.Changes.{RefusesChanges};
+ghost use Rattle.cs_session.specs.Changes.{RefusesChanges, IsCaused};
 ghost use Rattle.cs_session.specs.Undoing.{Undoes, IsUndoRefusal};
 ghost use Rattle.cs_session.specs.Views.{attached_of};
 
@@ -27,6 +27,7 @@ pub(crate) fn undo_rows<B: Rows>(
     ensures refused { B.is_honest rows.new
         → IfErr result (RefusesChanges (B.state rows.old) (map attached_of tables.now)) }
     ensures named { IfErr result IsUndoRefusal }
+    ensures caused { B.is_honest rows.new → IfErr result (IsCaused (B.fails_for rows.new)) }
     ensures was_honest { B.is_honest rows.new → B.is_honest rows.old }
     ensures kept { B.keeps rows.old rows.new }
 {
