@@ -1,0 +1,2 @@
+pub mod VarintFaults
+pub mod FieldFaults
