@@ -123,9 +123,6 @@ module _ (Bad : List ℕ → Type 0) (content : List ℕ) (k l : FieldFaultKind)
       let same = varint_spellings one.count two.count one.rest two.rest one.is_number two.is_number (sym one.spelled ∙ two.spelled) in
       why_once one.count one.rest one.why (rw (same.0, same.1) two.why)
 
-  is_once : (m : FieldFaultKind) (n : ℕ) → Is m n k p → Is m n l q → (k ≡ l) × (p ≡ q)
-  is_once m n one two = (one.0 ∙ sym two.0, one.1 ∙ sym two.1)
-
 typed_once : (t : ℕ) (content : List ℕ) (k l : FieldFaultKind) (p q : ℕ) → Typed t content k p → Typed t content l q → (k ≡ l) × (p ≡ q)
 typed_once zero content k l p q one two = absurd one
 typed_once (suc zero) content k l p q one two = (one.1.0 ∙ sym two.1.0, one.1.1 ∙ sym two.1.1)

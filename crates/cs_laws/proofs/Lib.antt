@@ -1,2 +1,4 @@
 pub mod VarintFaults
 pub mod FieldFaults
+pub mod Outcomes
+pub mod HeaderOnce
