@@ -2,3 +2,4 @@ pub mod VarintFaults
 pub mod FieldFaults
 pub mod Outcomes
 pub mod HeaderOnce
+pub mod WantsOnce
