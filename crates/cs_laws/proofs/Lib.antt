@@ -3,3 +3,4 @@ pub mod FieldFaults
 pub mod Outcomes
 pub mod HeaderOnce
 pub mod WantsOnce
+pub mod EntryOnce
