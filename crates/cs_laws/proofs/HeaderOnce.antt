@@ -21,7 +21,7 @@ abbrev pub NoZero : List ℕ → Type 0
 NoZero bytes = AllByRecursion (λ b. b ≢ 0) bytes
 
 -- the first zero byte ends a name
-split_zero : (m n x y : List ℕ) → NoZero m → NoZero n → m ++ 0 ∷ x ≡ n ++ 0 ∷ y → (m ≡ n) × (x ≡ y)
+pub split_zero : (m n x y : List ℕ) → NoZero m → NoZero n → m ++ 0 ∷ x ≡ n ++ 0 ∷ y → (m ≡ n) × (x ≡ y)
 split_zero [] [] x y h k e = (refl, cc)
 split_zero [] (q ∷ n) x y h k e = absurd (k.0 (cc))
 split_zero (p ∷ m) [] x y h k e = absurd (h.0 (cc))

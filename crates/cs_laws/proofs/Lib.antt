@@ -4,3 +4,5 @@ pub mod Outcomes
 pub mod HeaderOnce
 pub mod WantsOnce
 pub mod EntryOnce
+pub mod Prefixes
+pub mod Stops
