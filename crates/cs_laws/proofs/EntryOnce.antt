@@ -213,22 +213,20 @@ module _ (flags : List ℕ) (entries : List Entry) (from : ℕ) where
   is_operation (Delete row) = inr (inl refl)
   is_operation (Update old new) = inr (inr refl)
 
-  flag_le : (b : Bool) → cond b 1 0 ≤ 1
+  pub flag_le : (b : Bool) → cond b 1 0 ≤ 1
   flag_le true = omega arith
   flag_le false = omega arith
 
-  -- an entry with a new key passes
-  pub entry_passes : (entry : Entry) (rest : List ℕ) → IsEntry flags entry → IsNewKey flags entries (key_of flags entry.change) → AtEntry (entry_bytes entry ++ rest) Passes
-  entry_passes entry rest is new =
+  -- behind so many fields of a change
+  pub change_found : (change : Change) (count flag : ℕ) (rest : List ℕ) (o : Outcome) → IsChange flags change → count ≤ length (fields_of change) → flag ≤ 1
+      → Behind change count rest (from + 1 + 1 + length (front change count)) o → AtEntry (operation change ∷ flag ∷ (front change count ++ rest)) o
+  change_found change count flag rest o is within le after =
+      let no = operation_no_header change in
+      inr (no.0, no.1, inr (is_operation change, inr (le, record { change = change; count = count; rest = rest; is_change = is; does = refl; within = within; spelled = refl; after = after })))
+
+  -- behind an entry its key is new or not
+  pub entry_found : (entry : Entry) (rest : List ℕ) (o : Outcome) → IsEntry flags entry → Whole entry.change o → AtEntry (entry_bytes entry ++ rest) o
+  entry_found entry rest o is whole =
       let fields = fields_of entry.change in
-      let no = operation_no_header entry.change in
-      rw entry_bytes-append (inr (no.0, no.1, inr (is_operation entry.change, inr (flag_le entry.indirect, record {
-        change = entry.change;
-        count = length fields;
-        rest = rest;
-        is_change = is;
-        does = refl;
-        within = omega arith;
-        spelled = ap (λ (x : List OwnedField). record_bytes x ++ rest) (sym (take_all (length fields) fields (omega arith)));
-        after = inr (refl, inr (new, refl));
-      }))))
+      let all : take (length fields) fields ≡ fields = take_all (length fields) fields (omega arith) in
+      rw (entry_bytes-append, ← all) (change_found entry.change (length fields) (cond entry.indirect 1 0) rest o is (omega arith) (flag_le entry.indirect) (inr (refl, whole)))

@@ -164,9 +164,10 @@ table_once groups (c ∷ bytes) at a b (inr (inr one)) (inl two) = absurd (one.1
 table_once groups (c ∷ bytes) at a b (inr (inl one)) (inr (inr two)) = absurd (two.2 one.0)
 table_once groups (c ∷ bytes) at a b (inr (inr one)) (inr (inl two)) = absurd (one.2 two.0)
 
--- the header of a new table passes
-pub header_passes : (groups : List GroupData) (header : HeaderData) (rest : List ℕ) (at : ℕ) → IsHeader header → IsNewName groups header.name → AtTable groups (header_bytes header ++ rest) at Passes
-header_passes groups header rest at is new = rw header_bytes-append (inl (refl, inr (record {
+-- behind a header its table is new or not
+pub header_found : (groups : List GroupData) (header : HeaderData) (rest : List ℕ) (at : ℕ) (o : Outcome) → IsHeader header
+    → ((IsNewName groups header.name → ⊥) × (o ≡ Fails DuplicateTable at)) ⊎ (IsNewName groups header.name × (o ≡ Passes)) → AtTable groups (header_bytes header ++ rest) at o
+header_found groups header rest at o is found = rw header_bytes-append (inl (refl, inr (record {
   count = length header.flags;
   rest = header.flags ++ (header.name ++ 0 ∷ rest);
   is_number = omega (arith, is.flags.few);
@@ -176,6 +177,6 @@ header_passes groups header rest at is new = rw header_bytes-append (inl (refl, 
     rest = header.name ++ 0 ∷ rest;
     spelled = refl;
     count_is = refl;
-    after = inr (is.flags, inr (record { name = header.name; rest = rest; spelled = refl; no_zero = is.name.no_zero; after = inr (is.name, inr (new, refl)) }));
+    after = inr (is.flags, inr (record { name = header.name; rest = rest; spelled = refl; no_zero = is.name.no_zero; after = inr (is.name, found) }));
   }));
 })))

@@ -11,8 +11,8 @@ use Rattle.cs_entries.proofs.ReadingLemmas.{header_bytes-append}
 use Rattle.cs_wire.specs.Cursor.{IsOpen}
 use Rattle.cs_wire.proofs.EntriesLemmas.{operation_no_header}
 use Rattle.cs_laws.proofs.Outcomes.{Outcome, Passes, Fails, Once, fails_not}
-use Rattle.cs_laws.proofs.HeaderOnce.{AtTable, table_once, header_passes}
-use Rattle.cs_laws.proofs.EntryOnce.{AtEntry, entry_once, entry_passes}
+use Rattle.cs_laws.proofs.HeaderOnce.{AtTable, table_once, header_found}
+use Rattle.cs_laws.proofs.EntryOnce.{AtEntry, entry_once, entry_found}
 use Rattle.cs_laws.proofs.Prefixes.{Full, Next, NextHeader, NextEntry, group_of, compare}
 
 -- an entry of the last group may begin here
@@ -68,11 +68,20 @@ found_once all bytes a b (inr one) (inl two) = absurd (apart all bytes b a two.0
 
 -- what goes on passes
 passes : (all : List GroupData) (bytes : List ℕ) → Next all bytes → Found all bytes Passes
-passes all bytes (inl next) = inl (next.full, rw next.spelled (header_passes all next.header next.rest (length (file_bytes all)) next.is_header next.fresh))
+passes all bytes (inl next) = inl (next.full, rw next.spelled (header_found all next.header next.rest (length (file_bytes all)) Passes next.is_header (inr (next.fresh, refl))))
 passes all bytes (inr next) = inr (record {
   groups = next.groups;
   header = next.header;
   entries = next.entries;
   is = next.is;
-  outcome = rw next.spelled (entry_passes next.header.flags next.entries (length (file_bytes all)) next.entry next.rest next.is_entry next.fresh);
+  outcome = rw next.spelled (entry_found next.header.flags next.entries (length (file_bytes all)) next.entry next.rest Passes next.is_entry (inr (next.fresh, refl)));
 })
+
+-- one fault at one place
+pub stop_once : (file : List ℕ) (k l : ReadFaultKind) (p q : ℕ) → Stop file (Fails k p) → Stop file (Fails l q) → Fails k p ≡ Fails l q
+stop_once file k l p q one two =
+    elim (compare one.groups two.groups one.rest two.rest one.is_open two.is_open (sym one.spelled ∙ two.spelled)) [
+      | inl same ↦ found_once one.groups one.rest (Fails k p) (Fails l q) one.found (rw (same.0, same.1) two.found)
+      | inr (inl next) ↦ absurd (fails_not k p (found_once one.groups one.rest (Fails k p) Passes one.found (passes one.groups one.rest next)))
+      | inr (inr next) ↦ absurd (fails_not l q (found_once two.groups two.rest (Fails l q) Passes two.found (passes two.groups two.rest next)))
+    ]
