@@ -1,8 +1,8 @@
 -- Where an entry may begin, there is one outcome at most: it is an entry with a new key, or there is one fault.
-use Rattle.std.proofs.Common.{◌≡◌, ◌≢◌, ℕ, suc, ◌+◌, ◌<◌, ◌≤◌, cond, Bool, true, false, List, [], ◌∷◌, ◌++◌, length, get_or, take, drop, None, Some, refl, sym, ap, ◌∙◌, append_assoc, arith, length-append, inl, inr}
+use Rattle.std.proofs.Common.{◌≡◌, ◌≢◌, ℕ, ◌+◌, ◌<◌, ◌≤◌, cond, Bool, true, false, List, [], ◌∷◌, ◌++◌, length, get_or, take, drop, None, Some, refl, sym, ap, ◌∙◌, append_assoc, arith, inl, inr}
 use Rattle.std.specs.Prelude.{◌⊎◌, Option}
 use Rattle.std.proofs.lemmas.Bool.{cases_order}
-use Rattle.std.proofs.lemmas.List.{take-append-drop, take-take, take_all, length-take, length-take-le, drop_more, get_or-take}
+use Rattle.std.proofs.lemmas.List.{take-append-drop, take-take, take_all, length-take-le, drop_more, get_or-take}
 use Rattle.std.proofs.lemmas.List.Concat.{flat_map-append}
 use Rattle.std.proofs.lemmas.List.Elements.{All-from_recursion}
 use Rattle.cs_value.specs.declared.fault.FieldFaultKind.{FieldFaultKind}
@@ -27,6 +27,11 @@ use Rattle.cs_wire.proofs.EntriesLemmas.{operation_no_header}
 use Rattle.cs_laws.proofs.FieldFaults.{field_fails_once, field_or_fails}
 use Rattle.cs_laws.proofs.WantsOnce.{want, want_met, want_same, same_width, same_change, fields_are}
 use Rattle.cs_laws.proofs.Outcomes.{Outcome, Passes, Fails, Once}
+
+-- an indirect flag is 0 or 1
+pub flag_le : (b : Bool) → cond b 1 0 ≤ 1
+flag_le true = omega arith
+flag_le false = omega arith
 
 module _ (flags : List ℕ) (entries : List Entry) (from : ℕ) where
   -- all fields stand there
@@ -125,8 +130,10 @@ module _ (flags : List ℕ) (entries : List Entry) (from : ℕ) where
     where
       field : OwnedField
       field = get_or (fields_of d) count Undefined
+
       is : IsField field
       is = All-from_recursion IsField (fields_of d) (fields_are flags d k) count Undefined lt
+
       by : Behind c count bytes at a → ⊥
       by (inl (le, inl none)) = field_or_fails bytes none.why none.behind field more is e none.fails
       by (inl (le, inr other)) =
@@ -212,10 +219,6 @@ module _ (flags : List ℕ) (entries : List Entry) (from : ℕ) where
   is_operation (Insert row) = inl refl
   is_operation (Delete row) = inr (inl refl)
   is_operation (Update old new) = inr (inr refl)
-
-  pub flag_le : (b : Bool) → cond b 1 0 ≤ 1
-  flag_le true = omega arith
-  flag_le false = omega arith
 
   -- behind so many fields of a change
   pub change_found : (change : Change) (count flag : ℕ) (rest : List ℕ) (o : Outcome) → IsChange flags change → count ≤ length (fields_of change) → flag ≤ 1

@@ -1,5 +1,5 @@
 -- What begins with the byte of a header has one outcome at most: it is a header of a new table, or it has one fault.
-use Rattle.std.proofs.Common.{◌≡◌, ◌≢◌, ℕ, ◌+◌, ◌<◌, ◌≤◌, List, [], ◌∷◌, ◌++◌, length, refl, sym, ap, ◌∙◌, append_assoc, arith, length-append, inl, inr}
+use Rattle.std.proofs.Common.{◌≡◌, ◌≢◌, ℕ, ◌+◌, ◌<◌, ◌≤◌, List, [], ◌∷◌, ◌++◌, length, refl, sym, ap, ◌∙◌, arith, length-append, inl, inr}
 use Rattle.std.specs.Prelude.{◌⊎◌, Any, IsUtf8}
 use Rattle.std.proofs.lemmas.List.Elements.{All-from_recursion}
 use Rattle.std.specs.List.{AllByRecursion}
@@ -111,6 +111,7 @@ module _ (groups : List GroupData) (from : ℕ) where
     where
       After : List ℕ → List ℕ → Outcome → Type 0
       After flags rest o = (AllByRecursion (λ flag. flag ≡ 0) flags × (o ≡ Fails NoKey at)) ⊎ (IsFlags flags × Flagged rest (at + count) o)
+
       by : (flags rest : List ℕ) → After flags rest a → After flags rest b → a ≡ b
       by flags rest (inl p) (inl q) = p.1 ∙ sym q.1
       by flags rest (inl p) (inr q) = absurd (all_zero flags p.0 q.0.some_key)
@@ -136,6 +137,7 @@ module _ (groups : List GroupData) (from : ℕ) where
     where
       After : ℕ → List ℕ → Outcome → Type 0
       After count rest o = ((IsColumnCount count → ⊥) × (o ≡ Fails ColumnCount at)) ⊎ (IsColumnCount count × CountOk rest count (at + length (varint count)) o)
+
       by : (count : ℕ) (rest : List ℕ) → After count rest a → After count rest b → a ≡ b
       by count rest (inl p) (inl q) = p.1 ∙ sym q.1
       by count rest (inl p) (inr q) = absurd (p.0 q.0)
@@ -167,16 +169,22 @@ table_once groups (c ∷ bytes) at a b (inr (inr one)) (inr (inl two)) = absurd 
 -- behind a header its table is new or not
 pub header_found : (groups : List GroupData) (header : HeaderData) (rest : List ℕ) (at : ℕ) (o : Outcome) → IsHeader header
     → ((IsNewName groups header.name → ⊥) × (o ≡ Fails DuplicateTable at)) ⊎ (IsNewName groups header.name × (o ≡ Passes)) → AtTable groups (header_bytes header ++ rest) at o
-header_found groups header rest at o is found = rw header_bytes-append (inl (refl, inr (record {
-  count = length header.flags;
-  rest = header.flags ++ (header.name ++ 0 ∷ rest);
-  is_number = omega (arith, is.flags.few);
-  spelled = flags_bytes-append header.flags (header.name ++ 0 ∷ rest);
-  after = inr ((flags_some header.flags is.flags, is.flags.few), inr (record {
-    flags = header.flags;
-    rest = header.name ++ 0 ∷ rest;
-    spelled = refl;
-    count_is = refl;
-    after = inr (is.flags, inr (record { name = header.name; rest = rest; spelled = refl; no_zero = is.name.no_zero; after = inr (is.name, found) }));
-  }));
-})))
+header_found groups header rest at o is found = rw header_bytes-append (inl (
+  refl,
+  inr (record {
+    count = length header.flags;
+    rest = header.flags ++ (header.name ++ 0 ∷ rest);
+    is_number = omega (arith, is.flags.few);
+    spelled = flags_bytes-append header.flags (header.name ++ 0 ∷ rest);
+    after = inr (
+      (flags_some header.flags is.flags, is.flags.few),
+      inr (record {
+        flags = header.flags;
+        rest = header.name ++ 0 ∷ rest;
+        spelled = refl;
+        count_is = refl;
+        after = inr (is.flags, inr (record { name = header.name; rest = rest; spelled = refl; no_zero = is.name.no_zero; after = inr (is.name, found) }));
+      }),
+    );
+  }),
+))

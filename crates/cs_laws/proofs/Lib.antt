@@ -6,3 +6,4 @@ pub mod WantsOnce
 pub mod EntryOnce
 pub mod Prefixes
 pub mod Stops
+pub mod Cases

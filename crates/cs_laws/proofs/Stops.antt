@@ -1,19 +1,15 @@
 -- A file stops being a changeset's at one place, for one reason.
-use Rattle.std.proofs.Common.{◌≡◌, ◌≢◌, ℕ, ◌+◌, List, [], ◌∷◌, ◌++◌, length, refl, sym, ap, ◌∙◌, arith, length-append, inl, inr}
+use Rattle.std.proofs.Common.{◌≡◌, ℕ, List, [], ◌∷◌, ◌++◌, length, refl, sym, ap, ◌∙◌, arith, length-append, inl, inr}
 use Rattle.std.specs.Prelude.{◌⊎◌}
 use Rattle.std.proofs.lemmas.List.{same_from_push}
 use Rattle.cs_entries.specs.declared.entry.Entry.{Entry}
 use Rattle.cs_entries.specs.declared.fault.ReadFaultKind.{ReadFaultKind}
-use Rattle.cs_entries.specs.Entry.{entry_bytes}
-use Rattle.cs_entries.specs.Changeset.{HeaderData, GroupData, header_bytes, file_bytes}
-use Rattle.cs_entries.proofs.EntryLemmas.{entry_bytes-append}
-use Rattle.cs_entries.proofs.ReadingLemmas.{header_bytes-append}
+use Rattle.cs_entries.specs.Changeset.{HeaderData, GroupData, file_bytes}
 use Rattle.cs_wire.specs.Cursor.{IsOpen}
-use Rattle.cs_wire.proofs.EntriesLemmas.{operation_no_header}
 use Rattle.cs_laws.proofs.Outcomes.{Outcome, Passes, Fails, Once, fails_not}
 use Rattle.cs_laws.proofs.HeaderOnce.{AtTable, table_once, header_found}
 use Rattle.cs_laws.proofs.EntryOnce.{AtEntry, entry_once, entry_found}
-use Rattle.cs_laws.proofs.Prefixes.{Full, Next, NextHeader, NextEntry, group_of, compare}
+use Rattle.cs_laws.proofs.Prefixes.{Full, Next, group_of, compare}
 
 -- an entry of the last group may begin here
 pub record InLast (all : List GroupData) (bytes : List ℕ) (o : Outcome) : Type 0 where

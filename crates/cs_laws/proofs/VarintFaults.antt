@@ -1,15 +1,15 @@
 -- Bytes that begin with no varint have one fault, and begin with none.
-use Rattle.std.proofs.Common.{◌≡◌, ◌≢◌, ℕ, zero, suc, ◌+◌, ◌/◌, ◌%◌, ◌<◌, ◌≤◌, List, [], ◌∷◌, ◌++◌, length, get_or, take, drop, Some, refl, sym, ap, ◌∙◌, append_assoc, arith, length-append, inl, inr}
+use Rattle.std.proofs.Common.{◌≡◌, ℕ, zero, suc, ◌/◌, ◌%◌, ◌<◌, ◌≤◌, List, [], ◌∷◌, ◌++◌, length, take, Some, refl, sym, ◌∙◌, arith, length-append, inl, inr}
 use Rattle.std.specs.Prelude.{slice_get, ◌⊎◌}
 use Rattle.std.specs.List.{AllByRecursion}
 use Rattle.std.proofs.lemmas.Bool.{cases_lt}
-use Rattle.std.proofs.lemmas.List.{take-take, take-append-le, take_at}
+use Rattle.std.proofs.lemmas.List.{take-take, take_at}
 use Rattle.std.proofs.lemmas.Option.{get_or_from_slice_get}
 use Rattle.cs_value.specs.declared.TheConstants.{MAX_CONTENT_LEN}
 use Rattle.cs_value.specs.declared.fault.FieldFaultKind.{FieldFaultKind}
 use Rattle.cs_value.specs.declared.fault.FieldFaultKind.TheVariants.{Truncated, BadVarint, BadType, RealValue, BadText}
 use Rattle.cs_value.specs.Varint.{leading_digits, varint}
-use Rattle.cs_value.specs.FieldFaults.{IsCutVarint, IsLongVarint, BeginsNoVarint, VarintFails}
+use Rattle.cs_value.specs.FieldFaults.{IsCutVarint, BeginsNoVarint, VarintFails}
 use Rattle.cs_value.specs.Reading.{fault}
 use Rattle.cs_value.proofs.Steps.{not_both}
 use Rattle.cs_value.proofs.Digits.{length-leading_digits_le}

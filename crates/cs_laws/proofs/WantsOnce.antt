@@ -1,10 +1,9 @@
 -- What is wanted of a field of a change: it is had, it depends on the fields before alone, and a fault says that
 -- another field was found.
-use Rattle.std.proofs.Common.{◌≡◌, ℕ, zero, suc, ◌+◌, ◌-◌, ◌<◌, ◌≤◌, Bool, true, false, cond, List, [], ◌∷◌, ◌++◌, length, map, get_or, take, drop, None, Some, refl, sym, ap, subst, ◌∙◌, arith, length-append, inl, inr}
-use Rattle.std.specs.Prelude.{◌⊎◌, Option}
+use Rattle.std.proofs.Common.{◌≡◌, ℕ, zero, suc, ◌+◌, ◌-◌, ◌<◌, ◌≤◌, Bool, true, false, List, [], ◌∷◌, ◌++◌, length, get_or, take, None, Some, refl, sym, ap, ◌∙◌, arith, length-append, inl, inr}
+use Rattle.std.specs.Prelude.{◌⊎◌}
 use Rattle.std.proofs.lemmas.Bool.{cases_lt}
 use Rattle.std.proofs.lemmas.List.{length-map, get_or_append_left, get_or-append-add, take-take, take_at}
-use Rattle.cs_value.specs.declared.value.OwnedValue.{OwnedValue}
 use Rattle.cs_value.specs.declared.value.OwnedValue.TheVariants.{Null}
 use Rattle.cs_value.specs.declared.value.OwnedField.{OwnedField}
 use Rattle.cs_value.specs.declared.value.OwnedField.TheVariants.{Undefined, Defined}
@@ -14,13 +13,12 @@ use Rattle.cs_value.proofs.RowImages.{IsRecord-map, same_from_fields}
 use Rattle.cs_value.proofs.KeyedRows.{length-IsKeyedRow}
 use Rattle.cs_entries.specs.declared.entry.Change.{Change}
 use Rattle.cs_entries.specs.declared.entry.Change.TheVariants.{Insert, Delete, Update}
-use Rattle.cs_entries.specs.declared.fault.ReadFaultKind.{ReadFaultKind}
 use Rattle.cs_entries.specs.declared.fault.ReadFaultKind.TheVariants.{UndefinedField, Unpaired, NullKey}
 use Rattle.cs_entries.specs.Entry.{IsChange, operation, fields_of}
 use Rattle.cs_entries.specs.ReadFaults.{IsWhole, IsKeyColumn, IsAlike}
 use Rattle.cs_entries.specs.Reading.{refusal, is_key_flag, in_row, in_old, in_new, is_modified, row_wants, old_wants, new_wants, wants_of, Meets}
 use Rattle.cs_entries.proofs.EntryLemmas.{length-IsKeyedUpdate}
-use Rattle.cs_entries.proofs.FieldsLemmas.{length-Meets, want_at, length-new_wants}
+use Rattle.cs_entries.proofs.FieldsLemmas.{want_at, length-new_wants}
 use Rattle.cs_entries.proofs.ChangeLemmas.{key_flag, row_met, old_met, new_met}
 
 -- ---- changes with one operation
@@ -116,7 +114,7 @@ want_same flags (Update old new) (Update before after) count h k e same =
           let n = length flags in
           let cut : take n (take count (old ++ new)) ≡ take n (take count (before ++ after)) = ap (take n) same in
           let old_is : old ≡ before = sym (take_at old new n (sym (length-IsKeyedUpdate flags old new h.2).0)) ∙ sym (take-take n count (old ++ new) le) ∙ cut ∙ take-take n count (before ++ after) le
-              ∙ take_at before after n (sym (length-IsKeyedUpdate flags before after k.2).0) in
+          ∙ take_at before after n (sym (length-IsKeyedUpdate flags before after k.2).0) in
           ap (λ (x : List OwnedField). get_or (old_wants flags ++ new_wants flags x) count AnyField) old_is
     ]
 want_same flags (Insert row) (Delete other) count h k e same = absurd (omega arith)

@@ -1,1 +1,2 @@
 pub mod Laws
+pub use Rattle.cs_entries.specs.ReadFaults

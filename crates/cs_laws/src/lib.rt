@@ -1,9 +1,12 @@
-//! Laws of the readers of changesets.
+//! Laws of what the readers of changesets report.
+//!
+//! ```rust
+//! read_fault_once_law();
+//! ```
+//!
+//! A law is a function without effect. Its contract states the law, and a caller that needs it calls it.
 #![tactic(auto)]
 
-use cs_value::varint_spellings_law;
+mod laws;
 
-/// Has no effect.
-pub fn stub() {
-    varint_spellings_law();
-}
+pub use laws::read_fault_once_law;

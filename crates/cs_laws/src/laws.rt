@@ -1,0 +1,7 @@
+//! Laws of read faults, as functions that do nothing.
+ghost use Rattle.cs_laws.specs.Laws.{ReadFaultOnce};
+
+/// Has no effect. Its contract says that bytes have one read fault at most: one kind, at one byte offset.
+pub fn read_fault_once_law()
+    ensures { ReadFaultOnce }
+{}
