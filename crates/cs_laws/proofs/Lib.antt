@@ -7,3 +7,6 @@ pub mod EntryOnce
 pub mod Prefixes
 pub mod Stops
 pub mod Cases
+pub mod HeaderSome
+pub mod EntrySome
+pub mod FileSome

@@ -9,4 +9,4 @@
 
 mod laws;
 
-pub use laws::read_fault_once_law;
+pub use laws::{read_fault_once_law, read_fault_some_law};
