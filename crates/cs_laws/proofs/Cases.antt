@@ -1,4 +1,4 @@
--- Each case of a read fault says where the file stops being a changeset's.
+-- Each case of a read fault states where the file stops being that of a changeset.
 use Rattle.std.proofs.Common.{◌≡◌, ◌≢◌, ℕ, zero, suc, ◌+◌, ◌<◌, ◌≤◌, cond, List, [], ◌∷◌, ◌++◌, length, get_or, take, drop, Some, refl, sym, ap, subst, ◌∙◌, append_assoc, arith, length-append, inl, inr}
 use Rattle.std.specs.Prelude.{◌⊎◌, slice_get}
 use Rattle.std.proofs.lemmas.Bool.{cases_eq}
@@ -28,7 +28,7 @@ use Rattle.cs_wire.proofs.CursorLemmas.{IsOpen-changeset, Begins-open, between_s
 use Rattle.cs_laws.proofs.Outcomes.{Outcome, Fails, fails_is}
 use Rattle.cs_laws.proofs.HeaderOnce.{Header, Flagged, AtTable, header_found}
 use Rattle.cs_laws.proofs.WantsOnce.{want, null_refused, undefined_refused, unpaired_refused}
-use Rattle.cs_laws.proofs.EntryOnce.{AtEntry, Behind, change_found, entry_found, flag_le}
+use Rattle.cs_laws.proofs.EntryOnce.{AtEntry, AfterFields, change_found, entry_found, flag_le}
 use Rattle.cs_laws.proofs.Prefixes.{Full, group_of}
 use Rattle.cs_laws.proofs.Stops.{Stop, stop_once}
 
@@ -113,7 +113,7 @@ no_key file place h =
       );
     }))
 
--- behind flags
+-- after flags
 flags_stop : (file flags : List ℕ) (at : ℕ) (o : Outcome) (part : HeaderPart file (flags_bytes flags) at) → IsFlags flags → Flagged part.groups part.from (drop at file) at o → Stop file o
 flags_stop file flags at o part are found =
     let count = length flags in
@@ -243,7 +243,7 @@ repeats_key file place h =
 -- ---- where a field is to begin
 
 field_stop : (file : List ℕ) (at : ℕ) (flags : List ℕ) (change : Change) (count : ℕ) (o : Outcome) (start : FieldStart file at flags change count)
-    → Behind flags start.entries start.from change count (drop at file) at o → Stop file o
+    → AfterFields flags start.entries start.from change count (drop at file) at o → Stop file o
 field_stop file at flags change count o start found =
     let front = change_front change start.indirect count in
     let place : at ≡ start.from + 1 + 1 + length (record_bytes (take count (fields_of change))) = omega (arith, end_is file front start.from at start.start.stand.within start.stand) in
@@ -251,7 +251,7 @@ field_stop file at flags change count o start found =
     (rw start.stand.spelled (change_found start.header.flags start.entries start.from change count (cond start.indirect 1 0) (drop at file) o (rw start.flags_are at start.is_change) (omega (arith, start.more)) (flag_le start.indirect)
     (moved flags start.header.flags start.flags_are at _ place found)))
   where
-    moved : (f g : List ℕ) → f ≡ g → (p q : ℕ) → p ≡ q → Behind f start.entries start.from change count (drop at file) p o → Behind g start.entries start.from change count (drop at file) q o
+    moved : (f g : List ℕ) → f ≡ g → (p q : ℕ) → p ≡ q → AfterFields f start.entries start.from change count (drop at file) p o → AfterFields g start.entries start.from change count (drop at file) q o
     moved f g e p q d h = rw (← e, ← d) h
 
 no_field : (file : List ℕ) (kind : FieldFaultKind) (place : ℕ) → HasNoField file kind place → Stop file (Fails (kind_of kind) place)

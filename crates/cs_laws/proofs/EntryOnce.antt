@@ -1,4 +1,4 @@
--- Where an entry may begin, there is one outcome at most: it is an entry with a new key, or there is one fault.
+-- There is one outcome at most where an entry may begin: an entry with a new key, or one fault.
 use Rattle.std.proofs.Common.{◌≡◌, ◌≢◌, ℕ, ◌+◌, ◌<◌, ◌≤◌, cond, Bool, true, false, List, [], ◌∷◌, ◌++◌, length, get_or, take, drop, None, Some, refl, sym, ap, ◌∙◌, append_assoc, arith, inl, inr}
 use Rattle.std.specs.Prelude.{◌⊎◌, Option}
 use Rattle.std.proofs.lemmas.Bool.{cases_order}
@@ -34,7 +34,7 @@ flag_le true = omega arith
 flag_le false = omega arith
 
 module _ (flags : List ℕ) (entries : List Entry) (from : ℕ) where
-  -- all fields stand there
+  -- after all fields
   abbrev pub Whole : Change → Outcome → Type 0
   Whole change o =
       ((IsNewKey flags entries (key_of flags change) → ⊥) × (o ≡ Fails DuplicateKey from))
@@ -57,16 +57,16 @@ module _ (flags : List ℕ) (entries : List Entry) (from : ℕ) where
     pub refused : refusal (want flags change count) found ≡ Some kind
     pub is : o ≡ Fails kind at
 
-  -- behind so many fields of a change
-  abbrev pub Behind : Change → ℕ → List ℕ → ℕ → Outcome → Type 0
-  Behind change count bytes at o =
+  -- after so many fields of a change
+  abbrev pub AfterFields : Change → ℕ → List ℕ → ℕ → Outcome → Type 0
+  AfterFields change count bytes at o =
       ((count < length (fields_of change)) × (NoField bytes at o ⊎ OtherField change count bytes at o))
       ⊎ ((count ≡ length (fields_of change)) × Whole change o)
 
   abbrev pub front : Change → ℕ → List ℕ
   front change count = record_bytes (take count (fields_of change))
 
-  -- behind the indirect flag
+  -- after the indirect flag
   pub record Fields (byte : ℕ) (bytes : List ℕ) (at : ℕ) (o : Outcome) : Type 0 where
     pub change : Change
     pub count : ℕ
@@ -75,9 +75,9 @@ module _ (flags : List ℕ) (entries : List Entry) (from : ℕ) where
     pub does : operation change ≡ byte
     pub within : count ≤ length (fields_of change)
     pub spelled : bytes ≡ front change count ++ rest
-    pub after : Behind change count rest (at + length (front change count)) o
+    pub after : AfterFields change count rest (at + length (front change count)) o
 
-  -- behind the operation
+  -- after the operation
   abbrev pub Flag : ℕ → List ℕ → ℕ → Outcome → Type 0
   Flag byte [] at o = o ≡ Fails Truncated at
   Flag byte (flag ∷ bytes) at o = ((1 < flag) × (o ≡ Fails BadFlag at)) ⊎ ((flag ≤ 1) × Fields byte bytes (at + 1) o)
@@ -103,30 +103,30 @@ module _ (flags : List ℕ) (entries : List Entry) (from : ℕ) where
   some_is : (k l : ReadFaultKind) (x : Option ReadFaultKind) → x ≡ Some k → x ≡ Some l → k ≡ l
   some_is k l x p q = cc
 
-  behind_once : (c d : Change) (count : ℕ) (bytes : List ℕ) (at : ℕ) → IsChange flags c → IsChange flags d → operation c ≡ operation d → take count (fields_of c) ≡ take count (fields_of d)
-      → (a b : Outcome) → Behind c count bytes at a → Behind d count bytes at b → a ≡ b
-  behind_once c d count bytes at h k does same a b (inl (lt, inl one)) (inl (le, inl two)) =
+  after_once : (c d : Change) (count : ℕ) (bytes : List ℕ) (at : ℕ) → IsChange flags c → IsChange flags d → operation c ≡ operation d → take count (fields_of c) ≡ take count (fields_of d)
+      → (a b : Outcome) → AfterFields c count bytes at a → AfterFields d count bytes at b → a ≡ b
+  after_once c d count bytes at h k does same a b (inl (lt, inl one)) (inl (le, inl two)) =
       let both = field_fails_once bytes one.why two.why one.behind two.behind one.fails two.fails in
       one.is ∙ cc (both.0, both.1) ∙ sym two.is
-  behind_once c d count bytes at h k does same a b (inl (lt, inl one)) (inl (le, inr two)) = absurd (field_or_fails bytes one.why one.behind two.found two.more two.is_field two.spelled one.fails)
-  behind_once c d count bytes at h k does same a b (inl (lt, inr one)) (inl (le, inl two)) = absurd (field_or_fails bytes two.why two.behind one.found one.more one.is_field one.spelled two.fails)
-  behind_once c d count bytes at h k does same a b (inl (lt, inr one)) (inl (le, inr two)) =
+  after_once c d count bytes at h k does same a b (inl (lt, inl one)) (inl (le, inr two)) = absurd (field_or_fails bytes one.why one.behind two.found two.more two.is_field two.spelled one.fails)
+  after_once c d count bytes at h k does same a b (inl (lt, inr one)) (inl (le, inl two)) = absurd (field_or_fails bytes two.why two.behind one.found one.more one.is_field one.spelled two.fails)
+  after_once c d count bytes at h k does same a b (inl (lt, inr one)) (inl (le, inr two)) =
       let both = field_spellings one.found two.found one.more two.more one.is_field two.is_field (sym one.spelled ∙ two.spelled) in
       let kinds : one.kind ≡ two.kind = some_is one.kind two.kind _ one.refused (rw (want_same flags c d count h k does same, both.0) two.refused) in
       one.is ∙ ap (λ (kind : ReadFaultKind). Fails kind at) kinds ∙ sym two.is
-  behind_once c d count bytes at h k does same a b (inl one) (inr two) = absurd (omega (arith, one.0, two.0, same_width flags c d h k does))
-  behind_once c d count bytes at h k does same a b (inr one) (inl two) = absurd (omega (arith, one.0, two.0, same_width flags c d h k does))
-  behind_once c d count bytes at h k does same a b (inr one) (inr two) =
+  after_once c d count bytes at h k does same a b (inl one) (inr two) = absurd (omega (arith, one.0, two.0, same_width flags c d h k does))
+  after_once c d count bytes at h k does same a b (inr one) (inl two) = absurd (omega (arith, one.0, two.0, same_width flags c d h k does))
+  after_once c d count bytes at h k does same a b (inr one) (inr two) =
       let all : fields_of c ≡ fields_of d = sym (take_all count (fields_of c) (omega (arith, one.0))) ∙ same ∙ take_all count (fields_of d) (omega (arith, two.0)) in
       whole_once c a b one.1 (rw (same_change flags c d h k does all) two.1)
 
   none_is : (k : ReadFaultKind) (x : Option ReadFaultKind) → x ≡ None → x ≡ Some k → ⊥
   none_is k x p q = cc
 
-  -- behind fewer fields than a change has that is spelled there
-  behind_fewer : (c d : Change) (count : ℕ) (bytes more : List ℕ) (at : ℕ) → IsChange flags c → IsChange flags d → operation c ≡ operation d → take count (fields_of c) ≡ take count (fields_of d)
-      → count < length (fields_of d) → bytes ≡ field_bytes (get_or (fields_of d) count Undefined) ++ more → (a : Outcome) → Behind c count bytes at a → ⊥
-  behind_fewer c d count bytes more at h k does same lt e a after = by after
+  -- no outcome is after fewer fields than a change has that is spelled there
+  after_fewer : (c d : Change) (count : ℕ) (bytes more : List ℕ) (at : ℕ) → IsChange flags c → IsChange flags d → operation c ≡ operation d → take count (fields_of c) ≡ take count (fields_of d)
+      → count < length (fields_of d) → bytes ≡ field_bytes (get_or (fields_of d) count Undefined) ++ more → (a : Outcome) → AfterFields c count bytes at a → ⊥
+  after_fewer c d count bytes more at h k does same lt e a after = by after
     where
       field : OwnedField
       field = get_or (fields_of d) count Undefined
@@ -134,7 +134,7 @@ module _ (flags : List ℕ) (entries : List Entry) (from : ℕ) where
       is : IsField field
       is = All-from_recursion IsField (fields_of d) (fields_are flags d k) count Undefined lt
 
-      by : Behind c count bytes at a → ⊥
+      by : AfterFields c count bytes at a → ⊥
       by (inl (le, inl none)) = field_or_fails bytes none.why none.behind field more is e none.fails
       by (inl (le, inr other)) =
           let both = field_spellings other.found field other.more more other.is_field is (sym other.spelled ∙ e) in
@@ -152,7 +152,7 @@ module _ (flags : List ℕ) (entries : List Entry) (from : ℕ) where
       (drop (m + 1) all, sym (take-append-drop m all) ∙ cc (take-take m n fields (omega (arith, lt)), drop_more all m Undefined len, get_or-take n fields m Undefined lt))
 
   module _ (byte : ℕ) (bytes : List ℕ) (at : ℕ) where
-    -- what is spelled is the same up to the end of the shorter
+    -- the same fields are spelled up to the end of the shorter
     same_front : (a b : Outcome) (one : Fields byte bytes at a) (two : Fields byte bytes at b) → one.count ≤ two.count → (rest : List ℕ) → bytes ≡ front two.change one.count ++ rest
         → (take one.count (fields_of one.change) ≡ take one.count (fields_of two.change)) × (one.rest ≡ rest)
     same_front a b one two le rest e =
@@ -160,7 +160,7 @@ module _ (flags : List ℕ) (entries : List Entry) (from : ℕ) where
         (take_is one.count (fields_of one.change) (fields_are flags one.change one.is_change)) (take_is one.count (fields_of two.change) (fields_are flags two.change two.is_change))
         (length-take-le one.count (fields_of one.change) one.within ∙ sym (length-take-le one.count (fields_of two.change) (omega (arith, le, two.within)))) (sym one.spelled ∙ e)
 
-    -- there is no outcome behind fewer fields
+    -- no outcome is after fewer fields
     shorter : (a b : Outcome) (one : Fields byte bytes at a) (two : Fields byte bytes at b) → one.count < two.count → ⊥
     shorter a b one two lt =
         let fields = fields_of two.change in
@@ -169,7 +169,7 @@ module _ (flags : List ℕ) (entries : List Entry) (from : ℕ) where
         let rest = field_bytes field ++ (record_bytes parts.0 ++ two.rest) in
         let spelled : bytes ≡ front two.change one.count ++ rest = two.spelled ∙ rw (parts.1, flat_map-append) (regroup (front two.change one.count) (field_bytes field) (record_bytes parts.0) two.rest) in
         let same = same_front a b one two (omega (arith, lt)) rest spelled in
-        behind_fewer one.change two.change one.count one.rest (record_bytes parts.0 ++ two.rest) (at + length (front one.change one.count)) one.is_change two.is_change (one.does ∙ sym two.does) same.0
+        after_fewer one.change two.change one.count one.rest (record_bytes parts.0 ++ two.rest) (at + length (front one.change one.count)) one.is_change two.is_change (one.does ∙ sym two.does) same.0
         (omega (arith, lt, two.within)) same.1 a one.after
       where
         regroup : (x y z w : List ℕ) → (x ++ (y ++ z)) ++ w ≡ x ++ (y ++ (z ++ w))
@@ -181,13 +181,13 @@ module _ (flags : List ℕ) (entries : List Entry) (from : ℕ) where
           | inl e ↦
               let same = same_front a b one two (omega (arith, e)) two.rest (two.spelled ∙ ap (λ (n : ℕ). front two.change n ++ two.rest) (sym e)) in
               let place : at + length (front one.change one.count) ≡ at + length (front two.change two.count) = ap (λ (fields : List OwnedField). at + length (record_bytes fields)) (same.0 ∙ ap (λ (n : ℕ). take n (fields_of two.change)) e) in
-              behind_once one.change two.change one.count one.rest (at + length (front one.change one.count)) one.is_change two.is_change (one.does ∙ sym two.does) same.0 a b one.after
+              after_once one.change two.change one.count one.rest (at + length (front one.change one.count)) one.is_change two.is_change (one.does ∙ sym two.does) same.0 a b one.after
               (moved two.change one.count two.count one.rest two.rest _ _ b e same.1 place two.after)
           | inr (inl lt) ↦ absurd (shorter a b one two lt)
           | inr (inr gt) ↦ absurd (shorter b a two one gt)
         ]
       where
-        moved : (d : Change) (m n : ℕ) (x y : List ℕ) (p q : ℕ) (b : Outcome) → m ≡ n → x ≡ y → p ≡ q → Behind d n y q b → Behind d m x p b
+        moved : (d : Change) (m n : ℕ) (x y : List ℕ) (p q : ℕ) (b : Outcome) → m ≡ n → x ≡ y → p ≡ q → AfterFields d n y q b → AfterFields d m x p b
         moved d m n x y p q b e f g h = rw (e, f, g) h
 
   flag_once : (byte : ℕ) (bytes : List ℕ) (at : ℕ) → Once (Flag byte bytes at)
@@ -220,14 +220,14 @@ module _ (flags : List ℕ) (entries : List Entry) (from : ℕ) where
   is_operation (Delete row) = inr (inl refl)
   is_operation (Update old new) = inr (inr refl)
 
-  -- behind so many fields of a change
+  -- after so many fields of a change
   pub change_found : (change : Change) (count flag : ℕ) (rest : List ℕ) (o : Outcome) → IsChange flags change → count ≤ length (fields_of change) → flag ≤ 1
-      → Behind change count rest (from + 1 + 1 + length (front change count)) o → AtEntry (operation change ∷ flag ∷ (front change count ++ rest)) o
+      → AfterFields change count rest (from + 1 + 1 + length (front change count)) o → AtEntry (operation change ∷ flag ∷ (front change count ++ rest)) o
   change_found change count flag rest o is within le after =
       let no = operation_no_header change in
       inr (no.0, no.1, inr (is_operation change, inr (le, record { change = change; count = count; rest = rest; is_change = is; does = refl; within = within; spelled = refl; after = after })))
 
-  -- behind an entry its key is new or not
+  -- after an entry: its key is new or not
   pub entry_found : (entry : Entry) (rest : List ℕ) (o : Outcome) → IsEntry flags entry → Whole entry.change o → AtEntry (entry_bytes entry ++ rest) o
   entry_found entry rest o is whole =
       let fields = fields_of entry.change in

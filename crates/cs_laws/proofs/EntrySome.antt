@@ -1,4 +1,4 @@
--- Where an entry is to begin stands one, or there is a fault.
+-- Where an entry may begin is one, or there is a fault.
 use Rattle.std.proofs.Common.{◌≡◌, ℕ, zero, suc, ◌+◌, ◌≤◌, Bool, true, false, cond, List, [], ◌∷◌, ◌++◌, length, get_or, drop, map, Result, Ok, Err, Option, None, Some, refl, sym, ◌∙◌, arith, inl, inr}
 use Rattle.std.specs.Prelude.{◌⊎◌}
 use Rattle.std.proofs.lemmas.Bool.{cases_lt, cases_eq}
@@ -31,7 +31,7 @@ use Rattle.cs_entries.proofs.EntryFaults.{change_case}
 use Rattle.cs_laws.proofs.WantsOnce.{Want}
 use Rattle.cs_laws.proofs.HeaderSome.{HasFault, fault_of}
 
--- an entry stands here
+-- an entry is here
 pub record EntryHere (flags file : List ℕ) (at : ℕ) : Type 0 where
   pub entry : Entry
   pub to : ℕ
@@ -41,7 +41,7 @@ pub record EntryHere (flags file : List ℕ) (at : ℕ) : Type 0 where
 entry_there : (flags file : List ℕ) (at to : ℕ) (entry : Entry) → IsEntry flags entry → Stands file at (entry_bytes entry) to → EntryHere flags file at
 entry_there flags file at to entry is stands = record { entry = entry; to = to; is_entry = is; stands = stands }
 
--- a record that is wanted stands here
+-- a record that is wanted is here
 record RecordHere (wants : List Want) (file : List ℕ) (at : ℕ) : Type 0 where
   fields : List OwnedField
   end : ℕ
@@ -54,7 +54,7 @@ record NoRecord (wants : List Want) (file : List ℕ) (at : ℕ) : Type 0 where
   refused : RecordRefused wants file at kind place
 
 module _ (file : List ℕ) (fits : AreBytes file) where
-  -- behind a field that is wanted
+  -- after a field that is wanted
   record_more : (want : Want) (wants : List Want) (at end : ℕ) (f : OwnedField) → IsField f → refusal want f ≡ None → Stands file at (field_bytes f) end
       → RecordHere wants file end ⊎ NoRecord wants file end → RecordHere (want ∷ wants) file at ⊎ NoRecord (want ∷ wants) file at
   record_more want wants at end f is met stands (inl r) = inl (record {
@@ -119,7 +119,7 @@ module _ (file : List ℕ) (fits : AreBytes file) where
           let takes = field_takes (drop at file) x (AreBytes-drop at file fits) e in
           by_want later x.0 (at + x.1) takes.0 (Stands-read file at x.1 (field_bytes x.0) le takes.1) (refusal want x.0) refl
 
-  -- ---- behind an operation and an indirect flag
+  -- ---- after an operation and an indirect flag
 
   module _ (from at : ℕ) (header : HeaderData) (entries : List Entry) (start : EntryStart file from header entries) (indirect : Bool) where
     flags : List ℕ

@@ -1,4 +1,4 @@
--- Bytes that begin with no field have one fault, and begin with none.
+-- Bytes have one fault of a field at most, and none if they begin with a field.
 use Rattle.std.proofs.Common.{◌≡◌, ℕ, zero, suc, ◌+◌, ◌<◌, ◌≤◌, List, [], ◌∷◌, ◌++◌, length, Some, refl, sym, ap, ◌∙◌, append_assoc, arith, length-append, inl, inr}
 use Rattle.std.specs.Prelude.{slice_get, ◌⊎◌, IsUtf8}
 use Rattle.cs_value.specs.declared.TheConstants.{MAX_CONTENT_LEN}
@@ -19,13 +19,13 @@ use Rattle.cs_laws.proofs.VarintFaults.{varint_or_fails, varint_fails_once}
 abbrev Is : FieldFaultKind → ℕ → FieldFaultKind → ℕ → Type 0
 Is k p kind place = (kind ≡ k) × (place ≡ p)
 
--- behind a count is less than it says; or, where texts are, one that is not UTF-8
+-- after a count: fewer bytes than it says; or, of a text, bytes that are not UTF-8
 abbrev Why : (List ℕ → Type 0) → List ℕ → ℕ → List ℕ → FieldFaultKind → ℕ → Type 0
 Why Bad content count rest kind place =
     ((length rest < count) × Is Truncated (1 + length content) kind place)
     ⊎ ((text : List ℕ) × (more : List ℕ) × (rest ≡ text ++ more) × (length text ≡ count) × Bad text × Is BadText (1 + length (varint count)) kind place)
 
-record Behind (Bad : List ℕ → Type 0) (content : List ℕ) (kind : FieldFaultKind) (place : ℕ) : Type 0 where
+record AfterCount (Bad : List ℕ → Type 0) (content : List ℕ) (kind : FieldFaultKind) (place : ℕ) : Type 0 where
   count : ℕ
   rest : List ℕ
   is_number : count ≤ MAX_CONTENT_LEN
@@ -39,7 +39,7 @@ record NoCount (content : List ℕ) (kind : FieldFaultKind) (place : ℕ) : Type
   place_is : place ≡ 1 + behind
 
 abbrev Counted : (List ℕ → Type 0) → List ℕ → FieldFaultKind → ℕ → Type 0
-Counted Bad content kind place = NoCount content kind place ⊎ Behind Bad content kind place
+Counted Bad content kind place = NoCount content kind place ⊎ AfterCount Bad content kind place
 
 abbrev NotUtf8 : List ℕ → Type 0
 NotUtf8 text = IsUtf8 text → ⊥
@@ -47,7 +47,7 @@ NotUtf8 text = IsUtf8 text → ⊥
 abbrev Never : List ℕ → Type 0
 Never text = ⊥
 
--- what is wrong behind a type
+-- what is wrong after a type
 abbrev Typed : ℕ → List ℕ → FieldFaultKind → ℕ → Type 0
 Typed zero content kind place = ⊥
 Typed (suc zero) content kind place = (length content < 8) × Is Truncated (1 + length content) kind place
@@ -136,7 +136,7 @@ view_once : (bytes : List ℕ) (k l : FieldFaultKind) (p q : ℕ) → View bytes
 view_once [] k l p q one two = (one.0 ∙ sym two.0, one.1 ∙ sym two.1)
 view_once (t ∷ content) k l p q one two = typed_once t content k l p q one two
 
--- bytes that begin with no field have one fault
+-- bytes have one fault of a field at most
 pub field_fails_once : (bytes : List ℕ) (k l : FieldFaultKind) (p q : ℕ) → FieldFails bytes k p → FieldFails bytes l q → (k ≡ l) × (p ≡ q)
 field_fails_once bytes k l p q one two = view_once bytes k l p q (view bytes k p one) (view bytes l q two)
 
@@ -161,6 +161,6 @@ field_fits (Defined (Text t)) rest k p fits h = counted_or_fails NotUtf8 t rest 
 field_fits (Defined (Blob b)) rest k p fits h = counted_or_fails Never b rest _ k p fits.1 (λ bad. bad) (append_assoc (varint (length b)) b rest) h
 field_fits (Defined Null) rest k p fits h = h
 
--- bytes that begin with a field do not fail
+-- bytes that begin with a field have none
 pub field_or_fails : (bytes : List ℕ) (k : FieldFaultKind) (p : ℕ) (f : OwnedField) (rest : List ℕ) → IsField f → bytes ≡ field_bytes f ++ rest → FieldFails bytes k p → ⊥
 field_or_fails bytes k p f rest fits e h = field_fits f rest k p fits (rw e at (view bytes k p h))

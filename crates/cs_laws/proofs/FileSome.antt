@@ -30,7 +30,7 @@ module _ (file : List ℕ) (fits : AreBytes file) where
 
   -- ---- where a table is to begin
 
-  -- an entry may begin here, behind the header of a new table
+  -- an entry may begin here, after the header of a new table
   record Opened (at : ℕ) : Type 0 where
     header : HeaderData
     to : ℕ
@@ -97,7 +97,7 @@ module _ (file : List ℕ) (fits : AreBytes file) where
             | inr old ↦ inl (fault_of file DuplicateKey at (record { header = header; entries = entries; entry = e.entry; to = e.to; start = start; is_entry = e.is_entry; stands = e.stands; not_new = old }))
           ]
 
-  -- behind the entries of a table
+  -- after the entries of a table
   table_end : (at : ℕ) (header : HeaderData) (entries : List Entry) (start : EntryStart file at header entries) → 0 < length entries → TableStart file at (start.groups ++ group_of header entries ∷ [])
   table_end at header entries start some = record {
     are = IsChangeset-push start.groups (group_of header entries) start.start.are (record { header = start.is_header; some = some; each = start.each; once = start.once }) start.new_table;
@@ -117,10 +117,10 @@ module _ (file : List ℕ) (fits : AreBytes file) where
         ]
       ]
 
-  -- behind a table, where no entry begins
-  behind_table : (at : ℕ) (header : HeaderData) (entries : List Entry) → EntryStart file at header entries → (HasEntry file at → ⊥) → ((o : Opened at) → Read) → Read
-  behind_table at header [] start none go_on = inr (fault_of file EmptyGroup at (record { header = header; start = start; no_entry = none }))
-  behind_table at header (entry ∷ entries) start none go_on =
+  -- after a table, where no entry begins
+  after_table : (at : ℕ) (header : HeaderData) (entries : List Entry) → EntryStart file at header entries → (HasEntry file at → ⊥) → ((o : Opened at) → Read) → Read
+  after_table at header [] start none go_on = inr (fault_of file EmptyGroup at (record { header = header; start = start; no_entry = none }))
+  after_table at header (entry ∷ entries) start none go_on =
       at_table at (start.groups ++ group_of header (entry ∷ entries) ∷ []) (table_end at header (entry ∷ entries) start (omega arith)) (λ h. absurd (none h)) go_on
 
   -- from an entry on, with so many bytes left
@@ -132,7 +132,7 @@ module _ (file : List ℕ) (fits : AreBytes file) where
           | inl fault ↦ inr fault
           | inr p ↦ at_entry left p.to header p.entries p.start (omega (arith, lt, p.moves))
         ]
-        | inr none ↦ behind_table at header entries start none (λ o. at_entry left o.to o.header [] o.start (omega (arith, lt, o.moves)))
+        | inr none ↦ after_table at header entries start none (λ o. at_entry left o.to o.header [] o.start (omega (arith, lt, o.moves)))
       ]
 
   read_file : Read

@@ -1,4 +1,4 @@
--- What begins with the byte of a header has one outcome at most: it is a header of a new table, or it has one fault.
+-- There is one outcome at most where a table is to begin: the header of a new table, or one fault.
 use Rattle.std.proofs.Common.{◌≡◌, ◌≢◌, ℕ, ◌+◌, ◌<◌, ◌≤◌, List, [], ◌∷◌, ◌++◌, length, refl, sym, ap, ◌∙◌, arith, length-append, inl, inr}
 use Rattle.std.specs.Prelude.{◌⊎◌, Any, IsUtf8}
 use Rattle.std.proofs.lemmas.List.Elements.{All-from_recursion}
@@ -36,13 +36,13 @@ all_zero : (flags : List ℕ) → AllByRecursion (λ flag. flag ≡ 0) flags →
 all_zero flags zeros some = let zero_there = All-from_recursion (λ flag. flag ≡ 0) flags zeros some.0 some.1 some.2 in omega (arith, some.3, some.4, zero_there)
 
 module _ (groups : List GroupData) (from : ℕ) where
-  -- behind the name that begins there
+  -- after the name that begins there
   abbrev pub Named : List ℕ → ℕ → Outcome → Type 0
   Named name at o =
       (((name ≡ []) ⊎ (IsUtf8 name → ⊥)) × (o ≡ Fails BadName at))
       ⊎ (IsName name × (((IsNewName groups name → ⊥) × (o ≡ Fails DuplicateTable from)) ⊎ (IsNewName groups name × (o ≡ Passes))))
 
-  -- behind the flags
+  -- after the flags
   pub record NameEnds (bytes : List ℕ) (at : ℕ) (o : Outcome) : Type 0 where
     pub name : List ℕ
     pub rest : List ℕ
@@ -53,8 +53,8 @@ module _ (groups : List GroupData) (from : ℕ) where
   abbrev pub Flagged : List ℕ → ℕ → Outcome → Type 0
   Flagged bytes at o = (NoZero bytes × (o ≡ Fails Truncated (at + length bytes))) ⊎ NameEnds bytes at o
 
-  -- behind the count
-  pub record FlagsStand (bytes : List ℕ) (count at : ℕ) (o : Outcome) : Type 0 where
+  -- after the count
+  pub record HasFlags (bytes : List ℕ) (count at : ℕ) (o : Outcome) : Type 0 where
     pub flags : List ℕ
     pub rest : List ℕ
     pub spelled : bytes ≡ flags ++ rest
@@ -62,10 +62,10 @@ module _ (groups : List GroupData) (from : ℕ) where
     pub after : (AllByRecursion (λ flag. flag ≡ 0) flags × (o ≡ Fails NoKey at)) ⊎ (IsFlags flags × Flagged rest (at + count) o)
 
   abbrev pub CountOk : List ℕ → ℕ → ℕ → Outcome → Type 0
-  CountOk bytes count at o = ((length bytes < count) × (o ≡ Fails Truncated (at + length bytes))) ⊎ FlagsStand bytes count at o
+  CountOk bytes count at o = ((length bytes < count) × (o ≡ Fails Truncated (at + length bytes))) ⊎ HasFlags bytes count at o
 
-  -- behind 0x54
-  pub record CountStands (bytes : List ℕ) (at : ℕ) (o : Outcome) : Type 0 where
+  -- after 0x54
+  pub record HasCount (bytes : List ℕ) (at : ℕ) (o : Outcome) : Type 0 where
     pub count : ℕ
     pub rest : List ℕ
     pub is_number : count ≤ MAX_CONTENT_LEN
@@ -79,7 +79,7 @@ module _ (groups : List GroupData) (from : ℕ) where
     pub is : o ≡ Fails (kind_of why) (at + behind)
 
   abbrev pub Header : List ℕ → ℕ → Outcome → Type 0
-  Header bytes at o = CountFails bytes at o ⊎ CountStands bytes at o
+  Header bytes at o = CountFails bytes at o ⊎ HasCount bytes at o
 
   -- ---- one outcome
 
@@ -104,7 +104,7 @@ module _ (groups : List GroupData) (from : ℕ) where
       let same = split_zero one.name two.name one.rest two.rest one.no_zero two.no_zero (sym one.spelled ∙ two.spelled) in
       named_once one.name at a b one.after (rw (same.0) two.after)
 
-  flags_once : (bytes : List ℕ) (count at : ℕ) → Once (FlagsStand bytes count at)
+  flags_once : (bytes : List ℕ) (count at : ℕ) → Once (HasFlags bytes count at)
   flags_once bytes count at a b one two =
       let same = same_from_append one.flags two.flags one.rest two.rest (one.count_is ∙ sym two.count_is) (sym one.spelled ∙ two.spelled) in
       by one.flags one.rest one.after (rw (same.0, same.1) two.after)
@@ -146,7 +146,7 @@ module _ (groups : List GroupData) (from : ℕ) where
 
 -- ---- where a table is to begin
 
--- what is found behind groups that are a changeset's
+-- what is found after the file of a changeset
 abbrev pub AtTable : List GroupData → List ℕ → ℕ → Outcome → Type 0
 AtTable groups [] at o = ⊥
 AtTable groups (b ∷ bytes) at o =
@@ -166,7 +166,7 @@ table_once groups (c ∷ bytes) at a b (inr (inr one)) (inl two) = absurd (one.1
 table_once groups (c ∷ bytes) at a b (inr (inl one)) (inr (inr two)) = absurd (two.2 one.0)
 table_once groups (c ∷ bytes) at a b (inr (inr one)) (inr (inl two)) = absurd (one.2 two.0)
 
--- behind a header its table is new or not
+-- after a header: its table is new or not
 pub header_found : (groups : List GroupData) (header : HeaderData) (rest : List ℕ) (at : ℕ) (o : Outcome) → IsHeader header
     → ((IsNewName groups header.name → ⊥) × (o ≡ Fails DuplicateTable at)) ⊎ (IsNewName groups header.name × (o ≡ Passes)) → AtTable groups (header_bytes header ++ rest) at o
 header_found groups header rest at o is found = rw header_bytes-append (inl (

@@ -1,4 +1,4 @@
--- Where a header is to begin stands that of a new table, or there is a fault.
+-- After 0x54 is the rest of a header, or there is a fault.
 use Rattle.std.proofs.Common.{◌≡◌, ◌≢◌, ℕ, zero, suc, ◌+◌, ◌<◌, ◌≤◌, List, [], ◌∷◌, length, get_or, take, drop, Result, Ok, Err, refl, sym, ◌∙◌, arith, inl, inr, true≢false}
 use Rattle.std.specs.Prelude.{◌⊎◌, All, Any}
 use Rattle.std.specs.Str.{is_utf8}
@@ -102,7 +102,7 @@ no_count_case file field.BadText place h = absurd h.fails
 
 -- ---- a header
 
--- a header stands here
+-- a header is here
 pub record HeaderHere (file : List ℕ) (at : ℕ) : Type 0 where
   pub header : HeaderData
   pub to : ℕ
@@ -116,15 +116,15 @@ module _ (file : List ℕ) (fits : AreBytes file) (at : ℕ) (groups : List Grou
   name_here : (flags : List ℕ) (b : ℕ) → IsFlags flags → Stands file (at + 1) (flags_bytes flags) b → HasFault file ⊎ HeaderHere file at
   name_here flags b are stands = by (first_zero (drop b file))
     where
-      behind : HeaderPart file (flags_bytes flags) b
-      behind = HeaderPart-more file (at + 1) b (flags_bytes flags) part stands
+      after_flags : HeaderPart file (flags_bytes flags) b
+      after_flags = HeaderPart-more file (at + 1) b (flags_bytes flags) part stands
 
       by : FirstZero (drop b file) ⊎ AllByRecursion (λ x. x ≢ 0) (drop b file) → HasFault file ⊎ HeaderHere file at
-      by (inr none) = inl (fault_of file Truncated (length file) (inr (inr (inl (record { flags = flags; at = b; are_flags = are; part = behind; no_end = none })), refl)))
+      by (inr none) = inl (fault_of file Truncated (length file) (inr (inr (inl (record { flags = flags; at = b; are_flags = are; part = after_flags; no_end = none })), refl)))
       by (inl z) =
           let name = take z.at (drop b file) in
           elim (cases_eq (length name) 0) [
-            | inl none ↦ inl (fault_of file BadName b (empty_name file b z.at flags are behind z.within z.is z.before none))
+            | inl none ↦ inl (fault_of file BadName b (empty_name file b z.at flags are after_flags z.within z.is z.before none))
             | inr some ↦ elim (cases_Bool (is_utf8 name)) [
               | inl good ↦ inr (record {
                 header = record { name = name; flags = flags };
@@ -132,7 +132,7 @@ module _ (file : List ℕ) (fits : AreBytes file) (at : ℕ) (groups : List Grou
                 is_header = record { name = IsName-read (drop b file) z.at z.within z.before (IsUtf8-from_is_utf8 name good) (omega (arith, some)); flags = are };
                 stands = Stands-header file at (at + 1) b (b + z.at + 1) (record { name = name; flags = flags }) first stands (Stands-ended file b z.at z.within z.is);
               })
-              | inr bad ↦ inl (fault_of file BadName b (bad_name file b z.at flags are behind z.within z.is z.before (λ u. true≢false (sym (is_utf8-from_IsUtf8 name u) ∙ bad))))
+              | inr bad ↦ inl (fault_of file BadName b (bad_name file b z.at flags are after_flags z.within z.is z.before (λ u. true≢false (sym (is_utf8-from_IsUtf8 name u) ∙ bad))))
             ]
           ]
 

@@ -44,14 +44,14 @@ flags_spellings f g x y h k same =
     let count = varint_spellings (length f) (length g) (f ++ x) (g ++ y) (omega (arith, h.few)) (omega (arith, k.few)) (sym (flags_bytes-append f x) ∙ same ∙ flags_bytes-append g y) in
     same_from_append f g x y count.0 count.1
 
-behind_first : (a b : ℕ) (x y : List ℕ) → a ∷ x ≡ b ∷ y → x ≡ y
-behind_first a b x y e = cc
+after_first : (a b : ℕ) (x y : List ℕ) → a ∷ x ≡ b ∷ y → x ≡ y
+after_first a b x y e = cc
 
 -- bytes that begin with two headers begin with one
 header_spellings : (g h : HeaderData) (x y : List ℕ) → IsHeader g → IsHeader h → header_bytes g ++ x ≡ header_bytes h ++ y → (g ≡ h) × (x ≡ y)
 header_spellings g h x y is_g is_h same =
-    let behind = behind_first 0x54 0x54 _ _ (sym (header_bytes-append g x) ∙ same ∙ header_bytes-append h y) in
-    let flags = flags_spellings g.flags h.flags (g.name ++ 0 ∷ x) (h.name ++ 0 ∷ y) is_g.flags is_h.flags behind in
+    let after = after_first 0x54 0x54 _ _ (sym (header_bytes-append g x) ∙ same ∙ header_bytes-append h y) in
+    let flags = flags_spellings g.flags h.flags (g.name ++ 0 ∷ x) (h.name ++ 0 ∷ y) is_g.flags is_h.flags after in
     let name = split_zero g.name h.name x y is_g.name.no_zero is_h.name.no_zero flags.1 in
     (same_header g.name g.flags h name.0 flags.0, name.1)
 
@@ -186,7 +186,7 @@ compare_groups (f ∷ c) (g ∷ d) x y h k e =
 abbrev pub Full : List GroupData → Type 0
 Full all = (groups : List GroupData) (header : HeaderData) → all ≡ groups ++ group_of header [] ∷ [] → ⊥
 
--- behind the groups stands the header of a new table
+-- after the groups is the header of a new table
 pub record NextHeader (all : List GroupData) (bytes : List ℕ) : Type 0 where
   pub header : HeaderData
   pub rest : List ℕ
@@ -195,7 +195,7 @@ pub record NextHeader (all : List GroupData) (bytes : List ℕ) : Type 0 where
   pub fresh : IsNewName all header.name
   pub spelled : bytes ≡ header_bytes header ++ rest
 
--- behind the groups stands an entry of the last, with a new key
+-- after the groups is an entry of the last, with a new key
 pub record NextEntry (all : List GroupData) (bytes : List ℕ) : Type 0 where
   pub groups : List GroupData
   pub header : HeaderData

@@ -1,4 +1,4 @@
--- A file stops being a changeset's at one place, for one reason.
+-- A file stops being that of a changeset at one place, for one reason.
 use Rattle.std.proofs.Common.{◌≡◌, ℕ, List, [], ◌∷◌, ◌++◌, length, refl, sym, ap, ◌∙◌, arith, length-append, inl, inr}
 use Rattle.std.specs.Prelude.{◌⊎◌}
 use Rattle.std.proofs.lemmas.List.{same_from_push}
@@ -19,11 +19,11 @@ pub record InLast (all : List GroupData) (bytes : List ℕ) (o : Outcome) : Type
   pub is : all ≡ groups ++ group_of header entries ∷ []
   pub outcome : AtEntry header.flags entries (length (file_bytes all)) bytes o
 
--- what is found behind groups
+-- what is found after groups
 abbrev pub Found : List GroupData → List ℕ → Outcome → Type 0
 Found all bytes o = (Full all × AtTable all bytes (length (file_bytes all)) o) ⊎ InLast all bytes o
 
--- the file begins with these groups, behind which this is found
+-- the file begins with these groups, and this is found after them
 pub record Stop (file : List ℕ) (o : Outcome) : Type 0 where
   pub groups : List GroupData
   pub rest : List ℕ
@@ -31,9 +31,9 @@ pub record Stop (file : List ℕ) (o : Outcome) : Type 0 where
   pub spelled : file ≡ file_bytes groups ++ rest
   pub found : Found groups rest o
 
--- ---- behind the same groups
+-- ---- after the same groups
 
--- where a table begins no entry does, and the last group has one
+-- no entry begins where a table does
 apart : (all : List GroupData) (bytes : List ℕ) (a b : Outcome) → Full all → AtTable all bytes (length (file_bytes all)) a → InLast all bytes b → ⊥
 apart all [] a b full table last = table
 apart all (c ∷ bytes) a b full table last = by table last.outcome
@@ -60,9 +60,9 @@ found_once all bytes a b (inr one) (inr two) = last_once all bytes a b one two
 found_once all bytes a b (inl one) (inr two) = absurd (apart all bytes a b one.0 one.1 two)
 found_once all bytes a b (inr one) (inl two) = absurd (apart all bytes b a two.0 two.1 one)
 
--- ---- behind others
+-- ---- after others
 
--- what goes on passes
+-- the next header or entry passes
 passes : (all : List GroupData) (bytes : List ℕ) → Next all bytes → Found all bytes Passes
 passes all bytes (inl next) = inl (next.full, rw next.spelled (header_found all next.header next.rest (length (file_bytes all)) Passes next.is_header (inr (next.fresh, refl))))
 passes all bytes (inr next) = inr (record {

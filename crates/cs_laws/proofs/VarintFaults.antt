@@ -1,4 +1,4 @@
--- Bytes that begin with no varint have one fault, and begin with none.
+-- Bytes have one fault of a varint at most, and none if they begin with a varint.
 use Rattle.std.proofs.Common.{◌≡◌, ℕ, zero, suc, ◌/◌, ◌%◌, ◌<◌, ◌≤◌, List, [], ◌∷◌, ◌++◌, length, take, Some, refl, sym, ◌∙◌, arith, length-append, inl, inr}
 use Rattle.std.specs.Prelude.{slice_get, ◌⊎◌}
 use Rattle.std.specs.List.{AllByRecursion}
@@ -59,7 +59,7 @@ no_varint n rest le (inr long) =
 cut_varint : (n : ℕ) (rest : List ℕ) → IsCutVarint (varint n ++ rest) → ⊥
 cut_varint n rest cut = varint_ends n (AllByRecursion-append_left Above (varint n) rest cut.go_on)
 
--- bytes that begin with a varint do not fail
+-- bytes that begin with a varint have none
 pub varint_or_fails : (bytes : List ℕ) (kind : FieldFaultKind) (place : ℕ) (n : ℕ) (rest : List ℕ) → n ≤ MAX_CONTENT_LEN → bytes ≡ varint n ++ rest → VarintFails bytes kind place → ⊥
 varint_or_fails bytes Truncated place n rest le e h = cut_varint n rest (rw e at h.0)
 varint_or_fails bytes BadVarint place n rest le e h = no_varint n rest le (rw e at h.0)
@@ -82,7 +82,7 @@ view bytes BadType place h = absurd h
 view bytes RealValue place h = absurd h
 view bytes BadText place h = absurd h
 
--- bytes that begin with no varint have one fault
+-- bytes have one fault of a varint at most
 pub varint_fails_once : (bytes : List ℕ) (k l : FieldFaultKind) (p q : ℕ) → VarintFails bytes k p → VarintFails bytes l q → (k ≡ l) × (p ≡ q)
 varint_fails_once bytes k l p q one two = by (view bytes k p one) (view bytes l q two)
   where

@@ -1,5 +1,5 @@
--- What is wanted of a field of a change: it is had, it depends on the fields before alone, and a fault says that
--- another field was found.
+-- What is wanted of a field of a change. The change has it. It depends only on the fields before. A fault of a field
+-- says that another field was found.
 use Rattle.std.proofs.Common.{◌≡◌, ℕ, zero, suc, ◌+◌, ◌-◌, ◌<◌, ◌≤◌, Bool, true, false, List, [], ◌∷◌, ◌++◌, length, get_or, take, None, Some, refl, sym, ap, ◌∙◌, arith, length-append, inl, inr}
 use Rattle.std.specs.Prelude.{◌⊎◌}
 use Rattle.std.proofs.lemmas.Bool.{cases_lt}
@@ -58,9 +58,9 @@ fields_are flags (Insert row) h = IsRecord-map row h.0
 fields_are flags (Delete row) h = IsRecord-map row h.0
 fields_are flags (Update old new) h = AllByRecursion-append IsField old new h.0 h.1
 
--- ---- what is wanted is had
+-- ---- a change has what is wanted
 
--- cs_entries has a type of its own for what is wanted
+-- the type of what is wanted is private to cs_entries, so it is named here as that of the elements of a list
 abbrev pub TypeOf : {A : Type 0} → List A → Type 0
 TypeOf {A = A} xs = A
 
@@ -73,7 +73,7 @@ AnyField = in_old false
 abbrev pub KeyValue : Want
 KeyValue = in_row true
 
--- what is wanted of the field behind so many
+-- what is wanted of the field after so many
 abbrev pub want : List ℕ → Change → ℕ → Want
 want flags change count = get_or (wants_of flags change) count AnyField
 
@@ -98,7 +98,7 @@ change_met flags (Update old new) h = Meets-append (old_wants flags) (new_wants 
 pub want_met : (flags : List ℕ) (c : Change) (count : ℕ) → IsChange flags c → count < length (fields_of c) → refusal (want flags c count) (get_or (fields_of c) count Undefined) ≡ None
 want_met flags c count h lt = Meets-get (wants_of flags c) (fields_of c) count (change_met flags c h) lt
 
--- ---- what is wanted depends on the fields before
+-- ---- what is wanted depends only on the fields before
 
 old_width : (flags : List ℕ) → length (old_wants flags) ≡ length flags
 old_width flags = length-map flags (λ (flag : ℕ). in_old (is_key_flag flag))
@@ -164,7 +164,7 @@ new_form (flag ∷ flags) [] i lt = absurd (omega arith)
 new_form (flag ∷ flags) (o ∷ old) zero lt = (is_modified flag o, refl)
 new_form (flag ∷ flags) (o ∷ old) (suc i) lt = new_form flags old i (omega arith)
 
--- a field unlike one that is had is refused
+-- a field unlike one that meets what is wanted is refused
 unlike_refused : (b : Bool) (had found : OwnedField) → refusal (in_new b) had ≡ None → (IsAlike found had → ⊥) → refusal (in_new b) found ≡ Some Unpaired
 unlike_refused true Undefined found met unlike = absurd cc
 unlike_refused true (Defined v) Undefined met unlike = refl
