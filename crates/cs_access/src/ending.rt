@@ -1,9 +1,9 @@
 //! The end of a transaction.
-ghost use Rattle.std.specs.Prelude.{◌≡◌, ◌⊎◌, IsTrue, IfErr, OnOk, OnErr, false};
+ghost use Rattle.std.specs.Prelude.{◌≡◌, IsTrue, IfErr, OnOk, OnErr, false};
 ghost use Rattle.sqlite.specs.State.{HasCleanDisk, Shows, Survives};
 ghost use Rattle.sqlite.specs.Held.{state};
 ghost use Rattle.cs_rows.specs.Faults.{IsCaused, IsResource};
-ghost use Rattle.cs_records.specs.Failing.{HasDiskFailed};
+ghost use Rattle.cs_access.specs.Failing.{CommitFails};
 ghost use Rattle.cs_records.specs.Records.{IsUndone};
 
 use crate::refusal::refused;
@@ -18,8 +18,8 @@ pub fn commit<S: Alter>(conn: &mut Connection<S>) -> Result<(), StoreError>
         × Shows (state S.Store conn.old) (state S.Store conn.new)
         (state S.Store conn.old).now (state S.Store conn.old).now false) }
     ensures refused { IfErr result IsResource }
-    ensures caused { HasCleanDisk (state S.Store conn.new) → IfErr result (IsCaused (λ _. ((state S.Store conn.old).in_transaction ≡ false)
-        ⊎ HasDiskFailed (state S.Store conn.old) (state S.Store conn.new))) }
+    ensures caused { HasCleanDisk (state S.Store conn.new)
+        → IfErr result (IsCaused (CommitFails (state S.Store conn.old) (state S.Store conn.new))) }
     ensures undone { HasCleanDisk (state S.Store conn.new)
         → OnErr result (IsUndone (state S.Store conn.old) (state S.Store conn.new)) }
     ensures survives { Survives (state S.Store conn.old) (state S.Store conn.new)

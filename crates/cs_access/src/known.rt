@@ -1,16 +1,14 @@
 //! What is read and written through a store. The table that was looked up last is known: inside a transaction, where
 //! nobody else writes, its schema is not read again. So is the key that was looked up last, where no row has it: a row
 //! that is put there is new, and none is looked for to be replaced.
-ghost use Rattle.std.specs.Prelude.{◌≡◌, ◌⊎◌, IsTrue, IfOk, IfErr, OnOk, IfSome, None, Some, option_map, Bool, false};
+ghost use Rattle.std.specs.Prelude.{◌≡◌, ◌⊎◌, IsTrue, IfOk, IfErr, OnOk, IfSome, None, Some, option_map};
 ghost use Rattle.std.specs.FinMap as map;
-ghost use Rattle.cs_value.specs.Spelling.{row_bytes};
 ghost use Rattle.cs_value.specs.Table.{IsName};
 ghost use Rattle.cs_value.specs.State.{schema_at, row_at, rows_at, with_row, without_row};
 ghost use Rattle.cs_rows.specs.declared.fault.StoreError.TheVariants.{TableExists as TakenName};
 ghost use Rattle.cs_rows.specs.Faults.{IsCaused, IsResource, IsReadRefusal};
 ghost use Rattle.cs_rows.specs.Rows.{IsDeclared, Fits};
-ghost use Rattle.cs_records.specs.Failing.{CannotRead, puts, removes};
-ghost use Rattle.cs_access.specs.Failing.{FailsToWrite, HasFailed};
+ghost use Rattle.cs_access.specs.Failing.{HasFailed, PutFails, ReadFails, RemoveFails};
 ghost use Rattle.cs_access.specs.Store.{AddsTable, IsSound, KeepsStore, Knows, IsFreeKey, RefusesShut, tables_in, without_free_key};
 ghost use Rattle.sqlite.specs.State.{HasCleanDisk};
 ghost use Rattle.sqlite.specs.Held.{state};
@@ -56,8 +54,8 @@ pub fn find_schema<S: Alter>(
     ensures refused { HasCleanDisk (state S.Store conn.new)
         → IfErr result IsResource }
     ensures shut { HasCleanDisk (state S.Store conn.new) → RefusesShut (state S.Store conn.old) IsResource result }
-    ensures caused { HasCleanDisk (state S.Store conn.new) → IfErr result (IsCaused (λ _. CannotRead
-        (state S.Store conn.old) (state S.Store conn.new))) }
+    ensures caused { HasCleanDisk (state S.Store conn.new)
+        → IfErr result (IsCaused (ReadFails (state S.Store conn.old) (state S.Store conn.new))) }
     ensures named { IfErr result IsReadRefusal }
     ensures knows { Knows (state S.Store conn.new) known.new }
     ensures kept { KeepsStore (state S.Store conn.old) (state S.Store conn.new) }
@@ -90,8 +88,8 @@ pub fn find_row<S: Alter>(
         ≡ (state S.Store conn.old).now) }
     ensures refused { HasCleanDisk (state S.Store conn.new) → IfErr result IsResource }
     ensures shut { HasCleanDisk (state S.Store conn.new) → RefusesShut (state S.Store conn.old) IsResource result }
-    ensures caused { HasCleanDisk (state S.Store conn.new) → IfErr result (IsCaused (λ _. CannotRead
-        (state S.Store conn.old) (state S.Store conn.new))) }
+    ensures caused { HasCleanDisk (state S.Store conn.new)
+        → IfErr result (IsCaused (ReadFails (state S.Store conn.old) (state S.Store conn.new))) }
     ensures named { IfErr result IsReadRefusal }
     ensures knows { Knows (state S.Store conn.new) known.new }
     ensures kept { KeepsStore (state S.Store conn.old) (state S.Store conn.new) }
@@ -131,8 +129,8 @@ pub fn list_rows<S: Alter>(
         ≡ (state S.Store conn.old).now) }
     ensures refused { HasCleanDisk (state S.Store conn.new) → IfErr result IsResource }
     ensures shut { HasCleanDisk (state S.Store conn.new) → RefusesShut (state S.Store conn.old) IsResource result }
-    ensures caused { HasCleanDisk (state S.Store conn.new) → IfErr result (IsCaused (λ _. CannotRead
-        (state S.Store conn.old) (state S.Store conn.new))) }
+    ensures caused { HasCleanDisk (state S.Store conn.new)
+        → IfErr result (IsCaused (ReadFails (state S.Store conn.old) (state S.Store conn.new))) }
     ensures named { IfErr result IsReadRefusal }
     ensures knows { Knows (state S.Store conn.new) known.new }
     ensures kept { KeepsStore (state S.Store conn.old) (state S.Store conn.new) }
@@ -167,8 +165,7 @@ pub fn put_row<S: Alter>(
         ≡ with_row (tables_in (state S.Store conn.old).now) name.now key.now row.now) }
     ensures refused { IfErr result IsResource }
     ensures caused { HasCleanDisk (state S.Store conn.new) → IfErr result
-        (IsCaused (λ cause. ((state S.Store conn.new).in_transaction ≡ false) ⊎ ((is_new : Bool) × FailsToWrite (state S.Store conn.old) (state S.Store conn.new)
-        (puts is_new name.now key.now (row_bytes row.now)) cause))) }
+        (IsCaused (PutFails (state S.Store conn.old) (state S.Store conn.new) name.now key.now row.now)) }
     ensures knows { Knows (state S.Store conn.new) known.new }
     ensures kept { KeepsStore (state S.Store conn.old) (state S.Store conn.new) }
 {
@@ -203,7 +200,7 @@ pub fn remove_row<S: Alter>(
         ≡ without_row (tables_in (state S.Store conn.old).now) name.now key.now) }
     ensures refused { IfErr result IsResource }
     ensures caused { HasCleanDisk (state S.Store conn.new) → IfErr result
-        (IsCaused (λ cause. ((state S.Store conn.new).in_transaction ≡ false) ⊎ FailsToWrite (state S.Store conn.old) (state S.Store conn.new) (removes name.now key.now) cause)) }
+        (IsCaused (RemoveFails (state S.Store conn.old) (state S.Store conn.new) name.now key.now)) }
     ensures knows { Knows (state S.Store conn.new) known.new }
     ensures kept { KeepsStore (state S.Store conn.old) (state S.Store conn.new) }
 {
@@ -295,8 +292,8 @@ fn look_up<S: Alter>(
     ensures refused { HasCleanDisk (state S.Store conn.new)
         → IfErr result IsResource }
     ensures shut { HasCleanDisk (state S.Store conn.new) → RefusesShut (state S.Store conn.old) IsResource result }
-    ensures caused { HasCleanDisk (state S.Store conn.new) → IfErr result (IsCaused (λ _. CannotRead
-        (state S.Store conn.old) (state S.Store conn.new))) }
+    ensures caused { HasCleanDisk (state S.Store conn.new)
+        → IfErr result (IsCaused (ReadFails (state S.Store conn.old) (state S.Store conn.new))) }
     ensures named { IfErr result IsReadRefusal }
     ensures knows { Knows (state S.Store conn.new) known.new }
     ensures kept { KeepsStore (state S.Store conn.old) (state S.Store conn.new) }

@@ -13,8 +13,8 @@ ghost use Rattle.cs_stored.specs.Declaration.{declaration_bytes};
 ghost use Rattle.sqlite.specs.State.{HasCleanDisk};
 ghost use Rattle.sqlite.specs.Held.{state};
 ghost use Rattle.cs_rows.specs.Faults.{IsCaused, IsResource, IsReadRefusal};
-ghost use Rattle.cs_records.specs.Failing.{CannotRead, puts, removes};
-ghost use Rattle.cs_access.specs.Failing.{FailsToWrite};
+ghost use Rattle.cs_records.specs.Failing.{puts, removes};
+ghost use Rattle.cs_access.specs.Failing.{ReadFails, WriteFails};
 ghost use Rattle.cs_rows.specs.Rows.{IsDeclared, Fits, IsRowIn};
 ghost use Rattle.cs_access.specs.Store.{IsSound, KeepsStore, Recovers, RecoversList, RefusesShut};
 ghost use Rattle.cs_access.specs.Store.{AddsTable, AreNamed, AreStored, HoldsState, tables_in};
@@ -41,7 +41,7 @@ pub fn find_schema<S: Alter>(
         → IfErr result IsResource }
     ensures shut { HasCleanDisk (state S.Store conn.new) → RefusesShut (state S.Store conn.old) IsResource result }
     ensures caused { IsSound (state S.Store conn.old) → HasCleanDisk (state S.Store conn.new)
-        → IfErr result (IsCaused (λ _. CannotRead (state S.Store conn.old) (state S.Store conn.new))) }
+        → IfErr result (IsCaused (ReadFails (state S.Store conn.old) (state S.Store conn.new))) }
     ensures named { IfErr result IsReadRefusal }
     ensures kept { KeepsStore (state S.Store conn.old) (state S.Store conn.new) }
 {
@@ -89,7 +89,7 @@ pub fn find_row<S: Alter>(
         → schema_at (tables_in (state S.Store conn.old).now) name.now ≡ Some schema.now
         → IfOk result (λ o. IfSome o (Fits (tables_in (state S.Store conn.old).now) name.now key.now)) }
     ensures caused { IsSound (state S.Store conn.old) → HasCleanDisk (state S.Store conn.new)
-        → IfErr result (IsCaused (λ _. CannotRead (state S.Store conn.old) (state S.Store conn.new))) }
+        → IfErr result (IsCaused (ReadFails (state S.Store conn.old) (state S.Store conn.new))) }
     ensures named { IfErr result IsReadRefusal }
     ensures kept { KeepsStore (state S.Store conn.old) (state S.Store conn.new) }
 {
@@ -129,7 +129,7 @@ pub fn list_rows<S: Alter>(
     ensures same { HasCleanDisk (state S.Store conn.new) → OnOk result ((state S.Store conn.new).now
         ≡ (state S.Store conn.old).now) }
     ensures caused { IsSound (state S.Store conn.old) → HasCleanDisk (state S.Store conn.new)
-        → IfErr result (IsCaused (λ _. CannotRead (state S.Store conn.old) (state S.Store conn.new))) }
+        → IfErr result (IsCaused (ReadFails (state S.Store conn.old) (state S.Store conn.new))) }
     ensures named { IfErr result IsReadRefusal }
     ensures kept { KeepsStore (state S.Store conn.old) (state S.Store conn.new) }
 {
@@ -175,8 +175,8 @@ pub fn put_row<S: Alter>(
         → OnOk result (tables_in (state S.Store conn.new).now
         ≡ with_row (tables_in (state S.Store conn.old).now) name.now key.now row.now) }
     ensures refused { IfErr result IsResource }
-    ensures caused { HasCleanDisk (state S.Store conn.new) → IfErr result (IsCaused (FailsToWrite (state S.Store conn.old) (state S.Store conn.new)
-        (puts is_new name.now key.now (row_bytes row.now)))) }
+    ensures caused { HasCleanDisk (state S.Store conn.new) → IfErr result
+        (IsCaused (WriteFails (state S.Store conn.old) (state S.Store conn.new) (puts is_new name.now key.now (row_bytes row.now)))) }
     ensures kept { IsSound (state S.Store conn.old) → IsTrue (state S.Store conn.old).in_transaction
         → KeepsStore (state S.Store conn.old) (state S.Store conn.new) }
 {
@@ -197,8 +197,8 @@ pub fn remove_row<S: Alter>(
         → OnOk result (tables_in (state S.Store conn.new).now
         ≡ without_row (tables_in (state S.Store conn.old).now) name.now key.now) }
     ensures refused { IfErr result IsResource }
-    ensures caused { HasCleanDisk (state S.Store conn.new) → IfErr result (IsCaused (FailsToWrite (state S.Store conn.old) (state S.Store conn.new)
-        (removes name.now key.now))) }
+    ensures caused { HasCleanDisk (state S.Store conn.new) → IfErr result
+        (IsCaused (WriteFails (state S.Store conn.old) (state S.Store conn.new) (removes name.now key.now))) }
     ensures kept { IsSound (state S.Store conn.old) → IsTrue (state S.Store conn.old).in_transaction
         → KeepsStore (state S.Store conn.old) (state S.Store conn.new) }
 {
@@ -218,7 +218,7 @@ pub fn list_tables<S: Alter>(
         → IfErr result IsResource }
     ensures shut { HasCleanDisk (state S.Store conn.new) → RefusesShut (state S.Store conn.old) IsResource result }
     ensures caused { IsSound (state S.Store conn.old) → HasCleanDisk (state S.Store conn.new)
-        → IfErr result (IsCaused (λ _. CannotRead (state S.Store conn.old) (state S.Store conn.new))) }
+        → IfErr result (IsCaused (ReadFails (state S.Store conn.old) (state S.Store conn.new))) }
     ensures named { IfErr result IsReadRefusal }
     ensures kept { KeepsStore (state S.Store conn.old) (state S.Store conn.new) }
 {
@@ -273,8 +273,8 @@ pub fn put_table<S: Alter>(
         → OnOk result (AddsTable (tables_in (state S.Store conn.old).now) name.now schema.now
         (tables_in (state S.Store conn.new).now)) }
     ensures refused { IfErr result IsResource }
-    ensures caused { HasCleanDisk (state S.Store conn.new) → IfErr result (IsCaused (FailsToWrite (state S.Store conn.old) (state S.Store conn.new)
-        (puts false [] name.now (declaration_bytes schema.now)))) }
+    ensures caused { HasCleanDisk (state S.Store conn.new) → IfErr result
+        (IsCaused (WriteFails (state S.Store conn.old) (state S.Store conn.new) (puts false [] name.now (declaration_bytes schema.now)))) }
     ensures kept { IsSound (state S.Store conn.old) → IsTrue (state S.Store conn.old).in_transaction
         → KeepsStore (state S.Store conn.old) (state S.Store conn.new) }
 {

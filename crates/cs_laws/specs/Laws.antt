@@ -5,7 +5,7 @@ use Rattle.cs_entries.specs.declared.fault.ReadFault.{ReadFault}
 use Rattle.cs_entries.specs.Changeset.{IsAccepted}
 use Rattle.cs_entries.specs.ReadFaults.{ReadFails}
 
--- two faults that the bytes have are one
+-- bytes have one fault at most
 abbrev pub ReadFaultOnce : Type 0
 ReadFaultOnce =
     (file : List ℕ) (one two : ReadFault) → ReadFails file one.kind one.place → ReadFails file two.kind two.place
@@ -14,4 +14,5 @@ ReadFaultOnce =
 -- bytes that are no changeset's file have a fault
 abbrev pub ReadFaultSome : Type 0
 ReadFaultSome =
-    (file : List ℕ) → AreBytes file → (IsAccepted file → ⊥) → (fault : ReadFault) × ReadFails file fault.kind fault.place
+    (file : List ℕ) → AreBytes file → (IsAccepted file → ⊥)
+    → (fault : ReadFault) × ReadFails file fault.kind fault.place

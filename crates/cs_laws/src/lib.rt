@@ -1,4 +1,4 @@
-//! Laws of what the readers of changesets report.
+//! Laws of the read faults of changesets.
 //!
 //! ```rust
 //! read_fault_once_law();

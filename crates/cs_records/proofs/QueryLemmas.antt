@@ -12,7 +12,7 @@ use Rattle.cs_records.specs.Records.{ShowsOnly, IsQuery, Rests, KeepsCrash}
 use Rattle.cs_records.proofs.StatementLemmas.{not_run_rests, command_rests}
 
 -- it has no RETURNING
-returns_nothing : (sql : List ℕ) (params : Row) (old : State) (c : Compiled) → IsQuery sql → IsStatement old sql params c → c.returning ≡ None
+pub returns_nothing : (sql : List ℕ) (params : Row) (old : State) (c : Compiled) → IsQuery sql → IsStatement old sql params c → c.returning ≡ None
 returns_nothing sql params old c query it = subst ShowsOnly it.is (query old.now.schema)
 
 -- to show rows changes nothing

@@ -1,5 +1,6 @@
 -- Why a query on records fails: the disk failed, memory ran out, or its steps are limited.
 use Rattle.std.proofs.Common.{◌≡◌, ◌≢◌, inl, inr, ℕ, zero, suc, ◌+◌, ◌≤◌, ◌^◌, ◌==◌, nat_le, Bool, true, false, true≢false, append-nil, List, [], ◌∷◌, length, find, slice_get, Some, None, IsSome, Any, refl, sym, ap, subst, ◌∙◌, arith}
+use Rattle.std.proofs.Common.{IsTrue}
 use Rattle.std.specs.List.{AllByRecursion, position_from}
 use Rattle.std.proofs.lemmas.Bool.{cases_Bool, lt-leb, false_from_ne_true, eqb-true, eq-eqb}
 use Rattle.std.proofs.lemmas.List.Elements.{recursion_from_All}
@@ -16,14 +17,15 @@ use Rattle.sqlite_schema.specs.declared.command.Command.TheVariants.{Select}
 use Rattle.sqlite_resolve.specs.declared.compiled.Compiled.{Compiled}
 use Rattle.sqlite.specs.declared.error.Error.{Error}
 use Rattle.sqlite.specs.declared.error.Error.TheVariants.{SqliteFailure}
-use Rattle.sqlite.specs.declared.error.ErrorCode.TheVariants.{OutOfMemory}
+use Rattle.sqlite.specs.declared.error.ErrorCode.TheVariants.{OutOfMemory, OperationInterrupted}
 use Rattle.sqlite.specs.Effect.{Database, RefusesQuery}
 use Rattle.sqlite.specs.State.{State, FailsToQuery, IsNotRun}
 use Rattle.sqlite_schema.specs.declared.schema.Table.{Table}
 use Rattle.sqlite_schema.specs.declared.schema.Schema.{Schema}
-use Rattle.cs_records.specs.Records.{records_table, records_tree, table_name, IsApart, DeclaresRecords}
+use Rattle.cs_records.specs.Records.{records_table, records_tree, table_name, IsApart, IsQuery, DeclaresRecords}
 use Rattle.cs_records.specs.Failing.{CannotRead}
 use Rattle.cs_records.specs.Statements.{find_query, list_query, plain_query, alone, IsSelect}
+use Rattle.cs_records.proofs.QueryLemmas.{returns_nothing}
 use Rattle.cs_records.proofs.QueryTexts.{understood_is, unlisted}
 use Rattle.cs_records.proofs.StatementLemmas.{IsWhole, is_statement, by_disk}
 
@@ -42,25 +44,29 @@ module _ (sql : List ℕ) (tree : ℕ) (terms project : List Term) (order : List
   no_fold db (inr fold) = no_any (overlay db [] tree) fold
 
   -- where it is accepted, it is refused only for a limit on steps
-  refused_limit : accepts old.now.schema q params ≡ true → RefusesQuery old.step_limit old.now (alone q) params e → IsSome old.step_limit
+  refused_limit : accepts old.now.schema q params ≡ true → RefusesQuery old.step_limit old.now (alone q) params e → (e ≡ SqliteFailure OperationInterrupted) × IsSome old.step_limit
   refused_limit accepted (inl mistyped) = absurd (true≢false (sym accepted ∙ mistyped.1))
   refused_limit accepted (inr (inl overflows)) = absurd (no_fold old.now.trees overflows.1)
-  refused_limit accepted (inr (inr limited)) = limited.1
+  refused_limit accepted (inr (inr limited)) = limited
 
   -- and fails only for the disk, for memory or for that limit
-  pub query_fails : IsSelect old.now.schema sql (length params) q → accepts old.now.schema q params ≡ true → e ≢ SqliteFailure OutOfMemory → FailsToQuery sql params old new e → CannotRead old new
+  pub query_fails : IsQuery sql → (IsTrue old.is_open → IsSelect old.now.schema sql (length params) q × (accepts old.now.schema q params ≡ true)) → e ≢ SqliteFailure OutOfMemory
+      → FailsToQuery sql params old new e → CannotRead old new e
   unfolding FailsToQuery IsNotRun
-  query_fails asks accepted other (inl (inl it)) =
+  query_fails query known other (inl (inl it)) =
+      let asks = (known it.1.0.was_open).0 in
       absurd (is_statement old sql params e (subst (IsWhole sql (length params)) (sym (understood_is old.now.schema sql asks.0 asks.1.is)) (asks.1.whole, asks.1.given, asks.1.reads_no_time)) it.0)
-  query_fails asks accepted other (inl (inr fails)) = inl (by_disk old new e ⊥ (λ none. none) other fails)
-  query_fails asks accepted other (inr (c, it, shows)) =
+  query_fails query known other (inl (inr fails)) = inl (by_disk old new e ⊥ (λ none. none) other fails)
+  query_fails query known other (inr (c, it, shows)) =
+      let quiet = rw (returns_nothing sql params old c query it) at shows in
+      let asked = known quiet.3.0.was_open in
+      let asks = asked.0 in
       let same : c ≡ asks.0 = (let is = sym it.is ∙ understood_is old.now.schema sql asks.0 asks.1.is in cc) in
-      let bare : c.returning ≡ None = ap (λ (x : Compiled). x.returning) same ∙ asks.1.returns_nothing in
       let plain : c.formats ≡ [] = ap (λ (x : Compiled). x.formats) same ∙ asks.1.reads_no_time in
       let command : c.command ≡ Select (alone q) asks.2.0 = ap (λ (x : Compiled). x.command) same ∙ asks.2.1 in
-      let shown = rw (bare, plain, command, append-nil params, unlisted old.now.schema sql asks.0 asks.1.is) at shows in
+      let shown = rw (plain, command, append-nil params, unlisted old.now.schema sql asks.0 asks.1.is) at quiet in
       let at_now : RefusesQuery old.step_limit old.now (alone q) params e = subst (λ (db : Database). RefusesQuery old.step_limit db (alone q) params e) shown.1 shown.2 in
-      inr (refused_limit accepted at_now)
+      inr (refused_limit asked.1 at_now)
 
 -- ---- the table of a tree
 

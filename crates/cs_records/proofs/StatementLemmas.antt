@@ -89,14 +89,13 @@ is_statement s sql params e whole (inr it) =
 abbrev pub IsTooBig : State → Command → Type 0
 IsTooBig s command = (text : List ℕ) × (params : Row) × Does s.step_limit (mode_of s) params s.now text None command (Err None)
 
--- the disk failed, which is counted, or a failure before has shut the connection, unless memory ran out or what is written
--- is too big
-pub by_disk : (old new : State) (e : Error) (too_big : Type 0) → ¬ too_big → e ≢ SqliteFailure OutOfMemory → Fails old new too_big e → HasDiskFailed old new
+-- unless memory ran out or what is written is too big, the disk failed
+pub by_disk : (old new : State) (e : Error) (too_big : Type 0) → ¬ too_big → e ≢ SqliteFailure OutOfMemory → Fails old new too_big e → HasDiskFailed old new e
 by_disk old new e too_big fits other (cause.OutOfMemory, is, why, back, tells) = absurd (other is)
-by_disk old new e too_big fits other (cause.Io, is, why, back, tells) = inl why
-by_disk old new e too_big fits other (cause.Corrupt, is, why, back, tells) = inl why
-by_disk old new e too_big fits other (cause.Full, is, why, back, tells) = inl why
-by_disk old new e too_big fits other (cause.Broken, is, why, back, tells) = inr why
+by_disk old new e too_big fits other (cause.Io, is, why, back, tells) = (cause.Io, is, why)
+by_disk old new e too_big fits other (cause.Corrupt, is, why, back, tells) = (cause.Corrupt, is, why)
+by_disk old new e too_big fits other (cause.Full, is, why, back, tells) = (cause.Full, is, why)
+by_disk old new e too_big fits other (cause.Broken, is, why, back, tells) = (cause.Broken, is, inr why)
 by_disk old new e too_big fits other (cause.Unstorable, is, why, back, tells) = absurd (fits why)
 
 -- a failure, where what is too big is so for another reason too

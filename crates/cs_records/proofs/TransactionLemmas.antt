@@ -88,7 +88,7 @@ module _ (old new : State) where
       (ran.0, ran.1)
 
   -- outside a transaction BEGIN fails only by the disk, or for memory
-  pub begin_fails : old.in_transaction ≡ false → (e : Error) → e ≢ SqliteFailure OutOfMemory → Executes begin_text [] old new (Err e) → HasDiskFailed old new
+  pub begin_fails : old.in_transaction ≡ false → (e : Error) → e ≢ SqliteFailure OutOfMemory → Executes begin_text [] old new (Err e) → HasDiskFailed old new e
   begin_fails outside e other h =
       elim (fails_as begin_text [] old.now.schema Begin (begin_is old.now.schema) (begin_plain old.now.schema) (λ none. none) refl old new e refl (begin_whole old.now.schema) h) [
         | inl fails ↦ by_disk old new e _ (λ big. let refused = big.2 in cc) other fails
@@ -119,7 +119,7 @@ module _ (old new : State) where
       ]
 
   -- inside a transaction COMMIT fails only by the disk, or for memory
-  pub commit_fails : IsTrue old.in_transaction → (e : Error) → e ≢ SqliteFailure OutOfMemory → Executes commit_text [] old new (Err e) → HasDiskFailed old new
+  pub commit_fails : IsTrue old.in_transaction → (e : Error) → e ≢ SqliteFailure OutOfMemory → Executes commit_text [] old new (Err e) → HasDiskFailed old new e
   commit_fails inside e other h =
       elim (fails_as commit_text [] old.now.schema Commit (commit_is old.now.schema) (commit_plain old.now.schema) (λ none. none) refl old new e refl (commit_whole old.now.schema) h) [
         | inl fails ↦ by_disk old new e _ (λ big. let refused = big.2 in cc) other fails

@@ -81,7 +81,8 @@ pub record IsApart (tree : ℕ) (table : Table) : Type 0 where
 abbrev pub IsOfKey : ℕ → Index → Type 0
 IsOfKey tree index = IsTrue index.is_unique → index.table ≡ tree → index.columns ≡ 1 ∷ 2 ∷ [] → index.order ≡ plain
 
--- the schema declares the table of records, which is stored, and each text of a statement on records is that statement on the table
+-- The schema declares the table of records. Its tree is stored, not computed by a statement. Each text is its statement
+-- on that table.
 pub record DeclaresRecords (schema : Schema) : Type 0 where
   pub place : ℕ
   pub named : table_named schema table_name ≡ Some place
@@ -199,12 +200,13 @@ pub record AddsCounts (schema : Schema) (new : Database) : Type 0 where
   pub is : new.schema ≡ created schema table
   pub empty : new.trees (next_tree schema) ≡ []
 
--- no table of the schema counts its rows, or the table in which SQL counts is there: nothing else is added
+-- no table has AUTOINCREMENT, or `sqlite_sequence` is there: nothing else is added
 pub record AddsAlone (schema : Schema) (new : Database) : Type 0 where
   pub has : lacks_sequence schema ≡ false
   pub is : new.schema ≡ schema
 
--- the table of records is added where nothing has its name, and then that of counts exactly if SQL misses it
+-- the table of records is added where nothing has its name, and then `sqlite_sequence`, if and only if a table has
+-- AUTOINCREMENT and it is not there
 pub record AddsRecords (old new : Database) : Type 0 where
   pub lacks : LacksRecords old.schema
   pub adds : AddsAlone (with_records old.schema) new ⊎ AddsCounts (with_records old.schema) new
@@ -216,7 +218,8 @@ pub record KeepsOthers (old new : Database) : Type 0 where
   pub schema : (new.schema ≡ old.schema) ⊎ AddsRecords old new
   pub frozen : IsSpared old new
 
--- the table is added that the text for the table of records defines, and then that of counts exactly if SQL misses it
+-- the table is added that the text for the table of records defines, and then `sqlite_sequence`, if and only if a table
+-- has AUTOINCREMENT and it is not there
 pub record Makes (old new : Database) : Type 0 where
   pub sound : IsDatabase new
   pub first : Database

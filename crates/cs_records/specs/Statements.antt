@@ -132,7 +132,7 @@ remove_command place tree = Delete place (alone (key_query tree))
 
 -- ---- under a schema
 
--- the whole text is this statement with so many parameters, which has no RETURNING and does not read the time
+-- The whole text is this statement. It has `count` parameters and no RETURNING, and does not read the time.
 pub record IsPlainStatement (schema : Schema) (sql : List ℕ) (count : ℕ) (it : Compiled) : Type 0 where
   pub is : compiled schema sql ≡ Ok it
   pub returns_nothing : it.returning ≡ None

@@ -70,7 +70,7 @@ fn is_apart(schema: &Schema, tree: u32) -> bool
     ensures { IsTrue result → (tree < 2 ^ 31) × All (IsApart tree) schema.now.tables
         × All (IsOfKey tree) schema.now.indexes }
 {
-    // from this number on are the tables that a statement computes
+    // Trees from 2^31 on are computed by a statement.
     tree < 0x8000_0000
         && are_tables_apart(schema.tables.as_slice(), tree)
         && are_of_key(schema.indexes.as_slice(), tree)

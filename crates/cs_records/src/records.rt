@@ -70,8 +70,9 @@ pub fn find_record<S: Alter>(
         → OnOk result (IsUnchanged (state S.Store conn.old) (state S.Store conn.new)) }
     ensures rests { HasCleanDisk (state S.Store conn.new)
         → OnErr result (Rests (state S.Store conn.old) (state S.Store conn.new)) }
-    ensures failed { HasCleanDisk (state S.Store conn.new) → HoldsRecords (state S.Store conn.old).now → IfErr result
-        (IsFailure (λ _. CannotRead (state S.Store conn.old) (state S.Store conn.new))) }
+    ensures failed { HasCleanDisk (state S.Store conn.new)
+        → (IsTrue (state S.Store conn.old).is_open → HoldsRecords (state S.Store conn.old).now)
+        → IfErr result (IsFailure (CannotRead (state S.Store conn.old) (state S.Store conn.new))) }
     ensures keeps_crash { KeepsCrash (state S.Store conn.old) (state S.Store conn.new) }
 {
     let rows = query_rows(conn, texts::FIND, params![tab, key])?;
@@ -176,8 +177,9 @@ pub fn list_records<S: Alter>(
         → OnOk result (IsUnchanged (state S.Store conn.old) (state S.Store conn.new)) }
     ensures rests { HasCleanDisk (state S.Store conn.new)
         → OnErr result (Rests (state S.Store conn.old) (state S.Store conn.new)) }
-    ensures failed { HasCleanDisk (state S.Store conn.new) → HoldsRecords (state S.Store conn.old).now → IfErr result
-        (IsFailure (λ _. CannotRead (state S.Store conn.old) (state S.Store conn.new))) }
+    ensures failed { HasCleanDisk (state S.Store conn.new)
+        → (IsTrue (state S.Store conn.old).is_open → HoldsRecords (state S.Store conn.old).now)
+        → IfErr result (IsFailure (CannotRead (state S.Store conn.old) (state S.Store conn.new))) }
     ensures keeps_crash { KeepsCrash (state S.Store conn.old) (state S.Store conn.new) }
 {
     let rows = query_rows(conn, texts::LIST, params![tab])?;

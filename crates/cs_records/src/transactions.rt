@@ -2,7 +2,7 @@
 ghost use Rattle.std.specs.Prelude.{◌≡◌, ◌⊎◌, true, false, IsTrue, IfErr, OnOk, OnErr};
 ghost use Rattle.sqlite.specs.State.{HasCleanDisk, Shows, Survives};
 ghost use Rattle.sqlite.specs.Held.{state};
-ghost use Rattle.cs_records.specs.Failing.{HasDiskFailed, IsFailure};
+ghost use Rattle.cs_records.specs.Failing.{HasDiskFailed, IsFailure, IsMisplaced};
 ghost use Rattle.cs_records.specs.Records.{IsUndone, KeepsContent, KeepsCrash};
 
 use crate::fault::RecordsError;
@@ -19,8 +19,8 @@ pub fn begin<S: Alter>(conn: &mut Connection<S>) -> Result<(), RecordsError>
     ensures kept { HasCleanDisk (state S.Store conn.new)
         → OnErr result (KeepsContent (state S.Store conn.old) (state S.Store conn.new)) }
     ensures failed { HasCleanDisk (state S.Store conn.new)
-        → IfErr result (IsFailure (λ _. IsTrue (state S.Store conn.old).in_transaction
-        ⊎ HasDiskFailed (state S.Store conn.old) (state S.Store conn.new))) }
+        → IfErr result (IsFailure (λ error. IsMisplaced (IsTrue (state S.Store conn.old).in_transaction) error
+        ⊎ HasDiskFailed (state S.Store conn.old) (state S.Store conn.new) error)) }
     ensures survives { KeepsCrash (state S.Store conn.old) (state S.Store conn.new) }
 {
     if !conn.is_autocommit() {
@@ -39,8 +39,8 @@ pub fn commit<S: Alter>(conn: &mut Connection<S>) -> Result<(), RecordsError>
     ensures undone { HasCleanDisk (state S.Store conn.new)
         → OnErr result (IsUndone (state S.Store conn.old) (state S.Store conn.new)) }
     ensures failed { HasCleanDisk (state S.Store conn.new)
-        → IfErr result (IsFailure (λ _. ((state S.Store conn.old).in_transaction ≡ false)
-        ⊎ HasDiskFailed (state S.Store conn.old) (state S.Store conn.new))) }
+        → IfErr result (IsFailure (λ error. IsMisplaced ((state S.Store conn.old).in_transaction ≡ false) error
+        ⊎ HasDiskFailed (state S.Store conn.old) (state S.Store conn.new) error)) }
     ensures survives { Survives (state S.Store conn.old) (state S.Store conn.new)
         (λ db. (db ≡ (state S.Store conn.old).now.trees) × IsTrue (state S.Store conn.old).in_transaction) }
 {

@@ -43,7 +43,7 @@ name_of NoMemory = codes "NoMemory"
 pub data IsStoreFault : StoreError → Type 0 where
   refused_for : (cause : Cause) → IsStoreFault (StoreFault cause)
 
--- a fault of the database has such a cause
+-- If it is a StoreFault, `Fails` holds of its cause. Nothing is said of other faults.
 abbrev pub IsCaused : (Cause → Type 0) → StoreError → Type 0
 IsCaused Fails (StoreFault cause) = Fails cause
 IsCaused Fails _ = Unit {0}

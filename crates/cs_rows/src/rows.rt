@@ -35,7 +35,7 @@ pub trait Rows {
 
     ghost leaves_still: { (a b : Self) (held : State) → keeps a b → leaves_only a held → leaves_only b held };
 
-    // What holds the rows failed a call for this cause, which left them as they are.
+    // A call failed for this cause in what holds the rows. These are the rows after it.
     ghost fails_for: { Self → Cause → Type 0 };
 
     /// The schema of a table, and none where no table has the name.

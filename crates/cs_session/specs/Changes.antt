@@ -31,7 +31,7 @@ abbrev pub IsOfStore : (StoreError → Type 0) → SessionFault → Type 0
 IsOfStore Is (Store error) = Is error
 IsOfStore Is fault = ⊥
 
--- a fault of the database has such a cause
+-- If it is a StoreFault, `Fails` holds of its cause. Nothing is said of other faults.
 abbrev pub IsCaused : (Cause → Type 0) → SessionFault → Type 0
 IsCaused Fails (Store error) = stores.IsCaused Fails error
 IsCaused Fails fault = Unit {0}

@@ -31,10 +31,12 @@ returns-in_err-rows-clause-failed g c clean holds =
     let old = state g.S.Store c.args.conn.now in
     let fails = rw (c.in_err-rows.was, c.params-to_sql.ensures, c.params-to_sql-2.ensures) at (c.query_rows.ensures.failed clean) in
     failure_so c.from_residual.result _ _ c.in_err-rows.field-0.0 c.from_residual.ensures.1 fails
-    (λ e other so. query_fails find_text (records_tree old.now.schema) at_key (col 1 3 ∷ []) [] (Text c.args.tab.now ∷ Blob c.args.key.now ∷ []) old (state g.S.Store c.query_rows.new.conn) e holds.declares.statements.finds (find_accepted old.now.schema holds.declares c.args.tab.now c.args.key.now) other so)
+    (λ e other so. query_fails find_text (records_tree old.now.schema) at_key (col 1 3 ∷ []) [] (Text c.args.tab.now ∷ Blob c.args.key.now ∷ []) old (state g.S.Store c.query_rows.new.conn) e find_is_query
+    (λ is. ((holds is).declares.statements.finds, find_accepted old.now.schema (holds is).declares c.args.tab.now c.args.key.now)) other so)
 
 pub returns-in_err-get-in-Some-clause-failed : goal.returns-in_err-get-in-Some-clause-failed
-returns-in_err-get-in-Some-clause-failed g c clean holds =
+returns-in_err-get-in-Some-clause-failed g c clean held =
+    let holds = held (c.in_ok-rows.ensures.reads clean).0.was_open in
     let shown = rw (c.params-to_sql.ensures, c.params-to_sql-2.ensures) at (c.in_ok-rows.ensures.shown clean) in
     let rows = finds c.args.tab.now c.args.key.now (state g.S.Store c.args.conn.now) (state g.S.Store c.query_rows.new.conn) c.in_ok-rows.rows.items holds shown in
     let blob = first_blob _ c.in_ok-rows.rows.items c.in-Some.row.now rows (rw c.deref.ensures.value at c.in-Some.ensures.value) in

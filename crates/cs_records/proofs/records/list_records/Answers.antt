@@ -28,10 +28,12 @@ returns-in_err-rows-clause-failed g c clean holds =
     let old = state g.S.Store c.args.conn.now in
     let fails = rw (c.in_err-rows.was, c.params-to_sql.ensures) at (c.query_rows.ensures.failed clean) in
     failure_so c.from_residual.result _ _ c.in_err-rows.field-0.0 c.from_residual.ensures.1 fails
-    (λ e other so. query_fails list_text (records_tree old.now.schema) (equals (col 1 1) (col 0 0) ∷ []) (col 1 2 ∷ col 1 3 ∷ []) ((col 1 2, up) ∷ []) (Text c.args.tab.now ∷ []) old (state g.S.Store c.query_rows.new.conn) e holds.declares.statements.lists (list_accepted old.now.schema holds.declares c.args.tab.now) other so)
+    (λ e other so. query_fails list_text (records_tree old.now.schema) (equals (col 1 1) (col 0 0) ∷ []) (col 1 2 ∷ col 1 3 ∷ []) ((col 1 2, up) ∷ []) (Text c.args.tab.now ∷ []) old (state g.S.Store c.query_rows.new.conn) e list_is_query
+    (λ is. ((holds is).declares.statements.lists, list_accepted old.now.schema (holds is).declares c.args.tab.now)) other so)
 
 pub returns-clause-failed : goal.returns-clause-failed
-returns-clause-failed g c clean holds =
+returns-clause-failed g c clean held =
+    let holds = held (c.in_ok-rows.ensures.reads clean).0.was_open in
     let shown = rw c.params-to_sql.ensures at (c.in_ok-rows.ensures.shown clean) in
     let each = lists_blobs c.args.tab.now (state g.S.Store c.args.conn.now) (state g.S.Store c.query_rows.new.conn) c.in_ok-rows.rows.items holds shown in
     memory_fails c.keyed_rows.result _ (c.keyed_rows.ensures.failed (rw c.as_slice.ensures.value each))
