@@ -5,8 +5,7 @@ ghost use Rattle.sqlite.specs.Held.{state};
 ghost use Rattle.cs_value.specs.Table.{IsName};
 ghost use Rattle.cs_rows.specs.declared.fault.StoreError.TheVariants.{TableExists as TakenName};
 ghost use Rattle.cs_rows.specs.Faults.{IsCaused, IsResource, IsReadRefusal};
-ghost use Rattle.cs_records.specs.Failing.{HasDiskFailed};
-ghost use Rattle.cs_access.specs.Failing.{HasFailed};
+ghost use Rattle.cs_access.specs.Failing.{CommitFails, HasFailed};
 ghost use Rattle.cs_rows.specs.Rows.{IsDeclared};
 ghost use Rattle.cs_records.specs.Records.{IsUndone, KeepsCrash, KeepsOthers};
 ghost use Rattle.cs_access.specs.Crash.{IsAtomic, LeavesOnly};
@@ -66,8 +65,8 @@ impl<S: Alter> SqlBatch<'_, S> {
             → OnErr result (IsUndone (state S.Store self.entry.store.now) (state S.Store self.exit.0.now)) }
         ensures refused { IfErr result IsResource }
         ensures caused { HasCleanDisk (state S.Store self.exit.0.now)
-            → IfErr result (IsCaused (λ _. ((state S.Store self.entry.store.now).in_transaction ≡ false)
-            ⊎ HasDiskFailed (state S.Store self.entry.store.now) (state S.Store self.exit.0.now))) }
+            → IfErr result (IsCaused
+            (CommitFails (state S.Store self.entry.store.now) (state S.Store self.exit.0.now))) }
         ensures atomic { IsAtomic IsInside (λ left. left ≡ tables_in (state S.Store self.entry.store.now).now)
             (state S.Store self.entry.store.now) (state S.Store self.exit.0.now) }
         ensures left { OnOk result (LeavesOnly (λ left. left ≡ tables_in (state S.Store self.entry.store.now).now)

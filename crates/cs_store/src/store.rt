@@ -7,7 +7,7 @@ ghost use Rattle.cs_value.specs.State.{schema_at, row_at, rows_at};
 ghost use Rattle.cs_rows.specs.declared.fault.StoreError.TheVariants.{DamagedStore as Damaged, NoTable as NoSuchTable};
 ghost use Rattle.cs_rows.specs.declared.fault.StoreError.TheVariants.{BadSchema as NoSchema, TableExists as TakenName};
 ghost use Rattle.cs_rows.specs.Faults.{IsCaused, IsResource, IsReadRefusal, IsEditRefusal};
-ghost use Rattle.cs_records.specs.Failing.{CannotRead, HasDiskFailed};
+ghost use Rattle.cs_access.specs.Failing.{BeginFails, ReadFails};
 ghost use Rattle.cs_rows.specs.Editing.{Declares, EditsInto, schema_of, edited, written_of};
 ghost use Rattle.cs_access.specs.Crash.{CanBegin, IsAtomic, IsLeftOf, LeavesOnly, LeavesTakenOver, MayLeave};
 ghost use Rattle.cs_records.specs.Records.{KeepsContent, KeepsCrash, KeepsOthers};
@@ -185,8 +185,8 @@ impl<S: Alter> Store<S> {
             (λ last. KeepsCrash (state S.Store self.old) (state S.Store last)
             × (HasCleanDisk (state S.Store last)
             → KeepsContent (state S.Store self.old) (state S.Store last))
-            × (HasCleanDisk (state S.Store last) → IfErr result (IsCaused (λ _. IsTrue (state S.Store self.old).in_transaction
-            ⊎ HasDiskFailed (state S.Store self.old) (state S.Store last)))))) }
+            × (HasCleanDisk (state S.Store last)
+            → IfErr result (IsCaused (BeginFails (state S.Store self.old) (state S.Store last)))))) }
         ensures named { IfErr result IsResource }
         ensures same_reference { IfOk result (λ b. b.store.ghost_name ≡ self.entry.ghost_name) }
         ensures begun { IfOk result (λ b. HasCleanDisk (state S.Store b.store.now)
@@ -267,8 +267,8 @@ impl<S: Alter> Store<S> {
         ensures refused { HasCleanDisk (state S.Store self.new) → IfErr result IsResource }
         ensures shut { HasCleanDisk (state S.Store self.new)
             → RefusesShut (state S.Store self.old) IsResource result }
-        ensures caused { HasCleanDisk (state S.Store self.new) → IfErr result (IsCaused (λ _. CannotRead
-            (state S.Store self.old) (state S.Store self.new))) }
+        ensures caused { HasCleanDisk (state S.Store self.new)
+            → IfErr result (IsCaused (ReadFails (state S.Store self.old) (state S.Store self.new))) }
         ensures named { IfErr result IsReadRefusal }
         ensures kept { KeepsStore (state S.Store self.old) (state S.Store self.new) }
     {
@@ -289,8 +289,8 @@ impl<S: Alter> Store<S> {
         ensures refused { HasCleanDisk (state S.Store self.new) → IfErr result IsResource }
         ensures shut { HasCleanDisk (state S.Store self.new)
             → RefusesShut (state S.Store self.old) IsResource result }
-        ensures caused { HasCleanDisk (state S.Store self.new) → IfErr result (IsCaused (λ _. CannotRead
-            (state S.Store self.old) (state S.Store self.new))) }
+        ensures caused { HasCleanDisk (state S.Store self.new)
+            → IfErr result (IsCaused (ReadFails (state S.Store self.old) (state S.Store self.new))) }
         ensures named { IfErr result IsReadRefusal }
         ensures kept { KeepsStore (state S.Store self.old) (state S.Store self.new) }
     {
@@ -314,8 +314,8 @@ impl<S: Alter> Store<S> {
             × (schema_at (tables_in (state S.Store self.old).now) name.now ≡ None)) ⊎ IsResource e) }
         ensures shut { HasCleanDisk (state S.Store self.new)
             → RefusesShut (state S.Store self.old) IsResource result }
-        ensures caused { HasCleanDisk (state S.Store self.new) → IfErr result (IsCaused (λ _. CannotRead
-            (state S.Store self.old) (state S.Store self.new))) }
+        ensures caused { HasCleanDisk (state S.Store self.new)
+            → IfErr result (IsCaused (ReadFails (state S.Store self.old) (state S.Store self.new))) }
         ensures named { IfErr result (λ e. (e ≡ NoSuchTable) ⊎ IsReadRefusal e) }
         ensures kept { KeepsStore (state S.Store self.old) (state S.Store self.new) }
     {
@@ -344,8 +344,8 @@ impl<S: Alter> Store<S> {
             × (schema_at (tables_in (state S.Store self.old).now) name.now ≡ None)) ⊎ IsResource e) }
         ensures shut { HasCleanDisk (state S.Store self.new)
             → RefusesShut (state S.Store self.old) IsResource result }
-        ensures caused { HasCleanDisk (state S.Store self.new) → IfErr result (IsCaused (λ _. CannotRead
-            (state S.Store self.old) (state S.Store self.new))) }
+        ensures caused { HasCleanDisk (state S.Store self.new)
+            → IfErr result (IsCaused (ReadFails (state S.Store self.old) (state S.Store self.new))) }
         ensures named { IfErr result (λ e. (e ≡ NoSuchTable) ⊎ IsReadRefusal e) }
         ensures kept { KeepsStore (state S.Store self.old) (state S.Store self.new) }
     {

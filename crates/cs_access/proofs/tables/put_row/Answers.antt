@@ -1,5 +1,7 @@
--- `tables::put_row`: the clauses `put` and `kept`.
+-- `tables::put_row`: the clauses `put`, `caused` and `kept`.
 use Rattle.std.proofs.Common.{◌≡◌, Some, rules}
+use Rattle.cs_access.proofs.FailureLemmas.{caused_write, apt}
+use Rattle.cs_records.specs.Failing.{puts}
 use Rattle.sqlite.specs.Held.{state}
 use Rattle.cs_value.specs.Spelling.{row_bytes}
 use Rattle.cs_access.proofs.ReadLemmas.{no_record}
@@ -28,3 +30,14 @@ pub put_record-requires : goal.put_record-requires
 put_record-requires g c = λ new clean records.
     let it = c.requires.new new clean in
     rw c.bytes.ensures (no_record (state g.S.Store c.args.conn.now).now c.args.name.now c.args.key.now c.args.row.now it.0 (c.requires.fits clean) it.1)
+
+pub returns-clause-caused : goal.returns-clause-caused
+returns-clause-caused g c clean =
+    let old = state g.S.Store c.args.conn.now in
+    let new = state g.S.Store c.put_record.new.conn in
+    let spelled : c.deref.result.now ≡ row_bytes c.args.row.now = search rules in
+    let was = c.put_record.ensures.was_clean clean in
+    caused_write _ old new (puts c.args.is_new c.args.name.now c.args.key.now (row_bytes c.args.row.now)) c.put_record.result c.map_err.result c.map_err.ensures.cases (λ f e it. it.0)
+    (apt old.now c.args.is_new c.args.name.now c.args.key.now (row_bytes c.args.row.now) (λ is.
+    let it = c.requires.new is was in no_record old.now c.args.name.now c.args.key.now c.args.row.now it.0 (c.requires.fits was) it.1))
+    (rw (c.bytes.ensures, spelled) at (c.put_record.ensures.failed clean))

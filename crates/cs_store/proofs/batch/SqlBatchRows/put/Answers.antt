@@ -11,6 +11,6 @@ put_row-requires-clause-fits g c = rw c.store.view_is c.requires
 
 pub returns-clause-caused : goal.returns-clause-caused
 returns-clause-caused g c clean = caused_so c.put_row.result _ _ (λ why failed. elim failed [
-  | inl out ↦ outside why out
-  | inr fails ↦ by_write c.store.inside.conn (puts fails.0 c.args.table.now c.args.key.now (row_bytes c.args.row.now)) why fails.1
+  | inl out ↦ outside c.store.inside.conn why c.put_row.ensures.kept out
+  | inr fails ↦ by_write c.store.inside.conn (puts fails.0 c.args.table.now c.args.key.now (row_bytes c.args.row.now)) why c.put_row.ensures.kept fails.1
 ]) (c.put_row.ensures.caused clean)
