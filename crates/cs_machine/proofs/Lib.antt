@@ -1,6 +1,8 @@
 pub mod ApplyTurnLemmas
 pub mod CommandLemmas
 pub mod Examples
+pub mod NetLawLemmas
+pub mod NetLemmas
 pub mod ReplyLemmas
 pub mod SeenLemmas
 pub mod SessionLemmas

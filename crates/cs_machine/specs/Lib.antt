@@ -1,3 +1,4 @@
+pub mod Net
 pub mod ShellState
 pub mod Script
 pub mod Stores

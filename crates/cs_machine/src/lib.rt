@@ -12,12 +12,14 @@
 //! `answering` reads a line as a command and carries it out. Before the first line it makes sure that no batch is open
 //! in the store. `workspace` has the `slots`, which are bytes with names, and the session, if one is open. `statements`
 //! has the lines on tables, `changesets` those on slots, `applying` the applies and `sessions` the lines of a session.
+//! `laws` has what holds of whole scripts.
 //! [`cs_replies`] has the replies.
 #![tactic(auto)]
 
 mod answering;
 mod applying;
 mod changesets;
+mod laws;
 mod sessions;
 mod slots;
 mod statements;
@@ -25,5 +27,6 @@ mod workspace;
 
 pub use answering::{answer_line, settle_once};
 pub use applying::apply_unnoted;
+pub use laws::net_law;
 pub use slots::Slots;
 pub use workspace::Workspace;
