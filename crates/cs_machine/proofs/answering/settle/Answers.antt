@@ -1,8 +1,6 @@
 -- `answering::settle`: the clauses `settled` and `kept`.
 use Rattle.std.proofs.Common.{◌≡◌, rules}
-use Rattle.sqlite.specs.State.{HasCleanDisk}
 use Rattle.sqlite.specs.Held.{state}
-use Rattle.cs_store.specs.Records.{KeepsContent, KeepsCrash}
 use Rattle.cs_machine.proofs.TurnLemmas.{batch_refused, batch_undone, on_err}
 use Rattle.cs_machine.proofs.answering.settle.Goals as goal
 
@@ -10,7 +8,7 @@ pub returns-in_err-_batch-clause-kept : goal.returns-in_err-_batch-clause-kept
 returns-in_err-_batch-clause-kept g c =
     let old = state g.S.Store c.args.store.now in
     let last = state g.S.Store c.begin.follows.lender-at-none in
-    let refused : KeepsCrash old last × (HasCleanDisk last → KeepsContent old last) = rw c.in_err-_batch.was at c.begin.follows.holds-at-none in
+    let refused = rw c.in_err-_batch.was at c.begin.follows.holds-at-none in
     on_err _ (batch_refused old last refused.0 refused.1)
 
 pub returns-clause-settled : goal.returns-clause-settled
