@@ -14,7 +14,6 @@ use Rattle.cs_wire.specs.Inverse.{IsInverseGroup}
 use Rattle.cs_wire.specs.Laws.{ChangesetFiles}
 use Rattle.cs_rows.specs.declared.edit.Edit.{Edit}
 use Rattle.cs_rows.specs.declared.fault.StoreError.{StoreError}
-use Rattle.cs_rows.specs.declared.fault.StoreError.TheVariants as store
 use Rattle.cs_store.specs.Faults.{IsResource}
 use Rattle.cs_store.specs.Editing.{Edited, Declares, edited, written_of}
 use Rattle.cs_group.specs.declared.conflict.Noop.{Noop}

@@ -9,7 +9,6 @@ use Rattle.sqlite.specs.State.{HasCleanDisk, Survives}
 use Rattle.cs_value.specs.State.{State, IsState}
 use Rattle.cs_wire.specs.Changeset.{GroupData, file_bytes}
 use Rattle.cs_wire.specs.Laws.{ChangesetFiles}
-use Rattle.cs_rows.specs.declared.fault.StoreError.TheVariants as store
 use Rattle.cs_store.specs.Records.{KeepsContent, KeepsCrash}
 use Rattle.cs_store.specs.Store.{IsAtRest, KeepsStore, tables_in}
 use Rattle.cs_run.specs.declared.report.Report.{Report}
