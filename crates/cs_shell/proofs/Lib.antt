@@ -2,3 +2,4 @@ pub mod Examples
 pub mod LineLemmas
 pub mod ProgressLemmas
 pub mod RunLemmas
+pub mod SessionLawLemmas

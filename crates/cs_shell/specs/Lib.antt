@@ -3,6 +3,7 @@ pub mod Laws
 pub mod Stores
 pub mod CommandLine
 pub mod Runs
+pub mod SessionLaw
 pub mod Progress
 pub use Rattle.cs_value.specs.Value
 pub use Rattle.cs_value.specs.Varint
