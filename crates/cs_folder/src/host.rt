@@ -1,0 +1,47 @@
+//! The files of the machine.
+
+use crate::folder::{FILE_LIMIT, Folder, FolderFault};
+use crate::output::write_file;
+use std::alloc::Global;
+use std::fs;
+use std::io::{ErrorKind, Read};
+use std::rt::HostRuntime;
+
+/// The files of the machine, by their paths. A file that is replaced has its former bytes or the new ones, also where
+/// the machine stops.
+pub struct HostFolder<'a> {
+    rt: &'a HostRuntime,
+}
+
+impl HostFolder<'_> {
+    /// Wraps the runtime of a program.
+    pub fn new(rt: &HostRuntime) -> HostFolder<'_> {
+        HostFolder { rt }
+    }
+}
+
+impl Folder for HostFolder<'_> {
+    ghost use Rattle.std.specs.Prelude.{None};
+
+    ghost files = { λ _. None };
+
+    fn read(&self, alloc: Global, name: &str) -> Result<Vec<u8>, FolderFault> {
+        let Ok(file) = fs::open(self.rt, name) else {
+            return Err(FolderFault::Failed);
+        };
+        let mut bytes = Vec::new(alloc);
+        match file.take(FILE_LIMIT as u64 + 1).read_to_end(&mut bytes) {
+            Ok(count) if count <= FILE_LIMIT => Ok(bytes),
+            Err(error) if error.kind() == ErrorKind::OutOfMemory => Err(FolderFault::NoMemory),
+            _ => Err(FolderFault::Failed),
+        }
+    }
+
+    fn replace(&mut self, _alloc: Global, name: &str, bytes: &[u8]) -> Result<(), FolderFault> {
+        match write_file(self.rt, name, bytes) {
+            Ok(()) => Ok(()),
+            Err(error) if error.kind() == ErrorKind::OutOfMemory => Err(FolderFault::NoMemory),
+            Err(_) => Err(FolderFault::Failed),
+        }
+    }
+}
