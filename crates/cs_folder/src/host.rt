@@ -9,6 +9,7 @@ use std::rt::HostRuntime;
 
 /// The files of the machine, by their paths. A file that is replaced has its former bytes or the new ones, also where
 /// the machine stops.
+#[derive(Drop)]
 pub struct HostFolder<'a> {
     rt: &'a HostRuntime,
 }

@@ -2,6 +2,7 @@ pub mod Shells
 pub mod Laws
 pub mod Stores
 pub mod CommandLine
+pub mod Folders
 pub mod Runs
 pub mod SessionLaw
 pub mod Progress
@@ -29,6 +30,7 @@ pub use Rattle.cs_lines.specs.Tokens
 pub use Rattle.cs_lines.specs.Commands
 pub use Rattle.cs_lines.specs.Lines
 pub use Rattle.cs_files.specs.Files
+pub use Rattle.cs_files.specs.Printing
 pub use Rattle.cs_files.specs.Faults
 pub use Rattle.cs_files.specs.Calls
 pub use Rattle.cs_files.specs.Told

@@ -13,13 +13,12 @@
 //!
 //! `script` reads lines by a `reader`, passes each to a machine, and prints the replies. `shell` is the machine over a
 //! store, by [`cs_machine`]. `words` has the command line, whose words [`cs_words`] reads. `command` has the commands
-//! on files and stores, and `output` writes a file. `laws` has what holds of whole scripts. [`cs_replies`] has the
+//! on files and stores, over a folder of [`cs_folder`]. `laws` has what holds of whole scripts. [`cs_replies`] has the
 //! replies and how they are printed.
 #![tactic(auto)]
 
 mod command;
 mod laws;
-mod output;
 mod reader;
 mod script;
 mod shell;
@@ -37,4 +36,5 @@ pub use cs_words::{Action, WordsFault, parse_words};
 pub use laws::script_net_law;
 pub use script::Status;
 pub use shell::run_script;
-pub use words::{print_usage, run_words};
+pub use cs_folder::{Folder, FolderFault, HostFolder, MemoryFolder};
+pub use words::{print_usage, run_words, run_words_in};

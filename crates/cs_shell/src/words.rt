@@ -6,6 +6,7 @@ ghost use Rattle.cs_files.specs.Calls.{AppendsFront};
 ghost use Rattle.cs_words.specs.Words.{Asked, Refuses, Shell, asked, asked_of, in_memory};
 ghost use Rattle.cs_words.specs.declared.fault.WordsFault.TheVariants as fault;
 ghost use Rattle.cs_shell.specs.Runs.{exit_of};
+ghost use Rattle.cs_shell.specs.Folders.{EndsAs, WorksOnFiles};
 ghost use Rattle.cs_shell.specs.CommandLine.{EndsCommand, EndsUnasked, Helps, IsCommand};
 ghost use Rattle.cs_shell.specs.CommandLine.{Reports, ReportsStatus, RunsInMemory};
 
@@ -14,6 +15,7 @@ use crate::command::{close_store, open_store};
 use crate::script::Status;
 use crate::shell::run_script;
 use cs_files::{OutputFault, Told, write_whole};
+use cs_folder::{Folder, HostFolder};
 use cs_memory::{memory_files_law, open_memory};
 use cs_replies::{Refusal, write_refusal};
 use cs_words::{Action, IN_MEMORY, WordsFault, parse_words};
@@ -127,7 +129,7 @@ fn run_on_file<R: Read, W: Write, E: Write>(
 
 /// Returns the exit status of a command. If it failed, writes the error line.
 fn end_command<E: Write>(err: &mut Told<E>, done: Result<(), Refusal>) -> u8
-    ensures { EndsCommand E.contents result err.old err.new }
+    ensures { EndsAs E.contents done result err.old err.new }
 {
     match done {
         Ok(()) => 0,
@@ -139,8 +141,9 @@ fn end_command<E: Write>(err: &mut Told<E>, done: Result<(), Refusal>) -> u8
 }
 
 /// Carries out an action, and returns the exit status: 0 if it is done, and 1 if it failed.
-fn run_action<R: Read, W: Write, E: Write>(
+fn run_action<F: Folder, R: Read, W: Write, E: Write>(
     rt: &HostRuntime,
+    folder: &mut F,
     action: Action<'_>,
     input: &mut Told<R>,
     out: &mut Told<W>,
@@ -150,6 +153,9 @@ fn run_action<R: Read, W: Write, E: Write>(
     ensures script { asked_of action.entry ≡ Shell in_memory → RunsInMemory R.remaining W.contents E.contents result
         input.old input.new out.old out.new err.old err.new }
     ensures command { IsCommand (asked_of action.entry) → EndsCommand E.contents result err.old err.new }
+    ensures unread { IsCommand (asked_of action.entry) → input.new ≡ input.old }
+    ensures files { WorksOnFiles W.contents E.contents (F.files folder.old) (F.files folder.new) out.old out.new
+        err.old err.new result (asked_of action.entry) }
 {
     let done = match action {
         Action::Shell { file } if file == IN_MEMORY => {
@@ -161,11 +167,11 @@ fn run_action<R: Read, W: Write, E: Write>(
             store,
             policy,
             noop,
-        } => command::apply_file(rt, file, store, &policy, noop, out),
-        Action::Concat { file, second, out } => command::join_files(rt, file, second, out),
-        Action::Dump { file } => command::dump_file(rt, file, out),
-        Action::Sql { file } => command::sql_file(rt, file, out),
-        Action::Invert { file, out } => command::invert_file(rt, file, out),
+        } => command::apply_file(rt, folder, file, store, &policy, noop, out),
+        Action::Concat { file, second, out } => command::join_files(rt.alloc(), folder, file, second, out),
+        Action::Dump { file } => command::dump_file(rt.alloc(), folder, file, out),
+        Action::Sql { file } => command::sql_file(rt.alloc(), folder, file, out),
+        Action::Invert { file, out } => command::invert_file(rt.alloc(), folder, file, out),
     };
     end_command(err, done)
 }
@@ -208,9 +214,45 @@ pub fn run_words<R: Read, W: Write, E: Write>(
         EndsUnasked W.contents E.contents USAGE.now (map string_bytes words.now) result out.old out.new
         err.old err.new }
     ensures unread { asked (map string_bytes words.now) ≡ None → input.new ≡ input.old }
+    ensures commands { (action : Asked) → asked (map string_bytes words.now) ≡ Some action → IsCommand action →
+        input.new ≡ input.old }
+    ensures files { (action : Asked) → asked (map string_bytes words.now) ≡ Some action → WorksOnFiles W.contents
+        E.contents None None out.old out.new err.old err.new result action }
+{
+    run_words_in(rt, &mut HostFolder::new(rt), words, input, out, err)
+}
+
+/// Carries out the words of a command line as [`run_words`] does, on the files of a folder. The stores of `apply` and
+/// `shell` are files of the machine.
+pub fn run_words_in<F: Folder, R: Read, W: Write, E: Write>(
+    rt: &HostRuntime,
+    folder: &mut F,
+    words: &[String],
+    input: &mut Told<R>,
+    out: &mut Told<W>,
+    err: &mut Told<E>,
+) -> u8
+    ensures status { result ≤ 2 }
+    ensures script { asked (map string_bytes words.now) ≡ Some (Shell in_memory) →
+        RunsInMemory R.remaining W.contents E.contents result input.old input.new out.old out.new err.old err.new }
+    ensures command { (action : Asked) → asked (map string_bytes words.now) ≡ Some action → IsCommand action →
+        EndsCommand E.contents result err.old err.new }
+    ensures misfit { result ≡ 2 → Refuses (map string_bytes words.now) fault.Usage }
+    ensures usage { result ≡ 2 → has_failed err.new ≡ false →
+        Appends (known E.contents err.old) (known E.contents err.new) USAGE.now }
+    ensures unprinted { result ≡ 2 → out.new ≡ out.old }
+    ensures unasked { asked (map string_bytes words.now) ≡ None →
+        EndsUnasked W.contents E.contents USAGE.now (map string_bytes words.now) result out.old out.new
+        err.old err.new }
+    ensures unread { asked (map string_bytes words.now) ≡ None → input.new ≡ input.old }
+    ensures commands { (action : Asked) → asked (map string_bytes words.now) ≡ Some action → IsCommand action →
+        input.new ≡ input.old }
+    ensures files { (action : Asked) → asked (map string_bytes words.now) ≡ Some action → WorksOnFiles W.contents
+        E.contents (F.files folder.old) (F.files folder.new) out.old out.new err.old err.new result action }
+    ensures untouched { asked (map string_bytes words.now) ≡ None → F.files folder.new ≡ F.files folder.old }
 {
     match parse_words(rt.alloc(), words) {
-        Ok(action) => run_action(rt, action, input, out, err),
+        Ok(action) => run_action(rt, folder, action, input, out, err),
         Err(WordsFault::Help) => print_help(out, err),
         Err(WordsFault::Usage) => print_usage(err),
         Err(WordsFault::NoMemory) => {

@@ -1,0 +1,115 @@
+-- What the commands on files do in a folder, and why they are refused. The order of refusals is that of the calls: the
+-- file, the second file, what is made of them, and the file OUT.
+use Rattle.std.specs.Prelude.{◌≡◌, ◌⊎◌, ℕ, List, Option, Result, Ok, Err, IsTrue}
+use Rattle.cs_wire.specs.Changeset.{GroupData}
+use Rattle.cs_wire.specs.ReadFaults.{ReadFails}
+use Rattle.cs_texts.specs.declared.told.Told.{Told}
+use Rattle.cs_files.specs.Told.{has_failed}
+use Rattle.cs_files.specs.Files.{Inverts, Joins, JoinFails}
+use Rattle.cs_files.specs.Printing.{PrintsTo, PrintsFrontTo}
+use Rattle.cs_texts.specs.Texts.{dump_of, sql_of}
+use Rattle.cs_words.specs.Words.{Asked, Apply, Concat, Dump, Sql, Invert, Shell}
+use Rattle.cs_shell.specs.CommandLine.{Reports}
+use Rattle.cs_folder.specs.Files.{Files, HasFile, LacksFile, ReplacesFile}
+use Rattle.cs_replies.specs.declared.refusal.Refusal.{Refusal}
+use Rattle.cs_replies.specs.declared.refusal.Refusal.TheVariants as refusal
+
+-- ---- what is done
+
+-- OUT has the inverse of the file.
+pub record InvertsFile (old : Option Files) (file out : List ℕ) (new : Option Files) : Type 0 where
+  pub bytes : List ℕ
+  pub inverse : List ℕ
+  pub read : HasFile old file bytes
+  pub inverts : Inverts bytes inverse
+  pub written : ReplacesFile old out inverse new
+
+-- OUT has the concatenation of the two files.
+pub record JoinsFiles (old : Option Files) (first second out : List ℕ) (new : Option Files) : Type 0 where
+  pub bytes : List ℕ
+  pub other : List ℕ
+  pub join : List ℕ
+  pub read : HasFile old first bytes
+  pub other_read : HasFile old second other
+  pub joins : Joins bytes other join
+  pub written : ReplacesFile old out join new
+
+-- The text of the file is printed.
+pub record PrintsFile {W : Type 0} (contents : W → Option (List ℕ)) (text_of : List GroupData → List ℕ)
+    (files : Option Files) (file : List ℕ) (before after : Told W) : Type 0 where
+  pub bytes : List ℕ
+  pub read : HasFile files file bytes
+  pub printed : PrintsTo contents text_of bytes before after
+
+-- ---- why it is refused
+
+-- The file is not read.
+abbrev pub RefusesRead : Option Files → List ℕ → Refusal → Type 0
+RefusesRead files file refusal.NoMemory = Unit {0}
+RefusesRead files file refusal.Input = LacksFile files file
+RefusesRead files file _ = ⊥
+
+-- A file is not written.
+abbrev pub RefusesWrite : Refusal → Type 0
+RefusesWrite refusal.NoMemory = Unit {0}
+RefusesWrite (refusal.Output fault) = Unit {0}
+RefusesWrite _ = ⊥
+
+abbrev pub RefusesInvert : Option Files → List ℕ → Refusal → Type 0
+RefusesInvert files file refusal.NoMemory = Unit {0}
+RefusesInvert files file refusal.Input = LacksFile files file
+RefusesInvert files file (refusal.Read fault) =
+    (bytes : List ℕ) × HasFile files file bytes × ReadFails bytes fault.kind fault.place
+RefusesInvert files file (refusal.Output fault) =
+    (bytes : List ℕ) × (inverse : List ℕ) × HasFile files file bytes × Inverts bytes inverse
+RefusesInvert files file _ = ⊥
+
+abbrev pub RefusesJoin : Option Files → List ℕ → List ℕ → Refusal → Type 0
+RefusesJoin files first second refusal.NoMemory = Unit {0}
+RefusesJoin files first second refusal.Input = LacksFile files first
+    ⊎ ((bytes : List ℕ) × HasFile files first bytes × LacksFile files second)
+RefusesJoin files first second (refusal.Files fault) = (bytes : List ℕ) × (other : List ℕ)
+    × HasFile files first bytes × HasFile files second other × JoinFails bytes other fault
+RefusesJoin files first second (refusal.Output fault) = (bytes : List ℕ) × (other : List ℕ) × (join : List ℕ)
+    × HasFile files first bytes × HasFile files second other × Joins bytes other join
+RefusesJoin files first second _ = ⊥
+
+-- The file is not printed: nothing is, or a write fails behind a front of the text.
+abbrev pub RefusesPrint : {W : Type 0} → (W → Option (List ℕ)) → (List GroupData → List ℕ) → Option Files → List ℕ
+    → Told W → Told W → Refusal → Type 0
+RefusesPrint contents text_of files file before after refusal.NoMemory = after ≡ before
+RefusesPrint contents text_of files file before after refusal.Input = LacksFile files file × (after ≡ before)
+RefusesPrint contents text_of files file before after (refusal.Read fault) =
+    (bytes : List ℕ) × HasFile files file bytes × ReadFails bytes fault.kind fault.place × (after ≡ before)
+RefusesPrint contents text_of files file before after (refusal.Output fault) = (bytes : List ℕ)
+    × HasFile files file bytes × PrintsFrontTo contents text_of bytes before after × IsTrue (has_failed after)
+RefusesPrint contents text_of files file before after _ = ⊥
+
+-- ---- how a command line ends that asks for such a command
+
+-- A command that is done tells nothing on the error stream, and one that is refused tells why.
+abbrev pub EndsAs : {E : Type 0} → (E → Option (List ℕ)) → Result (Unit {0}) Refusal → ℕ → Told E → Told E → Type 0
+EndsAs errors (Ok done) exit before after = (exit ≡ 0) × (after ≡ before)
+EndsAs errors (Err why) exit before after = (exit ≡ 1) × Reports errors why before after
+
+-- It is done, which this says, or it is refused, and for such a reason.
+abbrev pub EndsBy : {E : Type 0} → (E → Option (List ℕ)) → Type 0 → (Refusal → Type 0) → ℕ → Told E → Told E → Type 0
+EndsBy errors Done Refuses exit before after = ((exit ≡ 0) × (after ≡ before) × Done)
+    ⊎ ((exit ≡ 1) × ((why : Refusal) × Refuses why × Reports errors why before after))
+
+-- What a command makes of the files and prints. Of `apply` and of a script only the files of the folder are told.
+abbrev pub WorksOnFiles : {W E : Type 0} → (W → Option (List ℕ)) → (E → Option (List ℕ)) → Option Files → Option Files
+    → Told W → Told W → Told E → Told E → ℕ → Asked → Type 0
+WorksOnFiles contents errors old new before after err_before err_after exit (Invert file out) = (after ≡ before)
+    × EndsBy errors (InvertsFile old file out new) (λ why. RefusesInvert old file why × (new ≡ old)) exit err_before err_after
+WorksOnFiles contents errors old new before after err_before err_after exit (Concat first second out) = (after ≡ before)
+    × EndsBy errors (JoinsFiles old first second out new) (λ why. RefusesJoin old first second why × (new ≡ old)) exit
+    err_before err_after
+WorksOnFiles contents errors old new before after err_before err_after exit (Dump file) = (new ≡ old)
+    × EndsBy errors (PrintsFile contents dump_of old file before after)
+    (RefusesPrint contents dump_of old file before after) exit err_before err_after
+WorksOnFiles contents errors old new before after err_before err_after exit (Sql file) = (new ≡ old)
+    × EndsBy errors (PrintsFile contents sql_of old file before after)
+    (RefusesPrint contents sql_of old file before after) exit err_before err_after
+WorksOnFiles contents errors old new before after err_before err_after exit (Apply file store policy noop) = new ≡ old
+WorksOnFiles contents errors old new before after err_before err_after exit (Shell file) = new ≡ old
