@@ -10,7 +10,7 @@ use cs_files::{OutputFault, Told, concat_bytes, invert_bytes, print_dump, print_
 use cs_folder::{Folder, FolderFault};
 use cs_machine::apply_unnoted;
 use cs_memory::open_memory;
-use cs_replies::{Refusal, Reply, write_reply};
+use cs_replies::{Refusal, write_reply};
 use cs_store::{Store, StoreError};
 use cs_words::IN_MEMORY;
 use sqlite::{FileFrom, FileStore, Unknown};
@@ -110,7 +110,8 @@ pub(crate) fn sql_file<F: Folder, W: Write>(
     Ok(print_sql(alloc, &bytes, out)?)
 }
 
-/// Applies a file to a store, and prints the report once the store is closed.
+/// Applies a file to a store, and prints the report. A store in a file is closed first: if that fails, the report is
+/// printed all the same, since the changes are committed.
 pub(crate) fn apply_file<F: Folder, W: Write>(
     rt: &HostRuntime,
     folder: &F,
@@ -121,18 +122,16 @@ pub(crate) fn apply_file<F: Folder, W: Write>(
     out: &mut Told<W>,
 ) -> Result<(), Refusal> {
     let bytes = read_file(rt.alloc(), folder, file)?;
-    let reply = if store == IN_MEMORY {
-        apply_unnoted(
-            rt.alloc(),
-            &mut open_memory(rt.alloc())?,
-            &bytes,
-            policy,
-            noop,
-        )?
-    } else {
-        apply_to_file(rt, store, &bytes, policy, noop)?
-    };
-    Ok(write_reply(out, &reply)?)
+    if store == IN_MEMORY {
+        let mut store = open_memory(rt.alloc())?;
+        let reply = apply_unnoted(rt.alloc(), &mut store, &bytes, policy, noop)?;
+        return Ok(write_reply(out, &reply)?);
+    }
+    let mut store = open_store(rt, store)?;
+    let applied = apply_unnoted(rt.alloc(), &mut store, &bytes, policy, noop);
+    let closed = close_store(store);
+    write_reply(out, &applied?)?;
+    closed
 }
 
 /// Opens the store in a file. Creates the file if it does not exist.
@@ -146,20 +145,4 @@ pub(crate) fn open_store(
 /// Closes the store in a file, so that only the one file remains.
 pub(crate) fn close_store(store: Store<FileStore<FileFrom<Unknown>>>) -> Result<(), Refusal> {
     Ok(store.close()?)
-}
-
-/// Applies bytes to the store in a file.
-fn apply_to_file(
-    rt: &HostRuntime,
-    path: &str,
-    bytes: &[u8],
-    policy: &Policy,
-    noop: Noop,
-) -> Result<Reply, Refusal> {
-    let mut store = open_store(rt, path)?;
-    let applied = apply_unnoted(rt.alloc(), &mut store, bytes, policy, noop);
-    let closed = close_store(store);
-    let reply = applied?;
-    closed?;
-    Ok(reply)
 }

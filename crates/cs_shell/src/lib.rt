@@ -28,6 +28,7 @@ pub use cs_files::{
     FileFault, OutputFault, PrintFault, Told, ToolFault, concat_bytes, dump_file, dump_text,
     first_fault, invert_bytes, number_keys_bytes, print_dump, print_sql, sql_file, sql_text,
 };
+pub use cs_folder::{Folder, FolderFault, HostFolder, MemoryFolder};
 pub use cs_group::SchemaFault;
 pub use cs_lines::{Assignment, Command, LineFault, SyntaxFault, parse_line};
 pub use cs_replies::report_text;
@@ -36,5 +37,4 @@ pub use cs_words::{Action, WordsFault, parse_words};
 pub use laws::script_net_law;
 pub use script::Status;
 pub use shell::run_script;
-pub use cs_folder::{Folder, FolderFault, HostFolder, MemoryFolder};
 pub use words::{print_usage, run_words, run_words_in};
