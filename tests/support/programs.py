@@ -86,11 +86,11 @@ class ProgramTest(unittest.TestCase):
         with os.fdopen(writing, "wb") as pipe:
             return self.run_program(*words, stdin=stdin, stdout=pipe)
 
-    def run_cut(self, *words):
-        """Runs the program where no file may grow, as on a disk that is full, and answers as
-        `run_program` does.
+    def run_cut(self, *words, blocks=0):
+        """Runs the program where no file is written beyond so many blocks of 512 bytes, as on a disk
+        that is full, and answers as `run_program` does.
         """
-        limit = "ulimit -f 0; trap '' XFSZ; exec \"$0\" \"$@\""
+        limit = f"ulimit -f {blocks}; trap '' XFSZ; exec \"$0\" \"$@\""
         done = subprocess.run(
             ["sh", "-c", limit, PROGRAM, *words], cwd=self.folder, capture_output=True, timeout=PATIENCE
         )
