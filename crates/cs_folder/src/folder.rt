@@ -1,6 +1,6 @@
 //! What reading and replacing a file is.
-ghost use Rattle.std.specs.Prelude.{◌≡◌, ◌≤◌, length, IfOk, IfErr, OnOk, OnErr};
-ghost use Rattle.cs_folder.specs.Files.{HasFile, LacksFile, ReplacesFile};
+ghost use Rattle.std.specs.Prelude.{◌≡◌, None, IfOk, IfErr, OnOk, OnErr};
+ghost use Rattle.cs_folder.specs.Files.{HasFile, IsUnreadable, ReplacesFile};
 ghost use Rattle.cs_folder.specs.declared.folder.FolderFault.TheVariants.{Failed as HasFailed};
 
 use std::alloc::Global;
@@ -35,15 +35,16 @@ pub trait Folder {
     /// runs out.
     fn read(&self, alloc: Global, name: &str) -> Result<Vec<u8>, FolderFault>
         ensures read { IfOk result (λ bytes. HasFile (files self.now) name.now bytes.items) }
-        ensures bound { IfOk result (λ bytes. length bytes.items ≤ FILE_LIMIT) }
-        ensures lacks { IfErr result (λ fault. fault ≡ HasFailed → LacksFile (files self.now) name.now) };
+        ensures failed { IfErr result (λ fault. fault ≡ HasFailed → IsUnreadable (files self.now) name.now) };
 
     /// Replaces a file as a whole, or makes it.
     ///
     /// # Errors
     ///
-    /// `Failed` if a call fails, and `NoMemory` if memory runs out. Then each file is as it was.
+    /// `Failed` if a call fails, which it does only where the files are not known, and `NoMemory` if memory runs out.
+    /// Then each plain file is as it was.
     fn replace(&mut self, alloc: Global, name: &str, bytes: &[u8]) -> Result<(), FolderFault>
         ensures replaced { OnOk result (ReplacesFile (files self.old) name.now bytes.now (files self.new)) }
+        ensures failed { IfErr result (λ fault. fault ≡ HasFailed → files self.old ≡ None) }
         ensures kept { OnErr result (files self.new ≡ files self.old) };
 }

@@ -4,11 +4,11 @@ use crate::folder::{FILE_LIMIT, Folder, FolderFault};
 use crate::output::write_file;
 use std::alloc::Global;
 use std::fs;
-use std::io::{ErrorKind, Read};
+use std::io::{Error, ErrorKind, Read};
 use std::rt::HostRuntime;
 
-/// The files of the machine, by their paths. A file that is replaced has its former bytes or the new ones, also where
-/// the machine stops.
+/// The files of the machine, by their paths. A plain file that is replaced has its former bytes or the new ones, also
+/// where the machine stops.
 #[derive(Drop)]
 pub struct HostFolder<'a> {
     rt: &'a HostRuntime,
@@ -27,22 +27,30 @@ impl Folder for HostFolder<'_> {
     ghost files = { λ _. None };
 
     fn read(&self, alloc: Global, name: &str) -> Result<Vec<u8>, FolderFault> {
-        let Ok(file) = fs::open(self.rt, name) else {
-            return Err(FolderFault::Failed);
+        let file = match fs::open(self.rt, name) {
+            Ok(file) => file,
+            Err(error) => return Err(fault_of(&error)),
         };
         let mut bytes = Vec::new(alloc);
         match file.take(FILE_LIMIT as u64 + 1).read_to_end(&mut bytes) {
             Ok(count) if count <= FILE_LIMIT => Ok(bytes),
-            Err(error) if error.kind() == ErrorKind::OutOfMemory => Err(FolderFault::NoMemory),
-            _ => Err(FolderFault::Failed),
+            Ok(_) => Err(FolderFault::Failed),
+            Err(error) => Err(fault_of(&error)),
         }
     }
 
     fn replace(&mut self, _alloc: Global, name: &str, bytes: &[u8]) -> Result<(), FolderFault> {
         match write_file(self.rt, name, bytes) {
             Ok(()) => Ok(()),
-            Err(error) if error.kind() == ErrorKind::OutOfMemory => Err(FolderFault::NoMemory),
-            Err(_) => Err(FolderFault::Failed),
+            Err(error) => Err(fault_of(&error)),
         }
+    }
+}
+
+/// Returns the fault for a call that failed.
+fn fault_of(error: &Error) -> FolderFault {
+    match error.kind() {
+        ErrorKind::OutOfMemory => FolderFault::NoMemory,
+        _ => FolderFault::Failed,
     }
 }

@@ -52,6 +52,7 @@ impl MemoryFolder {
     fn put(&mut self, name: Vec<u8>, bytes: Vec<u8>) -> Result<(), FolderFault>
         ensures put { OnOk result (self.new ≡ map.insert self.old name.items bytes.items) }
         ensures kept { OnErr result (self.new ≡ self.old) }
+        ensures refused { IfErr result (λ fault. fault ≡ OutOfMemory) }
     {
         match self.files.insert(name, bytes) {
             Ok(_) => Ok(()),

@@ -1,6 +1,6 @@
--- What the commands on files do in a folder, and why they are refused. The order of refusals is that of the calls: the
--- file, the second file, what is made of them, and the file OUT.
-use Rattle.std.specs.Prelude.{◌≡◌, ◌⊎◌, ℕ, List, Option, Result, Ok, Err, IsTrue}
+-- What the commands on files do in a folder, and why they are refused. A reason comes only where no earlier one does: the
+-- file, the second file, what is made of them, and the file OUT. Memory can run out at any time.
+use Rattle.std.specs.Prelude.{◌≡◌, ◌⊎◌, ℕ, List, Option, None, Result, Ok, Err, IsTrue}
 use Rattle.cs_wire.specs.Changeset.{GroupData}
 use Rattle.cs_wire.specs.ReadFaults.{ReadFails}
 use Rattle.cs_texts.specs.declared.told.Told.{Told}
@@ -10,7 +10,7 @@ use Rattle.cs_files.specs.Printing.{PrintsTo, PrintsFrontTo}
 use Rattle.cs_texts.specs.Texts.{dump_of, sql_of}
 use Rattle.cs_words.specs.Words.{Asked, Apply, Concat, Dump, Sql, Invert, Shell}
 use Rattle.cs_shell.specs.CommandLine.{Reports}
-use Rattle.cs_folder.specs.Files.{Files, HasFile, LacksFile, ReplacesFile}
+use Rattle.cs_folder.specs.Files.{Files, HasFile, IsUnreadable, ReplacesFile}
 use Rattle.cs_replies.specs.declared.refusal.Refusal.{Refusal}
 use Rattle.cs_replies.specs.declared.refusal.Refusal.TheVariants as refusal
 
@@ -46,31 +46,32 @@ pub record PrintsFile {W : Type 0} (contents : W → Option (List ℕ)) (text_of
 -- The file is not read.
 abbrev pub RefusesRead : Option Files → List ℕ → Refusal → Type 0
 RefusesRead files file refusal.NoMemory = Unit {0}
-RefusesRead files file refusal.Input = LacksFile files file
+RefusesRead files file refusal.Input = IsUnreadable files file
 RefusesRead files file _ = ⊥
 
--- A file is not written.
-abbrev pub RefusesWrite : Refusal → Type 0
-RefusesWrite refusal.NoMemory = Unit {0}
-RefusesWrite (refusal.Output fault) = Unit {0}
-RefusesWrite _ = ⊥
+-- A file is not written. Where the files are known, that is only for memory.
+abbrev pub RefusesWrite : Option Files → Refusal → Type 0
+RefusesWrite files refusal.NoMemory = Unit {0}
+RefusesWrite files (refusal.Output fault) = files ≡ None
+RefusesWrite files _ = ⊥
 
 abbrev pub RefusesInvert : Option Files → List ℕ → Refusal → Type 0
 RefusesInvert files file refusal.NoMemory = Unit {0}
-RefusesInvert files file refusal.Input = LacksFile files file
+RefusesInvert files file refusal.Input = IsUnreadable files file
 RefusesInvert files file (refusal.Read fault) =
     (bytes : List ℕ) × HasFile files file bytes × ReadFails bytes fault.kind fault.place
 RefusesInvert files file (refusal.Output fault) =
-    (bytes : List ℕ) × (inverse : List ℕ) × HasFile files file bytes × Inverts bytes inverse
+    (files ≡ None) × (bytes : List ℕ) × (inverse : List ℕ) × HasFile files file bytes × Inverts bytes inverse
 RefusesInvert files file _ = ⊥
 
 abbrev pub RefusesJoin : Option Files → List ℕ → List ℕ → Refusal → Type 0
 RefusesJoin files first second refusal.NoMemory = Unit {0}
-RefusesJoin files first second refusal.Input = LacksFile files first
-    ⊎ ((bytes : List ℕ) × HasFile files first bytes × LacksFile files second)
+RefusesJoin files first second refusal.Input = IsUnreadable files first
+    ⊎ ((bytes : List ℕ) × HasFile files first bytes × IsUnreadable files second)
 RefusesJoin files first second (refusal.Files fault) = (bytes : List ℕ) × (other : List ℕ)
     × HasFile files first bytes × HasFile files second other × JoinFails bytes other fault
-RefusesJoin files first second (refusal.Output fault) = (bytes : List ℕ) × (other : List ℕ) × (join : List ℕ)
+RefusesJoin files first second (refusal.Output fault) = (files ≡ None)
+    × (bytes : List ℕ) × (other : List ℕ) × (join : List ℕ)
     × HasFile files first bytes × HasFile files second other × Joins bytes other join
 RefusesJoin files first second _ = ⊥
 
@@ -78,7 +79,7 @@ RefusesJoin files first second _ = ⊥
 abbrev pub RefusesPrint : {W : Type 0} → (W → Option (List ℕ)) → (List GroupData → List ℕ) → Option Files → List ℕ
     → Told W → Told W → Refusal → Type 0
 RefusesPrint contents text_of files file before after refusal.NoMemory = after ≡ before
-RefusesPrint contents text_of files file before after refusal.Input = LacksFile files file × (after ≡ before)
+RefusesPrint contents text_of files file before after refusal.Input = IsUnreadable files file × (after ≡ before)
 RefusesPrint contents text_of files file before after (refusal.Read fault) =
     (bytes : List ℕ) × HasFile files file bytes × ReadFails bytes fault.kind fault.place × (after ≡ before)
 RefusesPrint contents text_of files file before after (refusal.Output fault) = (bytes : List ℕ)
@@ -87,7 +88,7 @@ RefusesPrint contents text_of files file before after _ = ⊥
 
 -- ---- how a command line ends that asks for such a command
 
--- A command that is done tells nothing on the error stream, and one that is refused tells why.
+-- A command that succeeds writes nothing to the error stream. A refused one writes its error line.
 abbrev pub EndsAs : {E : Type 0} → (E → Option (List ℕ)) → Result (Unit {0}) Refusal → ℕ → Told E → Told E → Type 0
 EndsAs errors (Ok done) exit before after = (exit ≡ 0) × (after ≡ before)
 EndsAs errors (Err why) exit before after = (exit ≡ 1) × Reports errors why before after
@@ -97,7 +98,7 @@ abbrev pub EndsBy : {E : Type 0} → (E → Option (List ℕ)) → Type 0 → (R
 EndsBy errors Done Refuses exit before after = ((exit ≡ 0) × (after ≡ before) × Done)
     ⊎ ((exit ≡ 1) × ((why : Refusal) × Refuses why × Reports errors why before after))
 
--- What a command makes of the files and prints. Of `apply` and of a script only the files of the folder are told.
+-- What a command makes of the files and prints. For `apply` and scripts this covers only the files of the folder.
 abbrev pub WorksOnFiles : {W E : Type 0} → (W → Option (List ℕ)) → (E → Option (List ℕ)) → Option Files → Option Files
     → Told W → Told W → Told E → Told E → ℕ → Asked → Type 0
 WorksOnFiles contents errors old new before after err_before err_after exit (Invert file out) = (after ≡ before)

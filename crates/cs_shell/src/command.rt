@@ -38,7 +38,7 @@ fn write_out<F: Folder>(
     bytes: &[u8],
 ) -> Result<(), Refusal>
     ensures written { OnOk result (ReplacesFile (F.files folder.old) out.now bytes.now (F.files folder.new)) }
-    ensures refused { IfErr result RefusesWrite }
+    ensures refused { IfErr result (RefusesWrite (F.files folder.old)) }
     ensures kept { OnErr result (F.files folder.new ≡ F.files folder.old) }
 {
     match folder.replace(alloc, out, bytes) {
