@@ -509,14 +509,14 @@ class Applies(StoreTest):
 
     def test_store_that_is_not_closed(self):
         """The report is printed where the log is not copied back, and the next opening reads the log."""
-        rows = tuple((key, "row %d" % key) for key in range(3000))
+        rows = tuple((key, "row %d" % key) for key in range(20000))
         self.write(tables_of(*rows))
-        self.make("a.cs", T + insert(3000, "x"))
-        self.assertGreater(len(self.bytes_of("store")), 2 * 64 * 512)
-        run = self.run_cut("a.cs", "apply", "store", blocks=64)
+        self.make("a.cs", T + insert(20000, "x"))
+        self.assertGreater(len(self.bytes_of("store")), 2 * 1000 * 512)
+        run = self.run_cut("a.cs", "apply", "store", blocks=1000)
         self.assertEqual(run, (1, "applied 1\n", STORE_FAULT))
-        self.assertEqual(self.run_shell(["SELECT * FROM t;"])[1].splitlines()[-1], "3000|'x'")
-        self.assertEqual(self.read_alone(), tables_of(*rows, (3000, "x")))
+        self.assertEqual(self.run_shell(["SELECT * FROM t;"])[1].splitlines()[-1], "20000|'x'")
+        self.assertEqual(self.read_alone(), tables_of(*rows, (20000, "x")))
 
     def test_large_store(self):
         """Thousands of rows: some are updated, some deleted and others inserted."""
