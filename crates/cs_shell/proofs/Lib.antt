@@ -1,4 +1,5 @@
 pub mod Examples
+pub mod FolderLemmas
 pub mod LineLemmas
 pub mod ProgressLemmas
 pub mod RunLemmas

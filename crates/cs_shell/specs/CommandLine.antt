@@ -14,7 +14,8 @@ use Rattle.cs_shell.specs.declared.script.Status.{Status}
 use Rattle.cs_shell.specs.declared.script.Status.TheVariants.{Done, LinesRefused, TooLong, InputFault, OutputFault}
 use Rattle.cs_replies.specs.ErrorLines.{refusal_text}
 use Rattle.cs_shell.specs.Runs.{RunsInput}
-use Rattle.cs_machine.specs.Script.{LineGives, IsResource}
+use Rattle.cs_machine.specs.Script.{IsResource}
+use Rattle.cs_shell.specs.Meant.{LineSays}
 use Rattle.cs_shell.specs.Stores.{beginning}
 
 -- the error line of a refusal is written, unless a write fails
@@ -35,7 +36,7 @@ ReportsStatus errors OutputFault before after = (fault : Fault) × Reports error
 abbrev pub RunsInMemory : {R W E : Type 0} → (R → Option (List ℕ)) → (W → Option (List ℕ)) → (E → Option (List ℕ)) → ℕ
     → Told R → Told R → Told W → Told W → Told E → Told E → Type 0
 RunsInMemory remaining contents errors exit input_before input_after before after err_before err_after =
-    ((run : RunsInput remaining contents LineGives (beginning map.empty) exit input_before input_after before after)
+    ((run : RunsInput remaining contents LineSays (beginning map.empty) exit input_before input_after before after)
     × ReportsStatus errors run.status err_before err_after)
     ⊎ ((exit ≡ 1) × (input_after ≡ input_before) × (after ≡ before)
     × ((why : Refusal) × IsResource why × Reports errors why err_before err_after))
@@ -57,8 +58,3 @@ EndsUnasked contents errors text words exit before after err_before err_after = 
 abbrev pub IsCommand : Asked → Type 0
 IsCommand (Shell file) = ⊥
 IsCommand asked = Unit {0}
-
--- a command that is done tells nothing on the error stream, and one that is refused what it is refused with
-abbrev pub EndsCommand : {E : Type 0} → (E → Option (List ℕ)) → ℕ → Told E → Told E → Type 0
-EndsCommand errors exit before after = ((exit ≡ 0) × (after ≡ before))
-    ⊎ ((exit ≡ 1) × ((why : Refusal) × Reports errors why before after))

@@ -1,6 +1,6 @@
 -- What the commands on files do in a folder, and why they are refused. A reason comes only where no earlier one does: the
 -- file, the second file, what is made of them, and the file OUT. Memory can run out at any time.
-use Rattle.std.specs.Prelude.{◌≡◌, ◌⊎◌, ℕ, List, Option, None, Result, Ok, Err, IsTrue}
+use Rattle.std.specs.Prelude.{◌≡◌, ◌⊎◌, ℕ, List, Option, None, Result, Ok, Err, IfErr, OnOk, OnErr, IsTrue}
 use Rattle.cs_wire.specs.Changeset.{GroupData}
 use Rattle.cs_wire.specs.ReadFaults.{ReadFails}
 use Rattle.cs_texts.specs.declared.told.Told.{Told}
@@ -93,24 +93,23 @@ abbrev pub EndsAs : {E : Type 0} → (E → Option (List ℕ)) → Result (Unit 
 EndsAs errors (Ok done) exit before after = (exit ≡ 0) × (after ≡ before)
 EndsAs errors (Err why) exit before after = (exit ≡ 1) × Reports errors why before after
 
--- It is done, which this says, or it is refused, and for such a reason.
-abbrev pub EndsBy : {E : Type 0} → (E → Option (List ℕ)) → Type 0 → (Refusal → Type 0) → ℕ → Told E → Told E → Type 0
-EndsBy errors Done Refuses exit before after = ((exit ≡ 0) × (after ≡ before) × Done)
-    ⊎ ((exit ≡ 1) × ((why : Refusal) × Refuses why × Reports errors why before after))
+-- What a command makes of the files and prints, by what it returns. For `apply` this covers only the files of the folder.
+abbrev pub Works : {W : Type 0} → (W → Option (List ℕ)) → Option Files → Option Files → Told W → Told W → Asked
+    → Result (Unit {0}) Refusal → Type 0
+Works contents old new before after (Invert file out) done = OnOk done (InvertsFile old file out new)
+    × IfErr done (RefusesInvert old file) × OnErr done (new ≡ old) × (after ≡ before)
+Works contents old new before after (Concat first second out) done = OnOk done (JoinsFiles old first second out new)
+    × IfErr done (RefusesJoin old first second) × OnErr done (new ≡ old) × (after ≡ before)
+Works contents old new before after (Dump file) done = OnOk done (PrintsFile contents dump_of old file before after)
+    × IfErr done (RefusesPrint contents dump_of old file before after) × (new ≡ old)
+Works contents old new before after (Sql file) done = OnOk done (PrintsFile contents sql_of old file before after)
+    × IfErr done (RefusesPrint contents sql_of old file before after) × (new ≡ old)
+Works contents old new before after (Apply file store policy noop) done = new ≡ old
+Works contents old new before after (Shell file) done = ⊥
 
--- What a command makes of the files and prints. For `apply` and scripts this covers only the files of the folder.
-abbrev pub WorksOnFiles : {W E : Type 0} → (W → Option (List ℕ)) → (E → Option (List ℕ)) → Option Files → Option Files
-    → Told W → Told W → Told E → Told E → ℕ → Asked → Type 0
-WorksOnFiles contents errors old new before after err_before err_after exit (Invert file out) = (after ≡ before)
-    × EndsBy errors (InvertsFile old file out new) (λ why. RefusesInvert old file why × (new ≡ old)) exit err_before err_after
-WorksOnFiles contents errors old new before after err_before err_after exit (Concat first second out) = (after ≡ before)
-    × EndsBy errors (JoinsFiles old first second out new) (λ why. RefusesJoin old first second why × (new ≡ old)) exit
-    err_before err_after
-WorksOnFiles contents errors old new before after err_before err_after exit (Dump file) = (new ≡ old)
-    × EndsBy errors (PrintsFile contents dump_of old file before after)
-    (RefusesPrint contents dump_of old file before after) exit err_before err_after
-WorksOnFiles contents errors old new before after err_before err_after exit (Sql file) = (new ≡ old)
-    × EndsBy errors (PrintsFile contents sql_of old file before after)
-    (RefusesPrint contents sql_of old file before after) exit err_before err_after
-WorksOnFiles contents errors old new before after err_before err_after exit (Apply file store policy noop) = new ≡ old
-WorksOnFiles contents errors old new before after err_before err_after exit (Shell file) = new ≡ old
+-- A command is carried out, and what it returns is told.
+pub record CarriesOut {W E : Type 0} (contents : W → Option (List ℕ)) (errors : E → Option (List ℕ)) (old new : Option Files)
+    (before after : Told W) (err_before err_after : Told E) (exit : ℕ) (asked : Asked) : Type 0 where
+  pub done : Result (Unit {0}) Refusal
+  pub works : Works contents old new before after asked done
+  pub ends : EndsAs errors done exit err_before err_after

@@ -3,6 +3,7 @@ pub mod Laws
 pub mod Stores
 pub mod CommandLine
 pub mod Folders
+pub mod Meant
 pub mod Runs
 pub mod SessionLaw
 pub mod Progress

@@ -3,7 +3,7 @@ use Rattle.std.specs.Prelude.{ℕ, List}
 use Rattle.cs_value.specs.State.{State}
 use Rattle.cs_replies.specs.Replies.{Reply}
 use Rattle.cs_machine.specs.Net.{HasNet}
-use Rattle.cs_machine.specs.Script.{LineGives}
+use Rattle.cs_shell.specs.Meant.{LineSays}
 use Rattle.cs_machine.specs.ShellState.{ShellState}
 use Rattle.cs_shell.specs.Runs.{LinesGive}
 use Rattle.cs_shell.specs.Stores.{beginning}
@@ -12,4 +12,4 @@ use Rattle.cs_shell.specs.Stores.{beginning}
 -- whole tables
 abbrev pub ScriptHasNet : Type 0
 ScriptHasNet = (tables : State) (lines : List (List ℕ)) (replies : List Reply) (last : ShellState)
-    → LinesGive LineGives (beginning tables) lines replies last → HasNet last
+    → LinesGive LineSays (beginning tables) lines replies last → HasNet last

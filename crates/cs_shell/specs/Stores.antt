@@ -6,7 +6,7 @@ use Rattle.cs_value.specs.State.{State}
 use Rattle.cs_texts.specs.declared.told.Told.{Told}
 use Rattle.cs_shell.specs.declared.script.Status.{Status}
 use Rattle.cs_replies.specs.Replies.{Reply}
-use Rattle.cs_machine.specs.Script.{LineGives}
+use Rattle.cs_shell.specs.Meant.{LineSays}
 use Rattle.cs_machine.specs.ShellState.{ShellState}
 use Rattle.cs_shell.specs.Runs.{Runs}
 pub use Rattle.cs_machine.specs.Stores.{Shows, IsSettled, TellsFailures}
@@ -19,7 +19,7 @@ beginning tables = record { tables = tables; slots = map.empty; session = None }
 pub record RunsScript {R W : Type 0} (remaining : R → Option (List ℕ)) (contents : W → Option (List ℕ)) (status : Status)
     (input_before input_after : Told R) (before after : Told W) (tables : State) (new : sqlite.State) : Type 0 where
   pub last : ShellState
-  pub runs : Runs remaining contents LineGives status (beginning tables) last input_before input_after before after
+  pub runs : Runs remaining contents LineSays status (beginning tables) last input_before input_after before after
   pub shows : Shows new last.tables
 
 -- a line has a reply, whatever it is

@@ -4,11 +4,14 @@ ghost use Rattle.sqlite.specs.Held.{state};
 ghost use Rattle.sqlite.specs.State.{HasCleanDisk};
 ghost use Rattle.cs_value.specs.State.{State};
 ghost use Rattle.cs_machine.specs.Stores.{IsSettled, Shows, TellsFailures};
-ghost use Rattle.cs_machine.specs.Turns.{Known, TurnsBetween};
+ghost use Rattle.cs_machine.specs.Turns.{Known, TurnsBetween, WorksOn};
+ghost use Rattle.cs_replies.specs.Replies.{answer_of};
+ghost use Rattle.cs_shell.specs.Meant.{LineSays};
 ghost use Rattle.cs_shell.specs.Runs.{Runs};
 ghost use Rattle.cs_shell.specs.Shells.{RunsShell};
 ghost use Rattle.cs_shell.specs.Stores.{HasReply, RunsScript};
 
+use crate::meant::spelled_line;
 use crate::script::{Machine, Status, run_machine};
 use cs_files::Told;
 use cs_machine::{Workspace, answer_line, settle_once};
@@ -38,7 +41,7 @@ impl<S: Alter> Machine for Shell<'_, S> {
 
     fn answer(&mut self, alloc: Global, line: &[u8]) -> Result<Reply, Refusal> {
         settle_once(self.store, &mut self.is_settled)?;
-        answer_line(alloc, self.store, self.work, line)
+        answer_meant(alloc, self.store, self.work, line)
     }
 
     ghost loses = { λ machine line. (
@@ -46,6 +49,22 @@ impl<S: Alter> Machine for Shell<'_, S> {
       loses_line (state S.Store machine.store.now) machine.is_settled
           machine.work.now line,
     ) };
+}
+
+/// Carries out the line that a line stands for, and returns its reply.
+fn answer_meant<S: Alter>(
+    alloc: Global,
+    store: &mut Store<S>,
+    work: &mut Workspace,
+    line: &[u8],
+) -> Result<Reply, Refusal>
+    ensures { WorksOn (state S.Store store.old) (state S.Store store.new) work.old.slots work.new.slots
+        work.old.session work.new.session (λ old. LineSays old line.now) (answer_of result) }
+{
+    match spelled_line(alloc, line)? {
+        Some(bytes) => answer_line(alloc, store, work, &bytes),
+        None => answer_line(alloc, store, work, line),
+    }
 }
 
 /// Runs a script over a store and a workspace.
@@ -68,6 +87,8 @@ fn run_shell<S: Alter, R: Read, W: Write>(
 
 /// Runs a script on a store: reads its lines, answers them, and prints the replies. The lines that were read are
 /// answered before more is read.
+///
+/// `.line` and hexadecimal digits stand for the line of these bytes, which can have line feeds.
 ///
 /// A line changes nothing if memory or the database refuses it. Once a failure of the disk has shut the store, each
 /// line that asks for a table is refused. Before the first line an empty batch is begun and dropped. If that fails,

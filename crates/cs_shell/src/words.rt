@@ -6,8 +6,8 @@ ghost use Rattle.cs_files.specs.Calls.{AppendsFront};
 ghost use Rattle.cs_words.specs.Words.{Asked, Refuses, Shell, asked, asked_of, in_memory};
 ghost use Rattle.cs_words.specs.declared.fault.WordsFault.TheVariants as fault;
 ghost use Rattle.cs_shell.specs.Runs.{exit_of};
-ghost use Rattle.cs_shell.specs.Folders.{EndsAs, WorksOnFiles};
-ghost use Rattle.cs_shell.specs.CommandLine.{EndsCommand, EndsUnasked, Helps, IsCommand};
+ghost use Rattle.cs_shell.specs.Folders.{CarriesOut, EndsAs};
+ghost use Rattle.cs_shell.specs.CommandLine.{EndsUnasked, Helps, IsCommand};
 ghost use Rattle.cs_shell.specs.CommandLine.{Reports, ReportsStatus, RunsInMemory};
 
 use crate::command;
@@ -152,10 +152,10 @@ fn run_action<F: Folder, R: Read, W: Write, E: Write>(
     ensures status { result ≤ 1 }
     ensures script { asked_of action.entry ≡ Shell in_memory → RunsInMemory R.remaining W.contents E.contents result
         input.old input.new out.old out.new err.old err.new }
-    ensures command { IsCommand (asked_of action.entry) → EndsCommand E.contents result err.old err.new }
+    ensures command { IsCommand (asked_of action.entry) → CarriesOut W.contents E.contents (F.files folder.old)
+        (F.files folder.new) out.old out.new err.old err.new result (asked_of action.entry) }
     ensures unread { IsCommand (asked_of action.entry) → input.new ≡ input.old }
-    ensures files { WorksOnFiles W.contents E.contents (F.files folder.old) (F.files folder.new) out.old out.new
-        err.old err.new result (asked_of action.entry) }
+    ensures scripts { (file : _) → asked_of action.entry ≡ Shell file → F.files folder.new ≡ F.files folder.old }
 {
     let done = match action {
         Action::Shell { file } if file == IN_MEMORY => {
@@ -211,7 +211,7 @@ pub fn run_words<R: Read, W: Write, E: Write>(
     ensures script { asked (map string_bytes words.now) ≡ Some (Shell in_memory) →
         RunsInMemory R.remaining W.contents E.contents result input.old input.new out.old out.new err.old err.new }
     ensures command { (action : Asked) → asked (map string_bytes words.now) ≡ Some action → IsCommand action →
-        EndsCommand E.contents result err.old err.new }
+        CarriesOut W.contents E.contents None None out.old out.new err.old err.new result action }
     ensures misfit { result ≡ 2 → Refuses (map string_bytes words.now) fault.Usage }
     ensures usage { result ≡ 2 → has_failed err.new ≡ false →
         Appends (known E.contents err.old) (known E.contents err.new) USAGE.now }
@@ -222,8 +222,6 @@ pub fn run_words<R: Read, W: Write, E: Write>(
     ensures unread { asked (map string_bytes words.now) ≡ None → input.new ≡ input.old }
     ensures commands { (action : Asked) → asked (map string_bytes words.now) ≡ Some action → IsCommand action →
         input.new ≡ input.old }
-    ensures files { (action : Asked) → asked (map string_bytes words.now) ≡ Some action → WorksOnFiles W.contents
-        E.contents None None out.old out.new err.old err.new result action }
 {
     run_words_in(rt, &mut HostFolder::new(rt), words, input, out, err)
 }
@@ -242,7 +240,7 @@ pub fn run_words_in<F: Folder, R: Read, W: Write, E: Write>(
     ensures script { asked (map string_bytes words.now) ≡ Some (Shell in_memory) →
         RunsInMemory R.remaining W.contents E.contents result input.old input.new out.old out.new err.old err.new }
     ensures command { (action : Asked) → asked (map string_bytes words.now) ≡ Some action → IsCommand action →
-        EndsCommand E.contents result err.old err.new }
+        CarriesOut W.contents E.contents (F.files folder.old) (F.files folder.new) out.old out.new err.old err.new result action }
     ensures misfit { result ≡ 2 → Refuses (map string_bytes words.now) fault.Usage }
     ensures usage { result ≡ 2 → has_failed err.new ≡ false →
         Appends (known E.contents err.old) (known E.contents err.new) USAGE.now }
@@ -253,8 +251,8 @@ pub fn run_words_in<F: Folder, R: Read, W: Write, E: Write>(
     ensures unread { asked (map string_bytes words.now) ≡ None → input.new ≡ input.old }
     ensures commands { (action : Asked) → asked (map string_bytes words.now) ≡ Some action → IsCommand action →
         input.new ≡ input.old }
-    ensures files { (action : Asked) → asked (map string_bytes words.now) ≡ Some action → WorksOnFiles W.contents
-        E.contents (F.files folder.old) (F.files folder.new) out.old out.new err.old err.new result action }
+    ensures scripts { (file : _) → asked (map string_bytes words.now) ≡ Some (Shell file) →
+        F.files folder.new ≡ F.files folder.old }
     ensures untouched { asked (map string_bytes words.now) ≡ None → F.files folder.new ≡ F.files folder.old }
 {
     match parse_words(rt.alloc(), words) {

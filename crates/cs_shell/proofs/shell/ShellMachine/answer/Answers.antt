@@ -13,4 +13,4 @@ returns-in_err-settle_once g c =
 
 pub returns : goal.returns
 returns g c =
-    (refl, line_settled (state g.S.Store c.args.self.now.store.now) (state g.S.Store c.settle_once.new.store) (state g.S.Store c.answer_line.new.store) c.args.self.now.is_settled c.settle_once.new.is_settled c.args.self.now.work.now c.answer_line.new.work c.args.line.now _ c.in_ok-settle_once.ensures.settled c.settle_once.ensures.turns c.answer_line.ensures)
+    (refl, line_settled (state g.S.Store c.args.self.now.store.now) (state g.S.Store c.settle_once.new.store) (state g.S.Store c.answer_meant.new.store) c.args.self.now.is_settled c.settle_once.new.is_settled c.args.self.now.work.now c.answer_meant.new.work c.args.line.now _ c.in_ok-settle_once.ensures.settled c.settle_once.ensures.turns c.answer_meant.ensures)

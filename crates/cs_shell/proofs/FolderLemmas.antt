@@ -1,0 +1,18 @@
+-- Commands on files.
+use Rattle.std.proofs.Common.{List, ℕ, Option, Err, refl}
+use Rattle.cs_texts.specs.declared.told.Told.{Told}
+use Rattle.cs_words.specs.Words.{Asked, Apply, Concat, Dump, Sql, Invert, Shell}
+use Rattle.cs_folder.specs.Files.{Files}
+use Rattle.cs_replies.specs.declared.refusal.Refusal.TheVariants as refusal
+use Rattle.cs_shell.specs.CommandLine.{IsCommand}
+use Rattle.cs_shell.specs.Folders.{Works}
+
+-- a command may be refused for memory before it does anything
+pub works_unable : {W : Type 0} (contents : W → Option (List ℕ)) (files : Option Files) (out : Told W) (asked : Asked)
+    → IsCommand asked → Works contents files files out out asked (Err refusal.NoMemory)
+works_unable contents files out (Apply file store policy noop) command = refl
+works_unable contents files out (Concat first second to) command = (tt, tt, refl, refl)
+works_unable contents files out (Dump file) command = (tt, refl, refl)
+works_unable contents files out (Sql file) command = (tt, refl, refl)
+works_unable contents files out (Invert file to) command = (tt, tt, refl, refl)
+works_unable contents files out (Shell file) command = command
