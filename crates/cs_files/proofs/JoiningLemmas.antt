@@ -1,13 +1,17 @@
 -- What is written of the join of two files.
 use Rattle.std.proofs.Common.{◌≡◌, ◌≢◌, ℕ, suc, ◌+◌, ◌<◌, ◌≤◌, Bool, true, false, cond, if◌then◌else◌, List, [], ◌∷◌, ◌++◌, length, length-append, get_or, take, drop, All, AllPairs, Option, Some, None, refl, sym, ap, subst, ◌∙◌, append_assoc, append-nil, arith}
-use Rattle.std.specs.Prelude.{IfSome, filter, filter_map}
+use Rattle.std.specs.Prelude.{IfErr, IfOk, IfSome, MatchResult, Result, Ok, Err, filter, filter_map}
 use Rattle.std.specs.List.{flat_map, cons_option}
 use Rattle.std.proofs.lemmas.Grind.{flat_map-append}
 use Rattle.std.proofs.Math.Seq.{take-append_seam}
 use Rattle.std.proofs.lemmas.List.{get_or_default}
+use Rattle.cs_value.specs.Refusals.{Refuses}
+use Rattle.cs_value.specs.declared.refusal.OrNoMemory.{OrNoMemory}
+use Rattle.cs_value.specs.declared.refusal.OrNoMemory.TheVariants.{Fault, NoMemory}
+use Rattle.cs_entries.specs.declared.fault.ReadFault.{ReadFault}
 use Rattle.cs_entries.specs.declared.entry.Entry.{Entry}
 use Rattle.cs_wire.specs.Entry.{entry_bytes, key_of}
-use Rattle.cs_wire.specs.Changeset.{HeaderData, GroupData, IsChangeset, IsFileOf, IsGroup, entries_bytes, file_bytes, group_bytes, header_bytes}
+use Rattle.cs_wire.specs.Changeset.{HeaderData, GroupData, IsAccepted, IsChangeset, IsFileOf, IsGroup, entries_bytes, file_bytes, group_bytes, header_bytes}
 use Rattle.cs_tables.specs.Named.{NamedData, IsTableOf, AreListed, header_at, tables_at, no_table}
 use Rattle.cs_tables.specs.Tables.{TablesData, AreLeft}
 use Rattle.cs_wire.specs.Views.{IsPlaceOf}
@@ -17,7 +21,11 @@ use Rattle.cs_group.specs.Joining.{AgreesWith, AreJoinable, IsJoined, is_new, if
 use Rattle.cs_group.proofs.JoinLemmas.{agree_found, agrees_found, found_agrees, joined_is_changeset}
 use Rattle.cs_group.proofs.JoinLengths.{join_length}
 use Rattle.cs_group.proofs.TextLemmas.{with_text-none, with_text-place, with_text-found}
-use Rattle.cs_files.specs.Files.{Joins}
+use Rattle.cs_wire.specs.ReadFaults.{ReadFails}
+use Rattle.cs_files.specs.declared.fault.FileFault.{FileFault}
+use Rattle.cs_files.specs.declared.fault.FileFault.TheVariants.{First, Second, Schema}
+use Rattle.cs_files.specs.Faults.{of_second}
+use Rattle.cs_files.specs.Files.{AreUnjoined, JoinFails, Joins}
 use Rattle.cs_group.specs.Marks.{AreMet}
 use Rattle.cs_group.proofs.MarkLemmas.{unmet_is}
 use Rattle.cs_files.specs.Writing.{some_bytes, IsPartner}
@@ -208,3 +216,40 @@ joins first second out groups others p q joinable is =
       },
       omega (arith, ap length is, ap length p.1, ap length q.1, join_length groups others (joined groups others) p.0 both),
     )
+
+-- ---- two files that are read
+
+abbrev as_ok : {X : Type 0} (F : Type 0) → X → Result X F
+as_ok F x = Ok x
+
+abbrev as_err : {F : Type 0} (X : Type 0) → F → Result X F
+as_err X e = Err e
+
+abbrev answered : {X F : Type 0} → X → Result X F → X
+answered d (Ok x) = x
+answered d (Err e) = d
+
+-- what is read is what is passed on
+pub read_is : {X E : Type 0} (F : Type 0) (read : Result X E) (x : X) (P : X → Type 0) → MatchResult read (λ y. as_ok F x ≡ as_ok F y) (λ e. ⊥) → IfOk read P → P x
+read_is F (Ok y) x P same so = subst P (sym (ap (answered x) same)) so
+read_is F (Err e) x P same so = absurd same
+
+-- why the second file is not read is why both are not joined
+pub second_refused : {X : Type 0} (first second : List ℕ) (read : Result X (OrNoMemory ReadFault)) (fault : OrNoMemory FileFault) → IsAccepted first → MatchResult read (λ x. as_err X fault ≡ Ok x) (λ e. fault ≡ of_second e)
+    → IfErr read (Refuses (λ f. ReadFails second f.kind f.place)) → Refuses (JoinFails first second) fault
+second_refused first second (Ok x) fault is same why = absurd cc
+second_refused first second (Err (Fault f)) fault is same why = subst (Refuses (JoinFails first second)) (sym same) (is, why)
+second_refused first second (Err NoMemory) fault is same why = subst (Refuses (JoinFails first second)) (sym same) tt
+
+-- and so is why their changesets are not
+pub join_refused : (first second : List ℕ) (groups others : List GroupData) → IsFileOf first groups → IsFileOf second others → (fault : OrNoMemory FileFault) → Refuses (AreUnjoined groups others) fault
+    → Refuses (JoinFails first second) fault
+join_refused first second groups others p q (Fault (First f)) why = absurd why
+join_refused first second groups others p q (Fault (Second f)) why = absurd why
+join_refused first second groups others p q (Fault (Schema s)) why = record {
+  changeset = groups;
+  other = others;
+  are_files = record { is_changeset = p.0; is_file = p.1; other_is_changeset = q.0; other_is_file = q.1 };
+  clash = why;
+}
+join_refused first second groups others p q NoMemory why = tt

@@ -12,7 +12,7 @@ use crate::fault::{PrintFault, ToolFault, first_fault, second_fault, text_fault}
 use crate::inverting::write_inverse;
 use crate::joining::join_tables;
 use crate::numbering::write_numbered;
-use cs_tables::Tables;
+use cs_tables::{NamedTables, Tables};
 use cs_texts::{Form, Told, write_tables};
 use cs_wire::ReadError;
 use std::alloc::Global;
@@ -71,9 +71,9 @@ pub fn concat_bytes(alloc: Global, first: &[u8], second: &[u8]) -> Result<Vec<u8
     ensures length { IfOk result (λ out. length out.items ≤ length first.now + length second.now) }
     ensures refused { IfErr result (Refuses (JoinFails first.now second.now)) }
 {
-    let firsts = Tables::read(alloc, first).map_err(first_fault)?;
-    let seconds = Tables::read(alloc, second).map_err(second_fault)?;
-    Ok(join_tables(alloc, firsts, seconds, first.len() + second.len())?)
+    let known = NamedTables::read(alloc, first).map_err(first_fault)?;
+    let added = NamedTables::read(alloc, second).map_err(second_fault)?;
+    Ok(join_tables(alloc, &known, &added, first.len() + second.len())?)
 }
 
 /// Reads a file to its end, and then writes it as text, as [`dump_text`](crate::dump_text) does. Only reading

@@ -1,8 +1,8 @@
 //! The concatenation of two files, written as they are read.
-ghost use Rattle.std.specs.Prelude.{◌≡◌, [], List, IfErr, IfOk};
+ghost use Rattle.std.specs.Prelude.{◌≡◌, List, IfErr, IfOk};
 ghost use Rattle.cs_value.specs.Refusals.{Refuses};
 ghost use Rattle.cs_wire.specs.Changeset.{GroupData, IsChangeset, file_bytes};
-ghost use Rattle.cs_tables.specs.Tables.{AreLeft};
+ghost use Rattle.cs_tables.specs.Named.{AreListed};
 ghost use Rattle.cs_group.specs.Joining.{AreJoinable, joined};
 ghost use Rattle.cs_files.specs.Files.{AreUnjoined};
 
@@ -14,7 +14,7 @@ use crate::fault::{FileFault, ToolFault};
 use crate::joining::columns::first_clash;
 use crate::joining::tables::{write_kept_tables, write_new_tables};
 use cs_group::SchemaFault;
-use cs_tables::{NamedTables, Tables};
+use cs_tables::NamedTables;
 use std::alloc::Global;
 
 /// Returns the concatenation of two files that were read. Its bytes are allocated once.
@@ -23,24 +23,22 @@ use std::alloc::Global;
 /// before it allocates those bytes; and if memory runs out.
 pub(crate) fn join_tables<'a>(
     alloc: Global,
-    firsts: Tables<'a>,
-    seconds: Tables<'a>,
+    known: &NamedTables<'a>,
+    added: &NamedTables<'a>,
     capacity: usize,
 ) -> Result<Vec<u8>, ToolFault>
-    ensures joinable { (groups others : List GroupData) → AreLeft firsts.entry [] groups → AreLeft seconds.entry [] others → IsChangeset groups → IsChangeset others
+    ensures joinable { (groups others : List GroupData) → AreListed known.now groups → AreListed added.now others → IsChangeset groups → IsChangeset others
         → IfOk result (λ _. AreJoinable groups others) }
-    ensures joined { (groups others : List GroupData) → AreLeft firsts.entry [] groups → AreLeft seconds.entry [] others → IsChangeset groups → IsChangeset others
+    ensures joined { (groups others : List GroupData) → AreListed known.now groups → AreListed added.now others → IsChangeset groups → IsChangeset others
         → IfOk result (λ out. out.items ≡ file_bytes (joined groups others)) }
-    ensures refused { (groups others : List GroupData) → AreLeft firsts.entry [] groups → AreLeft seconds.entry [] others → IsChangeset groups → IsChangeset others
+    ensures refused { (groups others : List GroupData) → AreListed known.now groups → AreListed added.now others → IsChangeset groups → IsChangeset others
         → IfErr result (Refuses (AreUnjoined groups others)) }
 {
-    let known = NamedTables::list(alloc, firsts)?;
-    let added = NamedTables::list(alloc, seconds)?;
-    if let Some(place) = first_clash(&known, &added) {
+    if let Some(place) = first_clash(known, added) {
         return Err(ToolFault::Fault(FileFault::Schema(SchemaFault { place })));
     }
     let mut out = Vec::with_capacity(alloc, capacity)?;
-    write_kept_tables(alloc, &mut out, &known, &added)?;
-    write_new_tables(&mut out, &known, &added)?;
+    write_kept_tables(alloc, &mut out, known, added)?;
+    write_new_tables(&mut out, known, added)?;
     Ok(out)
 }

@@ -5,9 +5,10 @@ use Rattle.std.proofs.lemmas.List.Concat.{flat_map-append}
 use Rattle.std.proofs.lemmas.List.Elements.{All-nil, All-push}
 use Rattle.cs_entries.specs.declared.entry.Entry.{Entry}
 use Rattle.cs_wire.specs.Entry.{IsEntry, entry_bytes, key_of}
-use Rattle.cs_wire.specs.Changeset.{HeaderData, GroupData, IsAccepted, IsGroup, IsHeader, header_bytes, entries_bytes, group_bytes, file_bytes}
-use Rattle.cs_tables.specs.Checked.{HasEntries, HasGroup, HasGroups}
+use Rattle.cs_wire.specs.Changeset.{GroupData, IsAccepted, IsGroup, IsHeader, header_bytes, entries_bytes, group_bytes, file_bytes}
+use Rattle.cs_tables.specs.Checked.{HasEntries, HasTable, HasGroups, group_of}
 use Rattle.cs_tables.specs.Distinct.{number_of}
+use Rattle.cs_tables.specs.Named.{NamedTable}
 use Rattle.cs_wire.specs.Items.{FlaggedEntry}
 use Rattle.cs_wire.specs.ReadFaults.{Stands}
 use Rattle.cs_tables.proofs.DistinctLemmas.{texts_differ}
@@ -36,29 +37,26 @@ HasEntries-push file at flags keys place so seen end number grown same is stands
       keys_are = rw (grown_is, one, so.keys_are) (sym (map-append number_by so.entries (seen.entry ∷ [])));
     }
 
--- a header and entries whose keys differ are a group
-pub HasGroup-read : (file : List ℕ) (at start end : ℕ) (header : HeaderData) (before names keys : List ℕ) → IsHeader header → Stands file at (header_bytes header) start
-    → HasEntries file start header.flags keys end → 0 < length keys → AllPairs (λ m n. m ≢ n) keys
-    → (name : List ℕ) (number : ℕ) → name ≡ header.name → number ≡ number_of name → names ≡ before ++ number ∷ [] → HasGroup file at before names end
-HasGroup-read file at start end header before names keys is stands so some apart name number name_is number_is grown_is =
-    let group : GroupData = record { header = header; entries = so.entries } in
-    let number : Entry → ℕ = λ e. number_of (key_of header.flags e.change) in record {
-      group = group;
+-- a header and entries whose keys differ are the group of a table
+pub HasTable-read : (file : List ℕ) (at end : ℕ) (table : NamedTable) (keys : List ℕ) → IsHeader table.header → Stands file at (header_bytes table.header) table.start
+    → HasEntries file table.start table.header.flags keys end → 0 < length keys → AllPairs (λ m n. m ≢ n) keys → HasTable file at table end
+HasTable-read file at end table keys is stands so some apart =
+    let number : Entry → ℕ = λ e. number_of (key_of table.header.flags e.change) in record {
+      entries = so.entries;
       is_group = record {
         header = is;
         some = omega (arith, some, ap length so.keys_are, length-map so.entries number);
         each = so.each;
-        once = texts_differ (λ (e : Entry). key_of header.flags e.change) so.entries (subst (λ (ks : List ℕ). AllPairs (λ m n. m ≢ n) ks) so.keys_are apart);
+        once = texts_differ (λ (e : Entry). key_of table.header.flags e.change) so.entries (subst (λ (ks : List ℕ). AllPairs (λ m n. m ≢ n) ks) so.keys_are apart);
       };
-      stands = Stands-group file at start end group stands so.stand;
-      names_are = rw (grown_is, number_is, name_is) refl;
+      stands = Stands-group file at table.start end (group_of table so.entries) stands so.stand;
+      within = stands.within;
+      entries_stand = so.stand;
     }
 
--- a header and entries have some byte
-pub group_moves : (file : List ℕ) (at start end : ℕ) (header : HeaderData) (keys : List ℕ) → Stands file at (header_bytes header) start → HasEntries file start header.flags keys end → at < length file → at < end
-group_moves file at start end header keys stands so within =
-    let group : GroupData = record { header = header; entries = so.entries } in
-    Stands-moves file at end (group_bytes group) (Stands-group file at start end group stands so.stand) (group_bytes_some group) within
+-- a table has some byte
+pub table_moves : (file : List ℕ) (at end : ℕ) (table : NamedTable) → HasTable file at table end → at < length file → at < end
+table_moves file at end table so within = Stands-moves file at end _ so.stands (group_bytes_some (group_of table so.entries)) within
 
 -- no group was passed
 pub HasGroups-none : (file : List ℕ) → HasGroups file [] 0
@@ -70,13 +68,16 @@ HasGroups-none file = record {
 }
 
 -- one more was
-pub HasGroups-push : (file names grown : List ℕ) (place end : ℕ) → HasGroups file names place → HasGroup file place names grown end → HasGroups file grown end
-HasGroups-push file names grown place end so next =
-    let number : GroupData → ℕ = λ g. number_of g.header.name in record {
-      groups = so.groups ++ next.group ∷ [];
-      each = All-push IsGroup so.groups next.group so.each next.is_group;
-      stand = rw (flat_map-append group_bytes so.groups (next.group ∷ []), append-nil) (Stands-then file 0 place end (file_bytes so.groups) (group_bytes next.group) so.stand next.stands);
-      names_are = next.names_are ∙ ap (λ (ns : List ℕ). ns ++ number next.group ∷ []) so.names_are ∙ sym (map-append number so.groups (next.group ∷ []));
+pub HasGroups-push : (file names grown : List ℕ) (place end : ℕ) → HasGroups file names place → (table : NamedTable) → HasTable file place table end
+    → (name : List ℕ) (number : ℕ) → name ≡ table.header.name → number ≡ number_of name → grown ≡ names ++ number ∷ [] → HasGroups file grown end
+HasGroups-push file names grown place end so table next name number name_is number_is grown_is =
+    let number_by : GroupData → ℕ = λ g. number_of g.header.name in
+    let group = group_of table next.entries in
+    let one : number ≡ number_by group = number_is ∙ ap number_of name_is in record {
+      groups = so.groups ++ group ∷ [];
+      each = All-push IsGroup so.groups group so.each next.is_group;
+      stand = rw (flat_map-append group_bytes so.groups (group ∷ []), append-nil) (Stands-then file 0 place end (file_bytes so.groups) (group_bytes group) so.stand next.stands);
+      names_are = rw (grown_is, one, so.names_are) (sym (map-append number_by so.groups (group ∷ [])));
     }
 
 -- at the end of the file, groups whose names differ are a changeset

@@ -1,12 +1,22 @@
 -- Tables of a file that are listed.
-use Rattle.std.proofs.Common.{◌≡◌, ◌≢◌, ℕ, zero, suc, ◌<◌, List, [], ◌∷◌, ◌++◌, length, drop, get_or, All, refl, sym, ap, subst, ◌∙◌, append_assoc, arith}
+use Rattle.std.proofs.Common.{◌≡◌, ◌≢◌, ℕ, zero, suc, ◌<◌, ◌≤◌, List, [], ◌∷◌, ◌++◌, length, drop, get_or, All, AllPairs, refl, sym, ap, subst, ◌∙◌, append_assoc, append-nil, arith}
+use Rattle.std.specs.Prelude.{IsTrue, Option, Some, None, false, is_none, is_some}
+use Rattle.std.specs.List.{AllByRecursion}
+use Rattle.std.proofs.lemmas.List.{drop_all}
+use Rattle.std.proofs.lemmas.List.Concat.{flat_map-append}
+use Rattle.std.proofs.lemmas.List.Elements.{All-nil, All-push, recursion_from_All}
+use Rattle.std.proofs.lemmas.List.Quantifiers.{all_pairs_push}
 use Rattle.cs_entries.specs.declared.entry.Entry.{Entry}
 use Rattle.cs_wire.specs.declared.header.HeaderRef.{HeaderRef}
-use Rattle.cs_wire.specs.Changeset.{HeaderData, GroupData}
+use Rattle.cs_wire.specs.Entry.{IsEntry}
+use Rattle.cs_wire.specs.Changeset.{HeaderData, GroupData, IsGroup, entries_bytes, group_bytes, file_bytes}
+use Rattle.cs_wire.specs.ReadFaults.{Stands}
+use Rattle.cs_tables.specs.Checked.{HasTable, group_of}
 use Rattle.cs_wire.specs.Headers.{header_of}
-use Rattle.cs_tables.specs.Named.{NamedTable, NamedData, IsTableOf, AreTablesOf, AreListed, tables_from, no_table}
+use Rattle.cs_tables.specs.Named.{NamedTable, NamedData, IsTableOf, AreTablesOf, AreListed, IsListing, tables_from, no_table}
 use Rattle.cs_tables.specs.Tables.{TablesData, AreLeft, IsNextTable}
 use Rattle.cs_wire.specs.Views.{IsPlaceOf}
+use Rattle.cs_entries.proofs.ReadingLemmas.{Stands-then}
 
 -- one more table
 pub tables_push : (file : List ℕ) (tables : List NamedTable) (groups behind : List GroupData) (table : NamedTable) (group : GroupData) → AreTablesOf file tables groups (group ∷ behind) → IsTableOf file table group behind
@@ -68,6 +78,15 @@ module _ (file : List ℕ) where
   table_at (x ∷ tables) (y ∷ groups) behind zero t g are lt = are.0
   table_at (x ∷ tables) (y ∷ groups) behind (suc place) t g are lt = table_at tables groups behind place t g are.1 (omega arith)
 
+  -- groups of tables whose names differ have names that differ
+  pub names_apart : (tables : List NamedTable) (groups behind : List GroupData) → AreTablesOf file tables groups behind → AllPairs (λ s t. s.header.name ≢ t.header.name) tables
+      → AllPairs (λ g h. g.header.name ≢ h.header.name) groups
+  names_apart tables groups behind are once = λ i j d lt within same.
+      let count = tables_length tables groups behind are in
+      let first = table_at tables groups behind i no_table d are (omega (arith, lt, within, count)) in
+      let second = table_at tables groups behind j no_table d are (omega (arith, within, count)) in
+      once i j no_table lt (omega (arith, within, count)) (ap (λ (h : HeaderData). h.name) first.header ∙ same ∙ sym (ap (λ (h : HeaderData). h.name) second.header))
+
 module _ (named : NamedData) (groups : List GroupData) (listed : AreListed named groups) (name : List ℕ) where
   -- where no table has the name no group has it
   pub no_group_named : All (λ t. t.header.name ≢ name) named.tables → All (λ g. g.header.name ≢ name) groups
@@ -81,3 +100,57 @@ module _ (named : NamedData) (groups : List GroupData) (listed : AreListed named
     within = omega (arith, at.within, tables_length named.file named.tables groups [] listed);
     holds = λ d. ap (λ (h : HeaderData). h.name) (sym (table_at named.file named.tables groups [] place no_table d listed at.within).header) ∙ at.holds no_table;
   }
+
+-- ---- tables that are listed as a file is checked
+
+-- the file begins with the groups of these tables, whose names differ, and the tables are listed whatever groups follow
+pub record CheckedFront (file : List ℕ) (tables : List NamedTable) (place : ℕ) : Type 0 where
+  pub groups : List GroupData
+  pub each : All IsGroup groups
+  pub stand : Stands file 0 (file_bytes groups) place
+  pub listed : (others : List GroupData) → AllByRecursion IsGroup others → drop place file ≡ file_bytes others → AreTablesOf file tables groups others
+  pub once : AllPairs (λ s t. s.header.name ≢ t.header.name) tables
+
+pub CheckedFront-none : (file : List ℕ) → CheckedFront file [] 0
+unfolding AreTablesOf
+CheckedFront-none file = record {
+  groups = [];
+  each = All-nil IsGroup;
+  stand = record { spelled = refl; within = omega arith };
+  listed = λ others all is. tt;
+  once = λ i j d lt within. absurd (omega arith);
+}
+
+-- one more table
+pub CheckedFront-next : (file : List ℕ) (tables : List NamedTable) (place end : ℕ) → CheckedFront file tables place → (table : NamedTable) → HasTable file place table end → All (λ t. t.header.name ≢ table.header.name) tables
+    → CheckedFront file (tables ++ table ∷ []) end
+CheckedFront-next file tables place end so table has new =
+    let group = group_of table has.entries in record {
+      groups = so.groups ++ group ∷ [];
+      each = All-push IsGroup so.groups group so.each has.is_group;
+      stand = rw (flat_map-append group_bytes so.groups (group ∷ []), append-nil) (Stands-then file 0 place end (file_bytes so.groups) (group_bytes group) so.stand has.stands);
+      listed = λ others all is.
+          let left : AreLeft (tables_from file table) has.entries others = record {
+            within = has.within;
+            each = recursion_from_All (IsEntry table.header.flags) has.entries has.is_group.each;
+            are_groups = all;
+            spelled = has.entries_stand.spelled ∙ ap (λ (x : List ℕ). entries_bytes has.entries ++ x) is;
+          } in
+          tables_push file tables so.groups others table group (so.listed (group ∷ others) (has.is_group, all) (has.stands.spelled ∙ ap (λ (x : List ℕ). group_bytes group ++ x) is))
+          (record { header = refl; are_left = left });
+      once = all_pairs_push (λ s t. s.header.name ≢ t.header.name) tables table so.once new;
+    }
+
+pub none_found : (found : Option ℕ) → is_some found ≡ false → IsTrue (is_none found)
+none_found None none = refl
+none_found (Some place) none = absurd cc
+
+-- at the end of the file they are the tables of a changeset
+pub CheckedFront-all : (file : List ℕ) (named : NamedData) (place : ℕ) → named.file ≡ file → CheckedFront file named.tables place → length file ≤ place → IsListing file named
+CheckedFront-all file named place same so le =
+    let ends = drop_all place file le in
+    let listed : AreTablesOf file named.tables so.groups [] = so.listed [] tt ends in (
+      so.groups,
+      (record { each = so.each; once = names_apart file named.tables so.groups [] listed so.once }, so.stand.spelled ∙ ap (λ (x : List ℕ). file_bytes so.groups ++ x) ends ∙ append-nil (file_bytes so.groups)),
+      subst (λ (f : List ℕ). AreTablesOf f named.tables so.groups []) (sym same) listed,
+    )

@@ -1,9 +1,10 @@
 -- What a quick pass through a file has found so far. No public contract names this.
-use Rattle.std.specs.Prelude.{◌≡◌, ℕ, List, [], ◌∷◌, ◌++◌, map, All}
+use Rattle.std.specs.Prelude.{◌≡◌, ℕ, ◌≤◌, List, length, map, All}
 use Rattle.cs_entries.specs.declared.entry.Entry.{Entry}
 use Rattle.cs_wire.specs.Entry.{IsEntry, key_of}
 use Rattle.cs_wire.specs.Changeset.{GroupData, IsGroup, entries_bytes, group_bytes, file_bytes}
 use Rattle.cs_tables.specs.Distinct.{number_of}
+use Rattle.cs_tables.specs.Named.{NamedTable}
 use Rattle.cs_wire.specs.ReadFaults.{Stands}
 
 -- entries stand there up to a place, and these are the numbers of their keys
@@ -13,12 +14,17 @@ pub record HasEntries (file : List ℕ) (at : ℕ) (flags keys : List ℕ) (end 
   pub stand : Stands file at (entries_bytes entries) end
   pub keys_are : keys ≡ map (λ e. number_of (key_of flags e.change)) entries
 
--- a group stands there up to a place, and the number of its name was added to those before
-pub record HasGroup (file : List ℕ) (at : ℕ) (before names : List ℕ) (end : ℕ) : Type 0 where
-  pub group : GroupData
-  pub is_group : IsGroup group
-  pub stands : Stands file at (group_bytes group) end
-  pub names_are : names ≡ before ++ number_of group.header.name ∷ []
+-- the group of a table that has these entries
+abbrev pub group_of : NamedTable → List Entry → GroupData
+group_of table entries = record { header = table.header; entries = entries }
+
+-- the group of this table stands there up to a place
+pub record HasTable (file : List ℕ) (at : ℕ) (table : NamedTable) (end : ℕ) : Type 0 where
+  pub entries : List Entry
+  pub is_group : IsGroup (group_of table entries)
+  pub stands : Stands file at (group_bytes (group_of table entries)) end
+  pub within : table.start ≤ length file
+  pub entries_stand : Stands file table.start (entries_bytes entries) end
 
 -- the file begins with groups, and these are the numbers of their names
 pub record HasGroups (file names : List ℕ) (end : ℕ) : Type 0 where

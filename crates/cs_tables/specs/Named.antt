@@ -1,7 +1,7 @@
 -- Tables that are found by their names, as contracts see them; this project's own.
 use Rattle.std.specs.Prelude.{◌≡◌, ℕ, List, [], ◌∷◌, ◌++◌, get_or}
-use Rattle.cs_wire.specs.Changeset.{HeaderData, GroupData}
-use Rattle.cs_tables.specs.declared.named.ListedTable.{ListedTable}
+use Rattle.cs_wire.specs.Changeset.{HeaderData, GroupData, IsFileOf}
+use Rattle.cs_tables.specs.declared.checked.ListedTable.{ListedTable}
 use Rattle.cs_wire.specs.Headers.{header_of}
 use Rattle.cs_tables.specs.Tables.{TablesData, AreLeft}
 
@@ -47,3 +47,7 @@ AreTablesOf file (table ∷ tables) [] behind = ⊥
 
 abbrev pub AreListed : NamedData → List GroupData → Type 0
 AreListed named groups = AreTablesOf named.file named.tables groups []
+
+-- the file is that of a changeset, and its tables are listed
+abbrev pub IsListing : List ℕ → NamedData → Type 0
+IsListing file named = (groups : List GroupData) × IsFileOf file groups × AreListed named groups

@@ -1,14 +1,24 @@
 //! The quick check of a file.
 ghost use Rattle.std.specs.Prelude.{◌≡◌, ◌<◌, ◌≤◌, [], IfOk, IfSome, IsTrue, length};
 ghost use Rattle.cs_wire.specs.Changeset.{IsAccepted};
-ghost use Rattle.cs_tables.specs.Checked.{HasEntries, HasGroup};
+ghost use Rattle.cs_tables.specs.Checked.{HasEntries, HasTable};
 ghost use Rattle.cs_tables.specs.Distinct.{number_of as number_in};
+ghost use Rattle.cs_tables.specs.Named.{table_of};
 ghost use Rattle.cs_wire.specs.Entry.{key_of};
 
 use crate::distinct::{number_of, take_distinct};
 use cs_value::NoMemory;
-use cs_wire::{EntryRef, has_entry, read_entry, read_header};
+use cs_wire::{EntryRef, HeaderRef, has_entry, read_entry, read_header};
 use std::alloc::Global;
+
+/// A table, and the byte offset of its first entry.
+#[derive(Debug, Drop)]
+pub(crate) struct ListedTable<'a> {
+    pub(crate) header: HeaderRef<'a>,
+    pub(crate) start: usize,
+    // Room for its entries, as a list of them takes it at first.
+    pub(crate) room: usize,
+}
 
 /// Whether the quick check accepts a file. A file that it accepts is the file of a changeset. A file that it rejects
 /// can still be one, if two names or two keys have the same number.
@@ -26,40 +36,45 @@ pub(crate) fn is_changeset(alloc: Global, file: &[u8]) -> Result<bool, NoMemory>
     let mut keys = Vec::new(alloc);
     let mut place = 0;
     'tables: while place < file.len() {
-        let Some(end) = pass_table(alloc, file, place, &mut names, &mut keys)? else {
+        let Some((table, end)) = pass_table(alloc, file, place, &mut keys)? else {
             return Ok(false);
         };
+        names.push(number_of(table.header.name.as_bytes()))?;
         place = end;
     }
     Ok(take_distinct(&mut names))
 }
 
-/// The end of the table at a byte offset, if its header and entries are well formed and no two of its keys have the
-/// same number. Appends the number of the table's name.
-fn pass_table(
+/// The table at a byte offset and its end, if its header and entries are well formed and no two of its keys have the
+/// same number.
+pub(crate) fn pass_table<'a>(
     alloc: Global,
-    file: &[u8],
+    file: &'a [u8],
     at: usize,
-    names: &mut Vec<u64>,
     keys: &mut Vec<u64>,
-) -> Result<Option<usize>, NoMemory>
+) -> Result<Option<(ListedTable<'a>, usize)>, NoMemory>
     requires within { at < length file.now }
     requires no_key { keys.old.items ≡ [] }
-    ensures table { IfOk result (λ end. IfSome end (HasGroup file.now at names.old.items names.new.items)) }
-    ensures no_key { IfOk result (λ end. IfSome end (λ _. keys.new.items ≡ [])) }
-    ensures forward { IfOk result (λ end. IfSome end (λ end. at < end)) }
+    ensures table { IfOk result (λ read. IfSome read (λ read. HasTable file.now at (table_of read.0) read.1)) }
+    ensures no_key { IfOk result (λ read. IfSome read (λ _. keys.new.items ≡ [])) }
+    ensures forward { IfOk result (λ read. IfSome read (λ read. at < read.1)) }
 {
     let Ok((header, start)) = read_header(file, at) else {
         return Ok(None);
     };
-    names.push(number_of(header.name.as_bytes()))?;
     let Some(end) = pass_entries(alloc, file, start, header.flags, keys)? else {
         return Ok(None);
     };
-    if keys.is_empty() || !take_distinct(keys) {
+    let room = keys.len();
+    if room == 0 || !take_distinct(keys) {
         return Ok(None);
     }
-    Ok(Some(end))
+    let table = ListedTable {
+        header,
+        start,
+        room,
+    };
+    Ok(Some((table, end)))
 }
 
 /// The end of the entries at a byte offset, if each is well formed. Appends the numbers of their keys.

@@ -65,7 +65,7 @@ impl<'a> KeyedEntries<'a> {
         ensures entries { (entries : List EntryData) (groups : List GroupData) → AreLeft tables.entry entries groups
             → IfOk result (λ keyed. keyed.entries ≡ entries) }
     {
-        let mut keyed = KeyedEntries::with_capacity(alloc, tables.flags(), tables.count_entries())?;
+        let mut keyed = KeyedEntries::with_capacity(alloc, tables.flags(), tables.room())?;
         let mut left = tables;
         'entries: while let Some(entry) = left.next_entry() {
             keyed.push(alloc, entry)?;

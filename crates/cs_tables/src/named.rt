@@ -1,26 +1,22 @@
 //! The tables of a changeset's file by their names.
-ghost use Rattle.std.specs.Prelude.{◌≡◌, ◌≢◌, ◌<◌, ◌↔◌, All, IfOk, IfSome, IsTrue, List, is_none, length};
+ghost use Rattle.std.specs.Prelude.{◌≡◌, ◌≢◌, ◌<◌, ◌↔◌, ◌++◌, ◌∷◌, [], All, IfErr, IfOk, IfSome, IsTrue, List, OnErr, OnOk, is_none, length};
+ghost use Rattle.cs_value.specs.Refusals.{Refuses};
 ghost use Rattle.cs_entries.specs.declared.entry.Entry.{Entry as EntryData};
 ghost use Rattle.cs_wire.specs.Changeset.{GroupData, IsHeader};
 ghost use Rattle.cs_wire.specs.Headers.{header_of};
-ghost use Rattle.cs_tables.specs.Named.{AreListed, header_at, tables_at};
+ghost use Rattle.cs_wire.specs.ReadFaults.{ReadFails};
+ghost use Rattle.cs_tables.specs.Named.{AreListed, IsListing, header_at, table_of, tables_at};
 ghost use Rattle.cs_tables.specs.Tables.{AreLeft};
 ghost use Rattle.cs_wire.specs.Views.{IsPlaceOf};
 
+use crate::checked::{ListedTable, pass_table};
 use crate::hashed::HashedPlaces;
 use crate::tables::Tables;
 use cs_value::NoMemory;
-use cs_wire::HeaderRef;
+use cs_wire::{HeaderRef, ReadError};
 use std::alloc::Global;
 use std::borrow::CowSlice;
 use std::marker::Model;
-
-/// A table, and the byte offset of its first entry.
-#[derive(Debug, Drop)]
-struct ListedTable<'a> {
-    header: HeaderRef<'a>,
-    start: usize,
-}
 
 /// The tables of a changeset's file, in the order of the file, indexed by their names. Contracts see the file, the
 /// headers, and the byte offset of each table's first entry.
@@ -49,30 +45,88 @@ impl<'a> Model for NamedTables<'a> {
 }
 
 impl<'a> NamedTables<'a> {
-    /// Lists the remaining tables. Remaining entries of the open table are skipped.
+    /// Reads a file to its end, and lists its tables.
+    ///
+    /// The quick check of [`Tables::read`] lists them as it goes. If it fails, the file is read and listed in turn. It
+    /// allocates what `Tables::read` does, and the tables and their names.
     ///
     /// # Errors
     ///
-    /// [`NoMemory`] if memory runs out.
-    pub fn list(alloc: Global, tables: Tables<'a>) -> Result<NamedTables<'a>, NoMemory>
+    /// As `Tables::read`.
+    pub fn read(alloc: Global, file: &'a [u8]) -> Result<NamedTables<'a>, ReadError>
+        ensures found { IfOk result (IsListing file.now) }
+        ensures refused { IfErr result (Refuses (λ f. ReadFails file.now f.kind f.place)) }
+    {
+        if let Some(named) = NamedTables::read_quickly(alloc, file)? {
+            return Ok(named);
+        }
+        Ok(NamedTables::list(alloc, Tables::read(alloc, file)?)?)
+    }
+
+    /// Lists the tables of a file that the quick check accepts.
+    fn read_quickly(alloc: Global, file: &'a [u8]) -> Result<Option<NamedTables<'a>>, NoMemory>
+        ensures { IfOk result (λ named. IfSome named (IsListing file.now)) }
+    {
+        let mut named = NamedTables::new(alloc, file);
+        let mut keys = Vec::new(alloc);
+        let mut place = 0;
+        'tables: while place < file.len() {
+            let Some((table, end)) = pass_table(alloc, file, place, &mut keys)? else {
+                return Ok(None);
+            };
+            if named.find(table.header.name).is_some() {
+                return Ok(None);
+            }
+            named.push(table)?;
+            place = end;
+        }
+        Ok(Some(named))
+    }
+
+    /// Lists the remaining tables. Remaining entries of the open table are skipped.
+    fn list(alloc: Global, tables: Tables<'a>) -> Result<NamedTables<'a>, NoMemory>
         ensures { (entries : List EntryData) (groups : List GroupData) → AreLeft tables.entry entries groups → IfOk result (λ named. AreListed named groups) }
     {
-        let file = tables.file();
-        let mut listed = Vec::new(alloc);
-        let mut places = HashedPlaces::new(alloc);
+        let mut named = NamedTables::new(alloc, tables.file());
         let mut left = tables;
         'tables: while let Some(header) = left.next_table() {
-            places.insert(CowSlice::Borrowed(header.name.as_bytes()), listed.len())?;
-            listed.push(ListedTable {
+            named.push(ListedTable {
                 header,
                 start: left.place(),
+                room: 0,
             })?;
         }
-        Ok(NamedTables {
+        Ok(named)
+    }
+
+    /// No tables of a file.
+    fn new(alloc: Global, file: &'a [u8]) -> NamedTables<'a>
+        ensures { result ≡ record { file = file.now; tables = [] } }
+    {
+        NamedTables {
             file,
-            tables: listed,
-            places,
-        })
+            tables: Vec::new(alloc),
+            places: HashedPlaces::new(alloc),
+        }
+    }
+
+    /// Appends a table. [`NoMemory`] leaves the list unchanged.
+    fn push(&mut self, table: ListedTable<'a>) -> Result<(), NoMemory>
+        requires { IsHeader (header_of table.header) }
+        ensures file { self.new.file ≡ self.old.file }
+        ensures ok { OnOk result (self.new.tables ≡ self.old.tables ++ table_of table.entry ∷ []) }
+        ensures err { OnErr result (self.new ≡ self.old) }
+    {
+        let name = CowSlice::Borrowed(table.header.name.as_bytes());
+        let place = self.tables.len();
+        self.tables.push(table)?;
+        match self.places.insert(name, place) {
+            Ok(()) => Ok(()),
+            Err(refusal) => {
+                self.tables.pop();
+                Err(refusal)
+            }
+        }
     }
 
     /// The number of tables.
@@ -105,6 +159,6 @@ impl<'a> NamedTables<'a> {
         ensures { result ≡ tables_at self.now place }
     {
         let table = &self.tables[place];
-        Tables::at(self.file, table.start, table.header.flags)
+        Tables::at(self.file, table.start, table.header.flags, table.room)
     }
 }

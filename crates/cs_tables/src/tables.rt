@@ -20,6 +20,8 @@ pub struct Tables<'a> {
     place: usize,
     // Those of the open table: empty before the first.
     flags: &'a [u8],
+    // Room for the entries of the open table, as a list of them takes it at first.
+    room: usize,
 }
 
 impl<'a> Model for Tables<'a> {
@@ -52,14 +54,21 @@ impl<'a> Tables<'a> {
             file,
             place: 0,
             flags: &[],
+            room: 0,
         })
     }
 
-    /// A file that was read, at a byte offset where entries of a table with these flags remain.
-    pub(crate) fn at(file: &'a [u8], place: usize, flags: &'a [u8]) -> Tables<'a>
+    /// A file that was read, at a byte offset where entries of a table with these flags remain. A list of them takes
+    /// room for so many at first.
+    pub(crate) fn at(file: &'a [u8], place: usize, flags: &'a [u8], room: usize) -> Tables<'a>
         ensures { result ≡ record { file = file.now; place = place; flags = flags.now } }
     {
-        Tables { file, place, flags }
+        Tables {
+            file,
+            place,
+            flags,
+            room,
+        }
     }
 
     /// The file.
@@ -76,21 +85,16 @@ impl<'a> Tables<'a> {
         self.flags
     }
 
+    /// The room that a list of the entries of the open table takes at first.
+    pub(crate) fn room(&self) -> usize {
+        self.room
+    }
+
     /// The byte offset.
     pub(crate) fn place(&self) -> usize
         ensures { result ≡ self.now.place }
     {
         self.place
-    }
-
-    /// The number of remaining entries of the open table.
-    pub(crate) fn count_entries(&self) -> usize {
-        let mut left = Tables::at(self.file, self.place, self.flags);
-        let mut count: usize = 0;
-        'entries: while left.next_entry().is_some() {
-            count = count.saturating_add(1);
-        }
-        count
     }
 
     /// The header of the next table, or None after the last. Remaining entries of the previous table are skipped.
@@ -128,6 +132,7 @@ impl<'a> Tables<'a> {
         };
         self.place = end;
         self.flags = header.flags;
+        self.room = 0;
         Some(header)
     }
 
