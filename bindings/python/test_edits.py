@@ -193,14 +193,29 @@ class Texts(Folder):
             self.assertEqual([*store.rows("t"), *store.rows("k")], [(1, 2), (1,)])
 
     def test_names(self):
-        """No line can make a table with a line feed in a name."""
-        with self.store() as store:
-            for name in ("a\nb", "\n"):
-                with self.assertRaises(ValueError):
-                    store.create(name, ["a"], key=["a"])
-                with self.assertRaises(ValueError):
-                    store.create("v", ["a", name], key=["a"])
-            self.assertEqual(store.tables(), ["k", "t", "u"])
+        """Names of tables and columns may have line feeds."""
+        path = self.folder / "store"
+        schema = Schema(("\n", "b\n\n"), ("\n",), ("b\n\n",))
+        with vollikash.open(path) as store:
+            store.create("a\nb", *schema)
+            with store.session("a\nb") as session:
+                store.insert("a\nb", 1, "x")
+                store.update("a\nb", {"b\n\n": "y\n"}, where={"\n": 1})
+                self.assertEqual(list(store.rows("a\nb")), [(1, "y\n")])
+                changes = session.changeset()
+                session.undo()
+            self.expect("TableExists", store.create, "a\nb", ["a"], ["a"])
+            self.expect("NotNull", store.insert, "a\nb", 2, None)
+            report = store.apply(changes)
+            self.assertEqual((report.skipped, report.applied), ([], 1))
+            with self.assertRaises(ConflictError) as caught:
+                store.apply(changes)
+            self.assertEqual(caught.exception.table, "a\nb")
+            report = store.apply(changes, conflict="omit")
+            self.assertEqual([conflict.table for conflict in report.conflicts], ["a\nb"])
+            store.delete("a\nb", where={"\n": 1})
+        with vollikash.open(path) as store:
+            self.assertEqual((store.tables(), store.schema("a\nb")), (["a\nb"], schema))
 
 
 class Reads(Folder):

@@ -132,17 +132,15 @@ class Stores(Folder):
                 with self.subTest(repr(value)[:20]), self.assertRaises(ValueError):
                     store.insert("t", 1, value)
             left = store._process.left
-            for name in ("a\nb", "\ud800", 7):
-                with self.subTest(repr(name)), self.assertRaises(ValueError):
-                    store.create(name, ["a"], key=["a"])
-            for call in (
-                lambda: store.create("a\nb", ["a"], key=["a"]), lambda: store.session("t", "a\nb"),
-                lambda: store.create("u", ["a", "a\nb"], key=["a"]), lambda: store.rows("a\nb"),
-                lambda: store.insert("a\nb", 1), lambda: store.delete("t", where={"a\nb": 1}),
-                lambda: store.update("t", {"a\nb": 1}, where={"a": 1}),
-            ):
-                with self.assertRaisesRegex(ValueError, r"'a\\nb' has a line feed.* take another$"):
-                    call()
+            for name in ("\ud800", 7):
+                for call in (
+                    lambda: store.create(name, ["a"], key=["a"]), lambda: store.session("t", name),
+                    lambda: store.create("u", ["a", name], key=["a"]), lambda: store.rows(name),
+                    lambda: store.insert(name, 1), lambda: store.delete("t", where={name: 1}),
+                    lambda: store.update("t", {name: 1}, where={"a": 1}),
+                ):
+                    with self.subTest(repr(name)), self.assertRaises(ValueError):
+                        call()
             self.assertEqual((store._process.left, store.tables()), (left, ["t"]))
             with self.assertRaises(ValueError):
                 store.update("t", {}, where={"a": 1})

@@ -22,7 +22,7 @@ from support import library, reader, trials
 from support.making import Maker
 from support.model import Refusal, concatenated, dump_lines, shown_tables, sql_lines
 from support.program import PATIENCE, PROGRAM
-from support.shell import Shell, Words
+from support.shell import Shell, Words, meant, one_line
 from support.stores import read_store
 from support.topics import read_topics
 
@@ -58,7 +58,7 @@ class Script:
 
     def add(self, *lines):
         """Adds lines."""
-        for line in lines:
+        for line in map(one_line, lines):
             self.shell.is_refused = False
             self.lines.append(line)
             self.answers.append(b"".join(told + b"\n" for told in self.shell.answer(line)))
@@ -213,6 +213,8 @@ class Case:
             line = maker.create()
         if maker.is_one_in(20):
             line = maker.spoiled(line)
+        if maker.is_one_in(40):
+            line = maker.spelled(line)
         return maker.blanks(line) if maker.is_one_in(20) else line
 
     def of_lines(self):
@@ -265,7 +267,7 @@ class Case:
 
     def done(self, script):
         """The lines of a script of statements that were not refused."""
-        return [line for line, answer in zip(script.lines, script.answers) if answer == b""]
+        return [meant(line) for line, answer in zip(script.lines, script.answers) if answer == b""]
 
     def ask_apply(self, shell, line):
         """Has SQLite's library asked what a line applies."""

@@ -12,8 +12,8 @@ TEXTS = (
     "q'" * 64,
 )
 BLOBS = (b"", b"\0", b"1", b"x", b"\0\xff", b"T", b"\x80" * 127, bytes(range(256)))
-NAMES = tuple(map(str.encode, ("t", "u", "w", "it's", 'a"b', "select", "a b", "é", "T", "NULL", "--", "x", "t" * 130)))
-COLUMNS = tuple(map(str.encode, ("a", "b", "c", "d", "e", "A", "a b", 'c"d', "key", "é", "--", "X")))
+NAMES = tuple(map(str.encode, ("t", "u", "w", "it's", 'a"b', "select", "a b", "é", "T", "NULL", "--", "x", "a\nb", "t" * 130)))
+COLUMNS = tuple(map(str.encode, ("a", "b", "c", "d", "e", "A", "a b", 'c"d', "key", "é", "--", "X", "\n")))
 
 # Bytes that mean something in a file.
 TELLING = b"\x00\x01\x02\x03\x04\x05\x06\x09\x12\x17\x50\x54\x7f\x80\x81\x88\xff"
@@ -319,7 +319,7 @@ class Maker:
         return name if is_plain and not self.is_one_in(4) else quoted(name, b'"')
 
     def literal(self, value):
-        """A value in a line: no text in it has a line feed."""
+        """A value in a line."""
         return literals([value])
 
     def assignments(self, columns, values):
@@ -443,13 +443,18 @@ class Maker:
         for _ in range(self.upto(2)):
             at = self.place(line)
             line = line[:at] + self.pick(SPOILERS) + line[at + self.chance.randrange(3):]
-        return line.replace(b"\n", b" ")
+        return line
 
     def blanks(self, line):
         """A line with other blanks, or keywords in the other case."""
         if self.is_one_in(3) and is_text(line):
             return line.swapcase()
         return self.pick((b" ", b"\t", b"  ", b"\r")).join((b"", line, b""))
+
+    def spelled(self, line):
+        """A line that stands for this one."""
+        digits = line.hex().encode()
+        return b".line " + self.pick((digits, digits, digits.upper(), digits + b"0", b"2e6c696e6520" + digits))
 
 
 DAMAGES = (

@@ -8,7 +8,7 @@ from typing import Callable, Dict, NoReturn, Optional, Sequence, TypeVar, Union
 from ._causes import cause_of
 from ._edits import Edits, refusal
 from ._errors import ChangesetError, Code, ConflictError, ProgramError, StoreError
-from ._lines import Report, malformed, read_nothing, read_report
+from ._lines import Report, as_line, malformed, read_nothing, read_report
 from ._process import LONGEST, LONGEST_FILE, MARK_SLOT, Process, path_word, run_command
 from ._schema import Schema, is_unfinished, read_schemas
 
@@ -129,11 +129,12 @@ class Asker:
         self, read: Callable[[str], _Answer], *lines: str, kept: int = KEPT
     ) -> _Answer:
         """Return what `_ask` does, also in a transaction."""
-        self._make_room(lines, kept)
+        *before, last = sent = [as_line(line) for line in lines]
+        self._make_room(sent, kept)
         try:
-            for line in lines[:-1]:
+            for line in before:
                 read_nothing(self._reply(line))
-            return read(self._reply(lines[-1]))
+            return read(self._reply(last))
         except ProgramError:
             self._process.end()
             raise

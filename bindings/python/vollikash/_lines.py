@@ -53,16 +53,13 @@ class Report(NamedTuple):
     ignored: int = 0
 
 
-def is_one_line(values: Iterable[Value]) -> bool:
-    """Return whether no text of some values has a line feed, which no line can hold."""
-    return not any(isinstance(value, str) and "\n" in value for value in values)
+def as_line(line: str) -> str:
+    """Return a line of the shell that does what this one does, and has no line feed."""
+    return f".line {line.encode().hex()}" if "\n" in line else line
 
 
-def _one_line(what: str, text: str) -> str:
+def _unicode(what: str, text: str) -> str:
     """Return a text that a line can hold."""
-    if "\n" in text:
-        why = "has a line feed, which no line of the shell can hold: take another"
-        raise ValueError(f"{what} {why}")
     try:
         text.encode()
     except UnicodeEncodeError as error:
@@ -74,7 +71,7 @@ def spelled_name(name: str) -> str:
     """Return the name of a table or a column, as a line has it."""
     if not isinstance(name, str):
         raise ValueError(f"a name is a str, and not {type(name).__name__}")
-    return '"' + _one_line(f"the name {name!r}", name).replace('"', '""') + '"'
+    return '"' + _unicode(f"the name {name!r}", name).replace('"', '""') + '"'
 
 
 def spelled(value: Value) -> str:
@@ -82,7 +79,7 @@ def spelled(value: Value) -> str:
     if value is None:
         return "NULL"
     if isinstance(value, str):
-        return "'" + _one_line(f"the text {value[:40]!r}", value).replace("'", "''") + "'"
+        return "'" + _unicode(f"the text {value[:40]!r}", value).replace("'", "''") + "'"
     if isinstance(value, (bytes, bytearray, memoryview)):
         return f"X'{bytes(value).hex()}'"
     if isinstance(value, int) and not isinstance(value, bool):

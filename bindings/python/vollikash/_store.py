@@ -14,7 +14,7 @@ from ._edits import Edits, Row, TableEdits, refusal
 from ._errors import Code, ConflictError, ProgramError, StoreError
 from ._files import Bytes, as_bytes, invert
 from ._lines import (
-    CHOICES, Choice, Conflict, Kind, Report, is_one_line, read_nothing, read_report, read_rows,
+    CHOICES, Choice, Conflict, Kind, Report, as_line, read_nothing, read_report, read_rows,
     spelled, spelled_name,
 )
 from ._process import LONGEST_FILE, fits_program
@@ -97,11 +97,11 @@ class Store(Asker):
     """A store in a file, or in memory for the path ":memory:". Made by `open`.
 
     Several threads can share a store: a lock lets one call or one transaction through at a time.
-    Each call is one or two lines of the shell. An edit with a text that no line can hold, and a
+    Each call is one or two lines of the shell. An edit that is too long for a line, and a
     transaction, is the apply of a changeset.
 
     A refused call raises `StoreError`, `ConflictError` or `ChangesetError`, and changes nothing. A
-    value or a name that no line can hold raises ValueError before anything is sent. If the program
+    value that no row can hold, or a name that is no text, raises ValueError before anything is sent. If the program
     is missing, has ended or does not answer in time, that is `ProgramError`, and the store is
     closed.
 
@@ -180,7 +180,7 @@ class Store(Asker):
             row = ", ".join(map(spelled, values))
             return f"INSERT INTO {spelled_name(table)} VALUES({row});" if values else None
 
-        self._edit(table, values, line, lambda edits: edits.insert(values))
+        self._edit(table, line, lambda edits: edits.insert(values))
 
     def insert_many(self, table: str, rows: Iterable[Sequence[Value]]) -> None:
         """Insert rows in one transaction. If one is refused, none is, and the error says which."""
@@ -194,8 +194,7 @@ class Store(Asker):
             row, key = _assigned(values, ", "), _assigned(where, " AND ")
             return f"UPDATE {spelled_name(table)} SET {row} WHERE {key};"
 
-        given = (*values.values(), *where.values())
-        self._edit(table, given, line, lambda edits: edits.update(values, where))
+        self._edit(table, line, lambda edits: edits.update(values, where))
 
     def delete(self, table: str, where: Mapping[str, Value]) -> None:
         """Delete the row whose key columns have the values of `where`."""
@@ -203,20 +202,16 @@ class Store(Asker):
         def line() -> str:
             return f"DELETE FROM {spelled_name(table)} WHERE {_assigned(where, ' AND ')};"
 
-        self._edit(table, (*where.values(),), line, lambda edits: edits.delete(where))
+        self._edit(table, line, lambda edits: edits.delete(where))
 
     def _edit(
-        self,
-        table: str,
-        values: Sequence[Value],
-        line: Callable[[], Optional[str]],
-        edit: Callable[[TableEdits], None],
+        self, table: str, line: Callable[[], Optional[str]], edit: Callable[[TableEdits], None]
     ) -> None:
-        """Make an edit with these values by a line, or by a changeset if no line can hold it."""
+        """Make an edit by a line, or by a changeset if no line can hold it."""
         with self._lock:
-            if self._edits is None and is_one_line(values):
+            if self._edits is None:
                 spelled_edit = line()
-                if spelled_edit is not None and fits_program(spelled_edit):
+                if spelled_edit is not None and fits_program(as_line(spelled_edit)):
                     self._ask(read_nothing, spelled_edit)
                     return
             with self._edited(table) as edits:

@@ -12,9 +12,9 @@
 //! ```
 //!
 //! `script` reads lines by a `reader`, passes each to a machine, and prints the replies. `shell` is the machine over a
-//! store, by [`cs_machine`]. `meant` has the line that a line stands for. `words` has the command line, whose words [`cs_words`] reads. `command` has the commands
-//! on files and stores, over a folder of [`cs_folder`]. `laws` has what holds of whole scripts. [`cs_replies`] has the
-//! replies and how they are printed.
+//! store, by [`cs_machine`]. `meant` has the line that a line stands for. `words` has the command line, whose words
+//! [`cs_words`] reads. `command` has the commands on files and stores, over a folder of [`cs_folder`]. `laws` has what
+//! holds of whole scripts. [`cs_replies`] has the replies and how they are printed.
 #![tactic(auto)]
 
 mod command;

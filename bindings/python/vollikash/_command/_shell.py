@@ -25,6 +25,7 @@ INSERT INTO t VALUES(1, 'x');                    inserts a row
 UPDATE t SET b='y' WHERE a=1;                    sets columns of the row with this key
 DELETE FROM t WHERE a=1;                         deletes the row with this key
 SELECT * FROM t;                                 prints all rows
+.line HEX                                        does what the line of these bytes does
 
 .import FILE SLOT           puts the bytes of a file into a slot
 .write SLOT FILE            writes the bytes of a slot into a file
