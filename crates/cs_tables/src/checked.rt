@@ -16,7 +16,7 @@ use std::alloc::Global;
 pub(crate) struct ListedTable<'a> {
     pub(crate) header: HeaderRef<'a>,
     pub(crate) start: usize,
-    // Room for its entries, as a list of them takes it at first.
+    // The number of its entries if the quick check counted them, or else 0.
     pub(crate) room: usize,
 }
 

@@ -55,7 +55,8 @@ impl<'a> KeyedEntries<'a> {
         })
     }
 
-    /// Lists the remaining entries of the open table. They are counted first, so that one allocation holds them all.
+    /// Lists the remaining entries of the open table. One allocation holds them all if the quick check counted them,
+    /// as mostly for a table that [`NamedTables::open`](crate::NamedTables::open) opened.
     ///
     /// # Errors
     ///

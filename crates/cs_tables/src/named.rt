@@ -47,12 +47,14 @@ impl<'a> Model for NamedTables<'a> {
 impl<'a> NamedTables<'a> {
     /// Reads a file to its end, and lists its tables.
     ///
-    /// The quick check of [`Tables::read`] lists them as it goes. If it fails, the file is read and listed in turn. It
-    /// allocates what `Tables::read` does, and the tables and their names.
+    /// It lists them as it makes the quick check of [`Tables::read`], and finds repeated names by its index. If the
+    /// quick check fails, `Tables::read` decides, and the tables are listed after it. It allocates what `Tables::read`
+    /// does, and the list and its index.
     ///
     /// # Errors
     ///
-    /// As `Tables::read`.
+    /// `Fault` if the file is not the file of a changeset: the first fault, in the order of the file. `NoMemory` if
+    /// memory runs out.
     pub fn read(alloc: Global, file: &'a [u8]) -> Result<NamedTables<'a>, ReadError>
         ensures found { IfOk result (IsListing file.now) }
         ensures refused { IfErr result (Refuses (λ f. ReadFails file.now f.kind f.place)) }
@@ -63,7 +65,7 @@ impl<'a> NamedTables<'a> {
         Ok(NamedTables::list(alloc, Tables::read(alloc, file)?)?)
     }
 
-    /// Lists the tables of a file that the quick check accepts.
+    /// Lists the tables of a file, or returns None if the quick check fails.
     fn read_quickly(alloc: Global, file: &'a [u8]) -> Result<Option<NamedTables<'a>>, NoMemory>
         ensures { IfOk result (λ named. IfSome named (IsListing file.now)) }
     {
@@ -83,7 +85,7 @@ impl<'a> NamedTables<'a> {
         Ok(Some(named))
     }
 
-    /// Lists the remaining tables. Remaining entries of the open table are skipped.
+    /// Lists the remaining tables of a file that was read. Remaining entries of the open table are skipped.
     fn list(alloc: Global, tables: Tables<'a>) -> Result<NamedTables<'a>, NoMemory>
         ensures { (entries : List EntryData) (groups : List GroupData) → AreLeft tables.entry entries groups → IfOk result (λ named. AreListed named groups) }
     {
@@ -99,7 +101,7 @@ impl<'a> NamedTables<'a> {
         Ok(named)
     }
 
-    /// No tables of a file.
+    /// An empty list of tables of a file.
     fn new(alloc: Global, file: &'a [u8]) -> NamedTables<'a>
         ensures { result ≡ record { file = file.now; tables = [] } }
     {
@@ -110,7 +112,7 @@ impl<'a> NamedTables<'a> {
         }
     }
 
-    /// Appends a table. [`NoMemory`] leaves the list unchanged.
+    /// Appends a table. [`NoMemory`] leaves the list unchanged and drops the table.
     fn push(&mut self, table: ListedTable<'a>) -> Result<(), NoMemory>
         requires { IsHeader (header_of table.header) }
         ensures file { self.new.file ≡ self.old.file }

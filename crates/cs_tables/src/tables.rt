@@ -20,7 +20,7 @@ pub struct Tables<'a> {
     place: usize,
     // Those of the open table: empty before the first.
     flags: &'a [u8],
-    // Room for the entries of the open table, as a list of them takes it at first.
+    // The number of entries of the open table if the quick check counted them, or else 0.
     room: usize,
 }
 
@@ -58,8 +58,8 @@ impl<'a> Tables<'a> {
         })
     }
 
-    /// A file that was read, at a byte offset where entries of a table with these flags remain. A list of them takes
-    /// room for so many at first.
+    /// A file that was read, at a byte offset where entries of a table with these flags remain. A list of them makes
+    /// room for so many entries at first.
     pub(crate) fn at(file: &'a [u8], place: usize, flags: &'a [u8], room: usize) -> Tables<'a>
         ensures { result ≡ record { file = file.now; place = place; flags = flags.now } }
     {
@@ -85,7 +85,7 @@ impl<'a> Tables<'a> {
         self.flags
     }
 
-    /// The room that a list of the entries of the open table takes at first.
+    /// How many entries of the open table a list makes room for at first.
     pub(crate) fn room(&self) -> usize {
         self.room
     }

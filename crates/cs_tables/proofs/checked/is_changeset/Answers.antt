@@ -7,7 +7,7 @@ pub tables-preserved : goal.tables-preserved
 tables-preserved c =
     let ensured = c.in_ok-table.ensures in (
       HasGroups-push c.args.file.now c.tables.names.items c.push.new.self.items c.tables.place c.in-Some.end c.tables.invariant.0 (table_of c.in-Some.table) (rw c.in-Some.is at ensured.table)
-      c.as_bytes.result.now c.number_of.result c.as_bytes.ensures.value c.number_of.ensures c.in_ok-push.ensures.items,
+          c.as_bytes.result.now c.number_of.result c.as_bytes.ensures.value c.number_of.ensures c.in_ok-push.ensures.items,
       rw c.in-Some.is at ensured.no_key,
     )
 
