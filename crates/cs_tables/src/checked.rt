@@ -11,13 +11,12 @@ use cs_value::NoMemory;
 use cs_wire::{EntryRef, HeaderRef, has_entry, read_entry, read_header};
 use std::alloc::Global;
 
-/// A table, and the byte offset of its first entry.
+/// A table, the byte offset of its first entry, and the number of its entries.
 #[derive(Debug, Drop)]
 pub(crate) struct ListedTable<'a> {
     pub(crate) header: HeaderRef<'a>,
     pub(crate) start: usize,
-    // The number of its entries if the quick check counted them, or else 0.
-    pub(crate) room: usize,
+    pub(crate) count: usize,
 }
 
 /// Whether the quick check accepts a file. A file that it accepts is the file of a changeset. A file that it rejects
@@ -65,14 +64,14 @@ pub(crate) fn pass_table<'a>(
     let Some(end) = pass_entries(alloc, file, start, header.flags, keys)? else {
         return Ok(None);
     };
-    let room = keys.len();
-    if room == 0 || !take_distinct(keys) {
+    let count = keys.len();
+    if count == 0 || !take_distinct(keys) {
         return Ok(None);
     }
     let table = ListedTable {
         header,
         start,
-        room,
+        count,
     };
     Ok(Some((table, end)))
 }

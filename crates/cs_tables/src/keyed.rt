@@ -55,8 +55,8 @@ impl<'a> KeyedEntries<'a> {
         })
     }
 
-    /// Lists the remaining entries of the open table. One allocation holds them all if the quick check counted them,
-    /// as mostly for a table that [`NamedTables::open`](crate::NamedTables::open) opened.
+    /// Lists the remaining entries of the open table. One allocation holds them all if
+    /// [`NamedTables::open`](crate::NamedTables::open) opened it, since `NamedTables` counts them.
     ///
     /// # Errors
     ///
@@ -66,7 +66,7 @@ impl<'a> KeyedEntries<'a> {
         ensures entries { (entries : List EntryData) (groups : List GroupData) → AreLeft tables.entry entries groups
             → IfOk result (λ keyed. keyed.entries ≡ entries) }
     {
-        let mut keyed = KeyedEntries::with_capacity(alloc, tables.flags(), tables.room())?;
+        let mut keyed = KeyedEntries::with_capacity(alloc, tables.flags(), tables.count())?;
         let mut left = tables;
         'entries: while let Some(entry) = left.next_entry() {
             keyed.push(alloc, entry)?;

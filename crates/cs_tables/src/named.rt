@@ -95,7 +95,7 @@ impl<'a> NamedTables<'a> {
             named.push(ListedTable {
                 header,
                 start: left.place(),
-                room: 0,
+                count: left.count_entries(),
             })?;
         }
         Ok(named)
@@ -161,6 +161,6 @@ impl<'a> NamedTables<'a> {
         ensures { result ≡ tables_at self.now place }
     {
         let table = &self.tables[place];
-        Tables::at(self.file, table.start, table.header.flags, table.room)
+        Tables::at(self.file, table.start, table.header.flags, table.count)
     }
 }

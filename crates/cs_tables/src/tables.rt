@@ -20,8 +20,8 @@ pub struct Tables<'a> {
     place: usize,
     // Those of the open table: empty before the first.
     flags: &'a [u8],
-    // The number of entries of the open table if the quick check counted them, or else 0.
-    room: usize,
+    // The number of entries of the open table if they were counted, or else 0.
+    count: usize,
 }
 
 impl<'a> Model for Tables<'a> {
@@ -54,20 +54,19 @@ impl<'a> Tables<'a> {
             file,
             place: 0,
             flags: &[],
-            room: 0,
+            count: 0,
         })
     }
 
-    /// A file that was read, at a byte offset where entries of a table with these flags remain. A list of them makes
-    /// room for so many entries at first.
-    pub(crate) fn at(file: &'a [u8], place: usize, flags: &'a [u8], room: usize) -> Tables<'a>
+    /// A file that was read, at a byte offset where entries of a table with these flags remain, and their number or 0.
+    pub(crate) fn at(file: &'a [u8], place: usize, flags: &'a [u8], count: usize) -> Tables<'a>
         ensures { result ≡ record { file = file.now; place = place; flags = flags.now } }
     {
         Tables {
             file,
             place,
             flags,
-            room,
+            count,
         }
     }
 
@@ -85,9 +84,19 @@ impl<'a> Tables<'a> {
         self.flags
     }
 
-    /// How many entries of the open table a list makes room for at first.
-    pub(crate) fn room(&self) -> usize {
-        self.room
+    /// The number of entries of the open table if they were counted, or else 0.
+    pub(crate) fn count(&self) -> usize {
+        self.count
+    }
+
+    /// Counts the remaining entries of the open table.
+    pub(crate) fn count_entries(&self) -> usize {
+        let mut left = Tables::at(self.file, self.place, self.flags, 0);
+        let mut count: usize = 0;
+        'entries: while left.next_entry().is_some() {
+            count = count.saturating_add(1);
+        }
+        count
     }
 
     /// The byte offset.
@@ -132,7 +141,7 @@ impl<'a> Tables<'a> {
         };
         self.place = end;
         self.flags = header.flags;
-        self.room = 0;
+        self.count = 0;
         Some(header)
     }
 

@@ -7,8 +7,8 @@ use Rattle.cs_tables.proofs.checked.pass_table.Goals as goal
 pub returns-clause-table : goal.returns-clause-table
 returns-clause-table c =
     let read = c.in-Ok.ensures in
-    let table : NamedTable = table_of (record { header = c.in-Ok.header; start = c.in-Ok.start; room = c.len-room.result }) in
-    let some : 0 < length c.pass_entries.new.keys.items = omega (arith, c.len-room.ensures) in
+    let table : NamedTable = table_of (record { header = c.in-Ok.header; start = c.in-Ok.start; count = c.len-count.result }) in
+    let some : 0 < length c.pass_entries.new.keys.items = omega (arith, c.len-count.ensures) in
     HasTable-read c.args.file.now c.args.at c.in-Some.end table c.pass_entries.new.keys.items
     read.well_formed read.found (rw c.in-Some.is at c.in_ok-end.ensures) some (c.take_distinct.ensures.distinct c.if-not-take_distinct.false)
 
