@@ -15,9 +15,9 @@
 //! ```
 //!
 //! `tables` has the iterator, and `checked` the quick check of a file, which compares numbers of names and keys that
-//! `distinct` computes. `named` lists the tables of a file as it makes the quick check, and indexes them by their
-//! names. `keyed` indexes entries by their keys. Both do so by `hashed`. `CALLING.md`, next to this folder, shows a
-//! caller.
+//! `distinct` computes. `named` lists the tables of a file as it makes the quick check, and indexes them by their names.
+//! `keyed` indexes entries by their keys. Both do so by `hashed`.
+//! `CALLING.md`, next to this folder, shows a caller.
 #![tactic(auto)]
 
 mod checked;
