@@ -19,10 +19,9 @@
 **   * malloc, realloc and free belong to one allocator, whose blocks are aligned to
 **     16 bytes.
 **
-** The caller owns every buffer and every struct. A call allocates at most some eleven
-** times the bytes of its files (vollikash_check some twenty times), and frees all of it
-** before it returns. vollikash_next, vollikash_value and vollikash_message allocate
-** nothing. A text is made in memory first, and grows with the length of a table's
+** The caller owns every buffer and every struct. A call allocates at most some twenty
+** times the bytes of its files, and frees all of it before it returns. vollikash_next,
+** vollikash_value and vollikash_message allocate nothing. A text is made in memory first, and grows with the length of a table's
 ** name times the number of its changes. A call keeps no state, so several threads
 ** can call at once.
 */
