@@ -21,9 +21,9 @@
 **
 ** The caller owns every buffer and every struct. A call allocates at most some twenty
 ** times the bytes of its files, and frees all of it before it returns. vollikash_next,
-** vollikash_value and vollikash_message allocate nothing. A text is made in memory first, and grows with the length of a table's
-** name times the number of its changes. A call keeps no state, so several threads
-** can call at once.
+** vollikash_value and vollikash_message allocate nothing. A text is made in memory
+** first, and grows with the length of a table's name times the number of its changes.
+** A call keeps no state, so several threads can call at once.
 */
 #ifndef VOLLIKASH_H
 #define VOLLIKASH_H
