@@ -704,7 +704,7 @@ class Conflicts(Folder):
         maker, asked, refused = Maker(random.Random("conflicts")), 0, 0
         for number in range(8 * SEEDS):
             tables = self.tables(maker)
-            file = reader.write(maker.changeset_of(tables))
+            file = self.file(maker, tables)
             noop = maker.pick((b"report", b"ignore"))
             with self.subTest(number), self.filled(tables) as store:
                 wanted = self.wanted(tables, file, random.Random(number), noop)
@@ -721,6 +721,14 @@ class Conflicts(Folder):
                 refused += isinstance(wanted, str)
         self.assertGreater(asked, 100)
         self.assertGreater(refused, 5)
+
+    def file(self, maker, tables):
+        """A made-up file for tables. One that has a key twice is left out."""
+        while True:
+            file = reader.write(maker.changeset_of(tables))
+            with contextlib.suppress(reader.Fault):
+                reader.Reader(file).groups()
+                return file
 
     def wanted(self, tables, file, chance, noop):
         """What the model reports, as text, or why it refuses."""
