@@ -722,6 +722,22 @@ class Conflicts(Folder):
         self.assertGreater(asked, 100)
         self.assertGreater(refused, 5)
 
+    def test_edits_by_the_function(self):
+        """They are refused, and the apply with them."""
+        with self.store() as store:
+            with store.session("t") as session:
+                store.insert("t", 1, "x")
+                file = session.changeset()
+            for call in (
+                lambda: store.insert("t", 2, 3), lambda: store.insert_many("t", [(2, 3)]), store.transaction().__enter__,
+                lambda: store.apply(file, conflict="replace"), lambda: store.session("t"),
+            ):
+                with self.assertRaisesRegex(RuntimeError, "only read rows"):
+                    store.apply(file, on_conflict=lambda conflict: call())
+            store.apply(file, on_conflict=lambda conflict: "omit" if store.get("t", 1) else "abort")
+            store.insert("t", 2, 3)
+            self.assertEqual(set(store.rows("t")), {(1, "x"), (2, 3)})
+
     def file(self, maker, tables):
         """A made-up file for tables. One that has a key twice is left out."""
         while True:

@@ -75,6 +75,8 @@ class Asker:
         self._schemas: Dict[str, Schema] = {}
         # The edits of the open transaction.
         self._edits: Optional[Edits] = None
+        # Whether a function decides conflicts.
+        self._is_deciding = False
         # The program that has loaded the changeset that was applied last.
         self._loader: Optional[Process] = None
         self._process = self._start()
@@ -121,9 +123,11 @@ class Asker:
             return self._ask_at_once(read, *lines, kept=kept)
 
     def _expect_no_transaction(self) -> None:
-        """Raise RuntimeError if a transaction is open."""
+        """Raise RuntimeError if a transaction is open, or a function decides conflicts."""
         if self._edits is not None:
             raise RuntimeError("a transaction is open, which has only edits and reads of rows")
+        if self._is_deciding:
+            raise RuntimeError("a function that decides conflicts can only read rows")
 
     def _ask_at_once(
         self, read: Callable[[str], _Answer], *lines: str, kept: int = KEPT

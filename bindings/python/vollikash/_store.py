@@ -314,7 +314,7 @@ class Store(Asker):
 
         With `on_conflict` that function is called in place of these choices, once for each conflict
         in the order of the file, with a `PendingConflict`. It returns the choice. Nothing is
-        written before its last call.
+        written before its last call. It can read rows; other calls of the store raise RuntimeError.
         """
         choices: Mapping[Kind, Choice] = {
             "data": data, "notfound": notfound, "conflict": conflict, "constraint": constraint
@@ -391,7 +391,11 @@ class Store(Asker):
             self._expect_no_transaction()
             self._expect_fit(file)
             decider = Decider(handler, ignore_noop)
-            kept = decided(file, self._schemas, self._select, decider)
+            self._is_deciding = True
+            try:
+                kept = decided(file, self._schemas, self._select, decider)
+            finally:
+                self._is_deciding = False
             choices: Mapping[Kind, Choice] = {**_ABORTS, "data": "replace", "conflict": "replace"}
             report = self._apply_chosen(kept, choices, ignore_noop)
             return report._replace(conflicts=decider.conflicts, skipped=decider.skipped)
