@@ -729,8 +729,9 @@ class Conflicts(Folder):
                 store.insert("t", 1, "x")
                 file = session.changeset()
             for call in (
-                lambda: store.insert("t", 2, 3), lambda: store.insert_many("t", [(2, 3)]), store.transaction().__enter__,
-                lambda: store.apply(file, conflict="replace"), lambda: store.session("t"),
+                lambda: store.insert("t", 2, 3), lambda: store.insert_many("t", [(2, 3)]),
+                store.transaction().__enter__, lambda: store.apply(file, conflict="replace"),
+                lambda: store.session("t"),
             ):
                 with self.assertRaisesRegex(RuntimeError, "only read rows"):
                     store.apply(file, on_conflict=lambda conflict: call())
