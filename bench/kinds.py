@@ -44,7 +44,7 @@ MANY = 100_000
 # What is done here and not by SQLite.
 CHECKS = "the file is checked to its end first, for repeated keys too"
 INVERTS = CHECKS + "; SQLite copies INSERTs unread"
-CHECKS_BOTH = "both files are checked to their ends first; crafted keys collide in the map of keys"
+CHECKS_BOTH = "both files are checked to their ends first; crafted keys fall into one bucket"
 KEYS = "the places of the keys are kept, to find repeated ones"
 COPIES = "the bytes are made apart, and then copied into the buffer of the caller"
 VALUES = "each call reads its change up to the value: the square of the columns in all"

@@ -11,7 +11,6 @@ import os
 import pathlib
 import random
 import sqlite3
-import subprocess
 import sys
 import traceback
 from collections.abc import Callable, Iterable, Iterator
@@ -23,9 +22,6 @@ sys.path[:0] = [str(TOP / "bindings/python"), str(TOP / "tests")]
 from support import stores  # noqa: E402
 
 COUNTS = (1_000, 10_000, 100_000, 1_000_000)
-
-# The bits of a hash that choose the first place in a map of 5000 keys.
-BITS = 10
 
 
 class Shape(NamedTuple):
@@ -59,10 +55,10 @@ SHAPES = (
 
 
 def keys_from(shape: Shape, first: int, count: int) -> list[int]:
-    """Return so many keys. Crafted ones collide in a map of the program, from wherever they are."""
+    """Return so many keys. Crafted ones fall into one bucket of a concatenation (`cs_tables`)."""
     if shape.order == "crafted":
-        found = subprocess.check_output(["./collide", str(count), str(BITS)])
-        return list(map(int, found.split()))
+        buckets = count // 30 * 30 + 31
+        return [key * buckets for key in range(count)]
     keys = list(range(first, first + count))
     if shape.order == "shuffled":
         random.Random(1).shuffle(keys)

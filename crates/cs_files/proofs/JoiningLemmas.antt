@@ -9,6 +9,7 @@ use Rattle.cs_value.specs.Refusals.{Refuses}
 use Rattle.cs_value.specs.declared.refusal.OrNoMemory.{OrNoMemory}
 use Rattle.cs_value.specs.declared.refusal.OrNoMemory.TheVariants.{Fault, NoMemory}
 use Rattle.cs_entries.specs.declared.fault.ReadFault.{ReadFault}
+use Rattle.cs_entries.specs.declared.entry.Change.TheVariants.{Insert}
 use Rattle.cs_entries.specs.declared.entry.Entry.{Entry}
 use Rattle.cs_wire.specs.Entry.{entry_bytes, key_of}
 use Rattle.cs_wire.specs.Changeset.{HeaderData, GroupData, IsAccepted, IsChangeset, IsFileOf, IsGroup, entries_bytes, file_bytes, group_bytes, header_bytes}
@@ -58,6 +59,9 @@ module _ {X : Type 0} (bytes_of : X → List ℕ) where
 
 -- ---- what is written of a second entry that is not marked
 
+abbrev pub no_entry : Entry
+no_entry = record { indirect = false; change = Insert [] }
+
 pub unmet_bytes : (flags : List ℕ) (met : List Bool) (firsts seconds : List Entry) (place : ℕ) (entry : Entry) (marked : Bool) → AreMet (λ e. key_of flags e.change) met firsts seconds → place < length seconds → entry ≡ get_or seconds place entry
     → marked ≡ get_or met place false → (cond marked [] (entry_bytes entry)) ≡ some_bytes entry_bytes (if_new (λ e. key_of flags e.change) firsts entry)
 unmet_bytes flags met firsts seconds place entry marked so lt is marked_is =
@@ -66,6 +70,11 @@ unmet_bytes flags met firsts seconds place entry marked so lt is marked_is =
     by : (m : Bool) → cond m [] (entry_bytes entry) ≡ some_bytes entry_bytes (if m then None else Some entry)
     by true = refl
     by false = refl
+
+-- ---- a second entry that is found
+
+pub key_there : (own key : List ℕ) (seconds : List Entry) (place : ℕ) (seen : Entry) → IsPlaceOf (λ e. e ≡ seen) seconds place → key_of own seen.change ≡ key → IsPlaceOf (λ e. key_of own e.change ≡ key) seconds place
+key_there own key seconds place seen at is = record { within = at.within; holds = λ d. ap (λ (e : Entry). key_of own e.change) (at.holds d) ∙ is }
 
 -- ---- a table of which entries are left
 

@@ -13,4 +13,5 @@ abbrev pub IsPartner : Option TablesData → Option GroupData → Type 0
 IsPartner None None = Unit {0}
 IsPartner None (Some group) = ⊥
 IsPartner (Some tables) None = ⊥
-IsPartner (Some tables) (Some group) = (tables.flags ≡ group.header.flags) × (behind : List GroupData) × AreLeft tables group.entries behind
+IsPartner (Some tables) (Some group) = (tables.flags ≡ group.header.flags) × (behind : List GroupData)
+    × AreLeft tables group.entries behind

@@ -57,7 +57,8 @@ pub fn number_keys_bytes(alloc: Global, file: &[u8]) -> Result<Vec<u8>, ReadErro
 
 /// Returns the file of the concatenation: it does what the first file does, and then what the second does, as
 /// [`cs_group::concat`]. It is at most as long as both together. The call allocates as many bytes as both files have,
-/// what reading allocates, the names of all tables, and the keys of one table of the second file at a time.
+/// what reading allocates, the names of all tables, and some 33 bytes for each entry of one table of the second file
+/// at a time.
 ///
 /// # Errors
 ///
@@ -121,7 +122,8 @@ fn print_file<W: Write>(
     ensures printed { OnOk result (PrintsTo W.contents (form_text form) file.now out.old out.new) }
     ensures refused { IfErr result (IfUnread (Refuses (λ f. ReadFails file.now f.kind f.place))) }
     ensures untouched { IfErr result (IfUnread (λ _. out.new ≡ out.old)) }
-    ensures interrupted { IfErr result (IfUnwritten (PrintsFrontTo W.contents (form_text form) file.now out.old out.new)) }
+    ensures interrupted { IfErr result (IfUnwritten (PrintsFrontTo W.contents (form_text form) file.now out.old
+        out.new)) }
     ensures flagged { IfErr result (IfUnwritten (IsTrue (has_failed out.new))) }
 {
     let tables = Tables::read(alloc, file)?;

@@ -27,11 +27,14 @@ pub(crate) fn join_tables<'a>(
     added: &NamedTables<'a>,
     capacity: usize,
 ) -> Result<Vec<u8>, ToolFault>
-    ensures joinable { (groups others : List GroupData) → AreListed known.now groups → AreListed added.now others → IsChangeset groups → IsChangeset others
+    ensures joinable { (groups others : List GroupData) → AreListed known.now groups → AreListed added.now others
+        → IsChangeset groups → IsChangeset others
         → IfOk result (λ _. AreJoinable groups others) }
-    ensures joined { (groups others : List GroupData) → AreListed known.now groups → AreListed added.now others → IsChangeset groups → IsChangeset others
+    ensures joined { (groups others : List GroupData) → AreListed known.now groups → AreListed added.now others
+        → IsChangeset groups → IsChangeset others
         → IfOk result (λ out. out.items ≡ file_bytes (joined groups others)) }
-    ensures refused { (groups others : List GroupData) → AreListed known.now groups → AreListed added.now others → IsChangeset groups → IsChangeset others
+    ensures refused { (groups others : List GroupData) → AreListed known.now groups → AreListed added.now others
+        → IsChangeset groups → IsChangeset others
         → IfErr result (Refuses (AreUnjoined groups others)) }
 {
     if let Some(place) = first_clash(known, added) {

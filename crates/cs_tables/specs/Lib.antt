@@ -1,6 +1,8 @@
 pub mod Tables
 pub mod Named
 pub mod Distinct
+pub mod Chains
+pub mod KeyedFile
 pub mod Checked
 pub use Rattle.cs_value.specs.Maps
 pub use Rattle.cs_value.specs.Refusals

@@ -100,7 +100,7 @@ fn pass_entries(
 }
 
 /// The number of an entry's key.
-fn key_number(alloc: Global, seen: &EntryRef<'_>) -> Result<u64, NoMemory>
+pub(crate) fn key_number(alloc: Global, seen: &EntryRef<'_>) -> Result<u64, NoMemory>
     ensures { IfOk result (λ number. number ≡ number_in (key_of seen.now.flags seen.now.entry.change)) }
 {
     let key = seen.key_slice(alloc)?;

@@ -1,5 +1,5 @@
 //! An index of texts by their hashes.
-ghost use Rattle.std.specs.Prelude.{◌≡◌, IfOk, OnOk, OnErr};
+ghost use Rattle.std.specs.Prelude.{◌≡◌, OnOk, OnErr};
 ghost use Rattle.std.specs.Cow.{cow_slice_items};
 ghost use Rattle.std.specs.FinMap as map;
 
@@ -31,18 +31,6 @@ impl<'a> Model for HashedPlaces<'a> {
 }
 
 impl<'a> HashedPlaces<'a> {
-    /// An empty index with room for some texts.
-    pub(crate) fn with_capacity(
-        alloc: Global,
-        capacity: usize,
-    ) -> Result<HashedPlaces<'a>, NoMemory>
-        ensures { IfOk result (λ places. places ≡ map.empty) }
-    {
-        Ok(HashedPlaces {
-            places: IndexMap::with_capacity(alloc, capacity)?,
-        })
-    }
-
     /// An empty index.
     pub(crate) fn new(alloc: Global) -> HashedPlaces<'a>
         ensures { result ≡ map.empty }

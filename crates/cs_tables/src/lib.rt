@@ -15,11 +15,14 @@
 //! ```
 //!
 //! `tables` has the iterator, and `checked` the quick check of a file, which compares numbers of names and keys that
-//! `distinct` computes. `named` lists the tables of a file as it makes the quick check, and indexes them by their names.
-//! `keyed` indexes entries by their keys. Both do so by `hashed`.
+//! `distinct` computes. `named` lists the tables of a file as it makes the quick check, and indexes them by their
+//! names,
+//! which `hashed` does. `keyed` indexes the entries of a table by their keys: `chains` finds the places of a key's
+//! number.
 //! `CALLING.md`, next to this folder, shows a caller.
 #![tactic(auto)]
 
+mod chains;
 mod checked;
 mod distinct;
 mod hashed;
@@ -27,6 +30,6 @@ mod keyed;
 mod named;
 mod tables;
 
-pub use keyed::KeyedEntries;
+pub use keyed::{FoundEntry, KeyedEntries};
 pub use named::NamedTables;
 pub use tables::Tables;

@@ -1,5 +1,6 @@
 //! The tables of a changeset's file by their names.
-ghost use Rattle.std.specs.Prelude.{◌≡◌, ◌≢◌, ◌<◌, ◌↔◌, ◌++◌, ◌∷◌, [], All, IfErr, IfOk, IfSome, IsTrue, List, OnErr, OnOk, is_none, length};
+ghost use Rattle.std.specs.Prelude.{◌≡◌, ◌≢◌, ◌<◌, ◌↔◌, ◌++◌, ◌∷◌, [], All, IfErr, IfOk, IfSome, IsTrue, List, OnErr};
+ghost use Rattle.std.specs.Prelude.{OnOk, is_none, length};
 ghost use Rattle.cs_value.specs.Refusals.{Refuses};
 ghost use Rattle.cs_entries.specs.declared.entry.Entry.{Entry as EntryData};
 ghost use Rattle.cs_wire.specs.Changeset.{GroupData, IsHeader};
@@ -87,7 +88,8 @@ impl<'a> NamedTables<'a> {
 
     /// Lists the remaining tables of a file that was read. Remaining entries of the open table are skipped.
     fn list(alloc: Global, tables: Tables<'a>) -> Result<NamedTables<'a>, NoMemory>
-        ensures { (entries : List EntryData) (groups : List GroupData) → AreLeft tables.entry entries groups → IfOk result (λ named. AreListed named groups) }
+        ensures { (entries : List EntryData) (groups : List GroupData) → AreLeft tables.entry entries groups
+            → IfOk result (λ named. AreListed named groups) }
     {
         let mut named = NamedTables::new(alloc, tables.file());
         let mut left = tables;

@@ -44,7 +44,8 @@ impl<'a> Tables<'a> {
     /// `Fault` if the file is not the file of a changeset: the first fault, in the order of the file. `NoMemory` if
     /// memory runs out.
     pub fn read(alloc: Global, file: &'a [u8]) -> Result<Tables<'a>, ReadError>
-        ensures found { IfOk result (λ tables. (groups : List GroupData) × IsFileOf file.now groups × AreLeft tables [] groups) }
+        ensures found { IfOk result (λ tables. (groups : List GroupData) × IsFileOf file.now groups
+            × AreLeft tables [] groups) }
         ensures refused { IfErr result (Refuses (λ f. ReadFails file.now f.kind f.place)) }
     {
         if !is_changeset(alloc, file)? {
@@ -108,9 +109,11 @@ impl<'a> Tables<'a> {
 
     /// The header of the next table, or None after the last. Remaining entries of the previous table are skipped.
     pub fn next_table(&mut self) -> Option<HeaderRef<'a>>
-        ensures next { (entries : List EntryData) (groups : List GroupData) → AreLeft self.old entries groups → NextTable groups result self.new }
+        ensures next { (entries : List EntryData) (groups : List GroupData) → AreLeft self.old entries groups
+            → NextTable groups result self.new }
         ensures well_formed { IfSome result (λ header. IsHeader (header_of header)) }
-        ensures forward { IfSome result (λ _. (self.old.place < self.new.place) × (self.new.place ≤ length self.new.file)) }
+        ensures forward { IfSome result (λ _. (self.old.place < self.new.place)
+            × (self.new.place ≤ length self.new.file)) }
         ensures file { self.new.file ≡ self.old.file }
     {
         self.pass_entries();
@@ -119,7 +122,8 @@ impl<'a> Tables<'a> {
 
     /// Skips the remaining entries of the open table.
     fn pass_entries(&mut self)
-        ensures left { (entries : List EntryData) (groups : List GroupData) → AreLeft self.old entries groups → AreLeft self.new [] groups }
+        ensures left { (entries : List EntryData) (groups : List GroupData) → AreLeft self.old entries groups
+            → AreLeft self.new [] groups }
         ensures ahead { self.old.place ≤ self.new.place }
         ensures file { self.new.file ≡ self.old.file }
     {
@@ -130,7 +134,8 @@ impl<'a> Tables<'a> {
     fn open_table(&mut self) -> Option<HeaderRef<'a>>
         ensures next { (groups : List GroupData) → AreLeft self.old [] groups → NextTable groups result self.new }
         ensures well_formed { IfSome result (λ header. IsHeader (header_of header)) }
-        ensures forward { IfSome result (λ _. (self.old.place < self.new.place) × (self.new.place ≤ length self.new.file)) }
+        ensures forward { IfSome result (λ _. (self.old.place < self.new.place)
+            × (self.new.place ≤ length self.new.file)) }
         ensures file { self.new.file ≡ self.old.file }
     {
         if self.place >= self.file.len() {
@@ -147,9 +152,11 @@ impl<'a> Tables<'a> {
 
     /// The next entry of the open table, or None if none remains.
     pub fn next_entry(&mut self) -> Option<EntryRef<'a>>
-        ensures next { (entries : List EntryData) (groups : List GroupData) → AreLeft self.old entries groups → NextEntry self.old.flags entries groups result self.new }
+        ensures next { (entries : List EntryData) (groups : List GroupData) → AreLeft self.old entries groups
+            → NextEntry self.old.flags entries groups result self.new }
         ensures flags { (self.new.flags ≡ self.old.flags) × IfSome result (λ entry. entry.flags ≡ self.old.flags) }
-        ensures forward { IfSome result (λ _. (self.old.place < self.new.place) × (self.new.place ≤ length self.new.file)) }
+        ensures forward { IfSome result (λ _. (self.old.place < self.new.place)
+            × (self.new.place ≤ length self.new.file)) }
         ensures ahead { self.old.place ≤ self.new.place }
         ensures file { self.new.file ≡ self.old.file }
     {

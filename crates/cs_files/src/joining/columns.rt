@@ -12,9 +12,11 @@ use cs_wire::HeaderRef;
 
 /// Returns the index of the first table of the second file that has other columns or another key in the first.
 pub(crate) fn first_clash<'a>(known: &NamedTables<'a>, added: &NamedTables<'a>) -> Option<usize>
-    ensures clash { (groups others : List GroupData) → AreListed known.now groups → IsChangeset groups → AreListed added.now others
+    ensures clash { (groups others : List GroupData) → AreListed known.now groups → IsChangeset groups
+        → AreListed added.now others
         → IfSome result (FirstClash groups others) }
-    ensures none { (groups others : List GroupData) → AreListed known.now groups → IsChangeset groups → AreListed added.now others
+    ensures none { (groups others : List GroupData) → AreListed known.now groups → IsChangeset groups
+        → AreListed added.now others
         → IfNone result (AreJoinable groups others) }
 {
     for place in 0..added.len() {
@@ -27,7 +29,8 @@ pub(crate) fn first_clash<'a>(known: &NamedTables<'a>, added: &NamedTables<'a>) 
 
 /// Returns whether a table has the same columns as the table of its name in a file, if there is one.
 fn agrees<'a>(known: &NamedTables<'a>, header: &HeaderRef<'a>) -> bool
-    ensures { (groups : List GroupData) (group : GroupData) → AreListed known.now groups → IsChangeset groups → header_of header.now ≡ group.header
+    ensures { (groups : List GroupData) (group : GroupData) → AreListed known.now groups → IsChangeset groups
+        → header_of header.now ≡ group.header
         → IsTrue result ↔ AgreesWith groups group }
 {
     match known.find(header.name) {
@@ -40,7 +43,8 @@ fn agrees<'a>(known: &NamedTables<'a>, header: &HeaderRef<'a>) -> bool
 pub(crate) fn partner_of<'a>(named: &NamedTables<'a>, header: &HeaderRef<'a>) -> Option<Tables<'a>>
     ensures agree { IfSome result (λ tables. key_places tables.flags ≡ key_places header.now.flags.now) }
     ensures found { (groups : List GroupData) → AreListed named.now groups → IsChangeset groups
-        → IfSome (with_text table_name groups header.now.name.now) (λ group. key_places group.header.flags ≡ key_places header.now.flags.now)
+        → IfSome (with_text table_name groups header.now.name.now) (λ group. key_places group.header.flags ≡
+        key_places header.now.flags.now)
         → IsPartner result (with_text table_name groups header.now.name.now) }
 {
     let place = named.find(header.name)?;

@@ -1,11 +1,14 @@
 //! The entries of a table of a concatenation.
-ghost use Rattle.std.specs.Prelude.{◌≡◌, ◌≢◌, ◌<◌, ◌++◌, [], ℕ, All, IfOk, IfSome, IsTrue, List, OnOk, false, filter, filter_map, if◌then◌else◌, is_none, length, replicate};
+ghost use Rattle.std.specs.Prelude.{◌≡◌, ◌≢◌, ◌<◌, ◌++◌, [], ℕ, All, IfOk, IfSome, IsTrue, List, OnOk, false, filter};
+ghost use Rattle.std.specs.Prelude.{filter_map, if◌then◌else◌, is_none, length, replicate};
 ghost use Rattle.cs_entries.specs.declared.entry.Entry.{Entry as EntryData};
 ghost use Rattle.cs_wire.specs.Entry.{entry_bytes, key_of};
 ghost use Rattle.cs_wire.specs.Changeset.{GroupData, entries_bytes};
+ghost use Rattle.cs_tables.specs.KeyedFile.{AreKeyed, count_of};
 ghost use Rattle.cs_tables.specs.Tables.{AreLeft};
 ghost use Rattle.cs_wire.specs.Views.{IsPlaceOf};
-ghost use Rattle.cs_group.specs.Joining.{entry_key, is_new, joined_entries, joined_entry, key_places, left_of, merged, outcome};
+ghost use Rattle.cs_group.specs.Joining.{entry_key, is_new, joined_entries, joined_entry, key_places, left_of, merged};
+ghost use Rattle.cs_group.specs.Joining.{outcome};
 ghost use Rattle.cs_group.specs.Marks.{AreApart, AreMet};
 ghost use Rattle.cs_files.specs.Writing.{some_bytes};
 
@@ -23,9 +26,11 @@ pub(crate) fn write_joined<'a>(
     seconds: Tables<'a>,
 ) -> Result<(), NoMemory>
     requires agree { key_places seconds.flags ≡ key_places firsts.flags }
-    ensures { (entries others : List EntryData) (groups behind : List GroupData) → AreLeft firsts.entry entries groups → AreLeft seconds.entry others behind
+    ensures { (entries others : List EntryData) (groups behind : List GroupData)
+        → AreLeft firsts.entry entries groups → AreLeft seconds.entry others behind
         → AreApart (record { flags = seconds.entry.flags; entries = others })
-        → OnOk result (out.new.items ≡ out.old.items ++ entries_bytes (joined_entries firsts.entry.flags entries others)) }
+        → OnOk result (out.new.items ≡ out.old.items
+        ++ entries_bytes (joined_entries firsts.entry.flags entries others)) }
 {
     let keyed = KeyedEntries::list(alloc, seconds)?;
     let met = write_kept(alloc, out, firsts, &keyed)?;
@@ -41,14 +46,19 @@ fn write_kept<'a>(
     seconds: &KeyedEntries<'a>,
 ) -> Result<Vec<bool>, NoMemory>
     requires agree { key_places seconds.now.flags ≡ key_places firsts.flags }
-    ensures written { (entries : List EntryData) (groups : List GroupData) → AreLeft firsts.entry entries groups → AreApart seconds.now
+    ensures written { (entries others : List EntryData) (groups behind : List GroupData)
+        → AreLeft firsts.entry entries groups → AreKeyed seconds.now others behind
+        → AreApart (record { flags = seconds.now.flags; entries = others })
         → IfOk result (λ _. out.new.items ≡ out.old.items
-        ++ entries_bytes (filter_map (outcome (entry_key firsts.entry.flags) (joined_entry firsts.entry.flags) seconds.now.entries) entries)) }
-    ensures met { (entries : List EntryData) (groups : List GroupData) → AreLeft firsts.entry entries groups → AreApart seconds.now
-        → IfOk result (λ met. AreMet (entry_key firsts.entry.flags) met.items entries seconds.now.entries) }
-    ensures width { IfOk result (λ met. length met.items ≡ length seconds.now.entries) }
+        ++ entries_bytes (filter_map (outcome (entry_key firsts.entry.flags) (joined_entry firsts.entry.flags) others)
+        entries)) }
+    ensures met { (entries others : List EntryData) (groups behind : List GroupData)
+        → AreLeft firsts.entry entries groups → AreKeyed seconds.now others behind
+        → AreApart (record { flags = seconds.now.flags; entries = others })
+        → IfOk result (λ met. AreMet (entry_key firsts.entry.flags) met.items entries others) }
+    ensures width { IfOk result (λ met. length met.items ≡ count_of seconds.now) }
 {
-    let mut met = unmarked(alloc, seconds.entries().len())?;
+    let mut met = unmarked(alloc, seconds.len())?;
     let mut left = firsts;
     'entries: while let Some(entry) = left.next_entry() {
         if let Some(place) = write_outcome(alloc, out, &entry, seconds)? {
@@ -64,24 +74,27 @@ fn write_new<'a>(
     seconds: &KeyedEntries<'a>,
     met: &[bool],
 ) -> Result<(), NoMemory>
-    requires width { length met.now ≡ length seconds.now.entries }
-    ensures { (flags : List ℕ) (firsts : List EntryData) → AreMet (entry_key flags) met.now firsts seconds.now.entries
-        → OnOk result (out.new.items ≡ out.old.items ++ entries_bytes (filter (is_new (entry_key flags) firsts) seconds.now.entries)) }
+    requires width { length met.now ≡ count_of seconds.now }
+    ensures { (flags : List ℕ) (firsts others : List EntryData) (behind : List GroupData)
+        → AreKeyed seconds.now others behind → AreMet (entry_key flags) met.now firsts others
+        → OnOk result (out.new.items ≡ out.old.items
+        ++ entries_bytes (filter (is_new (entry_key flags) firsts) others)) }
 {
-    for (place, entry) in seconds.entries().iter().enumerate() {
-        write_unmet(out, entry, met[place])?;
+    for place in 0..seconds.len() {
+        write_unmet(out, seconds.bytes(place), met[place])?;
     }
     Ok(())
 }
 
-/// Appends an entry if it is not marked.
-fn write_unmet<'a>(out: &mut Vec<u8>, entry: &EntryRef<'a>, met: bool) -> Result<(), NoMemory>
-    ensures { OnOk result (out.new.items ≡ out.old.items ++ (if met then [] else entry_bytes entry.now.entry)) }
+/// Appends the bytes of an entry if it is not marked.
+fn write_unmet(out: &mut Vec<u8>, entry: &[u8], met: bool) -> Result<(), NoMemory>
+    ensures { OnOk result (out.new.items ≡ out.old.items ++ (if met then [] else entry.now)) }
 {
     if met {
         return Ok(());
     }
-    entry.write_to(out)
+    out.extend_from_slice(entry)?;
+    Ok(())
 }
 
 /// Returns this many marks, none of them set.
@@ -100,22 +113,28 @@ fn write_outcome<'a>(
     seconds: &KeyedEntries<'a>,
 ) -> Result<Option<usize>, NoMemory>
     requires agree { key_places seconds.now.flags ≡ key_places entry.now.flags }
-    ensures written { AreApart seconds.now → IfOk result (λ _. out.new.items ≡ out.old.items
-        ++ some_bytes entry_bytes (outcome (entry_key entry.now.flags) (joined_entry entry.now.flags) seconds.now.entries entry.now.entry)) }
-    ensures found { IfOk result (λ place. IfSome place (IsPlaceOf (λ e. key_of seconds.now.flags e.change
-        ≡ key_of entry.now.flags entry.now.entry.change) seconds.now.entries)) }
-    ensures absent { IfOk result (λ place. IsTrue (is_none place)
-        → All (λ e. key_of seconds.now.flags e.change ≢ key_of entry.now.flags entry.now.entry.change) seconds.now.entries) }
+    ensures written { (others : List EntryData) (behind : List GroupData) → AreKeyed seconds.now others behind
+        → AreApart (record { flags = seconds.now.flags; entries = others })
+        → IfOk result (λ _. out.new.items ≡ out.old.items
+        ++ some_bytes entry_bytes (outcome (entry_key entry.now.flags) (joined_entry entry.now.flags) others
+        entry.now.entry)) }
+    ensures within { IfOk result (λ place. IfSome place (λ p. p < count_of seconds.now)) }
+    ensures found { (others : List EntryData) (behind : List GroupData) → AreKeyed seconds.now others behind
+        → IfOk result (λ place. IfSome place (IsPlaceOf (λ e. key_of seconds.now.flags e.change ≡ key_of
+        entry.now.flags entry.now.entry.change) others)) }
+    ensures absent { (others : List EntryData) (behind : List GroupData) → AreKeyed seconds.now others behind
+        → IfOk result (λ place. IsTrue (is_none place)
+        → All (λ e. key_of seconds.now.flags e.change ≢ key_of entry.now.flags entry.now.entry.change) others) }
 {
     let key = entry.key_slice(alloc)?;
-    match seconds.find(key.as_slice()) {
+    match seconds.find(alloc, key.as_slice())? {
         None => {
             entry.write_to(out)?;
             Ok(None)
         }
-        Some(place) => {
-            write_merged(alloc, out, entry, &seconds.entries()[place])?;
-            Ok(Some(place))
+        Some(found) => {
+            write_merged(alloc, out, entry, &found.entry)?;
+            Ok(Some(found.place))
         }
     }
 }

@@ -5,7 +5,8 @@ ghost use Rattle.cs_wire.specs.Changeset.{GroupData, IsChangeset, IsHeader, entr
 ghost use Rattle.cs_wire.specs.Headers.{header_of};
 ghost use Rattle.cs_tables.specs.Named.{AreListed};
 ghost use Rattle.cs_tables.specs.Tables.{AreLeft};
-ghost use Rattle.cs_group.specs.Joining.{AreJoinable, if_new, is_new, joined_entries, joined_group, key_places, outcome, some_group, table_name, with_text};
+ghost use Rattle.cs_group.specs.Joining.{AreJoinable, if_new, is_new, joined_entries, joined_group, key_places};
+ghost use Rattle.cs_group.specs.Joining.{outcome, some_group, table_name, with_text};
 ghost use Rattle.cs_group.specs.Marks.{AreApart};
 ghost use Rattle.cs_files.specs.Writing.{some_bytes};
 
@@ -23,8 +24,10 @@ pub(crate) fn write_kept_tables<'a>(
     known: &NamedTables<'a>,
     added: &NamedTables<'a>,
 ) -> Result<(), NoMemory>
-    ensures { (groups others : List GroupData) → AreListed known.now groups → AreListed added.now others → IsChangeset others → AreJoinable groups others
-        → OnOk result (out.new.items ≡ out.old.items ++ file_bytes (filter_map (outcome table_name joined_group others) groups)) }
+    ensures { (groups others : List GroupData) → AreListed known.now groups → AreListed added.now others
+        → IsChangeset others → AreJoinable groups others
+        → OnOk result (out.new.items ≡ out.old.items
+        ++ file_bytes (filter_map (outcome table_name joined_group others) groups)) }
 {
     for place in 0..known.len() {
         write_kept_table(alloc, out, &known.header(place), known.open(place), added)?;
@@ -38,7 +41,8 @@ pub(crate) fn write_new_tables<'a>(
     known: &NamedTables<'a>,
     added: &NamedTables<'a>,
 ) -> Result<(), NoMemory>
-    ensures { (groups others : List GroupData) → AreListed known.now groups → IsChangeset groups → AreListed added.now others
+    ensures { (groups others : List GroupData) → AreListed known.now groups → IsChangeset groups
+        → AreListed added.now others
         → OnOk result (out.new.items ≡ out.old.items ++ file_bytes (filter (is_new table_name groups) others)) }
 {
     for place in 0..added.len() {
@@ -57,10 +61,15 @@ fn write_kept_table<'a>(
 ) -> Result<(), NoMemory>
     requires header { IsHeader (header_of header.now) }
     requires opened { firsts.flags ≡ header.now.flags.now }
-    ensures { (entries : List EntryData) (groups others : List GroupData) → AreLeft firsts.entry entries groups → AreListed added.now others → IsChangeset others
-        → IfSome (with_text table_name others header.now.name.now) (λ other. key_places other.header.flags ≡ key_places header.now.flags.now)
+    ensures { (entries : List EntryData) (groups others : List GroupData) → AreLeft firsts.entry entries groups
+        → AreListed added.now others → IsChangeset others
+        → IfSome (with_text table_name others header.now.name.now) (λ other. key_places other.header.flags ≡
+        key_places header.now.flags.now)
         → OnOk result (out.new.items ≡ out.old.items
-        ++ some_bytes group_bytes (outcome table_name joined_group others (record { header = header_of header.now; entries = entries }))) }
+        ++ some_bytes group_bytes (outcome table_name joined_group others (record {
+          header = header_of header.now;
+          entries = entries;
+        }))) }
 {
     match partner_of(added, header) {
         None => write_table(out, header, firsts),
@@ -76,8 +85,13 @@ fn write_new_table<'a>(
     tables: Tables<'a>,
 ) -> Result<(), NoMemory>
     requires { IsHeader (header_of header.now) }
-    ensures { (entries : List EntryData) (groups others : List GroupData) → AreListed known.now groups → IsChangeset groups → AreLeft tables.entry entries others
-        → OnOk result (out.new.items ≡ out.old.items ++ some_bytes group_bytes (if_new table_name groups (record { header = header_of header.now; entries = entries }))) }
+    ensures { (entries : List EntryData) (groups others : List GroupData) → AreListed known.now groups
+        → IsChangeset groups → AreLeft tables.entry entries others
+        → OnOk result (out.new.items ≡ out.old.items
+        ++ some_bytes group_bytes (if_new table_name groups (record {
+          header = header_of header.now;
+          entries = entries;
+        }))) }
 {
     match known.find(header.name) {
         None => write_table(out, header, tables),
@@ -93,7 +107,8 @@ fn write_table<'a>(
 ) -> Result<(), NoMemory>
     requires { IsHeader (header_of header.now) }
     ensures { (entries : List EntryData) (groups : List GroupData) → AreLeft tables.entry entries groups
-        → OnOk result (out.new.items ≡ out.old.items ++ group_bytes (record { header = header_of header.now; entries = entries })) }
+        → OnOk result (out.new.items ≡ out.old.items
+        ++ group_bytes (record { header = header_of header.now; entries = entries })) }
 {
     header.write_to(out)?;
     let mut left = tables;
@@ -125,9 +140,12 @@ fn write_both<'a>(
 ) -> Result<(), NoMemory>
     requires header { IsHeader (header_of header.now) }
     requires agree { key_places seconds.flags ≡ key_places firsts.flags }
-    ensures { (entries others : List EntryData) (groups behind : List GroupData) → AreLeft firsts.entry entries groups → AreLeft seconds.entry others behind
+    ensures { (entries others : List EntryData) (groups behind : List GroupData)
+        → AreLeft firsts.entry entries groups → AreLeft seconds.entry others behind
         → AreApart (record { flags = seconds.entry.flags; entries = others })
-        → OnOk result (out.new.items ≡ out.old.items ++ some_bytes group_bytes (some_group (header_of header.now) (joined_entries firsts.entry.flags entries others))) }
+        → OnOk result (out.new.items ≡ out.old.items
+        ++ some_bytes group_bytes (some_group (header_of header.now) (joined_entries firsts.entry.flags entries
+        others))) }
 {
     let start = out.len();
     header.write_to(out)?;

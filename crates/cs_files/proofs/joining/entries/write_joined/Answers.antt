@@ -15,7 +15,7 @@ returns c = λ entries others groups behind left right apart.
     let own = c.in_ok-keyed.ensures.flags in
     let all = c.in_ok-keyed.ensures.entries others behind right in
     let seconds = c.in_ok-keyed.keyed in
-    let distinct : AllPairs (λ d e. key_of seconds.flags d.change ≢ key_of seconds.flags e.change) seconds.entries = rw (all, own) apart in
-    let met : AreMet key c.as_slice.result.now entries seconds.entries = rw c.as_slice.ensures.value (c.in_ok-met.ensures.met entries groups left distinct) in
+    let distinct : AllPairs (λ d e. key_of seconds.flags d.change ≢ key_of seconds.flags e.change) others = rw own apart in
+    let met : AreMet key c.as_slice.result.now entries others = rw c.as_slice.ensures.value (c.in_ok-met.ensures.met entries others groups behind left all distinct) in
     joined_bytes entry_bytes c.args.out.now.items c.write_kept.new.out.items c.write_new.new.out.items (filter_map (outcome key (joined_entry flags) others) entries) (filter (is_new key entries) others)
-    (rw all at (c.in_ok-met.ensures.written entries groups left distinct)) (rw all at (c.in_ok-write_new.ensures flags entries met))
+    (c.in_ok-met.ensures.written entries others groups behind left all distinct) (c.in_ok-write_new.ensures flags entries others behind all met)

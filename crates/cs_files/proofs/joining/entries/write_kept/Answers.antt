@@ -7,9 +7,10 @@ use Rattle.cs_wire.specs.Entry.{entry_bytes, key_of}
 use Rattle.cs_wire.specs.Views.{IsPlaceOf}
 use Rattle.cs_group.specs.Joining.{joined_entry, outcome}
 use Rattle.cs_files.specs.Writing.{some_bytes}
+use Rattle.cs_tables.proofs.KeyedLemmas.{as_many}
 use Rattle.cs_tables.proofs.TablesLemmas.{PassedEntries-all}
 use Rattle.cs_group.specs.Marks.{AreMet}
-use Rattle.cs_group.proofs.MarkLemmas.{AreMet-none, AreMet-other, AreMet-marked, apart_of, as_many, keys_of, place_of}
+use Rattle.cs_group.proofs.MarkLemmas.{AreMet-none, AreMet-other, AreMet-marked, apart_of, keys_of, place_of}
 use Rattle.cs_files.proofs.JoiningLemmas.{some_flat}
 use Rattle.cs_files.proofs.PassLemmas.{WritesEntries-none, WritesEntries-next, WritesEntries-all}
 use Rattle.cs_files.proofs.joining.entries.write_kept.Goals as goal
@@ -17,13 +18,13 @@ use Rattle.cs_files.proofs.joining.entries.write_kept.Goals as goal
 pub entries-init : goal.entries-init
 entries-init c =
     let flags = c.args.firsts.flags in
-    let seconds = c.args.seconds.now.entries in
-    let none = c.in_ok-met.ensures ∙ ap (λ n. replicate n false) (as_many c.entries-2.result.now seconds c.entries-2.ensures.entries) in (
+    let seconds = c.args.seconds.now in
+    let none = c.in_ok-met.ensures ∙ ap (λ n. replicate n false) c.len.ensures in (
       refl,
-      ap length none ∙ length-replicate (length seconds) false,
-      λ entries groups left apart. (
-        WritesEntries-none (λ e. some_bytes entry_bytes (outcome (λ (f : Entry). key_of flags f.change) (joined_entry flags) seconds e)) c.args.out.now.items c.args.firsts entries groups left,
-        AreMet-none (λ (e : Entry). key_of flags e.change) seconds c.in_ok-met.met.items none,
+      ap length none ∙ length-replicate (length seconds.chains.numbers) false,
+      λ entries others groups behind left keyed apart. (
+        WritesEntries-none (λ e. some_bytes entry_bytes (outcome (λ (f : Entry). key_of flags f.change) (joined_entry flags) others e)) c.args.out.now.items c.args.firsts entries groups left,
+        AreMet-none (λ (e : Entry). key_of flags e.change) others c.in_ok-met.met.items (none ∙ ap (λ n. replicate n false) (as_many seconds others behind keyed)),
       ),
     )
 
@@ -34,17 +35,18 @@ entries-preserved-in-Some-2 c =
     let so = c.entries.invariant in
     let seen = c.in-Some.entry in
     let here = c.in-Some.ensures.flags.1 ∙ so.0 in
-    let place = c.in-Some-2.place in
-    let found : IsPlaceOf (λ e. key_of seconds.flags e.change ≡ key_of seen.flags seen.entry.change) seconds.entries place = search rules in
-    let at : IsPlaceOf (λ e. key_of seconds.flags e.change ≡ key_of flags seen.entry.change) seconds.entries place = rw here at found in (
+    let place = c.in-Some-2.place in (
       c.in-Some.ensures.flags.0 ∙ so.0,
       length-set c.entries.met.items place true ∙ so.1,
-      λ entries groups left apart.
-          let both = so.2 entries groups left apart in (
-            WritesEntries-next (λ e. some_bytes entry_bytes (outcome (λ (f : Entry). key_of flags f.change) (joined_entry flags) seconds.entries e)) flags c.args.out.now.items c.entries.out.items c.entries.left entries groups both.0
-                c.write_outcome.new.out.items c.next_entry.new.self seen (c.in-Some.ensures.next both.0.passed.others groups both.0.passed.are_left) (rw here at (c.in_ok-place.ensures.written apart)),
-            AreMet-marked (λ (e : Entry). key_of flags e.change) c.entries.met.items both.0.before seconds.entries seen.entry both.1 place (apart_of seconds.flags flags seconds.entries seen.entry c.requires.agree apart) so.1
-                (place_of seconds.flags flags seconds.entries seen.entry c.requires.agree place at),
+      λ entries others groups behind left keyed apart.
+          let both = so.2 entries others groups behind left keyed apart in
+          let found : IsPlaceOf (λ e. key_of seconds.flags e.change ≡ key_of seen.flags seen.entry.change) others place = rw c.in-Some-2.is at (c.in_ok-place.ensures.found others behind keyed) in
+          let at : IsPlaceOf (λ e. key_of seconds.flags e.change ≡ key_of flags seen.entry.change) others place = rw here at found in
+          let width = so.1 ∙ as_many seconds others behind keyed in (
+            WritesEntries-next (λ e. some_bytes entry_bytes (outcome (λ (f : Entry). key_of flags f.change) (joined_entry flags) others e)) flags c.args.out.now.items c.entries.out.items c.entries.left entries groups both.0
+                c.write_outcome.new.out.items c.next_entry.new.self seen (c.in-Some.ensures.next both.0.passed.others groups both.0.passed.are_left) (rw here at (c.in_ok-place.ensures.written others behind keyed apart)),
+            AreMet-marked (λ (e : Entry). key_of flags e.change) c.entries.met.items both.0.before others seen.entry both.1 place (apart_of seconds.flags flags others seen.entry c.requires.agree apart) width
+                (place_of seconds.flags flags others seen.entry c.requires.agree place at),
           ),
     )
 
@@ -55,35 +57,33 @@ entries-preserved c =
     let so = c.entries.invariant in
     let seen = c.in-Some.entry in
     let here = c.in-Some.ensures.flags.1 ∙ so.0 in
-    let none : IsTrue (is_none c.in_ok-place.field-0) = search rules in
-    let absent : All (λ e. key_of seconds.flags e.change ≢ key_of flags seen.entry.change) seconds.entries = rw here at (c.in_ok-place.ensures.absent none) in (
+    let none : IsTrue (is_none c.in_ok-place.field-0) = search rules in (
       c.in-Some.ensures.flags.0 ∙ so.0,
       so.1,
-      λ entries groups left apart.
-          let both = so.2 entries groups left apart in (
-            WritesEntries-next (λ e. some_bytes entry_bytes (outcome (λ (f : Entry). key_of flags f.change) (joined_entry flags) seconds.entries e)) flags c.args.out.now.items c.entries.out.items c.entries.left entries groups both.0
-                c.write_outcome.new.out.items c.next_entry.new.self seen (c.in-Some.ensures.next both.0.passed.others groups both.0.passed.are_left) (rw here at (c.in_ok-place.ensures.written apart)),
-            AreMet-other (λ (e : Entry). key_of flags e.change) c.entries.met.items both.0.before seconds.entries seen.entry both.1 (keys_of seconds.flags flags seconds.entries seen.entry c.requires.agree absent),
+      λ entries others groups behind left keyed apart.
+          let both = so.2 entries others groups behind left keyed apart in
+          let absent : All (λ e. key_of seconds.flags e.change ≢ key_of flags seen.entry.change) others = rw here at (c.in_ok-place.ensures.absent others behind keyed none) in (
+            WritesEntries-next (λ e. some_bytes entry_bytes (outcome (λ (f : Entry). key_of flags f.change) (joined_entry flags) others e)) flags c.args.out.now.items c.entries.out.items c.entries.left entries groups both.0
+                c.write_outcome.new.out.items c.next_entry.new.self seen (c.in-Some.ensures.next both.0.passed.others groups both.0.passed.are_left) (rw here at (c.in_ok-place.ensures.written others behind keyed apart)),
+            AreMet-other (λ (e : Entry). key_of flags e.change) c.entries.met.items both.0.before others seen.entry both.1 (keys_of seconds.flags flags others seen.entry c.requires.agree absent),
           ),
     )
 
 pub returns-clause-written : goal.returns-clause-written
-returns-clause-written c = λ entries groups left apart.
+returns-clause-written c = λ entries others groups behind left keyed apart.
     let flags = c.args.firsts.flags in
-    let seconds = c.args.seconds.now.entries in
-    let text = λ (e : Entry). some_bytes entry_bytes (outcome (λ (f : Entry). key_of flags f.change) (joined_entry flags) seconds e) in
-    let so = (c.entries.invariant.2 entries groups left apart).0 in
+    let text = λ (e : Entry). some_bytes entry_bytes (outcome (λ (f : Entry). key_of flags f.change) (joined_entry flags) others e) in
+    let so = (c.entries.invariant.2 entries others groups behind left keyed apart).0 in
     let none = c.in_default.ensures.next so.passed.others groups so.passed.are_left in
     WritesEntries-all text flags c.args.out.now.items c.entries.out.items c.entries.left entries groups so none.0
-    ∙ ap (λ l. c.args.out.now.items ++ l) (some_flat entry_bytes (outcome (λ (f : Entry). key_of flags f.change) (joined_entry flags) seconds) entries)
+    ∙ ap (λ l. c.args.out.now.items ++ l) (some_flat entry_bytes (outcome (λ (f : Entry). key_of flags f.change) (joined_entry flags) others) entries)
 
 pub returns-clause-met : goal.returns-clause-met
-returns-clause-met c = λ entries groups left apart.
+returns-clause-met c = λ entries others groups behind left keyed apart.
     let key = λ (e : Entry). key_of c.args.firsts.flags e.change in
-    let seconds = c.args.seconds.now.entries in
-    let both = c.entries.invariant.2 entries groups left apart in
+    let both = c.entries.invariant.2 entries others groups behind left keyed apart in
     let so = both.0 in
     let none = c.in_default.ensures.next so.passed.others groups so.passed.are_left in
     let all = PassedEntries-all so.before c.entries.left entries groups so.passed none.0 in
-    let met : AreMet key c.entries.met.items entries seconds = rw all both.1 in
+    let met : AreMet key c.entries.met.items entries others = rw all both.1 in
     met
