@@ -464,7 +464,7 @@ class Stacks(Folder):
             with self.assertRaises(ConflictError):
                 stack.redo()
             self.assertEqual((stack.done, stack.undone), ([], ["add"]))
-            self.expect("NoTable", store.undo_stack("v").action("x").__enter__)
+            self.expect("NoTable", store.undo_stack, "t", "v")
 
     def test_what_is_not_in_an_action(self):
         """An action is not undone in its own block, and has a text as its name."""
@@ -618,6 +618,15 @@ class Stacks(Folder):
                 kept.write_text(text)
                 with self.subTest(text[:40]), self.assertRaisesRegex(ValueError, "has no actions"):
                     store.undo_stack("t", path=kept)
+
+    def test_file_of_other_tables(self):
+        path = self.folder / "actions"
+        with self.store() as store:
+            with store.undo_stack("t", "k", path=path).action("one"):
+                store.insert("k", 1)
+            self.assertEqual(store.undo_stack("k", path=path).done, ["one"])
+            with self.assertRaisesRegex(ValueError, "an action is on table 'k'"):
+                store.undo_stack("t", "u", path=path)
 
     def test_changesets_for_sqlite(self):
         with self.store() as store, store.session("u") as session:
@@ -973,6 +982,19 @@ class Exchanges(Folder):
                 store.save_to(other, 'a "b"')
             self.expect("KeyTaken", store.load_from, base, 'a "b"')
             self.expect("NoTable", store.save_to, other, "v")
+
+    def test_names_in_another_case(self):
+        """SQLite takes names that differ in case alone for one name."""
+        base = self.database("CREATE TABLE K(a, b)")
+        with self.store() as store:
+            store.insert("k", 1)
+            with self.assertRaisesRegex(ValueError, "table 'k': the database has 'K'"):
+                store.save_to(base, "k")
+            store.create("c", ["a", "A"], key=["a"])
+            with self.assertRaises(sqlite3.OperationalError):
+                store.save_to(base, "c")
+        self.assertEqual(base.execute("SELECT count(*) FROM K").fetchone(), (0,))
+        self.assertFalse(base.in_transaction)
 
     def test_refusals(self):
         """A float is refused by row and column, and nothing is made."""

@@ -666,6 +666,13 @@ class Programs(Folder):
         ran = subprocess.run([sys.executable, "-c", text], env=environment, capture_output=True, text=True, check=False)
         self.expect_ended(int(ran.stdout))
 
+    def test_calls_of_a_closed_store(self):
+        store = store_with_table()
+        store.close()
+        for call in (store.tables, lambda: store.schema("t"), lambda: store.rows("t"), store.session):
+            with self.assertRaisesRegex(ProgramError, "the store is closed"):
+                call()
+
     def test_an_exception(self):
         with self.assertRaises(KeyError):
             with store_with_table() as store, store.session("t"):

@@ -56,6 +56,13 @@ def _savepoint(connection: "sqlite3.Connection") -> Iterator[None]:
     connection.execute("RELEASE vollikash")
 
 
+def _expect_own_name(connection: "sqlite3.Connection", table: str) -> None:
+    """Raise ValueError if the database takes the name for that of another table."""
+    asked = "SELECT name FROM sqlite_master WHERE name = ? COLLATE NOCASE AND name <> ?"
+    for (other,) in connection.execute(asked, (table, table)):
+        raise ValueError(f"table {shown(table)}: the database has {shown(other)}")
+
+
 def write_rows(
     connection: "sqlite3.Connection", table: str, schema: Schema, rows: Iterable[Row]
 ) -> None:
@@ -64,6 +71,7 @@ def write_rows(
     declared: List[str] = [_quoted(name) + marks.get(name, "") for name in schema.columns]
     declared.append(f"PRIMARY KEY({', '.join(map(_quoted, schema.key))})")
     names, places = ", ".join(map(_quoted, schema.columns)), ", ".join("?" * len(schema.columns))
+    _expect_own_name(connection, table)
     with _savepoint(connection):
         connection.execute(f"CREATE TABLE IF NOT EXISTS {_quoted(table)}({', '.join(declared)})")
         insert = f"INSERT INTO {_quoted(table)}({names}) VALUES({places})"

@@ -162,12 +162,14 @@ class Store(Asker):
     def tables(self) -> List[str]:
         """Return the names of the tables, sorted by their bytes."""
         with self._lock:
+            self._process.expect_open()
             return sorted(self._schemas, key=str.encode)
 
     def schema(self, table: str) -> Schema:
         """Return the columns of a table, those of its key, and those outside it that refuse None.
         """
         with self._lock:
+            self._process.expect_open()
             schema = self._schemas.get(table)
         if schema is None:
             raise refusal(Code.NO_TABLE)
@@ -466,7 +468,9 @@ class Store(Asker):
         """Copy a table into an ordinary SQLite database, in one transaction.
 
         The table is created, without types, if the database does not have it. Else the rows are
-        added to it. A transaction that is open stays open.
+        added to it. A transaction that is open stays open. If the database has a table of this name
+        in another case, that is ValueError. What the database refuses is `sqlite3.Error`, and
+        nothing is copied.
         """
         schema = self.schema(table)
         _exchange.write_rows(connection, table, schema, self.rows(table))
@@ -480,7 +484,8 @@ class Store(Asker):
         """Return a stack of the last actions on some tables, which can be undone and done again.
 
         It has at most `limit` actions of each kind. If a path is given, they are kept in that file,
-        and read from it if it exists.
+        and read from it if it exists. A file with actions on other tables, or with none, raises
+        ValueError. A table that does not exist is `StoreError` with NoTable.
         """
         return UndoStack(self, tables, limit, path)
 

@@ -3,12 +3,13 @@ import contextlib
 import json
 import os
 import tempfile
-from typing import TYPE_CHECKING, Any, Dict, Iterator, List, Optional, Tuple, Union
+from typing import TYPE_CHECKING, Any, Collection, Dict, Iterator, List, Optional, Tuple, Union
 
 from ._deciding import Handler
 from ._errors import Error
-from ._files import check, invert
+from ._files import invert
 from ._tables import stat
+from ._values import shown
 
 if TYPE_CHECKING:
     from ._store import Store
@@ -17,13 +18,15 @@ if TYPE_CHECKING:
 _Action = Tuple[str, bytes]
 
 
-def _read_action(pair: Any) -> _Action:
-    """Return an action that a file has."""
+def _read_action(pair: Any, tables: Collection[str]) -> _Action:
+    """Return an action on some tables that a file has."""
     name, digits = pair
     if not isinstance(name, str):
         raise ValueError("the name of an action is not a text")
     changes = bytes.fromhex(digits)
-    check(changes)
+    for table in stat(changes):
+        if table not in tables:
+            raise ValueError(f"an action is on table {shown(table)}")
     return name, changes
 
 
@@ -55,6 +58,8 @@ class UndoStack:
             raise ValueError("a stack has the names of the tables that it is for")
         if limit < 1:
             raise ValueError(f"a stack of {limit} actions has none")
+        for table in tables:
+            store.schema(table)
         self.store = store
         self._tables, self._limit = tables, limit
         self._path = None if path is None else os.fspath(path)
@@ -200,10 +205,11 @@ class UndoStack:
             with open(path, encoding="ascii") as written:
                 actions: Dict[str, Any] = json.load(written)
             self._done, self._undone = (
-                list(map(_read_action, actions[kind])) for kind in ("done", "undone")
+                [_read_action(pair, self._tables) for pair in actions[kind]]
+                for kind in ("done", "undone")
             )
         except (KeyError, RecursionError, TypeError, ValueError) as error:
-            raise ValueError(f"{path} has no actions of an undo stack: {error}") from None
+            raise ValueError(f"{path} has no actions of this stack: {error}") from None
 
 
 def _spelled(actions: List[_Action]) -> List[Tuple[str, str]]:
