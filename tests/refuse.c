@@ -3,10 +3,11 @@
  *
  * REFUSE_CALL names the call: malloc (with calloc, realloc and those for aligned memory); read, pread, write and
  * pwrite; fsync, fdatasync and ftruncate; open and close; rename and unlink, of the names of files; statx, which tells
- * of a file; or fcntl, which locks it. REFUSE_AT is which of these calls is refused, from 1. REFUSE_WITH is what it
- * answers: the number of an error; 0 for a read or a write that moves one byte; or -1, where the process ends there.
- * Memory is refused by a null pointer, and a file that is refused to be closed is closed. One byte is written to the
- * descriptor REFUSE_MARK then.
+ * of a file; or fcntl, which locks it. With "disk" each of pread, pwrite, fsync, fdatasync and ftruncate is one, and
+ * those after the refused one are refused, too: the disk has stopped. REFUSE_AT is which of these calls is refused,
+ * from 1. REFUSE_WITH is what it answers: the number of an error; 0 for a read or a write that moves one byte; or -1,
+ * where the process ends there. Memory is refused by a null pointer, and a file that is refused to be closed is
+ * closed. One byte is written to the descriptor REFUSE_MARK then.
  */
 #define _GNU_SOURCE
 #include <dlfcn.h>
@@ -47,12 +48,23 @@ __attribute__((constructor)) static void begin(void)
     call = getenv("REFUSE_CALL");
 }
 
-/* Whether this call is the one that is refused. */
+/* Whether a call of this name is one of a disk. */
+static int is_of_disk(const char *name)
+{
+    return strcmp(name, "pread") == 0 || strcmp(name, "pwrite") == 0 || strcmp(name, "fsync") == 0 ||
+           strcmp(name, "fdatasync") == 0 || strcmp(name, "ftruncate") == 0;
+}
+
+/* Whether this call is the one that is refused, or one after it of a disk that has stopped. */
 static int is_refused(const char *name)
 {
-    if (call == NULL || strcmp(call, name) != 0 || --left != 0)
+    int stops = call != NULL && strcmp(call, "disk") == 0;
+    if (call == NULL || (stops ? !is_of_disk(name) : strcmp(call, name) != 0))
         return 0;
-    if (mark >= 0 && real_write(mark, "!", 1) != 1)
+    left--;
+    if (stops ? left > 0 : left != 0)
+        return 0;
+    if (left == 0 && mark >= 0 && real_write(mark, "!", 1) != 1)
         _exit(99);
     if (answer < 0)
         _exit(0);

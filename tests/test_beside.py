@@ -6,14 +6,16 @@ its own. SQLite finds each file whole, and everything next to the records as bef
 cannot be a store is refused, and stays as it is. The program has to be built first.
 """
 import contextlib
+import errno
 import os
+import pathlib
 import resource
 import sqlite3
 import sys
 import tempfile
 import timeit
 
-from support.faults import MarkedScript
+from support.faults import DISK, MarkedScript
 from support.power import Disk, Recording, Run, Story, files_of, make_files, opened_again, tried
 from support.program import PROGRAM, TOP, TRIES_ALL, main
 from support.programs import DAMAGED_STORE, StoreTest, tables_of
@@ -545,6 +547,48 @@ class Refusals(NextTest):
         """What is not the table of records, alone, and next to a table before it or after it."""
         for refused, line in ((DAMAGED, DAMAGED_STORE), (UNREADABLE, STORE_FAULT)):
             self.expect_each(refused, line, ([], []), (LATE, []), ([], LATE))
+
+
+class NextScript(MarkedScript):
+    """Lines on a store next to other tables. The program finds these files, with a shell's tables.
+    """
+
+    def __init__(self, files, shell, lines):
+        super().__init__(lines)
+        self.files, self.first = files, shell
+
+    def prepare(self, folder):
+        """Makes the files."""
+        make_files(folder, self.files)
+        self.found = seen_next(pathlib.Path(folder, "store"))
+
+    def left(self, folder):
+        """The tables of the store, if what is next to them is as it was."""
+        tables, found = super().left(folder), seen_next(pathlib.Path(folder, "store"))
+        return tables if found == self.found else found
+
+
+class Stops(NextTest):
+    """Disks that stop in runs on a store next to other tables."""
+
+    @classmethod
+    def setUpClass(cls):
+        folder = tempfile.TemporaryDirectory()
+        cls.addClassCleanup(folder.cleanup)
+        cls.shim = build_shim(folder.name)
+
+    def test_store_between_tables(self):
+        """The store is as the answers say, and the other tables are as they were."""
+        self.write_next([OWN, ROWS, INDEX], LATE)
+        made = Story(Shell(), [CREATE, "INSERT INTO t VALUES(1, 'z');"]).shells[-1]
+        script = NextScript(files_of(self.folder), opened_again(made), CUT_LINES)
+        normal = script.once()
+        self.assertEqual(script.why_not(normal, normal, DISK, 0), "")
+        for at in range(1, script.count(self.shim, DISK) + 1):
+            with self.case(at=at):
+                ended, was_refused = script.refused(self.shim, at, DISK, errno.EIO)
+                self.assertTrue(was_refused)
+                self.assertEqual(script.why_not(ended, normal, DISK, errno.EIO), "", ended)
 
 
 class Cuts(NextTest):

@@ -1,5 +1,6 @@
 #!/usr/bin/env python3
-"""Failing files: one call on a file fails, is interrupted, moves one byte, or ends the process.
+"""Failing files: one call on a file fails, is interrupted, moves one byte, or ends the process, or a
+disk stops at one.
 
 `refuse.c` lets one call of a run fail, then the next, and so on. A script ends as its printed lines
 say, and the store has the tables that go with them, read by SQLite and by the program. A command is

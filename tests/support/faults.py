@@ -17,6 +17,9 @@ from support.trials import SCRIPTS, Command, Script, run
 INTERRUPTED, ONE_BYTE, ENDED = errno.EINTR, 0, -1
 ERRORS = (errno.EIO, errno.ENOSPC)
 
+# The calls of a disk: from the refused one on, each of them is.
+DISK = "disk"
+
 # The calls that are refused, and with what.
 MOVING = ("read", "pread", "write", "pwrite")
 SYNCING = ("fsync", "fdatasync", "ftruncate")
@@ -25,6 +28,7 @@ ANSWERS = {
     **{call: (*ERRORS, ENDED, INTERRUPTED, ONE_BYTE) for call in MOVING},
     **{call: (*ERRORS, ENDED, INTERRUPTED) for call in SYNCING},
     **{call: (*ERRORS, ENDED) for call in NAMING},
+    DISK: (errno.EIO,),
 }
 
 LARGE = "00ff" * 3000
@@ -56,7 +60,7 @@ class MarkedScript(Script):
     """Lines on a store in a new file, each with a mark behind its answer."""
 
     def __init__(self, lines):
-        self.asked = lines
+        self.asked, self.first = lines, Shell()
         super().__init__([
             part for number, line in enumerate(lines)
             for part in (line, ".load mark " + mark(number).strip(), ".hex mark")
@@ -91,7 +95,7 @@ class MarkedScript(Script):
         if answer != ENDED and (status != 1 or reported not in ("", STORE_FAULT, INPUT_FAULT, OUTPUT_FAULT)):
             return "no such fault"
         if answer != ENDED and not printed and reported == STORE_FAULT:
-            return "" if left == {} else "a store that was not opened has tables"
+            return "" if left == self.tables(self.first) else "a store that was not opened has other tables"
         lefts, told = self.replay(printed, reported, answer)
         return told or ("" if left in lefts else f"the store has {left}, and not one of {lefts}")
 
@@ -99,7 +103,7 @@ class MarkedScript(Script):
         """What the store may have behind lines that printed this; and why no lines print it, or
         nothing.
         """
-        shell, others = Shell(), []
+        shell, others = copy.deepcopy(self.first), []
         for number, line in enumerate(self.asked):
             before, tried = self.tables(shell), copy.deepcopy(shell)
             wanted = "".join(told.decode() + "\n" for told in tried.answer(line.encode()))

@@ -19,6 +19,11 @@ impl HostFolder<'_> {
     pub fn new(rt: &HostRuntime) -> HostFolder<'_> {
         HostFolder { rt }
     }
+
+    /// Returns the runtime.
+    pub fn runtime(&self) -> &HostRuntime {
+        self.rt
+    }
 }
 
 impl Folder for HostFolder<'_> {

@@ -1,5 +1,5 @@
 //! Files in memory.
-ghost use Rattle.std.specs.Prelude.{◌≡◌, OnOk, OnErr, IfOk, IfErr, None, Some, MatchResult};
+ghost use Rattle.std.specs.Prelude.{◌≡◌, OnOk, OnErr, IfOk, IfErr, None, Some, MatchOption};
 ghost use Rattle.std.specs.FinMap as map;
 ghost use Rattle.cs_folder.specs.declared.folder.FolderFault.TheVariants.{NoMemory as OutOfMemory};
 
@@ -37,14 +37,14 @@ impl MemoryFolder {
         }
     }
 
-    /// Returns the bytes of a file.
-    fn get(&self, name: &[u8]) -> Result<&[u8], FolderFault>
-        ensures { MatchResult result (λ bytes. map.get self.now name.now ≡ Some bytes.now)
-            (λ fault. map.get self.now name.now ≡ None) }
+    /// Returns the bytes of a file, or None if no file has the name.
+    pub fn get(&self, name: &str) -> Option<&[u8]>
+        ensures { MatchOption result (map.get self.now name.now ≡ None)
+            (λ bytes. map.get self.now name.now ≡ Some bytes.now) }
     {
-        match self.files.get(name) {
-            Some(bytes) => Ok(bytes.as_slice()),
-            None => Err(FolderFault::Failed),
+        match self.files.get(name.as_bytes()) {
+            Some(bytes) => Some(bytes.as_slice()),
+            None => None,
         }
     }
 
@@ -67,11 +67,10 @@ impl Folder for MemoryFolder {
     ghost files = { λ m. Some m };
 
     fn read(&self, alloc: Global, name: &str) -> Result<Vec<u8>, FolderFault> {
-        let bytes = self.get(name.as_bytes())?;
-        if bytes.len() > FILE_LIMIT {
-            return Err(FolderFault::Failed);
+        match self.get(name) {
+            Some(bytes) if bytes.len() <= FILE_LIMIT => copy(alloc, bytes),
+            _ => Err(FolderFault::Failed),
         }
-        copy(alloc, bytes)
     }
 
     fn replace(&mut self, alloc: Global, name: &str, bytes: &[u8]) -> Result<(), FolderFault> {

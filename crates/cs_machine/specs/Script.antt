@@ -1,6 +1,7 @@
 -- What lines are answered, and what they leave. The lines and the printed texts are this project's own; what a line
 -- asks for is what SQLite's session extension and this project's stores have.
-use Rattle.std.specs.Prelude.{◌≡◌, ◌≢◌, ◌⊎◌, ℕ, ◌+◌, ◌≤◌, List, [], ◌∷◌, ◌++◌, length, map, if◌then◌else◌, All, Any, codes}
+use Rattle.std.specs.Prelude.{◌≡◌, ◌≢◌, ◌⊎◌, ℕ, ◌+◌, ◌≤◌, List, [], ◌∷◌, ◌++◌, length, map, if◌then◌else◌, All, Any}
+use Rattle.std.specs.Prelude.{codes}
 use Rattle.std.specs.Prelude.{Bool, Option, None, Some, Result, Ok, Err, IsUtf8}
 use Rattle.std.specs.FinMap as map
 use Rattle.std.specs.FinMap.{get, insert}
@@ -23,12 +24,13 @@ use Rattle.cs_run.specs.declared.running.Direction.{Direction}
 use Rattle.cs_run.specs.declared.running.Direction.TheVariants.{Forward, Inverse}
 use Rattle.cs_run.specs.declared.fault.ApplyFault.{ApplyFault}
 use Rattle.cs_run.specs.Report.{chosen}
-use Rattle.cs_run.specs.Running.{Handler, AlwaysAborts, Applies, Refuses}
+use Rattle.cs_run.specs.Running.{Handler, AlwaysAborts, Applies, IsNamed, Refuses}
 use Rattle.cs_session.specs.declared.fault.SessionFault.TheVariants.{AlreadyAttached}
 use Rattle.cs_files.specs.declared.fault.FileFault.{FileFault}
 use Rattle.cs_files.specs.Files.{Inverts, Joins, JoinFails}
 use Rattle.cs_lines.specs.declared.fault.SyntaxFault.{SyntaxFault}
-use Rattle.cs_lines.specs.Commands.{CommandData, AssignmentData, Create, Insert, Update, Delete, Select, Load, Hex, Dump}
+use Rattle.cs_lines.specs.Commands.{CommandData, AssignmentData, Create, Insert, Update, Delete, Select, Load, Hex}
+use Rattle.cs_lines.specs.Commands.{Dump}
 use Rattle.cs_lines.specs.Commands.{Invert, Concat, Apply, Revert, SessionOpen, SessionAttach, SessionChangeset}
 use Rattle.cs_lines.specs.Commands.{SessionIsEmpty, SessionUndo, SessionClose}
 use Rattle.cs_lines.specs.Lines.{IsNothing, Spelled}
@@ -88,8 +90,8 @@ declared_schema columns refuses keys = record {
 }
 
 -- the columns of the key are told first
-pub data CreateGives (old : ShellState) (name : List ℕ) (columns : List (List ℕ)) (refuses : List Bool) (keys : List (List ℕ)) :
-    Reply → ShellState → Type 0 where
+pub data CreateGives (old : ShellState) (name : List ℕ) (columns : List (List ℕ)) (refuses : List Bool)
+    (keys : List (List ℕ)) : Reply → ShellState → Type 0 where
   unknown_key : (AreColumns columns keys → ⊥) → CreateGives old name columns refuses keys (Refused UnknownColumn) old
   declared : (tables : State) → AreColumns columns keys
       → Declares old.tables name (declared_schema columns refuses keys) (Ok tables)
@@ -110,7 +112,8 @@ pub record RowPlace : Type 0 where
 
 -- the row of a table that conditions name, for which these columns are set; or why there is none: there is no table, or
 -- else a column is none, or else a value of the key is NULL
-pub data FindsRow (tables : State) (name : List ℕ) (sets conditions : List AssignmentData) : Result RowPlace Refusal → Type 0 where
+pub data FindsRow (tables : State) (name : List ℕ) (sets conditions : List AssignmentData) : Result RowPlace Refusal
+    → Type 0 where
   no_table : schema_at tables name ≡ None → FindsRow tables name sets conditions (Err (refusal.Store NoTable))
   unknown_column : (schema : SchemaData) → schema_at tables name ≡ Some schema
       → (AreColumns schema.columns (columns_of sets) × NamesKey schema conditions → ⊥)
@@ -119,11 +122,13 @@ pub data FindsRow (tables : State) (name : List ℕ) (sets conditions : List Ass
       → AreColumns schema.columns (columns_of sets) → NamesKey schema conditions → named_key schema conditions ≡ None
       → FindsRow tables name sets conditions (Err (refusal.Store NullInKey))
   found : (schema : SchemaData) (key : List ℕ) → schema_at tables name ≡ Some schema
-      → AreColumns schema.columns (columns_of sets) → NamesKey schema conditions → named_key schema conditions ≡ Some key
+      → AreColumns schema.columns (columns_of sets) → NamesKey schema conditions → named_key schema conditions
+      ≡ Some key
       → FindsRow tables name sets conditions (Ok (record { schema = schema; key = key }))
 
 -- a row gets values in some columns; that it is not there comes before what an edit is refused for
-pub data UpdateGives (old : ShellState) (name : List ℕ) (sets conditions : List AssignmentData) : Reply → ShellState → Type 0 where
+pub data UpdateGives (old : ShellState) (name : List ℕ) (sets conditions : List AssignmentData) : Reply → ShellState
+    → Type 0 where
   not_updated : (why : Refusal) → FindsRow old.tables name sets conditions (Err why)
       → UpdateGives old name sets conditions (Refused why) old
   no_row : (place : RowPlace) → FindsRow old.tables name sets conditions (Ok place)
@@ -134,10 +139,12 @@ pub data UpdateGives (old : ShellState) (name : List ℕ) (sets conditions : Lis
       → EditGives old (updated old.tables name place.key (with_assigned sets place.schema.columns row)) reply new
       → UpdateGives old name sets conditions reply new
 
-pub data DeleteGives (old : ShellState) (name : List ℕ) (conditions : List AssignmentData) : Reply → ShellState → Type 0 where
+pub data DeleteGives (old : ShellState) (name : List ℕ) (conditions : List AssignmentData) : Reply → ShellState
+    → Type 0 where
   not_deleted : (why : Refusal) → FindsRow old.tables name [] conditions (Err why)
       → DeleteGives old name conditions (Refused why) old
-  deletes_row : (place : RowPlace) (reply : Reply) (new : ShellState) → FindsRow old.tables name [] conditions (Ok place)
+  deletes_row : (place : RowPlace) (reply : Reply) (new : ShellState)
+      → FindsRow old.tables name [] conditions (Ok place)
       → EditGives old (deleted old.tables name place.key) reply new
       → DeleteGives old name conditions reply new
 
@@ -150,12 +157,22 @@ SelectGives old name reply new = (new ≡ old)
 -- ---- changesets that are applied
 
 -- a file is applied, with what is told of it, and noted where a session is open; or it is refused
-pub data ApplyGives (old : ShellState) (chooses : Handler) (noop : Noop) (file : List ℕ) (direction : Direction) : Reply → ShellState → Type 0 where
+pub data ApplyGives (old : ShellState) (chooses : Handler) (noop : Noop) (file : List ℕ) (direction : Direction) :
+    Reply → ShellState → Type 0 where
   applied : (report : Report) (tables : State) → Applies chooses noop file direction old.tables report tables
       → ApplyGives old chooses noop file direction (Reported (told_of report))
       (written_to old tables (map written_of report.written.items))
   not_applied : (fault : ApplyFault) → Refuses chooses noop file direction old.tables fault
       → ApplyGives old chooses noop file direction (Refused (of_apply fault)) old
+
+-- the reply is one that an apply has: a report, or a refusal
+abbrev pub AnswersApply : Reply → Type 0
+AnswersApply Silent = ⊥
+AnswersApply (Text text) = ⊥
+AnswersApply (Dumped changeset) = ⊥
+AnswersApply (Listed rows) = ⊥
+AnswersApply (Reported report) = Unit {0}
+AnswersApply (Refused why) = (fault : ApplyFault) × IsNamed fault × (why ≡ of_apply fault)
 
 -- the handler that goes by the kind of a conflict
 abbrev pub ByKind : Choice → Choice → Choice → Choice → Handler
@@ -172,7 +189,8 @@ pub data RevertGives (old : ShellState) (file : List ℕ) : Option SessionTables
   reverted : (reply : Reply) (new : ShellState) → ApplyGives old AlwaysAborts noop.Report file Inverse reply new
       → RevertGives old file None reply new
   recorded : (session : SessionTables) (inverse : List ℕ) (reply : Reply) (new : ShellState) → Inverts file inverse
-      → ApplyGives old AlwaysAborts noop.Report inverse Forward reply new → RevertGives old file (Some session) reply new
+      → ApplyGives old AlwaysAborts noop.Report inverse Forward reply new
+      → RevertGives old file (Some session) reply new
   unread : (session : SessionTables) (fault : ReadFault) → ReadFails file fault.kind fault.place
       → RevertGives old file (Some session) (Refused (Read fault)) old
 
@@ -247,8 +265,10 @@ IsResource why = (why ≡ NoMemory) ⊎ IsOfStore IsStoreFault why
 -- the reply to a command, and what it leaves; any may be refused for memory or by the database, and then changes
 -- nothing
 pub data CommandGives (old : ShellState) : CommandData → Reply → ShellState → Type 0 where
-  created : (name : List ℕ) (columns : List (List ℕ)) (refuses : List Bool) (keys : List (List ℕ)) (reply : Reply) (new : ShellState)
-      → CreateGives old name columns refuses keys reply new → CommandGives old (Create name columns refuses keys) reply new
+  created : (name : List ℕ) (columns : List (List ℕ)) (refuses : List Bool) (keys : List (List ℕ)) (reply : Reply)
+      (new : ShellState)
+      → CreateGives old name columns refuses keys reply new
+      → CommandGives old (Create name columns refuses keys) reply new
   inserts : (table : List ℕ) (values : List OwnedValue) (reply : Reply) (new : ShellState)
       → EditGives old (inserted old.tables table values) reply new → CommandGives old (Insert table values) reply new
   updates : (table : List ℕ) (sets conditions : List AssignmentData) (reply : Reply) (new : ShellState)
@@ -259,8 +279,10 @@ pub data CommandGives (old : ShellState) : CommandData → Reply → ShellState 
       → CommandGives old (Select table) reply new
   on_slots : (command : CommandData) (reply : Reply) (slots : SlotMap) → SlotsGive old.slots command reply slots
       → CommandGives old command reply (record { tables = old.tables; slots = slots; session = old.session })
-  applies : (slot : List ℕ) (on_data on_notfound on_conflict on_constraint : Choice) (noop : Noop) (reply : Reply) (new : ShellState)
-      → WithSlot old slot (λ file. ApplyGives old (ByKind on_data on_notfound on_conflict on_constraint) noop file Forward) reply new
+  applies : (slot : List ℕ) (on_data on_notfound on_conflict on_constraint : Choice) (noop : Noop) (reply : Reply)
+      (new : ShellState)
+      → WithSlot old slot (λ file. ApplyGives old (ByKind on_data on_notfound on_conflict on_constraint) noop file
+      Forward) reply new
       → CommandGives old (Apply slot on_data on_notfound on_conflict on_constraint noop) reply new
   reverts : (slot : List ℕ) (reply : Reply) (new : ShellState)
       → WithSlot old slot (λ file. RevertGives old file old.session) reply new
@@ -274,7 +296,8 @@ pub data CommandGives (old : ShellState) : CommandData → Reply → ShellState 
       → CommandGives old SessionIsEmpty reply new
   undoes : (reply : Reply) (new : ShellState) → WithSession old (UndoGives old) reply new
       → CommandGives old SessionUndo reply new
-  closes : (reply : Reply) (new : ShellState) → WithSession old (CloseGives old) reply new → CommandGives old SessionClose reply new
+  closes : (reply : Reply) (new : ShellState) → WithSession old (CloseGives old) reply new
+      → CommandGives old SessionClose reply new
   unable : (command : CommandData) (why : Refusal) → IsResource why → CommandGives old command (Refused why) old
 
 -- ---- lines
@@ -289,4 +312,5 @@ pub data LineGives : ShellState → List ℕ → Reply → ShellState → Type 0
       → LineGives old line (Refused (Syntax fault)) old
   answered : (old : ShellState) (line : List ℕ) (command : CommandData) (reply : Reply) (new : ShellState) → IsUtf8 line
       → Spelled line command → CommandGives old command reply new → LineGives old line reply new
-  unanswered : (old : ShellState) (line : List ℕ) (why : Refusal) → IsResource why → LineGives old line (Refused why) old
+  unanswered : (old : ShellState) (line : List ℕ) (why : Refusal) → IsResource why
+      → LineGives old line (Refused why) old

@@ -1,7 +1,8 @@
 -- What the lines of a script are run on: tables, slots, and at most one session. A session is the one of SQLite's
 -- session extension, said over whole tables: of each that is attached it has the rows as they stood then, and which
 -- keys were written since.
-use Rattle.std.specs.Prelude.{bytes_eq, ℕ, if◌then◌else◌, List, [], ◌∷◌, ◌++◌, length, map, filter_map, Option, option_map}
+use Rattle.std.specs.Prelude.{bytes_eq, ℕ, if◌then◌else◌, List, [], ◌∷◌, ◌++◌, length, map, filter_map, Option}
+use Rattle.std.specs.Prelude.{option_map}
 use Rattle.std.specs.List.{flat_map, list_any}
 use Rattle.std.specs.FinMap as map
 use Rattle.cs_value.specs.Maps.{ByBytes}
@@ -42,7 +43,9 @@ with_keys keys (key ∷ more) =
 
 -- a table, with what of the writes is its own
 abbrev pub touch : List WrittenData → SessionTable → SessionTable
-touch written table = record table { touched = with_keys table.touched (map (λ w. w.key) (writes_of table.name written)) }
+touch written table = record table {
+  touched = with_keys table.touched (map (λ w. w.key) (writes_of table.name written));
+}
 
 -- the tables are these, and what was written is noted where a session is open
 abbrev pub written_to : ShellState → State → List WrittenData → ShellState
@@ -57,7 +60,8 @@ written_to state tables written = record {
 -- of each key that was written the net change from the row that stood under it, or none, to that which stands there
 abbrev pub net_entries : State → SessionTable → List Entry
 net_entries tables table =
-    filter_map (λ key. net_entry table.schema.flags (map.get table.saved key) (row_at tables table.name key)) table.touched
+    filter_map (λ key. net_entry table.schema.flags (map.get table.saved key) (row_at tables table.name key))
+    table.touched
 
 abbrev pub net_table : State → SessionTable → Option GroupData
 net_table tables table = group_of (record { name = table.name; flags = table.schema.flags }) (net_entries tables table)

@@ -1,5 +1,6 @@
 -- What a command and a line do with a store and a session: what the contracts of this crate are said in.
-use Rattle.std.specs.Prelude.{◌≡◌, ◌⊎◌, ℕ, Bool, true, false, IsTrue, List, map, Option, None, Some, option_map, Result, Ok, Err}
+use Rattle.std.specs.Prelude.{◌≡◌, ◌⊎◌, ℕ, Bool, true, false, IsTrue, List, map, Option, None, Some, option_map}
+use Rattle.std.specs.Prelude.{Result, Ok, Err}
 use Rattle.sqlite.specs.State as sqlite
 use Rattle.sqlite.specs.State.{HasCleanDisk}
 use Rattle.cs_value.specs.State.{State}
@@ -50,7 +51,8 @@ Known false store tables = Shows store tables
 
 -- what is known of a store with some tables before is known of it with others after, and of both this holds, if the
 -- disk has returned what was written
-pub record TurnsBetween (old new : sqlite.State) (Before After : State → Type 0) (Holds : State → State → Type 0) : Type 0 where
+pub record TurnsBetween (old new : sqlite.State) (Before After : State → Type 0)
+    (Holds : State → State → Type 0) : Type 0 where
   pub disk : TellsFailures old new
   pub done : HasCleanDisk new → (before : State) → Before before → (after : State) × After after × Holds before after
 
@@ -77,13 +79,14 @@ abbrev pub OrUnable : (ShellState → Reply → ShellState → Type 0) → Shell
 OrUnable Gives old reply new = Gives old reply new ⊎ IsUnable old reply new
 
 -- a command gave this reply, from these tables to those, whatever is in the slots
-abbrev pub Gave : Option Notes → Option Notes → (ShellState → Reply → ShellState → Type 0) → Reply → State → State → Type 0
+abbrev pub Gave : Option Notes → Option Notes → (ShellState → Reply → ShellState → Type 0) → Reply → State → State
+    → Type 0
 Gave noted notes Gives reply before after = IsHere before noted → IsHere after notes
     × ((slots : SlotMap) → OrUnable Gives (seen before slots noted) reply (seen after slots notes))
 
 -- it gave it over a store
-abbrev pub Works : sqlite.State → sqlite.State → Option Notes → Option Notes → (ShellState → Reply → ShellState → Type 0)
-    → Reply → Type 0
+abbrev pub Works : sqlite.State → sqlite.State → Option Notes → Option Notes
+    → (ShellState → Reply → ShellState → Type 0) → Reply → Type 0
 Works old new noted notes Gives reply = Turns old new (Gave noted notes Gives reply)
 
 -- the same of one that may change slots

@@ -3,7 +3,7 @@ ghost use Rattle.std.specs.Prelude.{None, Some};
 ghost use Rattle.sqlite.specs.Held.{state};
 ghost use Rattle.cs_run.specs.declared.running.Direction.TheVariants.{Forward};
 ghost use Rattle.cs_replies.specs.Replies.{answer_of};
-ghost use Rattle.cs_machine.specs.Script.{ApplyGives, ByKind, RevertGives};
+ghost use Rattle.cs_machine.specs.Script.{AnswersApply, ApplyGives, ByKind, RevertGives};
 ghost use Rattle.cs_machine.specs.Turns.{Works};
 
 use cs_apply::{Choice, Conflict, Noop, Policy, apply, revert};
@@ -40,9 +40,10 @@ pub fn apply_unnoted<S: Alter>(
     policy: &Policy,
     noop: Noop,
 ) -> Result<Reply, Refusal>
-    ensures { Works (state S.Store store.old) (state S.Store store.new) None None
+    ensures works { Works (state S.Store store.old) (state S.Store store.new) None None
         (λ old. ApplyGives old (ByKind policy.now.on_data policy.now.on_notfound policy.now.on_conflict
         policy.now.on_constraint) noop file.now Forward) (answer_of result) }
+    ensures named { AnswersApply (answer_of result) }
 {
     let handler = |conflict: &Conflict| policy.choose(conflict);
     let report = apply(alloc, store, file, noop, &handler)?;

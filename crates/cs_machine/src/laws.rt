@@ -1,4 +1,5 @@
-//! Laws of scripts. A law is a function without effect: its contract states the law, and a caller that needs it calls it.
+//! Laws of scripts. A law is a function without effect: its contract states the law, and a caller that needs it calls
+//! it.
 ghost use Rattle.cs_machine.specs.Net.{NetOfTouched};
 
 /// Has no effect. Its contract says that the net changes of a session are those of whole tables: after any lines, each

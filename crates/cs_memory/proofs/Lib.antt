@@ -1,1 +1,2 @@
 pub mod HonestLemmas
+pub mod CloseLemmas

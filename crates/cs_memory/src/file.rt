@@ -25,12 +25,27 @@ impl MemoryFile {
         ensures empty { bytes_of result ≡ [] }
         ensures fresh { IsFresh result }
     {
+        MemoryFile::from_bytes(Vec::new(alloc))
+    }
+
+    /// Returns a file of these bytes.
+    pub fn from_bytes(bytes: Vec<u8>) -> MemoryFile
+        ensures bytes { bytes_of result ≡ bytes.items }
+        ensures fresh { IsFresh result }
+    {
         MemoryFile {
-            bytes: Vec::new(alloc),
+            bytes,
             faults: 0,
             caught: 0,
             refused: 0,
         }
+    }
+
+    /// Returns the bytes of the file.
+    pub fn as_slice(&self) -> &[u8]
+        ensures { result.now ≡ bytes_of self.now }
+    {
+        &self.bytes
     }
 }
 

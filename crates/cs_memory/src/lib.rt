@@ -14,4 +14,4 @@ mod file;
 mod store;
 
 pub use file::MemoryFile;
-pub use store::{MemoryStore, memory_files_law, open_memory};
+pub use store::{MemoryStore, close_file, memory_files_law, open_file, open_memory};

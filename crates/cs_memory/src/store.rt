@@ -1,10 +1,13 @@
 //! Stores in files in memory.
-ghost use Rattle.std.specs.Prelude.{◌≡◌, IfOk, IfErr};
+ghost use Rattle.std.specs.Prelude.{◌≡◌, IsTrue, IfOk, IfErr};
 ghost use Rattle.std.specs.FinMap as map;
 ghost use Rattle.sqlite.specs.Files.{file_state};
 ghost use Rattle.sqlite.specs.State.{HasCleanDisk};
-ghost use Rattle.cs_store.specs.Faults.{IsResource};
+ghost use Rattle.cs_value.specs.State as tables;
+ghost use Rattle.cs_store.specs.Faults.{IsResource, IsReadRefusal};
 ghost use Rattle.cs_store.specs.Store.{IsAtRest, tables_in};
+ghost use Rattle.cs_store.specs.Opening.{OpensFiles};
+ghost use Rattle.cs_memory.specs.Memory.{alone, bytes_of, HasTables};
 
 use crate::file::MemoryFile;
 use cs_store::{Store, StoreError};
@@ -25,12 +28,47 @@ pub fn open_memory(alloc: Global) -> Result<MemoryStore, StoreError>
     ensures at_rest { IfOk result (λ s. IsAtRest (file_state s)) }
     ensures named { IfErr result IsResource }
 {
+    open_file(alloc, MemoryFile::new(alloc))
+}
+
+/// Opens the store in a database file in memory that has no log. An empty file, and a database without a table of
+/// records, becomes a new store.
+///
+/// # Errors
+///
+/// `DamagedStore` if the file is a database that is no store, and `StoreFault` if it is no database; and those of
+/// [`open_memory`].
+pub fn open_file(alloc: Global, db: MemoryFile) -> Result<MemoryStore, StoreError>
+    ensures found { (held : tables.State) → HasTables held (bytes_of db)
+        → IfOk result (λ s. tables_in (file_state s).now ≡ held) }
+    ensures refused { (held : tables.State) → HasTables held (bytes_of db) → IfErr result IsResource }
+    ensures opened { IfOk result (λ s. OpensFiles (alone (bytes_of db)) (file_state s)) }
+    ensures named { IfErr result IsReadRefusal }
+{
     let files = Files {
         log: MemoryFile::new(alloc),
-        db: MemoryFile::new(alloc),
+        db,
     };
     match Store::open_files(alloc, files, Options::new(0), false) {
         Ok(store) => Ok(store),
+        Err((error, _left)) => Err(error),
+    }
+}
+
+/// Closes a store in which no batch is open, and returns its database file, which has its tables without a log.
+///
+/// # Errors
+///
+/// `StoreFault` if the database refuses, also if memory ran out before as a file grew, and `NoMemory` if memory runs
+/// out.
+pub fn close_file(store: MemoryStore) -> Result<MemoryFile, StoreError>
+    ensures left { (held : tables.State) → (IsTrue (file_state store).is_open → IsAtRest (file_state store)
+        × (tables_in (file_state store).now ≡ held)) → IfOk result (λ file. HasTables held (bytes_of file)) }
+    ensures named { IfErr result IsResource }
+{
+    store.crash_law();
+    match store.close_files() {
+        Ok(files) => Ok(files.db),
         Err((error, _left)) => Err(error),
     }
 }

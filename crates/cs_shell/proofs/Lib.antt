@@ -1,5 +1,5 @@
+pub mod CommandLemmas
 pub mod Examples
-pub mod FolderLemmas
 pub mod LineLemmas
 pub mod ProgressLemmas
 pub mod RunLemmas

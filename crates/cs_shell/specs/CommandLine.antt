@@ -1,11 +1,11 @@
 -- How a command line ends.
-use Rattle.std.specs.Prelude.{◌≡◌, ◌⊎◌, ℕ, false, List, Option, IsTrue}
+use Rattle.std.specs.Prelude.{◌≡◌, ◌⊎◌, ℕ, List, Option, Result, IsTrue}
 use Rattle.std.specs.FinMap as map
 use Rattle.std.specs.Io.KnownBytes.{Appends}
 use Rattle.cs_texts.specs.declared.told.Told.{Told}
 use Rattle.cs_files.specs.Told.{has_failed, known}
 use Rattle.cs_texts.specs.declared.fault.OutputFault.{OutputFault as Fault}
-use Rattle.cs_files.specs.Calls.{AppendsFront}
+use Rattle.cs_files.specs.Calls.{AppendsFront, Writes}
 use Rattle.cs_words.specs.Words.{Asked, Shell, Refuses}
 use Rattle.cs_words.specs.declared.fault.WordsFault.TheVariants as fault
 use Rattle.cs_replies.specs.declared.refusal.Refusal.{Refusal}
@@ -18,12 +18,12 @@ use Rattle.cs_machine.specs.Script.{IsResource}
 use Rattle.cs_shell.specs.Meant.{LineSays}
 use Rattle.cs_shell.specs.Stores.{beginning}
 
--- the error line of a refusal is written, unless a write fails
+-- the error line of a refusal is written, or a prefix of it if a write fails
 abbrev pub Reports : {E : Type 0} → (E → Option (List ℕ)) → Refusal → Told E → Told E → Type 0
-Reports errors why before after =
-    has_failed after ≡ false → Appends (known errors before) (known errors after) (refusal_text why)
+Reports errors why before after = (written : Result (Unit {0}) Fault)
+    × Writes errors written before after (refusal_text why)
 
--- of a script only a stream that failed is told on the error stream
+-- of a script only a stream that failed is reported on the error stream
 abbrev pub ReportsStatus : {E : Type 0} → (E → Option (List ℕ)) → Status → Told E → Told E → Type 0
 ReportsStatus errors Done before after = after ≡ before
 ReportsStatus errors LinesRefused before after = after ≡ before
@@ -31,8 +31,8 @@ ReportsStatus errors TooLong before after = after ≡ before
 ReportsStatus errors InputFault before after = Reports errors Input before after
 ReportsStatus errors OutputFault before after = (fault : Fault) × Reports errors (Output fault) before after
 
--- the input was run as a script on a store in memory, or there was no memory for one, which is told, and then nothing
--- was read, and nothing written on the output
+-- the input was run as a script on a store in memory, or there was no memory for one, which is reported, and then
+-- nothing was read, and nothing written on the output
 abbrev pub RunsInMemory : {R W E : Type 0} → (R → Option (List ℕ)) → (W → Option (List ℕ)) → (E → Option (List ℕ)) → ℕ
     → Told R → Told R → Told W → Told W → Told E → Told E → Type 0
 RunsInMemory remaining contents errors exit input_before input_after before after err_before err_after =
@@ -41,17 +41,20 @@ RunsInMemory remaining contents errors exit input_before input_after before afte
     ⊎ ((exit ≡ 1) × (input_after ≡ input_before) × (after ≡ before)
     × ((why : Refusal) × IsResource why × Reports errors why err_before err_after))
 
--- the text is printed, or a write of it fails
-abbrev pub Helps : {W : Type 0} → (W → Option (List ℕ)) → List ℕ → ℕ → Told W → Told W → Type 0
-Helps contents text exit before after = ((exit ≡ 0) × Appends (known contents before) (known contents after) text)
-    ⊎ ((exit ≡ 1) × AppendsFront (known contents before) (known contents after) text × IsTrue (has_failed after))
+-- the text is printed, or a write of it fails, which is reported
+abbrev pub Helps : {W E : Type 0} → (W → Option (List ℕ)) → (E → Option (List ℕ)) → List ℕ → ℕ → Told W → Told W
+    → Told E → Told E → Type 0
+Helps contents errors text exit before after err_before err_after =
+    ((exit ≡ 0) × Appends (known contents before) (known contents after) text × (err_after ≡ err_before))
+    ⊎ ((exit ≡ 1) × AppendsFront (known contents before) (known contents after) text × IsTrue (has_failed after)
+    × ((fault : Fault) × Reports errors (Output fault) err_before err_after))
 
--- words that ask for nothing are misuse, or ask for help, or there was no memory to read them, which is told, and then
--- nothing was printed
+-- words that ask for nothing are misuse, or ask for help, or there was no memory to read them, which is reported, and
+-- then nothing was printed
 abbrev pub EndsUnasked : {W E : Type 0} → (W → Option (List ℕ)) → (E → Option (List ℕ)) → List ℕ → List (List ℕ) → ℕ
     → Told W → Told W → Told E → Told E → Type 0
 EndsUnasked contents errors text words exit before after err_before err_after = ((exit ≡ 2) × Refuses words fault.Usage)
-    ⊎ (Refuses words fault.Help × Helps contents text exit before after)
+    ⊎ (Refuses words fault.Help × Helps contents errors text exit before after err_before err_after)
     ⊎ ((exit ≡ 1) × (after ≡ before) × Reports errors NoMemory err_before err_after)
 
 -- a command other than a script

@@ -2,7 +2,8 @@ pub mod Shells
 pub mod Laws
 pub mod Stores
 pub mod CommandLine
-pub mod Folders
+pub mod Scripts
+pub mod Outcomes
 pub mod Meant
 pub mod Runs
 pub mod SessionLaw

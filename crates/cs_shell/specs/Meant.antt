@@ -13,7 +13,8 @@ abbrev pub decoded_or : List ℕ → Result (List ℕ) FromHexError → List ℕ
 decoded_or line (Ok bytes) = bytes
 decoded_or line (Err e) = line
 
--- `.line` and hexadecimal digits stand for the line of these bytes, and any other line for itself
+-- `.line` and hexadecimal digits stand for the line of these bytes, and any other line for itself. The line of these
+-- bytes is not spelled again: if it is itself a `.line`, it has no command
 abbrev pub meant_by : List (List ℕ) → List ℕ → List ℕ
 meant_by [] line = line
 meant_by (word ∷ []) line = line

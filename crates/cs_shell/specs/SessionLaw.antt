@@ -8,8 +8,8 @@ use Rattle.cs_machine.specs.ShellState.{ShellState}
 use Rattle.cs_shell.specs.Runs.{LinesGive}
 use Rattle.cs_shell.specs.Stores.{beginning}
 
--- a script begins with any tables and is answered any lines: if a session is open then, its net changes are those of its
--- whole tables
+-- a script begins with any tables and is answered any lines: if a session is open then, its net changes are those of
+-- its whole tables
 abbrev pub ScriptHasNet : Type 0
 ScriptHasNet = (tables : State) (lines : List (List ℕ)) (replies : List Reply) (last : ShellState)
     → LinesGive LineSays (beginning tables) lines replies last → HasNet last

@@ -16,8 +16,9 @@ abbrev pub beginning : State → ShellState
 beginning tables = record { tables = tables; slots = map.empty; session = None }
 
 -- the script is run: its lines gave these replies in turn, and the store shows the tables that go with them
-pub record RunsScript {R W : Type 0} (remaining : R → Option (List ℕ)) (contents : W → Option (List ℕ)) (status : Status)
-    (input_before input_after : Told R) (before after : Told W) (tables : State) (new : sqlite.State) : Type 0 where
+pub record RunsScript {R W : Type 0} (remaining : R → Option (List ℕ)) (contents : W → Option (List ℕ))
+    (status : Status) (input_before input_after : Told R) (before after : Told W) (tables : State)
+    (new : sqlite.State) : Type 0 where
   pub last : ShellState
   pub runs : Runs remaining contents LineSays status (beginning tables) last input_before input_after before after
   pub shows : Shows new last.tables

@@ -13,15 +13,15 @@
 //!
 //! `script` reads lines by a `reader`, passes each to a machine, and prints the replies. `shell` is the machine over a
 //! store, by [`cs_machine`]. `meant` has the line that a line stands for. `words` has the command line, whose words
-//! [`cs_words`] reads. `command` has the commands on files and stores, over a folder of [`cs_folder`]. `laws` has what
-//! holds of whole scripts. [`cs_replies`] has the replies and how they are printed.
+//! [`cs_words`] reads, and `scripting` the script that it runs on the store in a file. [`cs_commands`] has the other
+//! commands. `laws` has what holds of whole scripts. [`cs_replies`] has the replies and how they are printed.
 #![tactic(auto)]
 
-mod command;
 mod laws;
 mod meant;
 mod reader;
 mod script;
+mod scripting;
 mod shell;
 mod words;
 
@@ -33,6 +33,7 @@ pub use cs_folder::{Folder, FolderFault, HostFolder, MemoryFolder};
 pub use cs_group::SchemaFault;
 pub use cs_lines::{Assignment, Command, LineFault, SyntaxFault, parse_line};
 pub use cs_replies::report_text;
+pub use cs_stores::{StoreFolder, Visitor};
 pub use cs_wire::{ReadError, ReadFault, ReadFaultKind};
 pub use cs_words::{Action, WordsFault, parse_words};
 pub use laws::script_net_law;

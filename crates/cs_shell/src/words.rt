@@ -1,23 +1,25 @@
 //! Command lines.
-ghost use Rattle.std.specs.Prelude.{◌≡◌, ◌≤◌, None, Some, false, map, string_bytes};
+ghost use Rattle.std.specs.Prelude.{◌≡◌, ◌≢◌, ◌≤◌, None, Some, false, map, string_bytes};
 ghost use Rattle.std.specs.Io.KnownBytes.{Appends};
 ghost use Rattle.cs_files.specs.Told.{has_failed, known};
 ghost use Rattle.cs_files.specs.Calls.{AppendsFront};
 ghost use Rattle.cs_words.specs.Words.{Asked, Refuses, Shell, asked, asked_of, in_memory};
 ghost use Rattle.cs_words.specs.declared.fault.WordsFault.TheVariants as fault;
 ghost use Rattle.cs_shell.specs.Runs.{exit_of};
-ghost use Rattle.cs_shell.specs.Folders.{CarriesOut, EndsAs};
+ghost use Rattle.cs_shell.specs.Outcomes.{CarriesOut, EndsAs};
+ghost use Rattle.cs_shell.specs.Scripts.{EndsScript, Scripts};
 ghost use Rattle.cs_shell.specs.CommandLine.{EndsUnasked, Helps, IsCommand};
 ghost use Rattle.cs_shell.specs.CommandLine.{Reports, ReportsStatus, RunsInMemory};
 
-use crate::command;
-use crate::command::{close_store, open_store};
 use crate::script::Status;
+use crate::scripting::Scripting;
 use crate::shell::run_script;
 use cs_files::{OutputFault, Told, write_whole};
 use cs_folder::{Folder, HostFolder};
 use cs_memory::{memory_files_law, open_memory};
 use cs_replies::{Refusal, write_refusal};
+use cs_store::StoreError;
+use cs_stores::StoreFolder;
 use cs_words::{Action, IN_MEMORY, WordsFault, parse_words};
 use std::alloc::Global;
 use std::io::{Read, Write};
@@ -96,7 +98,7 @@ pub fn print_usage<E: Write>(err: &mut Told<E>) -> u8
 
 /// Writes the usage text for a command line that asks for it, and returns the exit status.
 fn print_help<W: Write, E: Write>(out: &mut Told<W>, err: &mut Told<E>) -> u8
-    ensures { Helps W.contents USAGE.now result out.old out.new }
+    ensures { Helps W.contents E.contents USAGE.now result out.old out.new err.old err.new }
 {
     match write_whole(out, USAGE.as_bytes()) {
         Ok(()) => 0,
@@ -107,23 +109,46 @@ fn print_help<W: Write, E: Write>(out: &mut Told<W>, err: &mut Told<E>) -> u8
     }
 }
 
-/// Runs the input as a script on the store in a file, and returns the exit status.
-fn run_on_file<R: Read, W: Write, E: Write>(
-    rt: &HostRuntime,
+/// Runs the input as a script on the store in a file, and returns the exit status. If the store cannot be opened, that
+/// is reported, and nothing is read.
+fn run_on_file<F: StoreFolder, R: Read, W: Write, E: Write>(
+    alloc: Global,
+    folder: &mut F,
     path: &str,
     input: &mut Told<R>,
     out: &mut Told<W>,
     err: &mut Told<E>,
 ) -> u8
     ensures status { result ≤ 1 }
+    ensures ran { Scripts R.remaining W.contents E.contents (F.Folder.files folder.old) (F.Folder.files folder.new)
+        path.now result input.old input.new out.old out.new err.old err.new }
 {
-    match open_store(rt, path) {
-        Ok(mut store) => {
-            let status = run_script(rt.alloc(), &mut store, input, out);
-            let closed = end_command(err, close_store(store));
-            end_script(err, status).max(closed)
+    let mut scripting = Scripting {
+        input,
+        out,
+        status: Status::Done,
+    };
+    match folder.visit_store(alloc, path, &mut scripting) {
+        Ok(closed) => end_visit(err, closed, scripting.status),
+        Err(error) => {
+            report(err, &Refusal::from(error));
+            1
         }
-        Err(refusal) => end_command(err, Err(refusal)),
+    }
+}
+
+/// Returns the exit status of a script on the store in a file, and reports a store that was not closed, or else a
+/// stream that failed.
+fn end_visit<E: Write>(err: &mut Told<E>, closed: Result<(), StoreError>, status: Status) -> u8
+    ensures ends { EndsScript E.contents closed status result err.old err.new }
+    ensures status { result ≤ 1 }
+{
+    match closed {
+        Ok(()) => end_script(err, status),
+        Err(error) => {
+            report(err, &Refusal::from(error));
+            1
+        }
     }
 }
 
@@ -141,8 +166,8 @@ fn end_command<E: Write>(err: &mut Told<E>, done: Result<(), Refusal>) -> u8
 }
 
 /// Carries out an action, and returns the exit status: 0 if it is done, and 1 if it failed.
-fn run_action<F: Folder, R: Read, W: Write, E: Write>(
-    rt: &HostRuntime,
+fn run_action<F: StoreFolder, R: Read, W: Write, E: Write>(
+    alloc: Global,
     folder: &mut F,
     action: Action<'_>,
     input: &mut Told<R>,
@@ -152,32 +177,31 @@ fn run_action<F: Folder, R: Read, W: Write, E: Write>(
     ensures status { result ≤ 1 }
     ensures script { asked_of action.entry ≡ Shell in_memory → RunsInMemory R.remaining W.contents E.contents result
         input.old input.new out.old out.new err.old err.new }
-    ensures command { IsCommand (asked_of action.entry) → CarriesOut W.contents E.contents (F.files folder.old)
-        (F.files folder.new) out.old out.new err.old err.new result (asked_of action.entry) }
+    ensures command { IsCommand (asked_of action.entry) → CarriesOut W.contents E.contents (F.Folder.files folder.old)
+        (F.Folder.files folder.new) out.old out.new err.old err.new result (asked_of action.entry) }
     ensures unread { IsCommand (asked_of action.entry) → input.new ≡ input.old }
-    ensures scripts { (file : _) → asked_of action.entry ≡ Shell file → F.files folder.new ≡ F.files folder.old }
+    ensures scripts { (file : _) → asked_of action.entry ≡ Shell file → file ≢ in_memory →
+        Scripts R.remaining W.contents E.contents (F.Folder.files folder.old) (F.Folder.files folder.new) file result
+        input.old input.new out.old out.new err.old err.new }
+    ensures kept { asked_of action.entry ≡ Shell in_memory → F.Folder.files folder.new ≡ F.Folder.files folder.old }
 {
     let done = match action {
         Action::Shell { file } if file == IN_MEMORY => {
-            return run_input(rt.alloc(), input, out, err);
+            return run_input(alloc, input, out, err);
         }
-        Action::Shell { file } => return run_on_file(rt, file, input, out, err),
+        Action::Shell { file } => return run_on_file(alloc, folder, file, input, out, err),
         Action::Apply {
             file,
             store,
             policy,
             noop,
-        } => command::apply_file(rt, folder, file, store, &policy, noop, out),
-        Action::Concat { file, second, out } => command::join_files(
-            rt.alloc(),
-            folder,
-            file,
-            second,
-            out,
+        } => cs_commands::apply(alloc, folder, file, store, &policy, noop, out),
+        Action::Concat { file, second, out } => cs_commands::concat(
+            alloc, folder, file, second, out,
         ),
-        Action::Dump { file } => command::dump_file(rt.alloc(), folder, file, out),
-        Action::Sql { file } => command::sql_file(rt.alloc(), folder, file, out),
-        Action::Invert { file, out } => command::invert_file(rt.alloc(), folder, file, out),
+        Action::Dump { file } => cs_commands::dump(alloc, folder, file, out),
+        Action::Sql { file } => cs_commands::sql(alloc, folder, file, out),
+        Action::Invert { file, out } => cs_commands::invert(alloc, folder, file, out),
     };
     end_command(err, done)
 }
@@ -212,6 +236,9 @@ pub fn run_words<R: Read, W: Write, E: Write>(
         RunsInMemory R.remaining W.contents E.contents result input.old input.new out.old out.new err.old err.new }
     ensures command { (action : Asked) → asked (map string_bytes words.now) ≡ Some action → IsCommand action →
         CarriesOut W.contents E.contents None None out.old out.new err.old err.new result action }
+    ensures scripts { (file : _) → asked (map string_bytes words.now) ≡ Some (Shell file) → file ≢ in_memory →
+        Scripts R.remaining W.contents E.contents None None file result input.old input.new out.old out.new err.old
+        err.new }
     ensures misfit { result ≡ 2 → Refuses (map string_bytes words.now) fault.Usage }
     ensures usage { result ≡ 2 → has_failed err.new ≡ false →
         Appends (known E.contents err.old) (known E.contents err.new) USAGE.now }
@@ -223,13 +250,12 @@ pub fn run_words<R: Read, W: Write, E: Write>(
     ensures commands { (action : Asked) → asked (map string_bytes words.now) ≡ Some action → IsCommand action →
         input.new ≡ input.old }
 {
-    run_words_in(rt, &mut HostFolder::new(rt), words, input, out, err)
+    run_words_in(rt.alloc(), &mut HostFolder::new(rt), words, input, out, err)
 }
 
-/// Carries out the words of a command line as [`run_words`] does, on the files of a folder. The stores of `apply` and
-/// `shell` are files of the machine.
-pub fn run_words_in<F: Folder, R: Read, W: Write, E: Write>(
-    rt: &HostRuntime,
+/// Carries out the words of a command line as [`run_words`] does, on the files of a folder, which can be stores.
+pub fn run_words_in<F: StoreFolder, R: Read, W: Write, E: Write>(
+    alloc: Global,
     folder: &mut F,
     words: &[String],
     input: &mut Told<R>,
@@ -240,7 +266,8 @@ pub fn run_words_in<F: Folder, R: Read, W: Write, E: Write>(
     ensures script { asked (map string_bytes words.now) ≡ Some (Shell in_memory) →
         RunsInMemory R.remaining W.contents E.contents result input.old input.new out.old out.new err.old err.new }
     ensures command { (action : Asked) → asked (map string_bytes words.now) ≡ Some action → IsCommand action →
-        CarriesOut W.contents E.contents (F.files folder.old) (F.files folder.new) out.old out.new err.old err.new result action }
+        CarriesOut W.contents E.contents (F.Folder.files folder.old) (F.Folder.files folder.new) out.old out.new
+        err.old err.new result action }
     ensures misfit { result ≡ 2 → Refuses (map string_bytes words.now) fault.Usage }
     ensures usage { result ≡ 2 → has_failed err.new ≡ false →
         Appends (known E.contents err.old) (known E.contents err.new) USAGE.now }
@@ -251,12 +278,16 @@ pub fn run_words_in<F: Folder, R: Read, W: Write, E: Write>(
     ensures unread { asked (map string_bytes words.now) ≡ None → input.new ≡ input.old }
     ensures commands { (action : Asked) → asked (map string_bytes words.now) ≡ Some action → IsCommand action →
         input.new ≡ input.old }
-    ensures scripts { (file : _) → asked (map string_bytes words.now) ≡ Some (Shell file) →
-        F.files folder.new ≡ F.files folder.old }
-    ensures untouched { asked (map string_bytes words.now) ≡ None → F.files folder.new ≡ F.files folder.old }
+    ensures scripts { (file : _) → asked (map string_bytes words.now) ≡ Some (Shell file) → file ≢ in_memory →
+        Scripts R.remaining W.contents E.contents (F.Folder.files folder.old) (F.Folder.files folder.new) file result
+        input.old input.new out.old out.new err.old err.new }
+    ensures kept { asked (map string_bytes words.now) ≡ Some (Shell in_memory) →
+        F.Folder.files folder.new ≡ F.Folder.files folder.old }
+    ensures untouched { asked (map string_bytes words.now) ≡ None →
+        F.Folder.files folder.new ≡ F.Folder.files folder.old }
 {
-    match parse_words(rt.alloc(), words) {
-        Ok(action) => run_action(rt, folder, action, input, out, err),
+    match parse_words(alloc, words) {
+        Ok(action) => run_action(alloc, folder, action, input, out, err),
         Err(WordsFault::Help) => print_help(out, err),
         Err(WordsFault::Usage) => print_usage(err),
         Err(WordsFault::NoMemory) => {

@@ -1,7 +1,7 @@
 //! Databases that are adopted as stores, or handed back.
 
 use cs_store::{Cause, Store, StoreError, Unopened};
-use sqlite::{Alter, Connection, Error, FileStore, Leftover, MemStore, Options};
+use sqlite::{Alter, Connection, FileStore, MemStore, Options};
 use sqlite_disk::{Disk, Files, Memory};
 use std::process::Abort;
 
@@ -11,37 +11,10 @@ fn database(rt: &(impl Abort + AllocGlobal)) -> Connection<MemStore> {
 }
 
 /// Returns the store of a database that is one.
-pub(crate) fn adopted<S: Alter>(rt: &(impl Abort + AllocGlobal), conn: Connection<S>) -> Store<S> {
+fn adopted<S: Alter>(rt: &(impl Abort + AllocGlobal), conn: Connection<S>) -> Store<S> {
     match Store::adopt(rt.alloc(), conn) {
         Ok(store) => store,
         Err((error, _)) => panic!(rt; "no store: {error}"),
-    }
-}
-
-/// Opens a database in files. What is written goes to the log at once, and what is in the log is copied back before a
-/// transaction writes.
-pub(crate) fn open<D: Disk + Drop>(
-    rt: &(impl Abort + AllocGlobal),
-    files: Files<D>,
-) -> Result<Connection<FileStore<D>>, (Error, Leftover<D>)> {
-    assert!(rt; files.log.may_be_used() && files.db.may_be_used());
-    let options = Options {
-        cache_pages: 4,
-        spill_pages: 1,
-        checkpoint_frames: 1,
-        seed: 1,
-    };
-    Connection::open_files(rt.alloc(), files, options)
-}
-
-/// Returns the database on disks that answer.
-pub(crate) fn connected<D: Disk + Drop>(
-    rt: &(impl Abort + AllocGlobal),
-    files: Files<D>,
-) -> Connection<FileStore<D>> {
-    match open(rt, files) {
-        Ok(conn) => conn,
-        Err((error, _)) => panic!(rt; "no database: {error}"),
     }
 }
 

@@ -2,9 +2,9 @@
 //!
 //! `rows` makes rows and edits, and has tables in memory, `edits` the edits of rows in memory and in a batch, `apply`
 //! runs of changesets over rows in memory and in batches, and the text of a report, `adoption` databases that are
-//! adopted as stores, `session` attached tables, changesets, undos and stores that are not those of a session, `fused`
-//! disks that stop answering, and `calling` the callers that `CALLING.md` of `cs_store`, `cs_apply` and `cs_session`
-//! shows.
+//! adopted as stores, `session` attached tables, changesets, undos and stores that are not those of a session,
+//! `calling` the callers that `CALLING.md` of `cs_store`, `cs_apply` and `cs_session` shows, and `command_line` command
+//! lines over files in memory.
 //!
 //! The table t of these tests has the columns a and b, of which a is the key.
 #![tactic(auto)]
@@ -16,9 +16,9 @@ mod apply;
 #[cfg(test)]
 mod calling;
 #[cfg(test)]
-mod edits;
+mod command_line;
 #[cfg(test)]
-mod fused;
+mod edits;
 #[cfg(test)]
 mod rows;
 #[cfg(test)]

@@ -38,7 +38,7 @@ pub(crate) fn row_of(rt: &(impl Abort + AllocGlobal), values: &[Value<'_>]) -> R
 }
 
 /// Returns the key of an integer.
-pub(crate) fn key_of(rt: &(impl Abort + AllocGlobal), number: i64) -> Key {
+fn key_of(rt: &(impl Abort + AllocGlobal), number: i64) -> Key {
     Key::from_values(rt.alloc(), &[OwnedValue::Int(number)]).expect(rt, "memory")
 }
 
@@ -94,7 +94,7 @@ pub(crate) fn tables(rt: &(impl Abort + AllocGlobal)) -> MemRows {
 }
 
 /// Declares a table in a store, with the columns of t. It refuses NULL in the columns with these marks.
-pub(crate) fn declaration<S: Alter>(
+fn declaration<S: Alter>(
     rt: &(impl Abort + AllocGlobal),
     store: &mut Store<S>,
     name: &str,

@@ -10,7 +10,7 @@ use sqlite::{Alter, MemStore};
 use std::process::Abort;
 
 /// Returns the code of a refusal, or 0.
-pub(crate) fn code_of<T: Drop, E: Fault + Drop>(answer: Result<T, E>) -> u8 {
+fn code_of<T: Drop, E: Fault + Drop>(answer: Result<T, E>) -> u8 {
     match answer {
         Ok(_) => 0,
         Err(fault) => fault.code(),
@@ -18,7 +18,7 @@ pub(crate) fn code_of<T: Drop, E: Fault + Drop>(answer: Result<T, E>) -> u8 {
 }
 
 /// Returns a session with t of a store that has ended.
-pub(crate) fn session_alone(rt: &(impl Abort + AllocGlobal)) -> Session {
+fn session_alone(rt: &(impl Abort + AllocGlobal)) -> Session {
     let mut store = store_of(rt, &[false, false]);
     let mut session = Session::new(rt.alloc());
     session
@@ -29,7 +29,7 @@ pub(crate) fn session_alone(rt: &(impl Abort + AllocGlobal)) -> Session {
 }
 
 /// Has a session carry out an edit, and returns the code of the refusal, or 0.
-pub(crate) fn edited<S: Alter>(
+fn edited<S: Alter>(
     rt: &(impl Abort + AllocGlobal),
     session: &mut Session,
     store: &mut Store<S>,

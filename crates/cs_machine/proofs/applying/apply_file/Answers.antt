@@ -5,4 +5,4 @@ pub returns-in-Some : goal.returns-in-Some
 returns-in-Some g c = rw c.in-Some.is c.apply_noted.ensures
 
 pub returns-in-None : goal.returns-in-None
-returns-in-None g c = rw c.in-None.is c.apply_unnoted.ensures
+returns-in-None g c = rw c.in-None.is c.apply_unnoted.ensures.works

@@ -1,13 +1,14 @@
 -- `store::open_memory`: its clauses.
-use Rattle.std.proofs.Common.{refl}
-use Rattle.cs_memory.proofs.HonestLemmas.{honest, honest_rest}
+use Rattle.std.proofs.Common.{refl, inr}
+use Rattle.std.specs.FinMap as map
+use Rattle.std.proofs.lemmas.Result.{IfOk-weaker}
 use Rattle.cs_memory.proofs.store.open_memory.Goals as goal
 
-pub returns-in-Ok-clause-empty : goal.returns-in-Ok-clause-empty
-returns-in-Ok-clause-empty c = c.in-Ok.ensures.new c.new-2.ensures.empty (honest (λ disk. refl) c.in-Ok.store)
+pub returns-clause-empty : goal.returns-clause-empty
+returns-clause-empty c = c.open_file.ensures.found map.empty (inr (c.new.ensures.empty, refl))
 
-pub returns-in-Ok-clause-at_rest : goal.returns-in-Ok-clause-at_rest
-returns-in-Ok-clause-at_rest c = (c.in-Ok.ensures.opened (honest (λ disk. refl) c.in-Ok.store)).at_rest
+pub returns-clause-at_rest : goal.returns-clause-at_rest
+returns-clause-at_rest c = IfOk-weaker c.open_file.result _ _ (λ store opens. opens.at_rest) c.open_file.ensures.opened
 
-pub returns-in-Err-clause-named : goal.returns-in-Err-clause-named
-returns-in-Err-clause-named c = c.in-Err.ensures.new c.new-2.ensures.empty (honest_rest (λ disk. refl) c.in-Err._left)
+pub returns-clause-named : goal.returns-clause-named
+returns-clause-named c = c.open_file.ensures.refused map.empty (inr (c.new.ensures.empty, refl))

@@ -1,25 +1,22 @@
-//! What the commands of a command line do with files and stores.
+//! The commands on files.
 ghost use Rattle.std.specs.Prelude.{◌≡◌, IfOk, IfErr, OnOk, OnErr};
 ghost use Rattle.cs_texts.specs.Texts.{dump_of, sql_of};
 ghost use Rattle.cs_folder.specs.Files.{HasFile, ReplacesFile};
-ghost use Rattle.cs_shell.specs.Folders.{InvertsFile, JoinsFiles, PrintsFile};
-ghost use Rattle.cs_shell.specs.Folders.{RefusesInvert, RefusesJoin, RefusesPrint, RefusesRead, RefusesWrite};
+ghost use Rattle.cs_commands.specs.Folders.{InvertsFile, JoinsFiles, PrintsFile};
+ghost use Rattle.cs_commands.specs.Folders.{RefusesInvert, RefusesJoin, RefusesPrint, RefusesRead, RefusesWrite};
 
-use cs_apply::{Noop, Policy};
 use cs_files::{OutputFault, Told, concat_bytes, invert_bytes, print_dump, print_sql};
 use cs_folder::{Folder, FolderFault};
-use cs_machine::apply_unnoted;
-use cs_memory::open_memory;
-use cs_replies::{Refusal, write_reply};
-use cs_store::{Store, StoreError};
-use cs_words::IN_MEMORY;
-use sqlite::{FileFrom, FileStore, Unknown};
+use cs_replies::Refusal;
 use std::alloc::Global;
 use std::io::Write;
-use std::rt::HostRuntime;
 
 /// Returns the bytes of a file.
-fn read_file<F: Folder>(alloc: Global, folder: &F, file: &str) -> Result<Vec<u8>, Refusal>
+pub(crate) fn read_file<F: Folder>(
+    alloc: Global,
+    folder: &F,
+    file: &str,
+) -> Result<Vec<u8>, Refusal>
     ensures read { IfOk result (λ bytes. HasFile (F.files folder.now) file.now bytes.items) }
     ensures refused { IfErr result (RefusesRead (F.files folder.now) file.now) }
 {
@@ -48,8 +45,13 @@ fn write_out<F: Folder>(
     }
 }
 
-/// Writes the inverse of a file into another, which is replaced once the inverse is made.
-pub(crate) fn invert_file<F: Folder>(
+/// Writes the inverse of a file into the file OUT, which is replaced once the inverse is made.
+///
+/// # Errors
+///
+/// In this order: `Input` if the file cannot be read, `Read` if it is not a changeset file, `Output` if OUT cannot be
+/// replaced. At any point `NoMemory`. An error changes no file.
+pub fn invert<F: Folder>(
     alloc: Global,
     folder: &mut F,
     file: &str,
@@ -64,8 +66,13 @@ pub(crate) fn invert_file<F: Folder>(
     write_out(alloc, folder, out, &inverse)
 }
 
-/// Writes the concatenation of two files into another, which is replaced once the concatenation is made.
-pub(crate) fn join_files<F: Folder>(
+/// Writes the concatenation of two files into the file OUT, which is replaced once the concatenation is made.
+///
+/// # Errors
+///
+/// In this order: `Input` if a file cannot be read, the first one first, `Files` if the two cannot be concatenated,
+/// `Output` if OUT cannot be replaced. At any point `NoMemory`. An error changes no file.
+pub fn concat<F: Folder>(
     alloc: Global,
     folder: &mut F,
     first: &str,
@@ -83,7 +90,12 @@ pub(crate) fn join_files<F: Folder>(
 }
 
 /// Prints a file as text.
-pub(crate) fn dump_file<F: Folder, W: Write>(
+///
+/// # Errors
+///
+/// In this order: `Input` if the file cannot be read, `Read` if it is not a changeset file, `Output` if a write fails.
+/// Then a prefix of the text is printed, and else nothing. At any point `NoMemory`.
+pub fn dump<F: Folder, W: Write>(
     alloc: Global,
     folder: &F,
     file: &str,
@@ -97,7 +109,11 @@ pub(crate) fn dump_file<F: Folder, W: Write>(
 }
 
 /// Prints a file as SQL.
-pub(crate) fn sql_file<F: Folder, W: Write>(
+///
+/// # Errors
+///
+/// Those of [`dump`].
+pub fn sql<F: Folder, W: Write>(
     alloc: Global,
     folder: &F,
     file: &str,
@@ -108,41 +124,4 @@ pub(crate) fn sql_file<F: Folder, W: Write>(
 {
     let bytes = read_file(alloc, folder, file)?;
     Ok(print_sql(alloc, &bytes, out)?)
-}
-
-/// Applies a file to a store, and prints the report. A store in a file is closed first: if that fails, the report is
-/// printed all the same, since the changes are committed.
-pub(crate) fn apply_file<F: Folder, W: Write>(
-    rt: &HostRuntime,
-    folder: &F,
-    file: &str,
-    store: &str,
-    policy: &Policy,
-    noop: Noop,
-    out: &mut Told<W>,
-) -> Result<(), Refusal> {
-    let bytes = read_file(rt.alloc(), folder, file)?;
-    if store == IN_MEMORY {
-        let mut store = open_memory(rt.alloc())?;
-        let reply = apply_unnoted(rt.alloc(), &mut store, &bytes, policy, noop)?;
-        return Ok(write_reply(out, &reply)?);
-    }
-    let mut store = open_store(rt, store)?;
-    let applied = apply_unnoted(rt.alloc(), &mut store, &bytes, policy, noop);
-    let closed = close_store(store);
-    write_reply(out, &applied?)?;
-    closed
-}
-
-/// Opens the store in a file. Creates the file if it does not exist.
-pub(crate) fn open_store(
-    rt: &HostRuntime,
-    path: &str,
-) -> Result<Store<FileStore<FileFrom<Unknown>>>, Refusal> {
-    Ok(Store::open_from(rt, path, false, Unknown)?)
-}
-
-/// Closes the store in a file, so that only the one file remains.
-pub(crate) fn close_store(store: Store<FileStore<FileFrom<Unknown>>>) -> Result<(), Refusal> {
-    Ok(store.close()?)
 }

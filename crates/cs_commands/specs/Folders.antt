@@ -1,15 +1,12 @@
--- What the commands on files do in a folder, and why they are refused. A reason comes only where no earlier one does: the
--- file, the second file, what is made of them, and the file OUT. Memory can run out at any time.
-use Rattle.std.specs.Prelude.{◌≡◌, ◌⊎◌, ℕ, List, Option, None, Result, Ok, Err, IfErr, OnOk, OnErr, IsTrue}
+-- What the commands on files do in a folder, and why they are refused. A reason comes only where no earlier one does:
+-- the file, the second file, what is made of them, and the file OUT. Memory can run out at any time.
+use Rattle.std.specs.Prelude.{◌≡◌, ◌⊎◌, ℕ, List, Option, None, Result, Ok, Err, IsTrue}
 use Rattle.cs_wire.specs.Changeset.{GroupData}
 use Rattle.cs_wire.specs.ReadFaults.{ReadFails}
 use Rattle.cs_texts.specs.declared.told.Told.{Told}
 use Rattle.cs_files.specs.Told.{has_failed}
 use Rattle.cs_files.specs.Files.{Inverts, Joins, JoinFails}
 use Rattle.cs_files.specs.Printing.{PrintsTo, PrintsFrontTo}
-use Rattle.cs_texts.specs.Texts.{dump_of, sql_of}
-use Rattle.cs_words.specs.Words.{Asked, Apply, Concat, Dump, Sql, Invert, Shell}
-use Rattle.cs_shell.specs.CommandLine.{Reports}
 use Rattle.cs_folder.specs.Files.{Files, HasFile, IsUnreadable, ReplacesFile}
 use Rattle.cs_replies.specs.declared.refusal.Refusal.{Refusal}
 use Rattle.cs_replies.specs.declared.refusal.Refusal.TheVariants as refusal
@@ -75,7 +72,7 @@ RefusesJoin files first second (refusal.Output fault) = (files ≡ None)
     × HasFile files first bytes × HasFile files second other × Joins bytes other join
 RefusesJoin files first second _ = ⊥
 
--- The file is not printed: nothing is, or a write fails behind a front of the text.
+-- The file is not printed: nothing is, or a write fails after a prefix of the text.
 abbrev pub RefusesPrint : {W : Type 0} → (W → Option (List ℕ)) → (List GroupData → List ℕ) → Option Files → List ℕ
     → Told W → Told W → Refusal → Type 0
 RefusesPrint contents text_of files file before after refusal.NoMemory = after ≡ before
@@ -85,31 +82,3 @@ RefusesPrint contents text_of files file before after (refusal.Read fault) =
 RefusesPrint contents text_of files file before after (refusal.Output fault) = (bytes : List ℕ)
     × HasFile files file bytes × PrintsFrontTo contents text_of bytes before after × IsTrue (has_failed after)
 RefusesPrint contents text_of files file before after _ = ⊥
-
--- ---- how a command line ends that asks for such a command
-
--- A command that succeeds writes nothing to the error stream. A refused one writes its error line.
-abbrev pub EndsAs : {E : Type 0} → (E → Option (List ℕ)) → Result (Unit {0}) Refusal → ℕ → Told E → Told E → Type 0
-EndsAs errors (Ok done) exit before after = (exit ≡ 0) × (after ≡ before)
-EndsAs errors (Err why) exit before after = (exit ≡ 1) × Reports errors why before after
-
--- What a command makes of the files and prints, by what it returns. For `apply` this covers only the files of the folder.
-abbrev pub Works : {W : Type 0} → (W → Option (List ℕ)) → Option Files → Option Files → Told W → Told W → Asked
-    → Result (Unit {0}) Refusal → Type 0
-Works contents old new before after (Invert file out) done = OnOk done (InvertsFile old file out new)
-    × IfErr done (RefusesInvert old file) × OnErr done (new ≡ old) × (after ≡ before)
-Works contents old new before after (Concat first second out) done = OnOk done (JoinsFiles old first second out new)
-    × IfErr done (RefusesJoin old first second) × OnErr done (new ≡ old) × (after ≡ before)
-Works contents old new before after (Dump file) done = OnOk done (PrintsFile contents dump_of old file before after)
-    × IfErr done (RefusesPrint contents dump_of old file before after) × (new ≡ old)
-Works contents old new before after (Sql file) done = OnOk done (PrintsFile contents sql_of old file before after)
-    × IfErr done (RefusesPrint contents sql_of old file before after) × (new ≡ old)
-Works contents old new before after (Apply file store policy noop) done = new ≡ old
-Works contents old new before after (Shell file) done = ⊥
-
--- A command is carried out, and what it returns is told.
-pub record CarriesOut {W E : Type 0} (contents : W → Option (List ℕ)) (errors : E → Option (List ℕ)) (old new : Option Files)
-    (before after : Told W) (err_before err_after : Told E) (exit : ℕ) (asked : Asked) : Type 0 where
-  pub done : Result (Unit {0}) Refusal
-  pub works : Works contents old new before after asked done
-  pub ends : EndsAs errors done exit err_before err_after

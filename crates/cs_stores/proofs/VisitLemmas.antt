@@ -1,0 +1,15 @@
+-- Files of a folder by their names.
+use Rattle.std.proofs.Common.{◌≡◌, ℕ, List, [], Some, ap, ◌∙◌}
+use Rattle.std.specs.Prelude.{unwrap_or}
+use Rattle.std.specs.FinMap as map
+use Rattle.std.specs.Cmp.Lexicographic.{nat_list_cmp_total}
+use Rattle.std.proofs.lemmas.Bool.{cond-true}
+use Rattle.cs_value.proofs.ByteMaps.{self_tied}
+use Rattle.cs_folder.specs.Files.{Files}
+use Rattle.cs_stores.specs.Visits.{bytes_in}
+
+-- a file that was put has these bytes
+pub put_bytes : (old new : Files) (name bytes : List ℕ) → Some new ≡ Some (map.insert old name bytes) → bytes_in new name ≡ bytes
+put_bytes old new name bytes put =
+    ap (λ o. bytes_in (unwrap_or o old) name) put
+    ∙ ap (λ o. unwrap_or o []) (map.get-insert nat_list_cmp_total old name bytes name ∙ cond-true _ _ _ (self_tied name))
