@@ -266,7 +266,7 @@ RUNS = (
 CUT_LINES = [
     "INSERT INTO t VALUES(2, X'00ff');", ".session open", ".session attach t",
     "UPDATE t SET b='y' WHERE a=1;", "DELETE FROM t WHERE a=2;", ".session undo",
-    "SELECT * FROM t;", f".load a {INSERT.hex()}", ".apply a conflict=replace",
+    "SELECT * FROM t;", f".load a {INSERT.hex()}", ".apply a conflict=replace", ".revert a",
 ]
 CUTS, OPENED = (1_000_000, 1_000_000) if TRIES_ALL else (150, 30)
 
@@ -577,18 +577,28 @@ class Stops(NextTest):
         cls.addClassCleanup(folder.cleanup)
         cls.shim = build_shim(folder.name)
 
-    def test_store_between_tables(self):
-        """The store is as the answers say, and the other tables are as they were."""
-        self.write_next([OWN, ROWS, INDEX], LATE)
-        made = Story(Shell(), [CREATE, "INSERT INTO t VALUES(1, 'z');"]).shells[-1]
-        script = NextScript(files_of(self.folder), opened_again(made), CUT_LINES)
-        normal = script.once()
+    def expect_stops(self, shell, lines):
+        """Asserts what each stop leaves of lines on the store, which has a shell's tables."""
+        script = NextScript(files_of(self.folder), shell, lines)
+        normal, count = script.once(), script.count(self.shim, DISK)
         self.assertEqual(script.why_not(normal, normal, DISK, 0), "")
-        for at in range(1, script.count(self.shim, DISK) + 1):
+        self.assertGreater(count, 20)
+        for at in range(1, count + 1):
             with self.case(at=at):
                 ended, was_refused = script.refused(self.shim, at, DISK, errno.EIO)
                 self.assertTrue(was_refused)
                 self.assertEqual(script.why_not(ended, normal, DISK, errno.EIO), "", ended)
+
+    def test_store_between_tables(self):
+        """The store is as the answers say, and the other tables are as they were."""
+        self.write_next([OWN, ROWS, INDEX], LATE)
+        made = Story(Shell(), [CREATE, "INSERT INTO t VALUES(1, 'z');"]).shells[-1]
+        self.expect_stops(opened_again(made), CUT_LINES)
+
+    def test_store_that_is_made(self):
+        """The same of a run that makes the store."""
+        run_texts(self.path, [OWN, ROWS, INDEX, *LATE])
+        self.expect_stops(Shell(), [CREATE, "INSERT INTO t VALUES(1, 'z');", *CUT_LINES])
 
 
 class Cuts(NextTest):

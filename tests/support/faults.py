@@ -51,6 +51,11 @@ def is_harmless(call, answer, streams):
     return answer in failing and call not in failing[answer]
 
 
+def is_failed_sync(call, answer):
+    """Whether a file or a folder was not synced."""
+    return call in ("fsync", "fdatasync") and answer in ERRORS
+
+
 def mark(number):
     """What is printed behind the answer of a line."""
     return f"feed{number:04x}\n"
@@ -88,6 +93,8 @@ class MarkedScript(Script):
     def why_not(self, ended, normal, call, answer):
         """Why a run may not end so where one call had this answer, or nothing."""
         (status, printed, reported), left = ended
+        if ended == normal and is_failed_sync(call, answer):
+            return "a failed sync is not reported"
         if ended == normal:
             return "" if self.replay(printed, reported, answer) == ([left], "") else "the model answers otherwise"
         if is_harmless(call, answer, ("read", "write")):
@@ -146,6 +153,8 @@ class FileCommand(Command):
         """Why a run may not end so where one call had this answer, or nothing."""
         (status, printed, reported), left = ended
         (usual, wanted, refusal), after = normal
+        if ended == normal and is_failed_sync(call, answer):
+            return "a failed sync is not reported"
         if ended == normal:
             return ""
         if is_harmless(call, answer, ("write",) if wanted or refusal else ()):
@@ -162,7 +171,8 @@ class FileCommand(Command):
         if self.is_apply and reported == OUTPUT_FAULT:
             return "" if left == after else "the apply does not stand"
         if self.is_apply and reported == STORE_FAULT:
-            return "" if left in (self.before, after) else "the store is neither the old one nor the new one"
+            lefts = (after,) if printed else (self.before, after)
+            return "" if left in lefts else "the store is neither the old one nor the new one"
         return "" if left == self.before else "a file is not as it was"
 
     def is_whole(self, left, after):
