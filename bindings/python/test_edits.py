@@ -464,7 +464,7 @@ class Stacks(Folder):
             with self.assertRaises(ConflictError):
                 stack.redo()
             self.assertEqual((stack.done, stack.undone), ([], ["add"]))
-            self.expect("NoTable", store.undo_stack, "t", "v")
+            self.expect("NoTable", store.undo_stack("v").action("x").__enter__)
 
     def test_what_is_not_in_an_action(self):
         """An action is not undone in its own block, and has a text as its name."""

@@ -485,7 +485,7 @@ class Store(Asker):
 
         It has at most `limit` actions of each kind. If a path is given, they are kept in that file,
         and read from it if it exists. A file with actions on other tables, or with none, raises
-        ValueError. A table that does not exist is `StoreError` with NoTable.
+        ValueError. A table can be created later, but before the first action.
         """
         return UndoStack(self, tables, limit, path)
 

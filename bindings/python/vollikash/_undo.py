@@ -58,8 +58,6 @@ class UndoStack:
             raise ValueError("a stack has the names of the tables that it is for")
         if limit < 1:
             raise ValueError(f"a stack of {limit} actions has none")
-        for table in tables:
-            store.schema(table)
         self.store = store
         self._tables, self._limit = tables, limit
         self._path = None if path is None else os.fspath(path)
