@@ -36,6 +36,7 @@ APPLY_REMOVED = "applies whose second attempt fails: SQLite has removed the row,
 SESSION_ORDER = "net changesets whose tables and entries SQLite orders otherwise"
 SESSION_FLAGS = "net changesets of a table whose key SQLite numbers, and this marks by 1: compared with flags of 1"
 SESSION_CASE = "sessions on tables with names that differ in case alone, which are one to SQLite: not asked"
+SESSION_ZERO = "sessions with a zero character in a text, at which SQLite ends a statement: not asked"
 REFUSED = "files that are refused here, some of which SQLite's library reads, others past their end: not asked"
 
 
@@ -292,6 +293,9 @@ class Recording:
         """What is asked."""
         if any(map(differ_in_case, [self.tables, *(table.columns for table in self.tables.values())])):
             self.known.append(SESSION_CASE)
+            return []
+        if any(b"\0" in line for line in [*self.before, *self.edits]):
+            self.known.append(SESSION_ZERO)
             return []
         before, edits = ([b"do x" + line.hex().encode() for line in lines] for lines in (self.before, self.edits))
         return [b"new", *before, b"session", *edits, b"changeset"]
