@@ -53,6 +53,7 @@ OPENS = "the store is opened first (`opening a store`), and each row is a record
 IN_FILES = "the store is in files in memory, with a log, and each row is a record of one table"
 SENDS = "each row is a line to the program, another process, and each answer is parsed"
 RECORDED = SENDS + "; SQLite's side has no session"
+REPORTS = "the report has the key and the former row of each entry; the keys of a table are kept"
 UNKNOWN = "no reason is known"
 
 
@@ -96,7 +97,7 @@ KINDS = (
     command("dump", "", "dump other file", ALL, CHECKS),
     command("sql", "", "dump other file", ALL, CHECKS),
     command("apply", " store", "apply base file", APPLIED, OPENS)._replace(
-        why_memory=UNKNOWN, state="before"
+        why_memory=REPORTS, state="before"
     ),
     Kind(
         "opening a store",
