@@ -484,8 +484,8 @@ class Store(Asker):
         """Return a stack of the last actions on some tables, which can be undone and done again.
 
         It has at most `limit` actions of each kind. If a path is given, they are kept in that file,
-        and read from it if it exists. A file with actions on other tables, or with none, raises
-        ValueError. A table can be created later, but before the first action.
+        and read from it if it exists. A file of another kind, or with actions on other tables,
+        raises ValueError. A table can be created later, but before the first action.
         """
         return UndoStack(self, tables, limit, path)
 
