@@ -1,12 +1,15 @@
 -- What is written of a file to undo it, table by table.
 use Rattle.std.proofs.Common.{◌≡◌, ℕ, List, [], ◌++◌, length, map, sym, ap, ◌∙◌, append_assoc}
+use Rattle.std.specs.List.{flat_map}
 use Rattle.std.proofs.lemmas.List.Elements.{recursion_from_All}
+use Rattle.std.proofs.lemmas.List.Folds.{flat_map-map}
 use Rattle.cs_entries.specs.declared.entry.Entry.{Entry}
 use Rattle.cs_wire.specs.Entry.{IsEntry, entry_bytes}
 use Rattle.cs_wire.specs.Changeset.{HeaderData, GroupData, IsFileOf, IsGroup, header_bytes, entries_bytes, group_bytes, file_bytes}
 use Rattle.cs_wire.specs.Inverse.{IsInverseEntry}
 use Rattle.cs_wire.specs.Items.{FlaggedEntry}
 use Rattle.cs_tables.specs.Tables.{TablesData, AreLeft, IsNextEntry, IsNextTable}
+use Rattle.cs_tables.specs.Visits.{IsVisited, group_text}
 use Rattle.cs_wire.specs.Views.{inverse_entry}
 use Rattle.cs_wire.specs.declared.header.HeaderRef.{HeaderRef}
 use Rattle.cs_wire.specs.Headers.{header_of}
@@ -62,3 +65,21 @@ inverted file out groups is written =
       },
       ap length written ∙ inverse_length groups inverse is.0 is_changeset is_inverse ∙ sym (ap length is.1),
     )
+
+-- ---- the file, as it is visited
+
+-- what is appended for an entry
+abbrev pub inverse_text : List ℕ → Entry → List ℕ
+inverse_text flags entry = entry_bytes (inverse_entry flags entry)
+
+-- and for a table is the group that undoes it
+inverse_group_text : (group : GroupData) → group_text header_bytes inverse_text group ≡ group_bytes (inverse_group group)
+unfolding group_bytes
+inverse_group_text group = ap (λ (l : List ℕ). header_bytes group.header ++ l) (sym (flat_map-map entry_bytes (inverse_entry group.header.flags) group.entries))
+
+-- the whole that is visited is inverted
+pub visited_inverted : (file old out : List ℕ) → old ≡ [] → IsVisited (group_text header_bytes inverse_text) file old out → Inverts file out × (length out ≡ length file)
+visited_inverted file old out none is =
+    let text : flat_map (group_text header_bytes inverse_text) is.groups ≡ file_bytes (map inverse_group is.groups) =
+    ap (λ (f : GroupData → List ℕ). flat_map f is.groups) (λ i group. inverse_group_text group i) ∙ sym (flat_map-map group_bytes inverse_group is.groups) in
+    inverted file out is.groups is.is_file (is.written ∙ ap (λ (l : List ℕ). l ++ flat_map (group_text header_bytes inverse_text) is.groups) none ∙ text)

@@ -9,11 +9,7 @@ use Rattle.cs_wire.specs.Changeset.{GroupData}
 use Rattle.cs_wire.specs.Items.{FlaggedEntry}
 use Rattle.cs_tables.specs.Tables.{TablesData, AreLeft, IsNextEntry, IsNextTable}
 use Rattle.cs_tables.proofs.TablesLemmas.{PassedEntries, PassedEntries-next, PassedEntries-all}
-use Rattle.cs_texts.proofs.TablesLemmas.{texts_push}
-
-pub more_written : {X : Type 0} (text : X → List ℕ) (out written grown : List ℕ) (before : List X) (x : X) → written ≡ out ++ flat_map text before → grown ≡ written ++ text x → grown ≡ out ++ flat_map text (before ++ x ∷ [])
-more_written text out written grown before x so grown_is =
-    grown_is ∙ ap (λ (l : List ℕ). l ++ text x) so ∙ append_assoc out (flat_map text before) (text x) ∙ ap (λ (l : List ℕ). out ++ l) (sym (texts_push text before x))
+use Rattle.cs_tables.proofs.VisitLemmas.{more_written}
 
 -- ---- things of a list
 

@@ -9,7 +9,7 @@ ghost use Rattle.cs_texts.specs.Forms.{form_text};
 ghost use Rattle.cs_files.specs.Printing.{IfUnread, IfUnwritten, PrintsTo, PrintsFrontTo};
 
 use crate::fault::{PrintFault, ToolFault, first_fault, second_fault, text_fault};
-use crate::inverting::write_inverse;
+use crate::inverting::{Inverting, write_inverse};
 use crate::joining::join_tables;
 use crate::numbering::write_numbered;
 use cs_tables::{NamedTables, Tables};
@@ -30,8 +30,14 @@ pub fn invert_bytes(alloc: Global, file: &[u8]) -> Result<Vec<u8>, ReadError>
     ensures length { IfOk result (λ out. length out.items ≡ length file.now) }
     ensures refused { IfErr result (Refuses (λ f. ReadFails file.now f.kind f.place)) }
 {
-    let tables = Tables::read(alloc, file)?;
-    let mut out = Vec::with_capacity(alloc, file.len())?;
+    let mut inverting = Inverting {
+        out: Vec::with_capacity(alloc, file.len())?,
+    };
+    let Some(tables) = Tables::visit(alloc, file, &mut inverting)? else {
+        return Ok(inverting.out);
+    };
+    let mut out = inverting.out;
+    out.clear();
     write_inverse(&mut out, tables)?;
     Ok(out)
 }

@@ -1,13 +1,37 @@
-//! The inverse of a file, written as the file is read.
+//! The inverse of a file, written as the file is checked, or table by table.
 ghost use Rattle.std.specs.Prelude.{◌≡◌, ◌≤◌, ◌++◌, [], List, OnOk, map};
 ghost use Rattle.cs_entries.specs.declared.entry.Entry.{Entry as EntryData};
-ghost use Rattle.cs_wire.specs.Changeset.{GroupData, entries_bytes, file_bytes};
+ghost use Rattle.cs_wire.specs.Changeset.{GroupData, entries_bytes, file_bytes, header_bytes};
+ghost use Rattle.cs_wire.specs.Entry.{entry_bytes};
 ghost use Rattle.cs_tables.specs.Tables.{AreLeft};
 ghost use Rattle.cs_wire.specs.Views.{inverse_entry};
 ghost use Rattle.cs_group.specs.Inverse.{inverse_group};
 
-use cs_tables::Tables;
+use cs_tables::{Tables, Visit};
 use cs_value::NoMemory;
+use cs_wire::{EntryRef, HeaderRef};
+
+/// Appends the inverse of a file as the file is checked.
+#[derive(Drop)]
+pub(crate) struct Inverting {
+    pub(crate) out: Vec<u8>,
+}
+
+impl Visit for Inverting {
+    ghost written = { λ inverting. inverting.out.items };
+
+    ghost header_text = { header_bytes };
+
+    ghost entry_text = { λ flags entry. entry_bytes (inverse_entry flags entry) };
+
+    fn visit_header(&mut self, header: HeaderRef<'_>) -> Result<(), NoMemory> {
+        header.write_to(&mut self.out)
+    }
+
+    fn visit_entry(&mut self, seen: EntryRef<'_>) -> Result<(), NoMemory> {
+        seen.inverted().write_to(&mut self.out)
+    }
+}
 
 /// Appends the inverses of the remaining tables.
 pub(crate) fn write_inverse(out: &mut Vec<u8>, tables: Tables<'_>) -> Result<(), NoMemory>

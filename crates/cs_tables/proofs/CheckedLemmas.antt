@@ -5,7 +5,7 @@ use Rattle.std.proofs.lemmas.List.Concat.{flat_map-append}
 use Rattle.std.proofs.lemmas.List.Elements.{All-nil, All-push}
 use Rattle.cs_entries.specs.declared.entry.Entry.{Entry}
 use Rattle.cs_wire.specs.Entry.{IsEntry, entry_bytes, key_of}
-use Rattle.cs_wire.specs.Changeset.{GroupData, IsAccepted, IsGroup, IsHeader, header_bytes, entries_bytes, group_bytes, file_bytes}
+use Rattle.cs_wire.specs.Changeset.{GroupData, IsFileOf, IsGroup, IsHeader, header_bytes, entries_bytes, group_bytes, file_bytes}
 use Rattle.cs_tables.specs.Checked.{HasEntries, HasTable, HasGroups, group_of}
 use Rattle.cs_tables.specs.Distinct.{number_of}
 use Rattle.cs_tables.specs.Named.{NamedTable}
@@ -16,7 +16,7 @@ use Rattle.cs_wire.proofs.GroupsLemmas.{Stands-group, group_bytes_some}
 use Rattle.cs_entries.proofs.ReadingLemmas.{Stands-moves, Stands-then}
 
 -- no entry was passed
-pub HasEntries-none : (file : List ℕ) (at : ℕ) (flags : List ℕ) → at ≤ length file → HasEntries file at flags [] at
+abbrev pub HasEntries-none : (file : List ℕ) (at : ℕ) (flags : List ℕ) → at ≤ length file → HasEntries file at flags [] at
 HasEntries-none file at flags le = record {
   entries = [];
   each = All-nil (IsEntry flags);
@@ -25,7 +25,7 @@ HasEntries-none file at flags le = record {
 }
 
 -- one more was
-pub HasEntries-push : (file : List ℕ) (at : ℕ) (flags keys : List ℕ) (place : ℕ) → HasEntries file at flags keys place → (seen : FlaggedEntry) (end number : ℕ) (grown : List ℕ)
+abbrev pub HasEntries-push : (file : List ℕ) (at : ℕ) (flags keys : List ℕ) (place : ℕ) → HasEntries file at flags keys place → (seen : FlaggedEntry) (end number : ℕ) (grown : List ℕ)
     → seen.flags ≡ flags → IsEntry flags seen.entry → Stands file place (entry_bytes seen.entry) end → number ≡ number_of (key_of seen.flags seen.entry.change) → grown ≡ keys ++ number ∷ []
     → HasEntries file at flags grown end
 HasEntries-push file at flags keys place so seen end number grown same is stands number_is grown_is =
@@ -38,7 +38,7 @@ HasEntries-push file at flags keys place so seen end number grown same is stands
     }
 
 -- a header and entries whose keys differ are the group of a table
-pub HasTable-read : (file : List ℕ) (at end : ℕ) (table : NamedTable) (keys : List ℕ) → IsHeader table.header → Stands file at (header_bytes table.header) table.start
+abbrev pub HasTable-read : (file : List ℕ) (at end : ℕ) (table : NamedTable) (keys : List ℕ) → IsHeader table.header → Stands file at (header_bytes table.header) table.start
     → HasEntries file table.start table.header.flags keys end → 0 < length keys → AllPairs (λ m n. m ≢ n) keys → HasTable file at table end
 HasTable-read file at end table keys is stands so some apart =
     let number : Entry → ℕ = λ e. number_of (key_of table.header.flags e.change) in record {
@@ -59,7 +59,7 @@ pub table_moves : (file : List ℕ) (at end : ℕ) (table : NamedTable) → HasT
 table_moves file at end table so within = Stands-moves file at end _ so.stands (group_bytes_some (group_of table so.entries)) within
 
 -- no group was passed
-pub HasGroups-none : (file : List ℕ) → HasGroups file [] 0
+abbrev pub HasGroups-none : (file : List ℕ) → HasGroups file [] 0
 HasGroups-none file = record {
   groups = [];
   each = All-nil IsGroup;
@@ -68,7 +68,7 @@ HasGroups-none file = record {
 }
 
 -- one more was
-pub HasGroups-push : (file names grown : List ℕ) (place end : ℕ) → HasGroups file names place → (table : NamedTable) → HasTable file place table end
+abbrev pub HasGroups-push : (file names grown : List ℕ) (place end : ℕ) → HasGroups file names place → (table : NamedTable) → HasTable file place table end
     → (name : List ℕ) (number : ℕ) → name ≡ table.header.name → number ≡ number_of name → grown ≡ names ++ number ∷ [] → HasGroups file grown end
 HasGroups-push file names grown place end so table next name number name_is number_is grown_is =
     let number_by : GroupData → ℕ = λ g. number_of g.header.name in
@@ -81,9 +81,8 @@ HasGroups-push file names grown place end so table next name number name_is numb
     }
 
 -- at the end of the file, groups whose names differ are a changeset
-pub IsAccepted-read : (file names : List ℕ) (place : ℕ) → HasGroups file names place → length file ≤ place → AllPairs (λ m n. m ≢ n) names → IsAccepted file
-IsAccepted-read file names place so le apart = (
-  so.groups,
+pub IsFileOf-read : (file names : List ℕ) (place : ℕ) (so : HasGroups file names place) → length file ≤ place → AllPairs (λ m n. m ≢ n) names → IsFileOf file so.groups
+IsFileOf-read file names place so le apart = (
   record { each = so.each; once = texts_differ (λ (g : GroupData). g.header.name) so.groups (subst (λ (ns : List ℕ). AllPairs (λ m n. m ≢ n) ns) so.names_are apart) },
   so.stand.spelled ∙ ap (λ (x : List ℕ). file_bytes so.groups ++ x) (drop_all place file le) ∙ append-nil (file_bytes so.groups),
 )

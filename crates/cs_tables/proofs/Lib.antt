@@ -5,3 +5,4 @@ pub mod HashedLemmas
 pub mod KeyedLemmas
 pub mod NamedLemmas
 pub mod TablesLemmas
+pub mod VisitLemmas

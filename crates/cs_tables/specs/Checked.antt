@@ -1,5 +1,6 @@
 -- What a quick pass through a file has found so far. No public contract names this.
-use Rattle.std.specs.Prelude.{◌≡◌, ℕ, ◌≤◌, List, length, map, All}
+use Rattle.std.specs.Prelude.{◌≡◌, ℕ, ◌≤◌, List, ◌++◌, length, map, All}
+use Rattle.std.specs.List.{flat_map}
 use Rattle.cs_entries.specs.declared.entry.Entry.{Entry}
 use Rattle.cs_wire.specs.Entry.{IsEntry, key_of}
 use Rattle.cs_wire.specs.Changeset.{GroupData, IsGroup, entries_bytes, group_bytes, file_bytes}
@@ -14,6 +15,12 @@ pub record HasEntries (file : List ℕ) (at : ℕ) (flags keys : List ℕ) (end 
   pub stand : Stands file at (entries_bytes entries) end
   pub keys_are : keys ≡ map (λ e. number_of (key_of flags e.change)) entries
 
+-- and this was appended for each
+pub record VisitsEntries (text : Entry → List ℕ) (old new : List ℕ) (file : List ℕ) (at : ℕ) (flags keys : List ℕ)
+    (end : ℕ) : Type 0 where
+  pub has : HasEntries file at flags keys end
+  pub written : new ≡ old ++ flat_map text has.entries
+
 -- the group of a table that has these entries
 abbrev pub group_of : NamedTable → List Entry → GroupData
 group_of table entries = record { header = table.header; entries = entries }
@@ -26,9 +33,20 @@ pub record HasTable (file : List ℕ) (at : ℕ) (table : NamedTable) (end : ℕ
   pub within : table.start ≤ length file
   pub entries_stand : Stands file table.start (entries_bytes entries) end
 
+-- and this was appended for it
+pub record VisitsTable (text : GroupData → List ℕ) (old new : List ℕ) (file : List ℕ) (at : ℕ) (table : NamedTable)
+    (end : ℕ) : Type 0 where
+  pub has : HasTable file at table end
+  pub written : new ≡ old ++ text (group_of table has.entries)
+
 -- the file begins with groups, and these are the numbers of their names
 pub record HasGroups (file names : List ℕ) (end : ℕ) : Type 0 where
   pub groups : List GroupData
   pub each : All IsGroup groups
   pub stand : Stands file 0 (file_bytes groups) end
   pub names_are : names ≡ map (λ g. number_of g.header.name) groups
+
+-- and this was appended for each
+pub record VisitsGroups (text : GroupData → List ℕ) (old new : List ℕ) (file names : List ℕ) (end : ℕ) : Type 0 where
+  pub has : HasGroups file names end
+  pub written : new ≡ old ++ flat_map text has.groups

@@ -4,6 +4,7 @@ pub mod Distinct
 pub mod Chains
 pub mod KeyedFile
 pub mod Checked
+pub mod Visits
 pub use Rattle.cs_value.specs.Maps
 pub use Rattle.cs_value.specs.Refusals
 pub use Rattle.cs_wire.specs.Entry

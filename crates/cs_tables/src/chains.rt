@@ -14,8 +14,7 @@ struct Link {
 }
 
 /// A list of numbers. Each is in a bucket, and the places of a bucket are a chain, from the last to the first.
-/// Contracts
-/// see the count of buckets and the numbers.
+/// Contracts see the count of buckets and the numbers.
 #[derive(Debug, Drop)]
 pub(crate) struct NumberChains {
     // For each bucket, one more than its last place, or 0 if it has none.

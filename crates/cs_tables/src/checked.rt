@@ -1,12 +1,13 @@
 //! The quick check of a file.
 ghost use Rattle.std.specs.Prelude.{◌≡◌, ◌<◌, ◌≤◌, [], IfOk, IfSome, IsTrue, length};
-ghost use Rattle.cs_wire.specs.Changeset.{IsAccepted};
-ghost use Rattle.cs_tables.specs.Checked.{HasEntries, HasTable};
+ghost use Rattle.cs_tables.specs.Checked.{VisitsEntries, VisitsTable};
 ghost use Rattle.cs_tables.specs.Distinct.{number_of as number_in};
 ghost use Rattle.cs_tables.specs.Named.{table_of};
+ghost use Rattle.cs_tables.specs.Visits.{IsVisited, group_text};
 ghost use Rattle.cs_wire.specs.Entry.{key_of};
 
 use crate::distinct::{number_of, take_distinct};
+use crate::visit::Visit;
 use cs_value::NoMemory;
 use cs_wire::{EntryRef, HeaderRef, has_entry, read_entry, read_header};
 use std::alloc::Global;
@@ -19,8 +20,9 @@ pub(crate) struct ListedTable<'a> {
     pub(crate) count: usize,
 }
 
-/// Whether the quick check accepts a file. A file that it accepts is the file of a changeset. A file that it rejects
-/// can still be one, if two names or two keys have the same number.
+/// Whether the quick check accepts a file. A file that it accepts is the file of a changeset, and each of its headers
+/// and entries is visited. A file that it rejects can still be one, if two names or two keys have the same number. Then
+/// those before the rejection are visited.
 ///
 /// It allocates eight bytes for each table and for each entry of one table at a time, and a copy of each key whose
 /// columns are not adjacent. It takes the time of reading the file and of sorting these numbers.
@@ -28,14 +30,19 @@ pub(crate) struct ListedTable<'a> {
 /// # Errors
 ///
 /// [`NoMemory`] if memory runs out.
-pub(crate) fn is_changeset(alloc: Global, file: &[u8]) -> Result<bool, NoMemory>
-    ensures { IfOk result (λ yes. IsTrue yes → IsAccepted file.now) }
+pub(crate) fn check_file<V: Visit>(
+    alloc: Global,
+    file: &[u8],
+    visitor: &mut V,
+) -> Result<bool, NoMemory>
+    ensures { IfOk result (λ yes. IsTrue yes → IsVisited (group_text V.header_text V.entry_text) file.now
+        (V.written visitor.old) (V.written visitor.new)) }
 {
     let mut names = Vec::new(alloc);
     let mut keys = Vec::new(alloc);
     let mut place = 0;
     'tables: while place < file.len() {
-        let Some((table, end)) = pass_table(alloc, file, place, &mut keys)? else {
+        let Some((table, end)) = pass_table(alloc, file, place, &mut keys, visitor)? else {
             return Ok(false);
         };
         names.push(number_of(table.header.name.as_bytes()))?;
@@ -45,23 +52,26 @@ pub(crate) fn is_changeset(alloc: Global, file: &[u8]) -> Result<bool, NoMemory>
 }
 
 /// The table at a byte offset and its end, if its header and entries are well formed and no two of its keys have the
-/// same number.
-pub(crate) fn pass_table<'a>(
+/// same number. Visits them.
+pub(crate) fn pass_table<'a, V: Visit>(
     alloc: Global,
     file: &'a [u8],
     at: usize,
     keys: &mut Vec<u64>,
+    visitor: &mut V,
 ) -> Result<Option<(ListedTable<'a>, usize)>, NoMemory>
     requires within { at < length file.now }
     requires no_key { keys.old.items ≡ [] }
-    ensures table { IfOk result (λ read. IfSome read (λ read. HasTable file.now at (table_of read.0) read.1)) }
+    ensures table { IfOk result (λ read. IfSome read (λ read. VisitsTable (group_text V.header_text V.entry_text)
+        (V.written visitor.old) (V.written visitor.new) file.now at (table_of read.0) read.1)) }
     ensures no_key { IfOk result (λ read. IfSome read (λ _. keys.new.items ≡ [])) }
     ensures forward { IfOk result (λ read. IfSome read (λ read. at < read.1)) }
 {
     let Ok((header, start)) = read_header(file, at) else {
         return Ok(None);
     };
-    let Some(end) = pass_entries(alloc, file, start, header.flags, keys)? else {
+    visitor.visit_header(header)?;
+    let Some(end) = pass_entries(alloc, file, start, header.flags, keys, visitor)? else {
         return Ok(None);
     };
     let count = keys.len();
@@ -76,17 +86,19 @@ pub(crate) fn pass_table<'a>(
     Ok(Some((table, end)))
 }
 
-/// The end of the entries at a byte offset, if each is well formed. Appends the numbers of their keys.
-fn pass_entries(
+/// The end of the entries at a byte offset, if each is well formed. Appends the numbers of their keys, and visits them.
+fn pass_entries<V: Visit>(
     alloc: Global,
     file: &[u8],
     at: usize,
     flags: &[u8],
     keys: &mut Vec<u64>,
+    visitor: &mut V,
 ) -> Result<Option<usize>, NoMemory>
     requires within { at ≤ length file.now }
     requires no_key { keys.old.items ≡ [] }
-    ensures { IfOk result (λ end. IfSome end (HasEntries file.now at flags.now keys.new.items)) }
+    ensures { IfOk result (λ end. IfSome end (λ end. VisitsEntries (V.entry_text flags.now) (V.written visitor.old)
+        (V.written visitor.new) file.now at flags.now keys.new.items end)) }
 {
     let mut place = at;
     'entries: while has_entry(file, place) {
@@ -94,6 +106,7 @@ fn pass_entries(
             return Ok(None);
         };
         keys.push(key_number(alloc, &seen)?)?;
+        visitor.visit_entry(seen)?;
         place = end;
     }
     Ok(Some(place))

@@ -15,11 +15,10 @@
 //! ```
 //!
 //! `tables` has the iterator, and `checked` the quick check of a file, which compares numbers of names and keys that
-//! `distinct` computes. `named` lists the tables of a file as it makes the quick check, and indexes them by their
-//! names,
-//! which `hashed` does. `keyed` indexes the entries of a table by their keys: `chains` finds the places of a key's
-//! number.
-//! `CALLING.md`, next to this folder, shows a caller.
+//! `distinct` computes. `visit` has what is done with the headers and entries as they are checked. `named` lists the
+//! tables of a file as it makes the quick check, and indexes them by their names, which `hashed` does. `keyed` indexes
+//! the entries of a table by their keys: `chains` finds the places of a key's number. `CALLING.md`, next to this
+//! folder, shows a caller.
 #![tactic(auto)]
 
 mod chains;
@@ -29,7 +28,9 @@ mod hashed;
 mod keyed;
 mod named;
 mod tables;
+mod visit;
 
 pub use keyed::{FoundEntry, KeyedEntries};
 pub use named::NamedTables;
 pub use tables::Tables;
+pub use visit::Visit;

@@ -13,6 +13,7 @@ ghost use Rattle.cs_wire.specs.Views.{IsPlaceOf};
 use crate::checked::{ListedTable, pass_table};
 use crate::hashed::HashedPlaces;
 use crate::tables::Tables;
+use crate::visit::Unvisited;
 use cs_value::NoMemory;
 use cs_wire::{HeaderRef, ReadError};
 use std::alloc::Global;
@@ -74,7 +75,8 @@ impl<'a> NamedTables<'a> {
         let mut keys = Vec::new(alloc);
         let mut place = 0;
         'tables: while place < file.len() {
-            let Some((table, end)) = pass_table(alloc, file, place, &mut keys)? else {
+            let Some((table, end)) = pass_table(alloc, file, place, &mut keys, &mut Unvisited)?
+            else {
                 return Ok(None);
             };
             if named.find(table.header.name).is_some() {

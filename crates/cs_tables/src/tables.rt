@@ -1,13 +1,16 @@
 //! A changeset's file, table by table.
-ghost use Rattle.std.specs.Prelude.{◌≡◌, ◌<◌, ◌≤◌, [], List, IfErr, IfOk, IfSome, OnOk, length};
+ghost use Rattle.std.specs.Prelude.{◌≡◌, ◌<◌, ◌≤◌, [], List, None, IfErr, IfNone, IfOk, IfSome, OnOk, length};
 ghost use Rattle.cs_value.specs.Refusals.{Refuses};
 ghost use Rattle.cs_entries.specs.declared.entry.Entry.{Entry as EntryData};
 ghost use Rattle.cs_wire.specs.Changeset.{GroupData, IsAccepted, IsFileOf, IsHeader};
+ghost use Rattle.cs_wire.specs.Entry.{IsEntry};
 ghost use Rattle.cs_wire.specs.Headers.{header_of};
 ghost use Rattle.cs_wire.specs.ReadFaults.{ReadFails};
 ghost use Rattle.cs_tables.specs.Tables.{AreLeft, NextEntry, NextTable};
+ghost use Rattle.cs_tables.specs.Visits.{IsVisited, group_text};
 
-use crate::checked::is_changeset;
+use crate::checked::check_file;
+use crate::visit::{Unvisited, Visit};
 use cs_wire::{Cursor, EntryRef, HeaderRef, ReadError, has_entry, read_entry, read_header};
 use std::alloc::Global;
 use std::marker::Model;
@@ -46,17 +49,51 @@ impl<'a> Tables<'a> {
     pub fn read(alloc: Global, file: &'a [u8]) -> Result<Tables<'a>, ReadError>
         ensures found { IfOk result (λ tables. (groups : List GroupData) × IsFileOf file.now groups
             × AreLeft tables [] groups) }
+        ensures file { IfOk result (λ tables. tables.file ≡ file.now) }
         ensures refused { IfErr result (Refuses (λ f. ReadFails file.now f.kind f.place)) }
     {
-        if !is_changeset(alloc, file)? {
-            read_items(alloc, file)?;
+        match Tables::visit(alloc, file, &mut Unvisited)? {
+            None => Ok(Tables::whole(file)),
+            Some(tables) => Ok(tables),
         }
-        Ok(Tables {
-            file,
-            place: 0,
-            flags: &[],
-            count: 0,
-        })
+    }
+
+    /// Reads a file to its end, and visits its headers and entries as the quick check reads them.
+    ///
+    /// If the quick check accepts the file, each is visited, and the result is None. If it fails, those before the
+    /// failure are visited, and a [`Cursor`] decides: the result is then the tables from the first one on. The call
+    /// allocates what [`Tables::read`] does.
+    ///
+    /// # Errors
+    ///
+    /// `Fault` if the file is not the file of a changeset: the first fault, in the order of the file. `NoMemory` if
+    /// memory runs out.
+    pub fn visit<V: Visit>(
+        alloc: Global,
+        file: &'a [u8],
+        visitor: &mut V,
+    ) -> Result<Option<Tables<'a>>, ReadError>
+        ensures visited { IfOk result (λ left. IfNone left (IsVisited (group_text V.header_text V.entry_text) file.now
+            (V.written visitor.old) (V.written visitor.new))) }
+        ensures unvisited { IfOk result (λ left. IfSome left (λ tables. (groups : List GroupData)
+            × IsFileOf file.now groups × AreLeft tables [] groups)) }
+        ensures file { IfOk result (λ left. IfSome left (λ tables. tables.file ≡ file.now)) }
+        ensures refused { IfErr result (Refuses (λ f. ReadFails file.now f.kind f.place)) }
+    {
+        if check_file(alloc, file, visitor)? {
+            return Ok(None);
+        }
+        read_items(alloc, file)?;
+        Ok(Some(Tables::whole(file)))
+    }
+
+    /// The tables of a file that was read, from the first one on.
+    fn whole(file: &'a [u8]) -> Tables<'a>
+        requires { IsAccepted file.now }
+        ensures left { (groups : List GroupData) × IsFileOf file.now groups × AreLeft result [] groups }
+        ensures file { result.file ≡ file.now }
+    {
+        Tables::at(file, 0, &[], 0)
     }
 
     /// A file that was read, at a byte offset where entries of a table with these flags remain, and their number or 0.
@@ -155,9 +192,11 @@ impl<'a> Tables<'a> {
         ensures next { (entries : List EntryData) (groups : List GroupData) → AreLeft self.old entries groups
             → NextEntry self.old.flags entries groups result self.new }
         ensures flags { (self.new.flags ≡ self.old.flags) × IfSome result (λ entry. entry.flags ≡ self.old.flags) }
+        ensures well_formed { IfSome result (λ entry. IsEntry entry.flags entry.entry) }
         ensures forward { IfSome result (λ _. (self.old.place < self.new.place)
             × (self.new.place ≤ length self.new.file)) }
         ensures ahead { self.old.place ≤ self.new.place }
+        ensures stays { result ≡ None → self.new ≡ self.old }
         ensures file { self.new.file ≡ self.old.file }
     {
         if !has_entry(self.file, self.place) {

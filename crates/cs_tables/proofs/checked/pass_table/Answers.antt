@@ -1,16 +1,18 @@
 -- `checked::pass_table`: the clauses `table` and `forward`.
 use Rattle.std.proofs.Common.{◌<◌, length, arith}
 use Rattle.cs_tables.specs.Named.{NamedTable, table_of}
-use Rattle.cs_tables.proofs.CheckedLemmas.{HasTable-read, table_moves}
+use Rattle.cs_tables.proofs.CheckedLemmas.{table_moves}
+use Rattle.cs_tables.proofs.VisitLemmas.{VisitsTable-read}
 use Rattle.cs_tables.proofs.checked.pass_table.Goals as goal
 
 pub returns-clause-table : goal.returns-clause-table
-returns-clause-table c =
+returns-clause-table g c =
+    let v = g.V.Visit in
     let read = c.in-Ok.ensures in
     let table : NamedTable = table_of (record { header = c.in-Ok.header; start = c.in-Ok.start; count = c.len-count.result }) in
     let some : 0 < length c.pass_entries.new.keys.items = omega (arith, c.len-count.ensures) in
-    HasTable-read c.args.file.now c.args.at c.in-Some.end table c.pass_entries.new.keys.items
-    read.well_formed read.found (rw c.in-Some.is at c.in_ok-end.ensures) some (c.take_distinct.ensures.distinct c.if-not-take_distinct.false)
+    VisitsTable-read v.header_text v.entry_text (v.written c.args.visitor.now) c.args.file.now (v.written c.visit_header.new.self) (v.written c.pass_entries.new.visitor) c.args.at c.in-Some.end table c.pass_entries.new.keys.items
+    read.well_formed read.found c.in_ok-visit_header.ensures (rw c.in-Some.is at c.in_ok-end.ensures) some (c.take_distinct.ensures.distinct c.if-not-take_distinct.false)
 
 pub returns-clause-forward : goal.returns-clause-forward
-returns-clause-forward c = table_moves c.args.file.now c.args.at c.in-Some.end _ (returns-clause-table c) c.requires.within
+returns-clause-forward g c = table_moves c.args.file.now c.args.at c.in-Some.end _ (returns-clause-table g c).has c.requires.within

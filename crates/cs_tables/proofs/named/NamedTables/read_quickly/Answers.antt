@@ -21,7 +21,7 @@ tables-preserved c =
     let table = table_of c.in-Some.table in
     let new = c.find.ensures.absent.0 (none_found c.find.result (sym c.is_some.ensures ∙ c.if-is_some.false)) in (
       c.in_ok-push.ensures.file ∙ so.0,
-      rw c.in_ok-push.ensures.ok (CheckedFront-next file listed c.tables.place c.in-Some.end so.1 table (rw c.in-Some.is at read.table) new),
+      rw c.in_ok-push.ensures.ok (CheckedFront-next file listed c.tables.place c.in-Some.end so.1 table (rw c.in-Some.is at read.table).has new),
       rw c.in-Some.is at read.no_key,
     )
 
