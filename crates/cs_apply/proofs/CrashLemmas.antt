@@ -10,10 +10,10 @@ use Rattle.cs_run.specs.declared.conflict.Conflict.{Conflict}
 use Rattle.cs_run.specs.declared.running.Direction.{Direction}
 use Rattle.cs_run.specs.Running.{Handler}
 use Rattle.cs_apply.specs.Crash.{AppliesInto}
-use Rattle.cs_apply.proofs.RevertLemmas.{applies_weaker}
+use Rattle.cs_apply.proofs.RevertLemmas.{with_weaker}
 
 pub revert_atomic : (P Q : Handler) → ((k : Conflict) (c : Choice) → P k c → Q k c) → (noop : Noop) (file : List ℕ) (direction : Direction) (before : tables.State) (old new : State)
     → IsAtomic CanBegin (AppliesInto P noop file direction before) old new → IsAtomic CanBegin (AppliesInto Q noop file direction before) old new
 revert_atomic P Q f noop file direction before old new =
     atomic_weaker CanBegin (AppliesInto P noop file direction before) (AppliesInto Q noop file direction before) old new
-    (λ left may. (may.0, applies_weaker P Q f noop file direction before may.0 left may.1))
+    (λ left may. record { met = may.met; skips = may.skips; writes = may.writes; passed = may.passed; applies = with_weaker P Q f noop file direction before may.met may.skips may.writes may.passed left may.applies })

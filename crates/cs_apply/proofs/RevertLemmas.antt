@@ -1,12 +1,12 @@
 -- What reverting gives back.
 use Rattle.std.proofs.Common.{◌≡◌, inl, inr, ℕ, Bool, true, false, List, [], ◌∷◌, ◌++◌, length, map, All, Option, Some, None, refl, sym, ap, subst, ◌∙◌}
-use Rattle.std.specs.Prelude.{Result, Ok, Err, IfOk, OnOk, IsTrue}
+use Rattle.std.specs.Prelude.{Ok, IsTrue}
 use Rattle.std.specs.List.{AllByRecursion, flat_map}
 use Rattle.std.proofs.lemmas.List.{nil_from_length, length-map}
 use Rattle.std.proofs.lemmas.List.Elements.{recursion_from_All, All-from_recursion}
 use Rattle.sqlite.specs.State as store
 use Rattle.sqlite.specs.State.{HasCleanDisk}
-use Rattle.cs_value.specs.State.{State, IsState}
+use Rattle.cs_value.specs.State.{State, WrittenData, IsState}
 use Rattle.cs_store.specs.Store.{RefusesShut, tables_in}
 use Rattle.cs_wire.specs.Changeset.{GroupData}
 use Rattle.cs_wire.specs.Laws.{ChangesetFiles}
@@ -22,12 +22,13 @@ use Rattle.cs_run.proofs.HeededLemmas.{heeded_all}
 use Rattle.cs_run.specs.declared.conflict.Conflict.{Conflict}
 use Rattle.cs_run.specs.declared.conflict.Met.{Met}
 use Rattle.cs_run.specs.declared.report.Report.{Report}
+use Rattle.cs_run.specs.declared.report.Summary.{Summary}
 use Rattle.cs_run.specs.declared.running.Direction.{Direction}
 use Rattle.cs_run.specs.declared.running.Direction.TheVariants.{Forward, Inverse}
 use Rattle.cs_run.specs.declared.fault.ApplyFault.{ApplyFault}
 use Rattle.cs_run.specs.declared.fault.ApplyFault.TheVariants as fault
 use Rattle.cs_run.specs.Report.{conflict_of, met_of}
-use Rattle.cs_run.specs.Running.{Handler, IsReadAs, GoesOn, Applies, EndsAt, Refuses, AlwaysAborts, Leads, IsResource}
+use Rattle.cs_run.specs.Running.{Handler, IsReadAs, GoesOn, Applies, AppliesCounted, AppliesWith, EndsAt, Refuses, AlwaysAborts, Leads, IsResource}
 
 -- ---- lists
 
@@ -46,9 +47,9 @@ none_met_none s choose (p ∷ ps) e = at (placed_kind s p) refl (none_met_none s
 
 -- ---- an apply that meets no conflict and ignores nothing
 
-pub leads_clean : (chooses : Handler) (noop : Noop) (file : List ℕ) (old new : State) (report : Report) → IsState old → Applies chooses noop file Forward old report new → report.conflicts.items ≡ [] → report.ignored ≡ 0
-    → Leads file old new
-leads_clean chooses noop file old new report is applies no_conflict none_ignored =
+pub leads_clean : (chooses : Handler) (noop : Noop) (file : List ℕ) (old new : State) (met : List Met) (skips : List (List ℕ)) (writes : List WrittenData) (passed : ℕ) → IsState old
+    → AppliesWith chooses noop file Forward old met skips writes passed new → met ≡ [] → passed ≡ 0 → Leads file old new
+leads_clean chooses noop file old new met skips writes passed is applies no_conflict none_ignored =
     let ps = applicable old applies.changeset in
     let all : heeded noop old applies.changeset ≡ ps = heeded_all noop old ps (sym applies.ignored ∙ none_ignored) in
     let none : flat_map (met_at old applies.choose) (heeded noop old applies.changeset) ≡ [] = sym applies.conflicts ∙ ap (map met_of) no_conflict in
@@ -63,22 +64,13 @@ leads_clean chooses noop file old new report is applies no_conflict none_ignored
     }
 
 -- a store on which a call was done was open, so that its tables are well formed
-done_state : (old new : store.State) (r : Result Report ApplyFault) → (HasCleanDisk new → HasCleanDisk old) → RefusesShut old IsResource r
-    → (HasCleanDisk old → IsTrue old.is_open → IsState (tables_in old.now)) → HasCleanDisk new → OnOk r (IsState (tables_in old.now))
-done_state old new (Err e) was shut law clean = tt
-done_state old new (Ok report) was shut law clean = law (was clean) (at old.is_open refl)
+pub done_state : {A : Type 0} (old new : store.State) (x : A) → (HasCleanDisk new → HasCleanDisk old) → RefusesShut old IsResource (Ok x)
+    → (HasCleanDisk old → IsTrue old.is_open → IsState (tables_in old.now)) → HasCleanDisk new → IsState (tables_in old.now)
+done_state old new x was shut law clean = law (was clean) (at old.is_open refl)
   where
     at : (b : Bool) → old.is_open ≡ b → IsTrue b
     at true is = refl
     at false is = absurd (shut is)
-
-pub done_leads : (old new : store.State) (r : Result Report ApplyFault) → (HasCleanDisk new → HasCleanDisk old) → RefusesShut old IsResource r
-    → (HasCleanDisk old → IsTrue old.is_open → IsState (tables_in old.now)) → HasCleanDisk new → (chooses : Handler) (noop : Noop) (file : List ℕ) (last : State)
-    → IfOk r (λ report. Applies chooses noop file Forward (tables_in old.now) report last)
-    → IfOk r (λ report. report.conflicts.items ≡ [] → report.ignored ≡ 0 → Leads file (tables_in old.now) last)
-done_leads old new (Err e) was shut law clean chooses noop file last applies = tt
-done_leads old new (Ok report) was shut law clean chooses noop file last applies =
-    leads_clean chooses noop file (tables_in old.now) last report (done_state old new (Ok report) was shut law clean) applies
 
 -- ---- the inverse, on what was left
 
@@ -127,20 +119,28 @@ refuses_weaker P Q f noop file direction old (fault.Misuse k) h = ends_weaker P 
 refuses_weaker P Q f noop file direction old (fault.Store x) h = h
 refuses_weaker P Q f noop file direction old fault.NoMemory h = h
 
-pub applies_weaker : (P Q : Handler) → ((k : Conflict) (c : Choice) → P k c → Q k c) → (noop : Noop) (file : List ℕ) (direction : Direction) (old : State) (report : Report) (new : State)
-    → Applies P noop file direction old report new → Applies Q noop file direction old report new
-applies_weaker P Q f noop file direction old report new applies = record {
+pub with_weaker : (P Q : Handler) → ((k : Conflict) (c : Choice) → P k c → Q k c) → (noop : Noop) (file : List ℕ) (direction : Direction) (old : State) (met : List Met) (skips : List (List ℕ)) (writes : List WrittenData) (passed : ℕ) (new : State)
+    → AppliesWith P noop file direction old met skips writes passed new → AppliesWith Q noop file direction old met skips writes passed new
+with_weaker P Q f noop file direction old met skips writes passed new applies = record {
   changeset = applies.changeset;
   read = applies.read;
   none_wider = applies.none_wider;
   choose = applies.choose;
   applied = applies.applied;
   conflicts = applies.conflicts;
-  chosen = goes_weaker P Q f report.conflicts.items applies.chosen;
+  chosen = goes_weaker P Q f met applies.chosen;
   skipped = applies.skipped;
   written = applies.written;
   ignored = applies.ignored;
 }
+
+pub applies_weaker : (P Q : Handler) → ((k : Conflict) (c : Choice) → P k c → Q k c) → (noop : Noop) (file : List ℕ) (direction : Direction) (old : State) (report : Report) (new : State)
+    → Applies P noop file direction old report new → Applies Q noop file direction old report new
+applies_weaker P Q f noop file direction old report new = with_weaker P Q f noop file direction old _ _ _ _ new
+
+pub counts_weaker : (P Q : Handler) → ((k : Conflict) (c : Choice) → P k c → Q k c) → (noop : Noop) (file : List ℕ) (direction : Direction) (old : State) (summary : Summary) (new : State)
+    → AppliesCounted P noop file direction old summary new → AppliesCounted Q noop file direction old summary new
+counts_weaker P Q f noop file direction old summary new counts = record { writes = counts.writes; counted = counts.counted; applies = with_weaker P Q f noop file direction old _ _ _ _ new counts.applies }
 
 pub reverts_err : (law : ChangesetFiles) (file : List ℕ) (before old : State) (e : ApplyFault) → Leads file before old → Refuses AlwaysAborts Reported file Inverse old e → IsResource e
 reverts_err law file before old (fault.Read f) leads refuses = absurd (refuses.refused (leads.changeset, leads.is_changeset, leads.is_file))

@@ -1,12 +1,16 @@
 -- What an apply commits.
 use Rattle.std.specs.Prelude.{ℕ, List}
-use Rattle.cs_value.specs.State.{State}
-use Rattle.cs_run.specs.declared.report.Report.{Report}
-use Rattle.cs_run.specs.declared.running.Direction.{Direction}
+use Rattle.cs_value.specs.State.{State, WrittenData}
 use Rattle.cs_group.specs.declared.conflict.Noop.{Noop}
-use Rattle.cs_run.specs.Running.{Handler, Applies}
+use Rattle.cs_run.specs.declared.conflict.Met.{Met}
+use Rattle.cs_run.specs.declared.running.Direction.{Direction}
+use Rattle.cs_run.specs.Running.{Handler, AppliesWith}
 
 -- an apply of the file makes this state
-abbrev pub AppliesInto : Handler → Noop → List ℕ → Direction → State → State → Type 0
-AppliesInto chooses noop file direction before after =
-    (report : Report) × Applies chooses noop file direction before report after
+pub record AppliesInto (chooses : Handler) (noop : Noop) (file : List ℕ) (direction : Direction) (before after : State) :
+    Type 0 where
+  pub met : List Met
+  pub skips : List (List ℕ)
+  pub writes : List WrittenData
+  pub passed : ℕ
+  pub applies : AppliesWith chooses noop file direction before met skips writes passed after

@@ -15,7 +15,7 @@
 mod store;
 
 pub use cs_run::{
-    ApplyFault, Choice, Conflict, Direction, Kind, Met, Noop, Policy, Report, run_changeset_in,
-    run_in,
+    ApplyFault, Choice, Conflict, Direction, Kind, Met, Noop, Policy, Report, Summary,
+    run_changeset_in, run_in,
 };
-pub use store::{apply, revert};
+pub use store::{apply, apply_counted, revert};

@@ -11,16 +11,17 @@ ghost use Rattle.cs_group.specs.declared.conflict.Choice.TheVariants.{Abort as A
 ghost use Rattle.cs_group.specs.declared.conflict.Noop.TheVariants.{Report as Reported};
 ghost use Rattle.cs_run.specs.declared.running.Direction.TheVariants.{Forward as ForwardRun, Inverse as InverseRun};
 ghost use Rattle.cs_apply.specs.Crash.{AppliesInto};
-ghost use Rattle.cs_run.specs.Running.{Applies, Refuses, AlwaysAborts, Leads, IsNamed, IsResource};
+ghost use Rattle.cs_run.specs.Tally.{Tells, is_listed};
+ghost use Rattle.cs_run.specs.Running.{Applies, AppliesCounted, AppliesTold, Refuses, AlwaysAborts, Leads, IsNamed, IsResource};
 
 use cs_group::{Choice, Noop};
-use cs_run::{ApplyFault, Conflict, Direction, Report, run_in};
+use cs_run::{ApplyFault, Conflict, Direction, Report, Summary, Tally, Writings, tally_in};
 use cs_store::Store;
 use cs_wire::changeset_files_law;
 use sqlite::Alter;
 use std::alloc::Global;
 
-/// Applies the changeset of a file to a store in one transaction, as [`run_in`] does.
+/// Applies the changeset of a file to a store in one transaction, as [`run_in`](crate::run_in) does.
 ///
 /// If the report is clean ([`Report::is_clean`]), [`revert`] restores the tables. A crash leaves the previous tables or
 /// those of the apply: only the latter once the call has returned Ok, and only the former if it has failed and the
@@ -28,7 +29,7 @@ use std::alloc::Global;
 ///
 /// # Errors
 ///
-/// Those of [`run_in`]. An error changes nothing.
+/// Those of [`run_in`](crate::run_in). An error changes nothing.
 pub fn apply<S: Alter, H: Fn(&Conflict) -> Choice>(
     alloc: Global,
     store: &mut Store<S>,
@@ -59,7 +60,66 @@ pub fn apply<S: Alter, H: Fn(&Conflict) -> Choice>(
         (λ left. left ≡ tables_in (state S.Store store.old).committed) (state S.Store store.new)) }
 {
     store.tables_law();
-    run(alloc, store, file, Direction::Forward, noop, handler)
+    let written = Writings::Listed(Vec::new(alloc));
+    let tally = run(
+        alloc,
+        store,
+        file,
+        Direction::Forward,
+        noop,
+        handler,
+        written,
+    )?;
+    Ok(tally.into_report())
+}
+
+/// Applies the changeset of a file to a store in one transaction, as [`apply`] does, but only counts what it writes.
+///
+/// # Errors
+///
+/// Those of [`run_in`](crate::run_in). An error changes nothing.
+pub fn apply_counted<S: Alter, H: Fn(&Conflict) -> Choice>(
+    alloc: Global,
+    store: &mut Store<S>,
+    file: &[u8],
+    noop: Noop,
+    handler: &H,
+) -> Result<Summary, ApplyFault>
+    requires { H.IsAlwaysCallable handler.now }
+    ensures applied { HasCleanDisk (state S.Store store.new) → IfOk result (λ summary.
+        AppliesCounted (FnReturnsAt H.Fn handler.now) noop file.now ForwardRun (tables_in (state S.Store store.old).now)
+        summary (tables_in (state S.Store store.new).now)) }
+    ensures clean { HasCleanDisk (state S.Store store.new) → IfOk result (λ summary. summary.conflicts.items ≡ []
+        → summary.ignored ≡ 0 → Leads file.now (tables_in (state S.Store store.old).now)
+        (tables_in (state S.Store store.new).now)) }
+    ensures refused { HasCleanDisk (state S.Store store.new) → IfErr result
+        (Refuses (FnReturnsAt H.Fn handler.now) noop file.now ForwardRun (tables_in (state S.Store store.old).now)) }
+    ensures shut { HasCleanDisk (state S.Store store.new) → RefusesShut (state S.Store store.old) IsResource result }
+    ensures named { IfErr result IsNamed }
+    ensures at_rest { HasCleanDisk (state S.Store store.new) → OnOk result (IsAtRest (state S.Store store.new)) }
+    ensures others { HasCleanDisk (state S.Store store.new)
+        → OnOk result (KeepsOthers (state S.Store store.old).now (state S.Store store.new).now) }
+    ensures kept { HasCleanDisk (state S.Store store.new)
+        → OnErr result (KeepsContent (state S.Store store.old) (state S.Store store.new)) }
+    ensures atomic { IsAtomic CanBegin (AppliesInto (FnReturnsAt H.Fn handler.now) noop file.now ForwardRun (tables_in (state S.Store store.old).now))
+        (state S.Store store.old) (state S.Store store.new) }
+    ensures left { OnOk result (LeavesOnly (λ left. left ≡ tables_in (state S.Store store.new).now)
+        (state S.Store store.new)) }
+    ensures stands { OnErr result (IsTrue (state S.Store store.new).is_open → LeavesOnly
+        (λ left. left ≡ tables_in (state S.Store store.old).committed) (state S.Store store.new)) }
+{
+    store.tables_law();
+    let written = Writings::Counted(0);
+    let tally = run(
+        alloc,
+        store,
+        file,
+        Direction::Forward,
+        noop,
+        handler,
+        written,
+    )?;
+    Ok(tally.into_summary())
 }
 
 /// Applies the inverse of the changeset of a file to a store in one transaction, and aborts at the first conflict.
@@ -69,7 +129,7 @@ pub fn apply<S: Alter, H: Fn(&Conflict) -> Choice>(
 ///
 /// # Errors
 ///
-/// Those of [`run_in`]. An error changes nothing.
+/// Those of [`run_in`](crate::run_in). An error changes nothing.
 pub fn revert<S: Alter>(
     alloc: Global,
     store: &mut Store<S>,
@@ -99,7 +159,10 @@ pub fn revert<S: Alter>(
         (λ left. left ≡ tables_in (state S.Store store.old).committed) (state S.Store store.new)) }
 {
     changeset_files_law();
-    run(alloc, store, file, Direction::Inverse, Noop::Report, &abort)
+    let written = Writings::Listed(Vec::new(alloc));
+    let (direction, noop) = (Direction::Inverse, Noop::Report);
+    let tally = run(alloc, store, file, direction, noop, &abort, written)?;
+    Ok(tally.into_report())
 }
 
 /// Aborts at each conflict.
@@ -117,11 +180,14 @@ fn run<S: Alter, H: Fn(&Conflict) -> Choice>(
     direction: Direction,
     noop: Noop,
     handler: &H,
-) -> Result<Report, ApplyFault>
-    requires { H.IsAlwaysCallable handler.now }
-    ensures applied { HasCleanDisk (state S.Store store.new) → IfOk result (λ report.
-        Applies (FnReturnsAt H.Fn handler.now) noop file.now direction (tables_in (state S.Store store.old).now) report
-        (tables_in (state S.Store store.new).now)) }
+    written: Writings,
+) -> Result<Tally, ApplyFault>
+    requires callable { H.IsAlwaysCallable handler.now }
+    requires none { Tells written [] }
+    ensures applied { HasCleanDisk (state S.Store store.new) → IfOk result (λ tally.
+        AppliesTold (FnReturnsAt H.Fn handler.now) noop file.now direction (tables_in (state S.Store store.old).now)
+        tally (tables_in (state S.Store store.new).now)) }
+    ensures listed { IfOk result (λ tally. is_listed tally.written ≡ is_listed written) }
     ensures refused { HasCleanDisk (state S.Store store.new) → IfErr result
         (Refuses (FnReturnsAt H.Fn handler.now) noop file.now direction (tables_in (state S.Store store.old).now)) }
     ensures shut { HasCleanDisk (state S.Store store.new) → RefusesShut (state S.Store store.old) IsResource result }
@@ -140,7 +206,7 @@ fn run<S: Alter, H: Fn(&Conflict) -> Choice>(
 {
     store.crash_law();
     let mut batch = store.begin()?;
-    let report = run_in(alloc, &mut batch, file, direction, noop, handler)?;
+    let tally = tally_in(alloc, &mut batch, file, direction, noop, handler, written)?;
     batch.commit()?;
-    Ok(report)
+    Ok(tally)
 }

@@ -16,13 +16,14 @@ use Rattle.cs_group.specs.declared.conflict.Noop.TheVariants as noop
 use Rattle.cs_run.specs.declared.conflict.Conflict.{Conflict}
 use Rattle.cs_run.specs.declared.fault.ApplyFault.{ApplyFault}
 use Rattle.cs_run.specs.declared.report.Report.{Report}
+use Rattle.cs_run.specs.declared.report.Summary.{Summary}
 use Rattle.cs_run.specs.declared.running.Direction.{Direction}
 use Rattle.cs_run.specs.declared.running.Direction.TheVariants.{Forward, Inverse}
 use Rattle.cs_store.specs.Crash.{MayLeave}
 use Rattle.cs_apply.specs.Crash.{AppliesInto}
 use Rattle.cs_run.specs.Running as applies
-use Rattle.cs_run.specs.Running.{Handler, AlwaysAborts, Applies, Refuses}
-use Rattle.cs_apply.proofs.RevertLemmas.{applies_weaker, refuses_weaker}
+use Rattle.cs_run.specs.Running.{Handler, AlwaysAborts, AppliesCounted, Refuses, Summarizes}
+use Rattle.cs_apply.proofs.RevertLemmas.{applies_weaker, counts_weaker, refuses_weaker}
 use Rattle.cs_files.specs.Files.{Inverts}
 use Rattle.cs_session.specs.declared.fault.SessionFault.{SessionFault}
 use Rattle.cs_session.specs.declared.fault.SessionFault.TheVariants as session
@@ -67,13 +68,13 @@ module _ (P Q : Handler) (weaker : (k : Conflict) (c : Choice) → P k c → Q k
   refuses_recorded_weaker noop file old notes session.AlreadyAttached why = why
 
   -- a file is applied, and noted
-  pub works_recorded : (noop : Noop) (file : List ℕ) (old new : sqlite.State) (notes after : Notes) (report : Report) → Survives old new (MayLeave (AppliesInto P noop file Forward (tables_in old.now)))
+  pub works_recorded : (noop : Noop) (file : List ℕ) (old new : sqlite.State) (notes after : Notes) (report : Report) (summary : Summary) → Summarizes summary report → Survives old new (MayLeave (AppliesInto P noop file Forward (tables_in old.now)))
       → (HasCleanDisk new → IsAtRest new) → (HasCleanDisk new → old.is_open ≡ false → ⊥) → (HasCleanDisk new → RecordsApply P noop file (tables_in old.now) notes report (tables_in new.now) after)
       → (HasCleanDisk new → rewound after (tables_in new.now) ≡ rewound notes (tables_in old.now))
-      → Works old new (Some notes) (Some after) (λ s. ApplyGives s Q noop file Forward) (Reported (told_of report))
-  works_recorded noop file old new notes after report survives rests shut done same =
-      turns_done (Gave (Some notes) (Some after) (λ s. ApplyGives s Q noop file Forward) (Reported (told_of report))) old new survives rests shut (λ clean rest.
-      session_applies Q noop file (tables_in old.now) (tables_in new.now) notes after report (records_weaker noop file (tables_in old.now) (tables_in new.now) notes after report (done clean)) (same clean))
+      → Works old new (Some notes) (Some after) (λ s. ApplyGives s Q noop file Forward) (Reported (told_of summary))
+  works_recorded noop file old new notes after report summary sums survives rests shut done same =
+      turns_done (Gave (Some notes) (Some after) (λ s. ApplyGives s Q noop file Forward) (Reported (told_of summary))) old new survives rests shut (λ clean rest.
+      session_applies Q noop file (tables_in old.now) (tables_in new.now) notes after report summary sums (records_weaker noop file (tables_in old.now) (tables_in new.now) notes after report (done clean)) (same clean))
 
   -- it is refused
   pub works_unrecorded : (noop : Noop) (file : List ℕ) (old new : sqlite.State) (notes after : Notes) (e : SessionFault) → Survives old new (MayLeave (AppliesInto P noop file Forward (tables_in old.now)))
@@ -86,12 +87,12 @@ module _ (P Q : Handler) (weaker : (k : Conflict) (c : Choice) → P k c → Q k
       session_refuses_apply Q noop file (tables_in old.now) notes e (refuses_recorded_weaker noop file (tables_in old.now) notes e (why clean)) here))
 
   -- where no session is open
-  pub works_applied : (noop : Noop) (file : List ℕ) (direction : Direction) (old new : sqlite.State) (report : Report) → Survives old new (MayLeave (AppliesInto P noop file direction (tables_in old.now)))
-      → (HasCleanDisk new → IsAtRest new) → (HasCleanDisk new → old.is_open ≡ false → ⊥) → (HasCleanDisk new → Applies P noop file direction (tables_in old.now) report (tables_in new.now))
-      → Works old new None None (λ s. ApplyGives s Q noop file direction) (Reported (told_of report))
-  works_applied noop file direction old new report survives rests shut done =
-      turns_done (Gave None None (λ s. ApplyGives s Q noop file direction) (Reported (told_of report))) old new survives rests shut (λ clean rest.
-      store_applies Q noop file direction (tables_in old.now) (tables_in new.now) report (applies_weaker P Q weaker noop file direction (tables_in old.now) report (tables_in new.now) (done clean)))
+  pub works_applied : (noop : Noop) (file : List ℕ) (direction : Direction) (old new : sqlite.State) (summary : Summary) → Survives old new (MayLeave (AppliesInto P noop file direction (tables_in old.now)))
+      → (HasCleanDisk new → IsAtRest new) → (HasCleanDisk new → old.is_open ≡ false → ⊥) → (HasCleanDisk new → AppliesCounted P noop file direction (tables_in old.now) summary (tables_in new.now))
+      → Works old new None None (λ s. ApplyGives s Q noop file direction) (Reported (told_of summary))
+  works_applied noop file direction old new summary survives rests shut done =
+      turns_done (Gave None None (λ s. ApplyGives s Q noop file direction) (Reported (told_of summary))) old new survives rests shut (λ clean rest.
+      store_applies Q noop file direction (tables_in old.now) (tables_in new.now) summary (counts_weaker P Q weaker noop file direction (tables_in old.now) summary (tables_in new.now) (done clean)))
 
   pub works_unapplied : (noop : Noop) (file : List ℕ) (direction : Direction) (old new : sqlite.State) (e : ApplyFault) → Survives old new (MayLeave (AppliesInto P noop file direction (tables_in old.now)))
       → (HasCleanDisk new → KeepsContent old new) → (HasCleanDisk new → old.is_open ≡ false → applies.IsResource e) → (HasCleanDisk new → Refuses P noop file direction (tables_in old.now) e)

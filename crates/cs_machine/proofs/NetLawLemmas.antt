@@ -15,15 +15,15 @@ use Rattle.cs_value.proofs.StateLemmas.{table_of_schema}
 use Rattle.cs_rows.specs.declared.fault.StoreError.{StoreError}
 use Rattle.cs_rows.specs.declared.fault.StoreError.TheVariants.{KeyTaken, NoRow}
 use Rattle.cs_rows.proofs.WrittenRows.{same_schemas, rows_here, rows_other}
-use Rattle.cs_store.specs.Editing.{Edited, row_fault, unless, has_row, when, inserted_in, moved, updated_in, deleted_in, found_table, inserted, updated, deleted, written_of}
+use Rattle.cs_store.specs.Editing.{Edited, row_fault, unless, has_row, when, inserted_in, moved, updated_in, deleted_in, found_table, inserted, updated, deleted}
 use Rattle.cs_group.specs.declared.conflict.Noop.{Noop}
 use Rattle.cs_group.specs.declared.conflict.Noop.TheVariants as noop
 use Rattle.cs_group.specs.Applying.{written_under}
 use Rattle.cs_group.proofs.ApplyLemmas.{written_tells}
 use Rattle.cs_run.specs.declared.running.Direction.{Direction}
 use Rattle.cs_run.specs.declared.running.Direction.TheVariants.{Forward, Inverse}
-use Rattle.cs_run.specs.declared.report.Report.{Report}
-use Rattle.cs_run.specs.Running.{Handler, Applies, AlwaysAborts}
+use Rattle.cs_run.specs.declared.report.Summary.{Summary}
+use Rattle.cs_run.specs.Running.{Handler, AppliesCounted, AlwaysAborts}
 use Rattle.cs_run.specs.Steps.{with_result}
 use Rattle.cs_run.proofs.WriteLemmas.{result_schemas, result_elsewhere}
 use Rattle.cs_session.proofs.RewoundLemmas.{other_name}
@@ -111,9 +111,10 @@ deleted_only state name key = in_found state (get state name) _ (λ found is. de
 
 -- ---- applies
 
-applied_only : (chooses : Handler) (noop : Noop) (file : List ℕ) (direction : Direction) (old new : State) (report : Report) → Applies chooses noop file direction old report new
-    → OnlyWrites old new (map written_of report.written.items)
-applied_only chooses noop file direction old new report done =
+applied_only : (chooses : Handler) (noop : Noop) (file : List ℕ) (direction : Direction) (old new : State) (summary : Summary) (counts : AppliesCounted chooses noop file direction old summary new)
+    → OnlyWrites old new counts.writes
+applied_only chooses noop file direction old new summary counts =
+    let done = counts.applies in
     let tells = written_tells noop old done.changeset done.choose new done.applied in
     rw done.written (record {
       schemas = done.applied.schemas;
@@ -249,14 +250,14 @@ delete_net old new name conditions reply is (not_deleted why finds) = is
 delete_net old new name conditions reply is (deletes_row place answer next finds gives) =
     edit_net old next (deleted old.tables name place.key) answer (deleted_only old.tables name place.key) is gives
 
-apply_net : (old new : ShellState) (chooses : Handler) (noop : Noop) (file : List ℕ) (direction : Direction) (reply : Reply) → HasNet old → ApplyGives old chooses noop file direction reply new → HasNet new
-apply_net old new chooses noop file direction reply is (applied report tables done) =
-    writes_net old tables (map written_of report.written.items) (applied_only chooses noop file direction old.tables tables report done) is
-apply_net old new chooses noop file direction reply is (not_applied fault why) = is
+apply_net : (old : ShellState) (chooses : Handler) (noop : Noop) (file : List ℕ) (direction : Direction) (new : ShellState) (reply : Reply) → HasNet old → ApplyGives old chooses noop file direction reply new → HasNet new
+apply_net old chooses noop file direction new reply is (applied summary tables done) =
+    writes_net old tables done.writes (applied_only chooses noop file direction old.tables tables summary done) is
+apply_net old chooses noop file direction new reply is (not_applied fault why) = is
 
 revert_net : (old new : ShellState) (file : List ℕ) (session : Option SessionTables) (reply : Reply) → HasNet old → RevertGives old file session reply new → HasNet new
-revert_net old new file session reply is (reverted answer next gives) = apply_net old next AlwaysAborts noop.Report file Inverse answer is gives
-revert_net old new file session reply is (recorded tables inverse answer next inverts gives) = apply_net old next AlwaysAborts noop.Report inverse Forward answer is gives
+revert_net old new file session reply is (reverted answer next gives) = apply_net old AlwaysAborts noop.Report file Inverse next answer is gives
+revert_net old new file session reply is (recorded tables inverse answer next inverts gives) = apply_net old AlwaysAborts noop.Report inverse Forward next answer is gives
 revert_net old new file session reply is (unread tables fault why) = is
 
 -- what is done with the bytes of a slot
@@ -298,7 +299,7 @@ command_net old new command reply is (selects table answer next gives) = same_ne
 command_net old new command reply is (on_slots slotted answer slots gives) = is
 command_net old new command reply is (applies slot on_data on_notfound on_conflict on_constraint noop answer next gives) =
     slot_net old next slot (λ file. ApplyGives old (ByKind on_data on_notfound on_conflict on_constraint) noop file Forward) answer
-    (λ file given. apply_net old next (ByKind on_data on_notfound on_conflict on_constraint) noop file Forward answer is given) is gives
+    (λ file given. apply_net old (ByKind on_data on_notfound on_conflict on_constraint) noop file Forward next answer is given) is gives
 command_net old new command reply is (reverts slot answer next gives) =
     slot_net old next slot (λ file. RevertGives old file old.session) answer (λ file given. revert_net old next file old.session answer is given) is gives
 command_net old new command reply is (opens answer next gives) = open_net old next answer is gives

@@ -20,10 +20,11 @@ use Rattle.cs_group.specs.declared.conflict.Noop.{Noop}
 use Rattle.cs_group.specs.declared.conflict.Noop.TheVariants as noop
 use Rattle.cs_group.specs.Applying.{met_under}
 use Rattle.cs_run.specs.declared.report.Report.{Report}
+use Rattle.cs_run.specs.declared.report.Summary.{Summary}
 use Rattle.cs_run.specs.declared.running.Direction.{Direction}
 use Rattle.cs_run.specs.declared.running.Direction.TheVariants.{Forward}
 use Rattle.cs_run.specs.Report.{met_of}
-use Rattle.cs_run.specs.Running.{Handler, Applies}
+use Rattle.cs_run.specs.Running.{Handler, AppliesCounted, Summarizes}
 use Rattle.cs_session.specs.declared.fault.SessionFault.{SessionFault}
 use Rattle.cs_session.specs.declared.fault.SessionFault.TheVariants as session
 use Rattle.cs_session.specs.FirstImages.{AttachedTable, Notes, IsNotes, HasAttached, rewound, recorded, recorded_changes}
@@ -122,20 +123,24 @@ session_refuses_edit old edit notes (session.Apply fault) why here slots = absur
 
 -- ---- applies
 
-pub session_applies : (chooses : Handler) (noop : Noop) (file : List ℕ) (old new : State) (notes after : Notes) (report : Report) → RecordsApply chooses noop file old notes report new after
+pub session_applies : (chooses : Handler) (noop : Noop) (file : List ℕ) (old new : State) (notes after : Notes) (report : Report) (summary : Summary) → Summarizes summary report → RecordsApply chooses noop file old notes report new after
     → rewound after new ≡ rewound notes old → IsHere old (Some notes) → IsHere new (Some after)
-    × ((slots : SlotMap) → OrUnable (λ s. ApplyGives s chooses noop file Forward) (seen old slots (Some notes)) (Reported (told_of report)) (seen new slots (Some after)))
-session_applies chooses noop file old new notes after report done same here = (
+    × ((slots : SlotMap) → OrUnable (λ s. ApplyGives s chooses noop file Forward) (seen old slots (Some notes)) (Reported (told_of summary)) (seen new slots (Some after)))
+session_applies chooses noop file old new notes after report summary sums done same here = (
   (step_keeps (at old notes) (at new after) here (applied_step chooses noop file (at old notes) (at new after) report done)).0,
-  λ slots. inl (subst (λ (s : ShellState). ApplyGives (seen old slots (Some notes)) chooses noop file Forward (Reported (told_of report)) s)
+  λ slots. inl (subst (λ (s : ShellState). ApplyGives (seen old slots (Some notes)) chooses noop file Forward (Reported (told_of summary)) s)
       (sym (written_seen old new slots (map written_of report.written.items) notes after done.noted same))
-      (applied report new done.applied)),
+      (applied summary new (record {
+        writes = map written_of report.written.items;
+        counted = sums.written ∙ sym (length-map report.written.items written_of);
+        applies = rw (sums.conflicts, sums.skipped, sums.ignored) done.applied;
+      }))),
 )
 
-pub store_applies : (chooses : Handler) (noop : Noop) (file : List ℕ) (direction : Direction) (old new : State) (report : Report) → Applies chooses noop file direction old report new
+pub store_applies : (chooses : Handler) (noop : Noop) (file : List ℕ) (direction : Direction) (old new : State) (summary : Summary) → AppliesCounted chooses noop file direction old summary new
     → IsHere old None → IsHere new None
-    × ((slots : SlotMap) → OrUnable (λ s. ApplyGives s chooses noop file direction) (seen old slots None) (Reported (told_of report)) (seen new slots None))
-store_applies chooses noop file direction old new report done here = (tt, λ slots. inl (applied report new done))
+    × ((slots : SlotMap) → OrUnable (λ s. ApplyGives s chooses noop file direction) (seen old slots None) (Reported (told_of summary)) (seen new slots None))
+store_applies chooses noop file direction old new summary done here = (tt, λ slots. inl (applied summary new done))
 
 pub session_refuses_apply : (chooses : Handler) (noop : Noop) (file : List ℕ) (old : State) (notes : Notes) (fault : SessionFault) → RefusesApply chooses noop file old notes fault
     → IsHere old (Some notes) → (slots : SlotMap)
@@ -197,11 +202,11 @@ session_refuses_attach old name notes (session.Apply fault) is why slots = absur
 
 -- ---- undoing
 
-pub session_undoes : ChangesetFiles → (old new : State) (notes : Notes) (report : Report) → IsState old → IsNotes notes → Undoes notes old report new
+pub session_undoes : ChangesetFiles → (old new : State) (notes : Notes) (report : Report) (summary : Summary) → Summarizes summary report → IsState old → IsNotes notes → Undoes notes old report new
     → IsHere old (Some notes) → IsHere new (Some notes)
-    × ((slots : SlotMap) → UndoGives (seen old slots (Some notes)) (map (seen_table old) notes) (Reported (told_of report)) (seen new slots (Some notes)))
+    × ((slots : SlotMap) → UndoGives (seen old slots (Some notes)) (map (seen_table old) notes) (Reported (told_of summary)) (seen new slots (Some notes)))
 unfolding undone_step
-session_undoes law old new notes report is_state are done here = (keeps.0, λ slots. (told, is slots))
+session_undoes law old new notes report summary sums is_state are done here = (keeps.0, λ slots. (told, is slots))
   where
     keeps : IsMoment (at new notes) × (rewound notes new ≡ rewound notes old ++ ([] ++ []))
     keeps = step_keeps (at old notes) (at new notes) here (undone_step (at old notes) (at new notes) report done refl)
@@ -214,7 +219,7 @@ session_undoes law old new notes report is_state are done here = (keeps.0, λ sl
         let back : new ≡ put_back (map (seen_table old) notes) old = done.rewound ∙ sym (seen_back old notes) in
         λ i. record { tables = back i; slots = slots; session = Some (same i) }
 
-    told : Reported (told_of report) ≡ Reported (record { skipped = []; conflicts = []; ignored = 0; applied = net_count old (map (seen_table old) notes) })
+    told : Reported (told_of summary) ≡ Reported (record { skipped = []; conflicts = []; ignored = 0; applied = net_count old (map (seen_table old) notes) })
     told =
         let applies = done.applied in
         let each = recursion_from_All (HasAttached old) notes here.has in
@@ -222,9 +227,12 @@ session_undoes law old new notes report is_state are done here = (keeps.0, λ sl
         let one : applies.read.0 ≡ changes = law applies.read.0 changes applies.read.1 (changes_are old notes is_state are each) (sym applies.read.2) in
         let zip = subst (λ (c : List GroupData). AllZip IsInverseGroup c applies.changeset) one applies.read.3 in
         let none : met_under noop.Report old applies.changeset applies.choose ≡ [] = sym applies.conflicts ∙ ap (map met_of) done.no_conflict in
-        let count : length report.written.items ≡ net_count old (map (seen_table old) notes) =
-        sym (length-map report.written.items written_of) ∙ ap length applies.written ∙ undo_count old notes are each applies.changeset applies.choose zip none in
-        λ i. Reported (record { skipped = map string_bytes (done.none_skipped i); conflicts = map met_of (done.no_conflict i); ignored = applies.ignored i; applied = count i })
+        let count : summary.written ≡ net_count old (map (seen_table old) notes) =
+        sums.written ∙ sym (length-map report.written.items written_of) ∙ ap length applies.written ∙ undo_count old notes are each applies.changeset applies.choose zip none in
+        let skips : summary.skipped.items ≡ [] = ap (λ v. v.items) sums.skipped ∙ done.none_skipped in
+        let conflicts : summary.conflicts.items ≡ [] = ap (λ v. v.items) sums.conflicts ∙ done.no_conflict in
+        let passed : summary.ignored ≡ 0 = sums.ignored ∙ applies.ignored in
+        λ i. Reported (record { skipped = map string_bytes (skips i); conflicts = map met_of (conflicts i); ignored = passed i; applied = count i })
 
 -- ---- declaring
 

@@ -12,6 +12,8 @@ use Rattle.cs_wire.specs.Laws.{ChangesetFiles}
 use Rattle.cs_store.specs.Records.{KeepsContent, KeepsCrash}
 use Rattle.cs_store.specs.Store.{IsAtRest, KeepsStore, tables_in}
 use Rattle.cs_run.specs.declared.report.Report.{Report}
+use Rattle.cs_run.specs.declared.report.Summary.{Summary}
+use Rattle.cs_run.specs.Running.{Summarizes}
 use Rattle.cs_session.specs.declared.fault.SessionFault.{SessionFault}
 use Rattle.cs_session.specs.declared.fault.SessionFault.TheVariants as session
 use Rattle.cs_session.specs.FirstImages.{FirstImage, AttachedTable, Notes, IsNotes, recorded_changes}
@@ -145,14 +147,14 @@ module _ (slot : List ℕ) where
 
 -- ---- undoing
 
-pub works_undone : (old new : sqlite.State) (notes : Notes) (report : Report) → ChangesetFiles → IsNotes notes → Survives old new (MayLeave (UndoesInto notes (tables_in old.now)))
+pub works_undone : (old new : sqlite.State) (notes : Notes) (report : Report) (summary : Summary) → Summarizes summary report → ChangesetFiles → IsNotes notes → Survives old new (MayLeave (UndoesInto notes (tables_in old.now)))
     → (HasCleanDisk old → IsTrue old.is_open → IsState (tables_in old.now)) → (HasCleanDisk new → IsAtRest new) → (HasCleanDisk new → old.is_open ≡ false → ⊥)
     → (HasCleanDisk new → Undoes notes (tables_in old.now) report (tables_in new.now))
-    → Works old new (Some notes) (Some notes) (λ s. WithSession s (UndoGives s)) (Reported (told_of report))
-works_undone old new notes report files are survives law rests shut done =
-    turns_done (Gave (Some notes) (Some notes) (λ s. WithSession s (UndoGives s)) (Reported (told_of report))) old new survives rests shut (λ clean rest here.
-    let gives = session_undoes files (tables_in old.now) (tables_in new.now) notes report (law (clean_before old new survives.clean clean) rest.is_open) are (done clean) here in
-    (gives.0, λ slots. inl (with_notes UndoGives (tables_in old.now) slots notes (Reported (told_of report)) _ (gives.1 slots))))
+    → Works old new (Some notes) (Some notes) (λ s. WithSession s (UndoGives s)) (Reported (told_of summary))
+works_undone old new notes report summary sums files are survives law rests shut done =
+    turns_done (Gave (Some notes) (Some notes) (λ s. WithSession s (UndoGives s)) (Reported (told_of summary))) old new survives rests shut (λ clean rest here.
+    let gives = session_undoes files (tables_in old.now) (tables_in new.now) notes report summary sums (law (clean_before old new survives.clean clean) rest.is_open) are (done clean) here in
+    (gives.0, λ slots. inl (with_notes UndoGives (tables_in old.now) slots notes (Reported (told_of summary)) _ (gives.1 slots))))
 
 pub works_not_undone : (old new : sqlite.State) (notes : Notes) (e : SessionFault) → Survives old new (MayLeave (UndoesInto notes (tables_in old.now)))
     → (HasCleanDisk new → KeepsContent old new) → (HasCleanDisk new → old.is_open ≡ false → IsResource e) → (HasCleanDisk new → RefusesChanges (tables_in old.now) notes e)

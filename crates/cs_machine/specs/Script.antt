@@ -18,13 +18,13 @@ use Rattle.cs_group.specs.declared.conflict.Noop.TheVariants as noop
 use Rattle.cs_rows.specs.declared.fault.StoreError.{StoreError}
 use Rattle.cs_rows.specs.declared.fault.StoreError.TheVariants.{NoTable, NullInKey, NoRow}
 use Rattle.cs_rows.specs.Faults.{IsStoreFault}
-use Rattle.cs_store.specs.Editing.{either, Edited, Declares, inserted, updated, deleted, written_of}
-use Rattle.cs_run.specs.declared.report.Report.{Report}
+use Rattle.cs_store.specs.Editing.{either, Edited, Declares, inserted, updated, deleted}
+use Rattle.cs_run.specs.declared.report.Summary.{Summary}
 use Rattle.cs_run.specs.declared.running.Direction.{Direction}
 use Rattle.cs_run.specs.declared.running.Direction.TheVariants.{Forward, Inverse}
 use Rattle.cs_run.specs.declared.fault.ApplyFault.{ApplyFault}
 use Rattle.cs_run.specs.Report.{chosen}
-use Rattle.cs_run.specs.Running.{Handler, AlwaysAborts, Applies, IsNamed, Refuses}
+use Rattle.cs_run.specs.Running.{Handler, AlwaysAborts, AppliesCounted, IsNamed, Refuses}
 use Rattle.cs_session.specs.declared.fault.SessionFault.TheVariants.{AlreadyAttached}
 use Rattle.cs_files.specs.declared.fault.FileFault.{FileFault}
 use Rattle.cs_files.specs.Files.{Inverts, Joins, JoinFails}
@@ -159,9 +159,9 @@ SelectGives old name reply new = (new ≡ old)
 -- a file is applied, with what is told of it, and noted where a session is open; or it is refused
 pub data ApplyGives (old : ShellState) (chooses : Handler) (noop : Noop) (file : List ℕ) (direction : Direction) :
     Reply → ShellState → Type 0 where
-  applied : (report : Report) (tables : State) → Applies chooses noop file direction old.tables report tables
-      → ApplyGives old chooses noop file direction (Reported (told_of report))
-      (written_to old tables (map written_of report.written.items))
+  applied : (summary : Summary) (tables : State)
+      (done : AppliesCounted chooses noop file direction old.tables summary tables)
+      → ApplyGives old chooses noop file direction (Reported (told_of summary)) (written_to old tables done.writes)
   not_applied : (fault : ApplyFault) → Refuses chooses noop file direction old.tables fault
       → ApplyGives old chooses noop file direction (Refused (of_apply fault)) old
 

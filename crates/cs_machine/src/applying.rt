@@ -6,7 +6,7 @@ ghost use Rattle.cs_replies.specs.Replies.{answer_of};
 ghost use Rattle.cs_machine.specs.Script.{AnswersApply, ApplyGives, ByKind, RevertGives};
 ghost use Rattle.cs_machine.specs.Turns.{Works};
 
-use cs_apply::{Choice, Conflict, Noop, Policy, apply, revert};
+use cs_apply::{Choice, Conflict, Noop, Policy, apply_counted, revert};
 use cs_files::invert_bytes;
 use cs_replies::{Refusal, Reply};
 use cs_session::Session;
@@ -29,7 +29,7 @@ fn apply_noted<S: Alter>(
 {
     let handler = |conflict: &Conflict| policy.choose(conflict);
     let report = session.apply_recorded(alloc, store, file, noop, &handler)?;
-    Ok(Reply::Report(report))
+    Ok(Reply::Report(report.into_summary()))
 }
 
 /// Applies a file while no session is open.
@@ -46,8 +46,8 @@ pub fn apply_unnoted<S: Alter>(
     ensures named { AnswersApply (answer_of result) }
 {
     let handler = |conflict: &Conflict| policy.choose(conflict);
-    let report = apply(alloc, store, file, noop, &handler)?;
-    Ok(Reply::Report(report))
+    let summary = apply_counted(alloc, store, file, noop, &handler)?;
+    Ok(Reply::Report(summary))
 }
 
 /// Applies a file. An open session notes it.
@@ -81,7 +81,7 @@ fn revert_noted<S: Alter>(
 {
     let inverse = invert_bytes(alloc, file)?;
     let report = session.apply_recorded(alloc, store, &inverse, Noop::Report, &|_| Choice::Abort)?;
-    Ok(Reply::Report(report))
+    Ok(Reply::Report(report.into_summary()))
 }
 
 /// Reverts a file while no session is open. It ends at the first conflict.
@@ -93,7 +93,8 @@ fn revert_unnoted<S: Alter>(
     ensures { Works (state S.Store store.old) (state S.Store store.new) None None
         (λ old. RevertGives old file.now old.session) (answer_of result) }
 {
-    Ok(Reply::Report(revert(alloc, store, file)?))
+    let report = revert(alloc, store, file)?;
+    Ok(Reply::Report(report.into_summary()))
 }
 
 /// Reverts a file. An open session notes it, as an apply of the inverse.

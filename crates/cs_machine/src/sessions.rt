@@ -94,7 +94,8 @@ pub(crate) fn undo<S: Alter>(
         return Err(Refusal::NoSession);
     };
     session.notes_law();
-    Ok(Reply::Report(session.undo(alloc, store)?))
+    let report = session.undo(alloc, store)?;
+    Ok(Reply::Report(report.into_summary()))
 }
 
 /// Closes the session, and changes no row.

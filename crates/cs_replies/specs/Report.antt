@@ -1,9 +1,9 @@
 -- The text of what an apply did, which is this project's own.
-use Rattle.std.specs.Prelude.{ℕ, zero, suc, List, [], ◌++◌, length, map, codes, decimal, string_bytes}
+use Rattle.std.specs.Prelude.{ℕ, zero, suc, List, [], ◌++◌, map, codes, decimal, string_bytes}
 use Rattle.std.specs.List.{flat_map}
 use Rattle.cs_group.specs.Conflicts.{kind_number}
 use Rattle.cs_group.specs.Applying.{MetData}
-use Rattle.cs_run.specs.declared.report.Report.{Report}
+use Rattle.cs_run.specs.declared.report.Summary.{Summary}
 use Rattle.cs_run.specs.Report.{met_of}
 use Rattle.cs_value.specs.Quoting.{quoted}
 use Rattle.cs_lines.specs.Commands.{kind_text, choice_text}
@@ -43,14 +43,14 @@ abbrev pub told_text : ReportData → List ℕ
 told_text told = flat_map skip_text told.skipped
     ++ (flat_map met_text told.conflicts ++ (ignored_text told.ignored ++ count_text told.applied))
 
-abbrev pub told_of : Report → ReportData
+abbrev pub told_of : Summary → ReportData
 told_of report = record {
   skipped = map string_bytes report.skipped.items;
   conflicts = map met_of report.conflicts.items;
   ignored = report.ignored;
-  applied = length report.written.items;
+  applied = report.written;
 }
 
 -- the text of a report
-abbrev pub report_of : Report → List ℕ
+abbrev pub report_of : Summary → List ℕ
 report_of report = told_text (told_of report)

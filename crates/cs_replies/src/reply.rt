@@ -1,5 +1,5 @@
 //! What a line is answered.
-use cs_apply::Report;
+use cs_apply::Summary;
 use cs_value::Row;
 use cs_wire::Changeset;
 
@@ -15,5 +15,5 @@ pub enum Reply {
     /// A line for each row.
     Rows(Vec<Row>),
     /// What an apply did.
-    Report(Report),
+    Report(Summary),
 }

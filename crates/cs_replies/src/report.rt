@@ -1,12 +1,12 @@
 //! The text of what an apply did.
-ghost use Rattle.std.specs.Prelude.{◌≡◌, length, string_bytes};
+ghost use Rattle.std.specs.Prelude.{string_bytes};
 ghost use Rattle.std.specs.List.{flat_map};
 ghost use Rattle.cs_run.specs.Report.{met_of};
 ghost use Rattle.cs_files.specs.Calls.{Writes};
 ghost use Rattle.cs_files.specs.Gathering.{Gathers};
 ghost use Rattle.cs_replies.specs.Report.{skip_text, met_text, counted_text, ignored_text, count_text, report_of};
 
-use cs_apply::{Met, Report};
+use cs_apply::{Met, Summary};
 use cs_files::{Gather, OutputFault, Piece, Told, add_pieces};
 use cs_lines::{choice_name, kind_name};
 use std::io::Write;
@@ -135,14 +135,14 @@ fn add_counted<W: Write>(
 fn add_report<W: Write>(
     gather: &mut Gather,
     out: &mut Told<W>,
-    report: &Report,
+    report: &Summary,
 ) -> Result<(), OutputFault>
     ensures { Gathers W.contents result gather.old gather.new out.old out.new (report_of report.now) }
 {
     add_skips(gather, out, &report.skipped)?;
     add_conflicts(gather, out, &report.conflicts)?;
     add_ignored(gather, out, report.ignored)?;
-    add_count(gather, out, report.written.len())
+    add_count(gather, out, report.written)
 }
 
 /// Writes what an apply did: for each table that was passed over, in the order of the file, a line
@@ -155,7 +155,7 @@ fn add_report<W: Write>(
 ///
 /// [`OutputFault`] where a write fails, or takes no byte. Some front of the text is written then, and
 /// the flag of `out` is set.
-pub fn report_text<W: Write>(report: &Report, out: &mut Told<W>) -> Result<(), OutputFault>
+pub fn report_text<W: Write>(report: &Summary, out: &mut Told<W>) -> Result<(), OutputFault>
     ensures { Writes W.contents result out.old out.new (report_of report.now) }
 {
     let mut gather = Gather::new();

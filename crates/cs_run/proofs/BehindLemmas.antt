@@ -12,7 +12,6 @@ use Rattle.cs_entries.specs.declared.entry.Entry.{Entry}
 use Rattle.cs_wire.specs.Entry.{key_of}
 use Rattle.cs_wire.specs.Changeset.{HeaderData, GroupData}
 use Rattle.cs_wire.specs.Items.{FlaggedEntry}
-use Rattle.cs_rows.specs.Editing.{written_of}
 use Rattle.cs_group.specs.declared.judging.Judgement.{Judgement}
 use Rattle.cs_group.specs.declared.judging.Judgement.TheVariants.{Skipped, Wider, Compatible}
 use Rattle.cs_group.specs.declared.conflict.Noop.{Noop}
@@ -20,14 +19,14 @@ use Rattle.cs_group.specs.Judging.{judgement, judged, is_compatible, is_skipped}
 use Rattle.cs_group.specs.Applying.{PlacedEntry, placed, placed_by, placed_in, IsElsewhere, NoneWider, FirstWider, current, refuses_at, refused_at, applicable, heeded, heeded_of, ignored, ignored_of, skipped}
 use Rattle.cs_run.specs.declared.ending.Ending.{Ending}
 use Rattle.cs_run.specs.declared.conflict.Met.{Met}
-use Rattle.cs_run.specs.declared.report.Report.{Report}
+use Rattle.cs_run.specs.declared.tally.Tally.{Tally}
 use Rattle.cs_run.specs.declared.run.Run.{Run}
 use Rattle.cs_run.specs.Report.{met_of}
 use Rattle.cs_run.specs.Running.{Handler}
 use Rattle.cs_run.specs.Steps.{HasTable, Carries, Stops, ComesTo, last_of, header_in, placed_in_table}
 use Rattle.cs_run.specs.Run.{IsAtStart, IsBehind, IsNewEntry, CameTo, TakesEntries, TakesTable, first_wider, group_of, last_group, wider_then}
 use Rattle.cs_group.proofs.ApplyLemmas.{refuses_same}
-use Rattle.cs_run.proofs.RunLemmas.{applicable_more, each_map, has_table, other_tables, skipped_more, table_stays}
+use Rattle.cs_run.proofs.RunLemmas.{applicable_more, each_map, has_table, other_tables, skipped_more}
 use Rattle.cs_run.proofs.StepLemmas.{Apart, carries_none, carries_then, same_rows, same_rules, stops_more, stops_then}
 use Rattle.cs_run.proofs.HeededLemmas.{heeded_before, heeded_behind, heeded_more, heeded_none, heeded_same, ignored_more, ignored_none, ignored_same}
 
@@ -100,25 +99,25 @@ was_none : (o : Option ℕ) (place : ℕ) (j : Judgement) → wider_then o place
 was_none None place j e = refl
 was_none (Some first) place j e = absurd (none-some first (sym e))
 
--- ---- reports that tell the same
+-- ---- tallies that tell the same
 
-carries_same : (chooses : Handler) (ps : List PlacedEntry) (a b : State) (r s t : Report) → Carries chooses ps a r b s → t.conflicts ≡ s.conflicts → t.written ≡ s.written → Carries chooses ps a r b t
+carries_same : (chooses : Handler) (ps : List PlacedEntry) (a b : State) (r s t : Tally) → Carries chooses ps a r b s → t.conflicts ≡ s.conflicts → t.written ≡ s.written → Carries chooses ps a r b t
 carries_same chooses ps a b r s t one conflicts written = record {
   choose = one.choose;
   applied = one.applied;
   conflicts = ap (λ v. map met_of v.items) conflicts ∙ one.conflicts;
   chosen = λ all. rw conflicts (one.chosen all);
-  written = ap (λ v. map written_of v.items) written ∙ one.written;
+  written = λ told was. rw written (one.written told was);
 }
 
-stops_same : (chooses : Handler) (ps : List PlacedEntry) (a : State) (r s t : Report) (last : Met) → Stops chooses ps a r s last → t.conflicts ≡ s.conflicts → Stops chooses ps a r t last
+stops_same : (chooses : Handler) (ps : List PlacedEntry) (a : State) (r s t : Tally) (last : Met) → Stops chooses ps a r s last → t.conflicts ≡ s.conflicts → Stops chooses ps a r t last
 stops_same chooses ps a r s t last h same = record { choose = h.choose; later = h.later; chosen = λ all. rw same (h.chosen all); listed = rw same h.listed; ended = h.ended }
 
 -- ---- before the first item
 
 pub behind_start : (chooses : Handler) (s : State) (run : Run) → IsAtStart run → IsBehind chooses s [] run s
 behind_start chooses s run is = record {
-  start = run.report;
+  start = run.tally;
   empty = is.empty;
   tables = is.tables;
   opened = tt;
@@ -126,7 +125,7 @@ behind_start chooses s run is = record {
   wider = is.wider;
   came_to = λ none.
       rw (is.ended, heeded_none run.noop s, ignored_none run.noop s)
-      (carries_none chooses s run.report, sym (append-nil (map string_bytes run.report.skipped.items)), omega arith);
+      (carries_none chooses s run.tally, sym (append-nil (map string_bytes run.tally.skipped.items)), omega arith);
 }
 
 -- ---- a table
@@ -161,19 +160,19 @@ module _ (s : State) (gs : List GroupData) (h : HeaderData) where
         takes.wider ∙ rw (is.wider, is.tables, judged_now) (ap (λ (n : ℕ). wider_then (first_wider (map (judged s) gs)) n new_judgement) (sym (length-map gs (judged s))))
         ∙ sym (wider_more (map (judged s) gs) new_judgement) ∙ ap first_wider (sym (map-append (judged s) gs (group_of h [] ∷ [])))
 
-    came_now : next.wider ≡ None → CameTo chooses next.noop s opened is.start next.report b next.ended
+    came_now : next.wider ≡ None → CameTo chooses next.noop s opened is.start next.tally b next.ended
     came_now none = rw (takes.same, takes.ended, takes.noop) (by run.ended (is.came_to (was_none run.wider run.tables next.judgement (sym takes.wider ∙ none))))
       where
-        by : (o : Option Ending) → CameTo chooses run.noop s gs is.start run.report a o → CameTo chooses run.noop s opened is.start next.report a o
+        by : (o : Option Ending) → CameTo chooses run.noop s gs is.start run.tally a o → CameTo chooses run.noop s opened is.start next.tally a o
         by None came = (
-          rw applicable_opened (carries_same chooses (heeded run.noop s gs) s a is.start run.report next.report came.0 takes.conflicts takes.written),
+          rw applicable_opened (carries_same chooses (heeded run.noop s gs) s a is.start run.tally next.tally came.0 takes.conflicts takes.written),
           takes.skipped ∙ ap (λ (l : List (List ℕ)). l ++ (if is_skipped next.judgement then h.name ∷ [] else [])) came.1
               ∙ append_assoc (map string_bytes is.start.skipped.items) (skipped s gs) (if is_skipped next.judgement then h.name ∷ [] else [])
               ∙ ap (λ (l : List (List ℕ)). map string_bytes is.start.skipped.items ++ l)
               (ap (λ (j : Judgement). skipped s gs ++ (if is_skipped j then h.name ∷ [] else [])) judged_now ∙ sym skipped_opened),
           takes.ignored ∙ came.2 ∙ ap (λ (ps : List PlacedEntry). is.start.ignored + length (ignored_of run.noop s ps)) (sym applicable_opened),
         )
-        by (Some e) came = rw applicable_opened (stops_same chooses (heeded run.noop s gs) s is.start run.report next.report (last_of e) came takes.conflicts)
+        by (Some e) came = rw applicable_opened (stops_same chooses (heeded run.noop s gs) s is.start run.tally next.tally (last_of e) came takes.conflicts)
 
     pub behind_table : IsBehind chooses s opened next b
     behind_table = record {
@@ -263,7 +262,7 @@ module _ (s : State) (closed : List GroupData) (h : HeaderData) (es : List Entry
       came_to = λ none. by none run.ended refl (is.came_to none);
     }
       where
-        by : run.wider ≡ None → (o : Option Ending) → run.ended ≡ o → CameTo chooses run.noop s here is.start run.report a o → CameTo chooses run.noop s grown is.start run.report a o
+        by : run.wider ≡ None → (o : Option Ending) → run.ended ≡ o → CameTo chooses run.noop s here is.start run.tally a o → CameTo chooses run.noop s grown is.start run.tally a o
         by none None goes_on came =
             let none_added : added ≡ [] =
             rw (is_passed its_judgement (λ compatible. passed (record { compatible = is_open.1 ∙ compatible; none_wider = none; goes_on = goes_on }))) refl in (
@@ -272,12 +271,12 @@ module _ (s : State) (closed : List GroupData) (h : HeaderData) (es : List Entry
               rw (applicable_grown, none_added, append-nil (applicable s here)) came.2,
             )
         by none (Some ending) goes_on came =
-            rw (applicable_grown, heeded_more run.noop s (applicable s here) added) (stops_more chooses (heeded run.noop s here) s is.start (heeded_of run.noop s added) run.report (last_of ending) came)
+            rw (applicable_grown, heeded_more run.noop s (applicable s here) added) (stops_more chooses (heeded run.noop s here) s is.start (heeded_of run.noop s added) run.tally (last_of ending) came)
 
     -- it is carried out, or does not stand in the way, or ends the run
     pub behind_taken : (next : Run) (b : State) (seen : FlaggedEntry) → TakesEntries run → IsNewEntry closed h es e → seen.flags ≡ h.flags → seen.entry ≡ e
-        → next.table ≡ run.table → next.judgement ≡ run.judgement → next.refuses ≡ run.refuses → next.tables ≡ run.tables → next.wider ≡ run.wider → next.noop ≡ run.noop → next.report.skipped ≡ run.report.skipped
-        → ComesTo chooses run.noop (placed_in_table (rc_str_bytes run.table) seen) a run.report b next.report next.ended → IsBehind chooses s grown next b
+        → next.table ≡ run.table → next.judgement ≡ run.judgement → next.refuses ≡ run.refuses → next.tables ≡ run.tables → next.wider ≡ run.wider → next.noop ≡ run.noop → next.tally.skipped ≡ run.tally.skipped
+        → ComesTo chooses run.noop (placed_in_table (rc_str_bytes run.table) seen) a run.tally b next.tally next.ended → IsBehind chooses s grown next b
     behind_taken next b seen takes new flags entry table judged_as rules tables wider noop skips comes = record {
       start = is.start;
       empty = is.empty;
@@ -293,10 +292,10 @@ module _ (s : State) (closed : List GroupData) (h : HeaderData) (es : List Entry
             ap₂ (λ (table flags : List ℕ). record { table = table; flags = flags; entry = seen.entry }) is_open.0 flags
             ∙ ap (λ (entry : Entry). record { table = h.name; flags = h.flags; entry = entry }) entry
 
-        comes_here : ComesTo chooses run.noop (placed_by h e) a run.report b next.report next.ended
+        comes_here : ComesTo chooses run.noop (placed_by h e) a run.tally b next.tally next.ended
         comes_here = rw same at comes
 
-        was : CameTo chooses run.noop s here is.start run.report a None
+        was : CameTo chooses run.noop s here is.start run.tally a None
         was = rw takes.goes_on at (is.came_to takes.none_wider)
 
         one_added : added ≡ placed_by h e ∷ []
@@ -324,42 +323,27 @@ module _ (s : State) (closed : List GroupData) (h : HeaderData) (es : List Entry
             ∙ ignored_more run.noop s (applicable s here) (placed_by h e ∷ [])
             ∙ ap (λ (n : ℕ). ignored run.noop s here + n) (sym (ignored_same s (placed_by h e) a same_row same_rule run.noop))
 
-        by : (o : Option Ending) → ComesTo chooses run.noop (placed_by h e) a run.report b next.report o
-            → ((t : List ℕ) → schema_at b t ≡ schema_at s t) × CameTo chooses run.noop s grown is.start next.report b o
+        by : (o : Option Ending) → ComesTo chooses run.noop (placed_by h e) a run.tally b next.tally o
+            → ((t : List ℕ) → schema_at b t ≡ schema_at s t) × CameTo chooses run.noop s grown is.start next.tally b o
         by None two = (
           λ t. two.0.applied.schemas t ∙ is.schemas t,
           (
-            subst (λ (l : List PlacedEntry). Carries chooses l s is.start b next.report) (sym heeded_grown)
-                (carries_then chooses (heeded run.noop s here) (heeded_of run.noop s (placed_by h e ∷ [])) s a is.start run.report (heeded_behind run.noop s (heeded run.noop s here) (placed_by h e ∷ []) apart) was.0 b next.report
-                (subst (λ (l : List PlacedEntry). Carries chooses l a run.report b next.report) heeded_here two.0)),
+            subst (λ (l : List PlacedEntry). Carries chooses l s is.start b next.tally) (sym heeded_grown)
+                (carries_then chooses (heeded run.noop s here) (heeded_of run.noop s (placed_by h e ∷ [])) s a is.start run.tally (heeded_behind run.noop s (heeded run.noop s here) (placed_by h e ∷ []) apart) was.0 b next.tally
+                (subst (λ (l : List PlacedEntry). Carries chooses l a run.tally b next.tally) heeded_here two.0)),
             rw (skips, skipped_grown) was.1,
             omega (arith, two.1, was.2, ignored_grown),
           ),
         )
         by (Some ending) two = (
           λ t. ap (λ (n : State). schema_at n t) two.1 ∙ is.schemas t,
-          subst (λ (l : List PlacedEntry). Stops chooses l s is.start next.report (last_of ending)) (sym heeded_grown)
-              (stops_then chooses (heeded run.noop s here) s is.start (heeded_of run.noop s (placed_by h e ∷ [])) a run.report next.report (last_of ending) (heeded_behind run.noop s (heeded run.noop s here) (placed_by h e ∷ []) apart) was.0
-              (subst (λ (l : List PlacedEntry). Stops chooses l a run.report next.report (last_of ending)) heeded_here two.0)),
+          subst (λ (l : List PlacedEntry). Stops chooses l s is.start next.tally (last_of ending)) (sym heeded_grown)
+              (stops_then chooses (heeded run.noop s here) s is.start (heeded_of run.noop s (placed_by h e ∷ [])) a run.tally next.tally (last_of ending) (heeded_behind run.noop s (heeded run.noop s here) (placed_by h e ∷ []) apart) was.0
+              (subst (λ (l : List PlacedEntry). Stops chooses l a run.tally next.tally (last_of ending)) heeded_here two.0)),
         )
 
--- the table that is open is there
-pub has_open_table : (chooses : Handler) (s : State) (gs : List GroupData) (run : Run) (a : State) (g : GroupData) (seen : FlaggedEntry) → IsBehind chooses s gs run a → last_group gs ≡ Some g → seen.flags ≡ g.header.flags
-    → run.judgement ≡ Compatible → HasTable a (header_in (rc_str_bytes run.table) seen)
-has_open_table chooses s gs run a g seen is last flags compatible =
-    let opened : (rc_str_bytes run.table ≡ g.header.name) × (run.judgement ≡ judged s g) × (run.refuses.items ≡ refuses_at s g.header.name) = rw last at is.opened in
-    let same : header_in (rc_str_bytes run.table) seen ≡ g.header = ap₂ (λ (name flags : List ℕ). record { name = name; flags = flags }) opened.0 flags in
-    rw same (table_stays s a g.header is.schemas (has_table s g (sym opened.1 ∙ compatible)))
-
--- and its rules are known
-pub has_open_rules : (chooses : Handler) (s : State) (gs : List GroupData) (run : Run) (a : State) (g : GroupData) → IsBehind chooses s gs run a → last_group gs ≡ Some g
-    → run.refuses.items ≡ refuses_at a (rc_str_bytes run.table)
-has_open_rules chooses s gs run a g is last =
-    let opened : (rc_str_bytes run.table ≡ g.header.name) × (run.judgement ≡ judged s g) × (run.refuses.items ≡ refuses_at s g.header.name) = rw last at is.opened in
-    opened.2 ∙ sym (refuses_same s a is.schemas g.header.name) ∙ ap (refuses_at a) (sym opened.0)
-
 -- an entry leaves the schemas as they were
-pub comes_schemas : (chooses : Handler) (noop : Noop) (p : PlacedEntry) (a : State) (r : Report) (b : State) (t : Report) (o : Option Ending) → ComesTo chooses noop p a r b t o → (name : List ℕ) → schema_at b name ≡ schema_at a name
+pub comes_schemas : (chooses : Handler) (noop : Noop) (p : PlacedEntry) (a : State) (r : Tally) (b : State) (t : Tally) (o : Option Ending) → ComesTo chooses noop p a r b t o → (name : List ℕ) → schema_at b name ≡ schema_at a name
 comes_schemas chooses noop p a r b t None two name = two.0.applied.schemas name
 comes_schemas chooses noop p a r b t (Some ending) two name = ap (λ (n : State). schema_at n name) two.1
 

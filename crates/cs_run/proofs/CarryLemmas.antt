@@ -1,20 +1,20 @@
 -- One entry, applied.
-use Rattle.std.proofs.Common.{◌≡◌, Bool, true, false, List, [], ◌∷◌, ◌++◌, map, All, Option, Some, append_assoc, refl, sym, ap, ◌∙◌}
+use Rattle.std.proofs.Common.{◌≡◌, Bool, true, false, List, [], ◌∷◌, ◌++◌, map, All, Option, Some, append_assoc, refl, sym, ap, subst, ◌∙◌}
 use Rattle.std.specs.Prelude.{Result, Ok, Err, OnOk}
 use Rattle.std.specs.List.{AllByRecursion, flat_map}
 use Rattle.std.specs.FinMap.{get}
 use Rattle.std.proofs.lemmas.List.{append-nil, map-append}
 use Rattle.std.proofs.lemmas.List.Elements.{All-nil, All-cons, All-append, All-head, recursion_from_All}
 use Rattle.cs_value.specs.declared.value.OwnedValue.{OwnedValue}
-use Rattle.cs_value.specs.State.{TableData, State, schema_at, row_at}
-use Rattle.cs_rows.specs.Editing.{written_of}
+use Rattle.cs_value.specs.State.{TableData, State, WrittenData, schema_at, row_at}
 use Rattle.cs_group.specs.declared.conflict.Kind.{Kind}
 use Rattle.cs_group.specs.declared.conflict.Choice.{Choice}
 use Rattle.cs_group.specs.Conflicts.{kinds_met, row_after, ends, is_ended, is_carried_out}
 use Rattle.cs_group.specs.Applying.{PlacedEntry, placed_key, current, refused_at, IsElsewhere, MetData, Choices, conflict_with, met_with, met_at, placed_kinds, placed_result, omit_all}
 use Rattle.cs_run.specs.declared.conflict.Met.{Met}
-use Rattle.cs_run.specs.declared.report.Report.{Report}
+use Rattle.cs_run.specs.declared.tally.Tally.{Tally}
 use Rattle.cs_run.specs.Report.{met_of}
+use Rattle.cs_run.specs.Tally.{Tells}
 use Rattle.cs_run.specs.Running.{Handler, GoesOn}
 use Rattle.cs_run.specs.Steps.{Settles, EndsAtEntry, Carries, Stops, with_result}
 use Rattle.cs_run.proofs.WriteLemmas.{result_schemas, result_here, result_elsewhere}
@@ -34,7 +34,7 @@ not_ended chooses p row choose (kind ∷ kinds) (m ∷ told) e all =
     let here : ends kind (choose kind) ≡ false = ap (λ (n : MetData). ends n.conflict.kind n.choice) first ∙ all.0.goes_on in
     rw (here, not_ended chooses p row choose kinds told rest all.1) refl
 
-module _ (chooses : Handler) (s : State) (p : PlacedEntry) (row : Option (List OwnedValue)) (r t : Report) (is : row ≡ current s p) where
+module _ (chooses : Handler) (s : State) (p : PlacedEntry) (row : Option (List OwnedValue)) (r t : Tally) (is : row ≡ current s p) where
   -- the conflicts that the entry meets at that row
   met_here : (choose : Kind → Choice) → flat_map (met_at s (for_each choose)) (p ∷ []) ≡ met_with (refused_at s p) p row choose
   met_here choose = append-nil (met_at s (for_each choose) p) ∙ ap (λ (o : Option (List OwnedValue)). met_with (refused_at s p) p o choose) (sym is)
@@ -59,7 +59,7 @@ module _ (chooses : Handler) (s : State) (p : PlacedEntry) (row : Option (List O
   -- an entry that is carried out
   pub carries_written : (found : TableData) (next : State) → get s p.table ≡ Some found → Settles chooses (refused_at s p) p row r.conflicts.items t.conflicts.items true
       → next ≡ with_result s p.table (placed_key p) (row_after p.flags p.entry.change row)
-      → map written_of t.written.items ≡ map written_of r.written.items ++ record { table = p.table; key = placed_key p; former = row } ∷ []
+      → ((told : List WrittenData) → Tells r.written told → Tells t.written (told ++ record { table = p.table; key = placed_key p; former = row } ∷ []))
       → Carries chooses (p ∷ []) s r next t
   carries_written found next there settles left written =
       let choose = settles.choose in
@@ -76,11 +76,12 @@ module _ (chooses : Handler) (s : State) (p : PlacedEntry) (row : Option (List O
         };
         conflicts = told_so true settles;
         chosen = chosen_so true settles;
-        written = written ∙ rw carried (ap (λ (o : Option (List OwnedValue)). map written_of r.written.items ++ record { table = p.table; key = placed_key p; former = o } ∷ []) is);
+        written = λ told was.
+            subst (Tells t.written) (rw carried (ap (λ (o : Option (List OwnedValue)). told ++ record { table = p.table; key = placed_key p; former = o } ∷ []) is)) (written told was);
       }
 
   -- an entry that is passed over
-  pub carries_passed : (next : State) → Settles chooses (refused_at s p) p row r.conflicts.items t.conflicts.items false → next ≡ s → t.written.items ≡ r.written.items → Carries chooses (p ∷ []) s r next t
+  pub carries_passed : (next : State) → Settles chooses (refused_at s p) p row r.conflicts.items t.conflicts.items false → next ≡ s → t.written ≡ r.written → Carries chooses (p ∷ []) s r next t
   carries_passed next settles same written =
       let choose = settles.choose in
       let passed = carried_so false settles in
@@ -93,11 +94,11 @@ module _ (chooses : Handler) (s : State) (p : PlacedEntry) (row : Option (List O
         };
         conflicts = told_so false settles;
         chosen = chosen_so false settles;
-        written = ap (map written_of) written ∙ rw passed (sym (append-nil (map written_of r.written.items)));
+        written = λ told was. subst (Tells t.written) {x = told} (rw passed (sym (append-nil told))) (rw written was);
       }
 
   -- an entry that is ignored tells nothing
-  pub carries_ignored : (next : State) → next ≡ s → t.conflicts.items ≡ r.conflicts.items → t.written.items ≡ r.written.items → Carries chooses [] s r next t
+  pub carries_ignored : (next : State) → next ≡ s → t.conflicts.items ≡ r.conflicts.items → t.written ≡ r.written → Carries chooses [] s r next t
   carries_ignored next same conflicts written = record {
     choose = omit_all;
     applied = record {
@@ -107,7 +108,7 @@ module _ (chooses : Handler) (s : State) (p : PlacedEntry) (row : Option (List O
     };
     conflicts = ap (map met_of) conflicts ∙ sym (append-nil (map met_of r.conflicts.items));
     chosen = λ all. rw conflicts all;
-    written = ap (map written_of) written ∙ sym (append-nil (map written_of r.written.items));
+    written = λ told was. subst (Tells t.written) (sym (append-nil told)) (rw written was);
   }
 
   -- an entry that ends the run

@@ -7,3 +7,4 @@ pub mod CarryLemmas
 pub mod BehindLemmas
 pub mod OutcomeLemmas
 pub mod DirectedLemmas
+pub mod FileLemmas

@@ -1,5 +1,5 @@
 -- How runs go on, one after another.
-use Rattle.std.proofs.Common.{◌≡◌, Bool, true, false, if◌then◌else◌, ◌&&◌, ◌||◌, nat_eq, List, [], ◌∷◌, ◌++◌, map, filter_map, Option, Some, None, append_assoc, refl, sym, ap, ap₂, ◌∙◌, arith}
+use Rattle.std.proofs.Common.{◌≡◌, Bool, true, false, if◌then◌else◌, ◌&&◌, ◌||◌, nat_eq, List, [], ◌∷◌, ◌++◌, map, filter_map, Option, Some, None, append_assoc, refl, sym, ap, ap₂, subst, ◌∙◌, arith}
 use Rattle.std.specs.List.{AllByRecursion, flat_map}
 use Rattle.std.specs.Cmp.Lexicographic.{pointwise, same_text, nat_list_eq_equiv}
 use Rattle.std.proofs.lemmas.Bool.{or_right}
@@ -9,15 +9,15 @@ use Rattle.std.proofs.lemmas.Grind.{flat_map-append}
 use Rattle.cs_value.specs.declared.value.OwnedValue.{OwnedValue}
 use Rattle.cs_value.specs.State.{State, WrittenData}
 use Rattle.cs_value.proofs.ListLemmas.{AllByRecursion-append, AllByRecursion-append_left, AllByRecursion-append_right, AllByRecursion-weaker}
-use Rattle.cs_rows.specs.Editing.{written_of}
 use Rattle.cs_group.specs.declared.conflict.Kind.{Kind}
 use Rattle.cs_group.specs.declared.conflict.Choice.{Choice}
 use Rattle.cs_group.specs.Conflicts.{is_refused, kinds_met, is_carried_out, entry_result}
 use Rattle.cs_group.specs.Applying.{PlacedEntry, placed_key, current, refused_at, IsElsewhere, MetData, Choices, met_with, met_at, written_for, placed_result, AreApplied, omit_all}
 use Rattle.cs_group.proofs.ApplyLemmas.{refuses_same}
 use Rattle.cs_run.specs.declared.conflict.Met.{Met}
-use Rattle.cs_run.specs.declared.report.Report.{Report}
+use Rattle.cs_run.specs.declared.tally.Tally.{Tally}
 use Rattle.cs_run.specs.Report.{met_of}
+use Rattle.cs_run.specs.Tally.{Tells}
 use Rattle.cs_run.specs.Running.{Handler}
 use Rattle.cs_run.specs.Steps.{Carries, Stops}
 
@@ -184,17 +184,17 @@ module _ (ps qs : List PlacedEntry) (a b d : State) (first second : Choices) (ap
   }
 
 module _ (chooses : Handler) where
-  pub carries_none : (s : State) (r : Report) → Carries chooses [] s r s r
+  pub carries_none : (s : State) (r : Tally) → Carries chooses [] s r s r
   carries_none s r = record {
     choose = omit_all;
     applied = record { schemas = λ table. refl; results = λ k x lt. absurd (omega arith); others = λ table key away. refl };
     conflicts = sym (append-nil (map met_of r.conflicts.items));
     chosen = λ all. all;
-    written = sym (append-nil (map written_of r.written.items));
+    written = λ told was. rw (append-nil told) was;
   }
 
-  module _ (ps qs : List PlacedEntry) (a b : State) (r s : Report) (apart : Apart ps qs) (one : Carries chooses ps a r b s) where
-    pub carries_then : (d : State) (t : Report) → Carries chooses qs b s d t → Carries chooses (ps ++ qs) a r d t
+  module _ (ps qs : List PlacedEntry) (a b : State) (r s : Tally) (apart : Apart ps qs) (one : Carries chooses ps a r b s) where
+    pub carries_then : (d : State) (t : Tally) → Carries chooses qs b s d t → Carries chooses (ps ++ qs) a r d t
     carries_then d t two = record {
       choose = both_choices ps one.choose two.choose;
       applied = applied_then ps qs a b d one.choose two.choose apart one.applied two.applied;
@@ -203,17 +203,18 @@ module _ (chooses : Handler) where
           ∙ append_assoc (map met_of r.conflicts.items) (flat_map (met_at a one.choose) ps) (flat_map (met_at b two.choose) qs)
           ∙ ap (λ (l : List MetData). map met_of r.conflicts.items ++ l) (all_by_row ps qs a b one.choose two.choose apart one.applied met_by);
       chosen = λ all. two.chosen (one.chosen all);
-      written =
-          two.written ∙ ap (λ (l : List WrittenData). l ++ filter_map (written_for b two.choose) qs) one.written
-          ∙ append_assoc (map written_of r.written.items) (filter_map (written_for a one.choose) ps) (filter_map (written_for b two.choose) qs)
-          ∙ ap (λ (l : List WrittenData). map written_of r.written.items ++ l) (by_row ps qs a b one.choose two.choose apart one.applied written_by);
+      written = λ told was.
+          subst (Tells t.written)
+          (append_assoc told (filter_map (written_for a one.choose) ps) (filter_map (written_for b two.choose) qs)
+          ∙ ap (λ (l : List WrittenData). told ++ l) (by_row ps qs a b one.choose two.choose apart one.applied written_by))
+          (two.written (told ++ filter_map (written_for a one.choose) ps) (one.written told was));
     }
 
 -- ---- a run that ends
 
-module _ (chooses : Handler) (ps : List PlacedEntry) (a : State) (r : Report) where
+module _ (chooses : Handler) (ps : List PlacedEntry) (a : State) (r : Tally) where
   -- entries behind the end of the run
-  pub stops_more : (qs : List PlacedEntry) (t : Report) (last : Met) → Stops chooses ps a r t last → Stops chooses (ps ++ qs) a r t last
+  pub stops_more : (qs : List PlacedEntry) (t : Tally) (last : Met) → Stops chooses ps a r t last → Stops chooses (ps ++ qs) a r t last
   stops_more qs t last ended = record {
     choose = ended.choose;
     later = ended.later ++ flat_map (met_at a ended.choose) qs;
@@ -227,7 +228,7 @@ module _ (chooses : Handler) (ps : List PlacedEntry) (a : State) (r : Report) wh
   }
 
   -- and entries before it
-  pub stops_then : (qs : List PlacedEntry) (b : State) (s t : Report) (last : Met) → Apart ps qs → Carries chooses ps a r b s → Stops chooses qs b s t last → Stops chooses (ps ++ qs) a r t last
+  pub stops_then : (qs : List PlacedEntry) (b : State) (s t : Tally) (last : Met) → Apart ps qs → Carries chooses ps a r b s → Stops chooses qs b s t last → Stops chooses (ps ++ qs) a r t last
   stops_then qs b s t last apart one ended = record {
     choose = both_choices ps one.choose ended.choose;
     later = ended.later;

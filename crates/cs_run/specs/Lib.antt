@@ -3,3 +3,4 @@ pub mod Report
 pub mod Run
 pub mod Running
 pub mod Steps
+pub mod Tally

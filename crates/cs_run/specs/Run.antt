@@ -17,7 +17,8 @@ use Rattle.cs_group.specs.Applying.{heeded, ignored, refuses_at, skipped}
 use Rattle.cs_run.specs.declared.ending.Ending.{Ending}
 use Rattle.cs_run.specs.declared.fault.ApplyFault.{ApplyFault}
 use Rattle.cs_run.specs.declared.fault.ApplyFault.TheVariants.{Wider}
-use Rattle.cs_run.specs.declared.report.Report.{Report}
+use Rattle.cs_run.specs.declared.tally.Tally.{Tally}
+use Rattle.cs_run.specs.Tally.{Tells}
 use Rattle.cs_run.specs.declared.run.Run.{Run}
 use Rattle.cs_run.specs.declared.running.Direction.{Direction}
 use Rattle.cs_run.specs.declared.running.Direction.TheVariants.{Forward, Inverse}
@@ -41,11 +42,11 @@ directed_entry Inverse flags entry = inverse_entry flags entry
 abbrev pub group_of : HeaderData → List Entry → GroupData
 group_of header entries = record { header = header; entries = entries }
 
--- a report that tells nothing yet
-pub record IsEmpty (r : Report) : Type 0 where
+-- a tally of a run that did nothing yet
+pub record IsEmpty (r : Tally) : Type 0 where
   pub conflicts : r.conflicts.items ≡ []
   pub skipped : r.skipped.items ≡ []
-  pub written : r.written.items ≡ []
+  pub written : Tells r.written []
   pub ignored : r.ignored ≡ 0
 
 -- a run before the first item
@@ -53,7 +54,7 @@ pub record IsAtStart (run : Run) : Type 0 where
   pub tables : run.tables ≡ 0
   pub wider : run.wider ≡ None
   pub ended : run.ended ≡ None
-  pub empty : IsEmpty run.report
+  pub empty : IsEmpty run.tally
 
 -- the place of the first table that is wider, by what was judged, if one is
 abbrev pub first_wider : List Judgement → Option ℕ
@@ -63,13 +64,13 @@ first_wider (judgement.Skipped ∷ js) = option_map suc (first_wider js)
 first_wider (judgement.Compatible ∷ js) = option_map suc (first_wider js)
 
 -- what became of the entries: all were carried out, passed over or ignored, or the run ended at one of them
-abbrev pub CameTo : Handler → Noop → State → List GroupData → Report → Report → State → Option Ending → Type 0
-CameTo chooses noop before groups start report after None =
-    Carries chooses (heeded noop before groups) before start after report
-    × (map string_bytes report.skipped.items ≡ map string_bytes start.skipped.items ++ skipped before groups)
-    × (report.ignored ≡ start.ignored + ignored noop before groups)
-CameTo chooses noop before groups start report after (Some ending) =
-    Stops chooses (heeded noop before groups) before start report (last_of ending)
+abbrev pub CameTo : Handler → Noop → State → List GroupData → Tally → Tally → State → Option Ending → Type 0
+CameTo chooses noop before groups start tally after None =
+    Carries chooses (heeded noop before groups) before start after tally
+    × (map string_bytes tally.skipped.items ≡ map string_bytes start.skipped.items ++ skipped before groups)
+    × (tally.ignored ≡ start.ignored + ignored noop before groups)
+CameTo chooses noop before groups start tally after (Some ending) =
+    Stops chooses (heeded noop before groups) before start tally (last_of ending)
 
 abbrev pub last_group : List GroupData → Option GroupData
 last_group [] = None
@@ -84,13 +85,13 @@ HasOpen before groups run =
 
 -- so a run stands behind these groups: entries are judged only where no table is wider
 pub record IsBehind (chooses : Handler) (before : State) (groups : List GroupData) (run : Run) (after : State) : Type 0 where
-  pub start : Report
+  pub start : Tally
   pub empty : IsEmpty start
   pub tables : run.tables ≡ length groups
   pub opened : HasOpen before groups run
   pub schemas : (table : List ℕ) → schema_at after table ≡ schema_at before table
   pub wider : run.wider ≡ first_wider (map (judged before) groups)
-  pub came_to : run.wider ≡ None → CameTo chooses run.noop before groups start run.report after run.ended
+  pub came_to : run.wider ≡ None → CameTo chooses run.noop before groups start run.tally after run.ended
 
 -- the first place is remembered
 abbrev pub wider_then : Option ℕ → ℕ → Judgement → Option ℕ
@@ -109,12 +110,12 @@ pub record TakesTable (state : State) (run : Run) (header : HeaderData) (next : 
   pub tables : next.tables ≡ run.tables + 1
   pub wider : next.wider ≡ wider_then run.wider run.tables next.judgement
   pub ended : next.ended ≡ run.ended
-  pub conflicts : next.report.conflicts ≡ run.report.conflicts
-  pub written : next.report.written ≡ run.report.written
-  pub ignored : next.report.ignored ≡ run.report.ignored
+  pub conflicts : next.tally.conflicts ≡ run.tally.conflicts
+  pub written : next.tally.written ≡ run.tally.written
+  pub ignored : next.tally.ignored ≡ run.tally.ignored
   pub noop : next.noop ≡ run.noop
-  pub skipped : map string_bytes next.report.skipped.items
-      ≡ map string_bytes run.report.skipped.items ++ (if is_skipped next.judgement then header.name ∷ [] else [])
+  pub skipped : map string_bytes next.tally.skipped.items
+      ≡ map string_bytes run.tally.skipped.items ++ (if is_skipped next.judgement then header.name ∷ [] else [])
 
 -- entries of the table that is open are carried out: it is compatible, no table is wider, and no entry ended the run
 pub record TakesEntries (run : Run) : Type 0 where
@@ -128,10 +129,10 @@ pub record IsNewEntry (closed : List GroupData) (header : HeaderData) (entries :
   pub key : AllByRecursion (λ d. key_of header.flags d.change ≢ key_of header.flags entry.change) entries
 
 -- what a run comes to behind the last item
-abbrev pub outcome_of : Option ℕ → Option Ending → Report → Result Report ApplyFault
-outcome_of (Some place) ended report = Err (Wider place)
-outcome_of None (Some ending) report = Err (refusal_of ending)
-outcome_of None None report = Ok report
+abbrev pub outcome_of : Option ℕ → Option Ending → Tally → Result Tally ApplyFault
+outcome_of (Some place) ended tally = Err (Wider place)
+outcome_of None (Some ending) tally = Err (refusal_of ending)
+outcome_of None None tally = Ok tally
 
-abbrev pub answer_of : Run → Result Report ApplyFault
-answer_of run = outcome_of run.wider run.ended run.report
+abbrev pub answer_of : Run → Result Tally ApplyFault
+answer_of run = outcome_of run.wider run.ended run.tally

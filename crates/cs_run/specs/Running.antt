@@ -1,7 +1,7 @@
 -- What a run over rows does with a file: the interface of SQLite's session extension, under "sqlite3changeset_apply".
 -- The order of refusals, and that a table may not be wider, are this project's own.
-use Rattle.std.specs.Prelude.{◌≡◌, ◌⊎◌, ◌∷◌, ◌++◌, ℕ, true, false, List, map, All, string_bytes}
-use Rattle.cs_value.specs.State.{State, IsState}
+use Rattle.std.specs.Prelude.{◌≡◌, ◌⊎◌, ◌∷◌, ◌++◌, ℕ, true, false, List, length, map, All, string_bytes}
+use Rattle.cs_value.specs.State.{State, WrittenData, IsState}
 use Rattle.cs_wire.specs.Changeset.{GroupData, IsChangeset, file_bytes}
 use Rattle.cs_wire.specs.ReadFaults.{ReadFails}
 use Rattle.cs_rows.specs.declared.fault.StoreError.{StoreError}
@@ -20,6 +20,9 @@ use Rattle.cs_group.specs.Applying.{IsAppliedUnder, met_under, skipped, written_
 use Rattle.cs_run.specs.declared.conflict.Conflict.{Conflict}
 use Rattle.cs_run.specs.declared.conflict.Met.{Met}
 use Rattle.cs_run.specs.declared.report.Report.{Report}
+use Rattle.cs_run.specs.declared.report.Summary.{Summary}
+use Rattle.cs_run.specs.declared.tally.Tally.{Tally}
+use Rattle.cs_run.specs.Tally.{Tells}
 use Rattle.cs_run.specs.declared.running.Direction.{Direction}
 use Rattle.cs_run.specs.declared.running.Direction.TheVariants.{Forward, Inverse}
 use Rattle.cs_run.specs.declared.fault.ApplyFault.{ApplyFault}
@@ -29,6 +32,13 @@ use Rattle.cs_run.specs.Report.{met_of}
 -- what a handler may choose for a conflict
 abbrev pub Handler : Type 1
 Handler = Conflict → Choice → Type 0
+
+-- a summary has what a report has, with the number of what was written
+pub record Summarizes (summary : Summary) (report : Report) : Type 0 where
+  pub conflicts : summary.conflicts ≡ report.conflicts
+  pub skipped : summary.skipped ≡ report.skipped
+  pub written : summary.written ≡ length report.written.items
+  pub ignored : summary.ignored ≡ report.ignored
 
 -- the file is read as this changeset: as its own, or as the inverse of that
 abbrev pub IsReadAs : List ℕ → Direction → List GroupData → Type 0
@@ -41,19 +51,41 @@ pub record GoesOn (chooses : Handler) (m : Met) : Type 0 where
   pub chosen : chooses m.conflict m.choice
   pub goes_on : ends m.conflict.kind m.choice ≡ false
 
--- a file is applied, with what the report tells
-pub record Applies (chooses : Handler) (noop : Noop) (file : List ℕ) (direction : Direction) (old : State)
-    (report : Report) (new : State) : Type 0 where
+-- a file is applied, with these conflicts, skipped tables, writes and count of ignored entries
+pub record AppliesWith (chooses : Handler) (noop : Noop) (file : List ℕ) (direction : Direction) (old : State)
+    (met : List Met) (skips : List (List ℕ)) (writes : List WrittenData) (passed : ℕ) (new : State) : Type 0 where
   pub changeset : List GroupData
   pub read : IsReadAs file direction changeset
   pub none_wider : NoneWider old changeset
   pub choose : Choices
   pub applied : IsAppliedUnder noop old changeset choose new
-  pub conflicts : map met_of report.conflicts.items ≡ met_under noop old changeset choose
-  pub chosen : All (GoesOn chooses) report.conflicts.items
-  pub skipped : map string_bytes report.skipped.items ≡ skipped old changeset
-  pub written : map written_of report.written.items ≡ written_under noop old changeset choose
-  pub ignored : report.ignored ≡ ignored noop old changeset
+  pub conflicts : map met_of met ≡ met_under noop old changeset choose
+  pub chosen : All (GoesOn chooses) met
+  pub skipped : skips ≡ skipped old changeset
+  pub written : writes ≡ written_under noop old changeset choose
+  pub ignored : passed ≡ ignored noop old changeset
+
+-- a file is applied, with what the report has
+abbrev pub Applies : Handler → Noop → List ℕ → Direction → State → Report → State → Type 0
+Applies chooses noop file direction old report new =
+    AppliesWith chooses noop file direction old report.conflicts.items
+    (map string_bytes report.skipped.items) (map written_of report.written.items) report.ignored new
+
+-- a file is applied, with what the tally has
+pub record AppliesTold (chooses : Handler) (noop : Noop) (file : List ℕ) (direction : Direction) (old : State)
+    (tally : Tally) (new : State) : Type 0 where
+  pub writes : List WrittenData
+  pub told : Tells tally.written writes
+  pub applies : AppliesWith chooses noop file direction old tally.conflicts.items
+      (map string_bytes tally.skipped.items) writes tally.ignored new
+
+-- a file is applied, with what the summary has
+pub record AppliesCounted (chooses : Handler) (noop : Noop) (file : List ℕ) (direction : Direction) (old : State)
+    (summary : Summary) (new : State) : Type 0 where
+  pub writes : List WrittenData
+  pub counted : summary.written ≡ length writes
+  pub applies : AppliesWith chooses noop file direction old summary.conflicts.items
+      (map string_bytes summary.skipped.items) writes summary.ignored new
 
 -- the conflict is one that a changeset meets under some choices, and this is the choice for it; for each conflict
 -- before it the handler chose what stands there, and the run went on

@@ -2,12 +2,11 @@
 use Rattle.std.specs.Prelude.{◌≡◌, ◌⊎◌, ℕ, ◌+◌, length, Bool, true, false, List, [], ◌∷◌, ◌++◌, map, filter_map, All, Option, None, Some}
 use Rattle.std.specs.List.{flat_map}
 use Rattle.cs_value.specs.declared.value.OwnedValue.{OwnedValue}
-use Rattle.cs_value.specs.State.{State, SchemaData, schema_at, with_row, without_row}
+use Rattle.cs_value.specs.State.{State, SchemaData, WrittenData, schema_at, with_row, without_row}
 use Rattle.cs_entries.specs.declared.entry.Change.{Change}
 use Rattle.cs_wire.specs.Changeset.{HeaderData}
 use Rattle.cs_wire.specs.Items.{FlaggedEntry}
 use Rattle.cs_rows.specs.declared.fault.StoreError.TheVariants.{DamagedStore}
-use Rattle.cs_rows.specs.Editing.{written_of}
 use Rattle.cs_group.specs.declared.conflict.Kind.{Kind}
 use Rattle.cs_group.specs.declared.conflict.Choice.{Choice}
 use Rattle.cs_group.specs.declared.conflict.Choice.TheVariants as choice
@@ -24,7 +23,8 @@ use Rattle.cs_run.specs.declared.fault.ApplyFault.{ApplyFault}
 use Rattle.cs_run.specs.declared.fault.ApplyFault.TheVariants.{Abort, Misuse, Store}
 use Rattle.cs_run.specs.declared.entry.Settled.{Settled}
 use Rattle.cs_run.specs.declared.entry.Settled.TheVariants.{Carried, Passed, Ignored, Ended}
-use Rattle.cs_run.specs.declared.report.Report.{Report}
+use Rattle.cs_run.specs.declared.tally.Tally.{Tally}
+use Rattle.cs_run.specs.Tally.{Tells}
 use Rattle.cs_run.specs.Report.{conflict_of, met_of}
 use Rattle.cs_run.specs.Running.{Handler, GoesOn, EndsRun, IsResource}
 
@@ -38,24 +38,24 @@ pub record HasTable (state : State) (header : HeaderData) : Type 0 where
   pub found : schema_at state header.name ≡ Some schema
   pub same : key_places schema.flags ≡ key_places header.flags
 
--- these entries are applied to a state, and the report goes on with them
-pub record Carries (chooses : Handler) (entries : List PlacedEntry) (before : State) (report : Report) (after : State)
-    (next : Report) : Type 0 where
+-- these entries are applied to a state, and the tally goes on with them
+pub record Carries (chooses : Handler) (entries : List PlacedEntry) (before : State) (tally : Tally) (after : State)
+    (next : Tally) : Type 0 where
   pub choose : Choices
   pub applied : AreApplied before entries choose after
   pub conflicts : map met_of next.conflicts.items
-      ≡ map met_of report.conflicts.items ++ flat_map (met_at before choose) entries
-  pub chosen : All (GoesOn chooses) report.conflicts.items → All (GoesOn chooses) next.conflicts.items
-  pub written : map written_of next.written.items
-      ≡ map written_of report.written.items ++ filter_map (written_for before choose) entries
+      ≡ map met_of tally.conflicts.items ++ flat_map (met_at before choose) entries
+  pub chosen : All (GoesOn chooses) tally.conflicts.items → All (GoesOn chooses) next.conflicts.items
+  pub written : (told : List WrittenData) → Tells tally.written told
+      → Tells next.written (told ++ filter_map (written_for before choose) entries)
 
--- the run ends at a conflict of one of these entries, and the report has those before it
-pub record Stops (chooses : Handler) (entries : List PlacedEntry) (before : State) (report next : Report) (last : Met) :
+-- the run ends at a conflict of one of these entries, and the tally has those before it
+pub record Stops (chooses : Handler) (entries : List PlacedEntry) (before : State) (tally next : Tally) (last : Met) :
     Type 0 where
   pub choose : Choices
   pub later : List MetData
-  pub chosen : All (GoesOn chooses) report.conflicts.items → All (GoesOn chooses) next.conflicts.items
-  pub listed : map met_of report.conflicts.items ++ flat_map (met_at before choose) entries
+  pub chosen : All (GoesOn chooses) tally.conflicts.items → All (GoesOn chooses) next.conflicts.items
+  pub listed : map met_of tally.conflicts.items ++ flat_map (met_at before choose) entries
       ≡ map met_of next.conflicts.items ++ met_of last ∷ later
   pub ended : EndsRun chooses last
 
@@ -78,12 +78,12 @@ header_in table seen = record { name = table; flags = seen.flags }
 
 -- what an entry comes to: it is carried out or passed over, or ignored, or the run ends at it, and the rows are as they
 -- were
-abbrev pub ComesTo : Handler → Noop → PlacedEntry → State → Report → State → Report → Option Ending → Type 0
-ComesTo chooses noop p before report after next None =
-    Carries chooses (heeded_of noop before (p ∷ [])) before report after next
-    × (next.ignored ≡ report.ignored + length (ignored_of noop before (p ∷ [])))
-ComesTo chooses noop p before report after next (Some ending) =
-    Stops chooses (heeded_of noop before (p ∷ [])) before report next (last_of ending) × (after ≡ before)
+abbrev pub ComesTo : Handler → Noop → PlacedEntry → State → Tally → State → Tally → Option Ending → Type 0
+ComesTo chooses noop p before tally after next None =
+    Carries chooses (heeded_of noop before (p ∷ [])) before tally after next
+    × (next.ignored ≡ tally.ignored + length (ignored_of noop before (p ∷ [])))
+ComesTo chooses noop p before tally after next (Some ending) =
+    Stops chooses (heeded_of noop before (p ∷ [])) before tally next (last_of ending) × (after ≡ before)
 
 -- a conflict is told, with what the handler chose for it
 pub record IsTold (chooses : Handler) (conflict : ConflictData) (conflicts next : List Met) (m : Met) : Type 0 where

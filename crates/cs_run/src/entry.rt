@@ -1,24 +1,25 @@
 //! One entry of a changeset, carried out.
-ghost use Rattle.std.specs.Prelude.{◌≡◌, ◌≢◌, ◌↔◌, ◌<◌, ◌≤◌, ◌+◌, [], ◌∷◌, ◌++◌, map, false, Some, IfOk, IfErr, IfSome, IsTrue, OnOk, option_map};
+ghost use Rattle.std.specs.Prelude.{◌≡◌, ◌≢◌, ◌↔◌, ◌<◌, ◌≤◌, ◌+◌, [], ◌∷◌, ◌++◌, List, false, Some, IfOk, IfErr, IfSome, IsTrue, OnOk, option_map};
 ghost use Rattle.std.specs.Fn.{FnReturnsAt};
 ghost use Rattle.std.specs.Rc.{rc_str_bytes};
 ghost use Rattle.cs_wire.specs.Entry.{key_of, before_image};
-ghost use Rattle.cs_rows.specs.Editing.{written_of};
 ghost use Rattle.cs_rows.specs.Rows.{Fits};
 ghost use Rattle.cs_group.specs.declared.conflict.Kind.TheVariants.{NotFound as NotFoundKind};
 ghost use Rattle.cs_group.specs.declared.conflict.Noop.TheVariants.{Report as Reported};
 ghost use Rattle.cs_group.specs.Conflicts.{kind_between, is_refused as breaks_rule, row_after as row_of_change, ends};
 ghost use Rattle.cs_group.specs.Applying.{conflict_with, refuses_at};
 ghost use Rattle.cs_run.specs.declared.entry.Settled.TheVariants.{Carried as CarriedOut};
+ghost use Rattle.cs_value.specs.State.{WrittenData};
+ghost use Rattle.cs_run.specs.Tally.{Tells, is_listed};
 ghost use Rattle.cs_run.specs.Running.{IsCaused, IsResource};
 ghost use Rattle.cs_run.specs.Steps.{HasTable, ComesTo, IsStoreRefusal, SettlesAs, AnswersAs, is_ignored, is_left_out, header_in, placed_in_table, settled_as, with_result};
 
 use crate::conflict::{Conflict, Met};
 use crate::ending::Ending;
 use crate::fault::ApplyFault;
-use crate::report::Report;
+use crate::tally::{Tally, Writings};
 use cs_group::{Choice, Kind, Noop, agrees, conflict_kind, is_refused, row_after};
-use cs_rows::{Rows, Written};
+use cs_rows::Rows;
 use cs_value::{Key, NoMemory, Row};
 use cs_wire::EntryRef;
 use std::alloc::Global;
@@ -56,18 +57,20 @@ pub(crate) fn apply_entry<B: Rows, H: Fn(&Conflict) -> Choice>(
     refuses: &[bool],
     noop: Noop,
     handler: &H,
-    report: &mut Report,
+    tally: &mut Tally,
 ) -> Result<Option<Ending>, ApplyFault>
     requires callable { H.IsAlwaysCallable handler.now }
-    requires count { report.old.ignored < usize.MAX }
+    requires count { tally.old.ignored < usize.MAX }
     requires table { B.is_honest rows.old
         → HasTable (B.state rows.old) (header_in (rc_str_bytes table.now) entry.now) }
     requires rules { B.is_honest rows.old → refuses.now ≡ refuses_at (B.state rows.old) (rc_str_bytes table.now) }
     ensures comes_to { B.is_honest rows.new → IfOk result (ComesTo (FnReturnsAt H.Fn handler.now) noop
-        (placed_in_table (rc_str_bytes table.now) entry.now) (B.state rows.old) report.old (B.state rows.new) report.new) }
-    ensures skipped { report.new.skipped ≡ report.old.skipped }
-    ensures ignored { report.new.ignored ≤ report.old.ignored + 1 }
-    ensures reported { noop ≡ Reported → report.new.ignored ≡ report.old.ignored }
+        (placed_in_table (rc_str_bytes table.now) entry.now) (B.state rows.old) tally.old (B.state rows.new)
+        tally.new) }
+    ensures skipped { tally.new.skipped ≡ tally.old.skipped }
+    ensures ignored { tally.new.ignored ≤ tally.old.ignored + 1 }
+    ensures reported { noop ≡ Reported → tally.new.ignored ≡ tally.old.ignored }
+    ensures listed { is_listed tally.new.written ≡ is_listed tally.old.written }
     ensures refused { B.is_honest rows.new → IfErr result IsResource }
     ensures named { IfErr result IsStoreRefusal }
     ensures caused { B.is_honest rows.new → IfErr result (IsCaused (B.fails_for rows.new)) }
@@ -77,7 +80,7 @@ pub(crate) fn apply_entry<B: Rows, H: Fn(&Conflict) -> Choice>(
     let name = table.as_str();
     let key = entry.key(alloc)?;
     let current = rows.get(alloc, name, &key)?;
-    let conflicts = &mut report.conflicts;
+    let conflicts = &mut tally.conflicts;
     match settle(
         alloc,
         name,
@@ -89,13 +92,13 @@ pub(crate) fn apply_entry<B: Rows, H: Fn(&Conflict) -> Choice>(
         conflicts,
     )? {
         Settled::Carried => {
-            let written = &mut report.written;
+            let written = &mut tally.written;
             carry_out(alloc, rows, table, entry, key, current, written)?;
             Ok(None)
         }
         Settled::Passed => Ok(None),
         Settled::Ignored => {
-            report.ignored += 1;
+            tally.ignored += 1;
             Ok(None)
         }
         Settled::Ended(ending) => Ok(Some(ending)),
@@ -184,7 +187,7 @@ fn ends_run(kind: Kind, choice: Choice) -> bool
     }
 }
 
-/// Writes the new row of an entry, and reports its key and the previous row.
+/// Writes the new row of an entry, and notes its key and the previous row.
 fn carry_out<B: Rows>(
     alloc: Global,
     rows: &mut B,
@@ -192,7 +195,7 @@ fn carry_out<B: Rows>(
     entry: &EntryRef<'_>,
     key: Key,
     current: Option<Row>,
-    written: &mut Vec<Written>,
+    written: &mut Writings,
 ) -> Result<(), ApplyFault>
     requires key { key ≡ key_of entry.now.flags entry.now.entry.change }
     requires found { kind_between (before_image entry.now.entry.change) current ≢ Some NotFoundKind }
@@ -204,20 +207,16 @@ fn carry_out<B: Rows>(
     ensures written { B.is_honest rows.new → OnOk result (B.state rows.new
         ≡ with_result (B.state rows.old) (rc_str_bytes table.now) key
         (row_of_change entry.now.flags entry.now.entry.change current)) }
-    ensures told { OnOk result (map written_of written.new.items ≡ map written_of written.old.items
-        ++ record { table = rc_str_bytes table.now; key = key; former = current } ∷ []) }
+    ensures told { OnOk result ((told : List WrittenData) → Tells written.old told
+        → Tells written.new (told ++ record { table = rc_str_bytes table.now; key = key; former = current } ∷ [])) }
+    ensures listed { is_listed written.new ≡ is_listed written.old }
     ensures refused { IfErr result IsResource }
     ensures caused { B.is_honest rows.new → IfErr result (IsCaused (B.fails_for rows.new)) }
     ensures was_honest { B.is_honest rows.new → B.is_honest rows.old }
     ensures kept { B.keeps rows.old rows.new }
 {
     write(alloc, rows, table.as_str(), entry, &key, current.as_ref())?;
-    let table = table.clone()?;
-    written.push(Written {
-        table,
-        key,
-        former: current,
-    })?;
+    written.note(table, key, current)?;
     Ok(())
 }
 

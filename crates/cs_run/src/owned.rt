@@ -7,6 +7,7 @@ ghost use Rattle.cs_wire.specs.Changeset.{GroupData, file_bytes};
 ghost use Rattle.cs_group.specs.declared.conflict.Noop.TheVariants.{Report as Reported};
 ghost use Rattle.cs_run.specs.Running.{Applies, Refuses, IsCaused, IsNamed, IsNoReadFault, IsResource};
 ghost use Rattle.cs_run.specs.Steps.{IsStoreRefusal};
+ghost use Rattle.cs_run.specs.Tally.{is_listed};
 ghost use Rattle.cs_run.specs.Run.{IsBehind, directed_group};
 
 use crate::conflict::Conflict;
@@ -14,6 +15,7 @@ use crate::fault::ApplyFault;
 use crate::report::Report;
 use crate::run::Run;
 use crate::running::{Direction, directed};
+use crate::tally::Writings;
 use cs_group::{Choice, Noop};
 use cs_rows::Rows;
 use cs_wire::{Changeset, EntryRef, Group, HeaderRef};
@@ -43,11 +45,13 @@ pub fn run_changeset_in<B: Rows, H: Fn(&Conflict) -> Choice>(
     ensures was_honest { B.is_honest rows.new → B.is_honest rows.old }
     ensures kept { B.keeps rows.old rows.new }
 {
-    let mut run = Run::new(alloc, Noop::Report)?;
+    let written = Writings::Listed(Vec::new(alloc));
+    let mut run = Run::new(alloc, Noop::Report, written)?;
     for group in changeset.groups() {
         take_group(alloc, rows, group, direction, handler, &mut run)?;
     }
-    run.finish()
+    let tally = run.finish()?;
+    Ok(tally.into_report())
 }
 
 /// Applies a group: its header, and then its entries.
@@ -61,14 +65,15 @@ fn take_group<B: Rows, H: Fn(&Conflict) -> Choice>(
 ) -> Result<(), ApplyFault>
     requires callable { H.IsAlwaysCallable handler.now }
     requires count { run.old.tables < usize.MAX }
-    requires reported { (run.old.noop ≡ Reported) × (run.old.report.ignored ≡ 0) }
+    requires reported { (run.old.noop ≡ Reported) × (run.old.tally.ignored ≡ 0) }
     ensures behind { B.is_honest rows.new → OnOk result ((before : State) (closed : List GroupData)
         → AllByRecursion (λ g. g.header.name ≢ group.now.header.name) closed
         → IsBehind (FnReturnsAt H.Fn handler.now) before closed run.old (B.state rows.old)
         → IsBehind (FnReturnsAt H.Fn handler.now) before
         (closed ++ directed_group direction group.now ∷ []) run.new (B.state rows.new)) }
     ensures tables { OnOk result (run.new.tables ≡ run.old.tables + 1) }
-    ensures reported { OnOk result ((run.new.noop ≡ Reported) × (run.new.report.ignored ≡ 0)) }
+    ensures reported { OnOk result ((run.new.noop ≡ Reported) × (run.new.tally.ignored ≡ 0)) }
+    ensures listed { is_listed run.new.tally.written ≡ is_listed run.old.tally.written }
     ensures refused { B.is_honest rows.new → IfErr result IsResource }
     ensures named { IfErr result IsStoreRefusal }
     ensures caused { B.is_honest rows.new → IfErr result (IsCaused (B.fails_for rows.new)) }

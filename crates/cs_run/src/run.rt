@@ -11,6 +11,7 @@ ghost use Rattle.cs_group.specs.declared.judging.Judgement.TheVariants.{Compatib
 ghost use Rattle.cs_group.specs.declared.conflict.Noop.TheVariants.{Report as Reported};
 ghost use Rattle.cs_run.specs.Running.{IsCaused, IsResource};
 ghost use Rattle.cs_run.specs.Steps.{HasTable, IsStoreRefusal, header_in};
+ghost use Rattle.cs_run.specs.Tally.{Tells, is_listed};
 ghost use Rattle.cs_run.specs.Run.{IsAtStart, IsBehind, IsNewEntry, TakesEntries, TakesTable, answer_of, group_of};
 
 use crate::conflict::Conflict;
@@ -18,7 +19,7 @@ use crate::ending::Ending;
 use crate::entry::apply_entry;
 use crate::fault::ApplyFault;
 use crate::judging::judge_table;
-use crate::report::Report;
+use crate::tally::{Tally, Writings};
 use cs_group::{Choice, Judgement, Noop};
 use cs_rows::Rows;
 use cs_value::NoMemory;
@@ -42,14 +43,16 @@ pub(crate) struct Run {
     ended: Option<Ending>,
     // What is done about no-op entries.
     noop: Noop,
-    report: Report,
+    tally: Tally,
 }
 
 impl Run {
     /// Returns a run before its first item.
-    pub(crate) fn new(alloc: Global, noop: Noop) -> Result<Run, NoMemory>
+    pub(crate) fn new(alloc: Global, noop: Noop, written: Writings) -> Result<Run, NoMemory>
+        requires { Tells written [] }
         ensures start { IfOk result IsAtStart }
         ensures noop { IfOk result (λ run. run.noop ≡ noop) }
+        ensures listed { IfOk result (λ run. is_listed run.tally.written ≡ is_listed written) }
     {
         Ok(Run {
             table: RcStr::from_str(alloc, "")?,
@@ -59,7 +62,7 @@ impl Run {
             wider: None,
             ended: None,
             noop,
-            report: Report::new(alloc),
+            tally: Tally::new(alloc, written),
         })
     }
 
@@ -75,8 +78,9 @@ impl Run {
         ensures takes { B.is_honest rows.new → OnOk result
             (TakesTable (B.state rows.old) self.old (header_of header.entry) self.new (B.state rows.new)) }
         ensures tables { OnOk result (self.new.tables ≡ self.old.tables + 1) }
-        ensures ignored { self.new.report.ignored ≡ self.old.report.ignored }
+        ensures ignored { self.new.tally.ignored ≡ self.old.tally.ignored }
         ensures noop { self.new.noop ≡ self.old.noop }
+        ensures listed { is_listed self.new.tally.written ≡ is_listed self.old.tally.written }
         ensures refused { B.is_honest rows.new → IfErr result IsResource }
         ensures named { IfErr result IsStoreRefusal }
         ensures caused { B.is_honest rows.new → IfErr result (IsCaused (B.fails_for rows.new)) }
@@ -91,7 +95,7 @@ impl Run {
             Judgement::Wider if self.wider.is_none() => self.wider = Some(place),
             Judgement::Skipped => {
                 let table = String::from_str(alloc, header.name)?;
-                self.report.skipped.push(table)?;
+                self.tally.skipped.push(table)?;
             }
             _ => {}
         }
@@ -115,7 +119,7 @@ impl Run {
         handler: &H,
     ) -> Result<(), ApplyFault>
         requires callable { H.IsAlwaysCallable handler.now }
-        requires count { self.old.report.ignored < usize.MAX }
+        requires count { self.old.tally.ignored < usize.MAX }
         requires table { B.is_honest rows.old → self.old.judgement ≡ CompatibleTable
             → HasTable (B.state rows.old) (header_in (rc_str_bytes self.old.table) entry) }
         requires rules { B.is_honest rows.old
@@ -131,9 +135,10 @@ impl Run {
         ensures table { (self.new.table ≡ self.old.table) × (self.new.judgement ≡ self.old.judgement)
             × (self.new.refuses ≡ self.old.refuses) }
         ensures tables { self.new.tables ≡ self.old.tables }
-        ensures ignored { self.new.report.ignored ≤ self.old.report.ignored + 1 }
-        ensures reported { self.old.noop ≡ Reported → self.new.report.ignored ≡ self.old.report.ignored }
+        ensures ignored { self.new.tally.ignored ≤ self.old.tally.ignored + 1 }
+        ensures reported { self.old.noop ≡ Reported → self.new.tally.ignored ≡ self.old.tally.ignored }
         ensures noop { self.new.noop ≡ self.old.noop }
+        ensures listed { is_listed self.new.tally.written ≡ is_listed self.old.tally.written }
         ensures refused { B.is_honest rows.new → IfErr result IsResource }
         ensures named { IfErr result IsStoreRefusal }
         ensures caused { B.is_honest rows.new → IfErr result (IsCaused (B.fails_for rows.new)) }
@@ -143,28 +148,28 @@ impl Run {
         if !self.takes_entries() {
             return Ok(());
         }
-        let report = &mut self.report;
+        let tally = &mut self.tally;
         let (table, refuses) = (&self.table, &self.refuses);
         self.ended = apply_entry(
-            alloc, rows, table, &entry, refuses, self.noop, handler, report,
+            alloc, rows, table, &entry, refuses, self.noop, handler, tally,
         )?;
         Ok(())
     }
 
     /// Returns the result of the run after the last item.
-    pub(crate) fn finish(self) -> Result<Report, ApplyFault>
+    pub(crate) fn finish(self) -> Result<Tally, ApplyFault>
         ensures { result ≡ answer_of self }
     {
         let Run {
             wider,
             ended,
-            report,
+            tally,
             ..
         } = self;
         match (wider, ended) {
             (Some(place), _) => Err(ApplyFault::Wider(place)),
             (None, Some(ending)) => Err(ending.into_fault()),
-            (None, None) => Ok(report),
+            (None, None) => Ok(tally),
         }
     }
 }

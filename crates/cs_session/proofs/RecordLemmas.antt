@@ -69,7 +69,7 @@ pub recorded_leads : (old new : store.State) (r : Result Report SessionFault) �
     → IfOk r (λ report. report.conflicts.items ≡ [] → report.ignored ≡ 0 → Leads file (tables_in old.now) last)
 recorded_leads old new (Err e) was shut law clean chooses noop file notes after last records = tt
 recorded_leads old new (Ok report) was shut law clean chooses noop file notes after last records =
-    leads_clean chooses noop file (tables_in old.now) last report (law (was clean) (at old.is_open refl)) records.applied
+    leads_clean chooses noop file (tables_in old.now) last _ _ _ _ (law (was clean) (at old.is_open refl)) records.applied
   where
     at : (b : Bool) → old.is_open ≡ b → IsTrue b
     at true is = refl

@@ -156,7 +156,7 @@ fn prints_a_report(rt: HostRuntime) {
         "no refusal",
     );
     let mut out = Told::new(Vec::new(rt.alloc()));
-    assert!(rt; report_text(&report, &mut out).is_ok());
+    assert!(rt; report_text(&report.into_summary(), &mut out).is_ok());
     assert!(rt; out.into_inner().as_slice() == EACH_TEXT);
 }
 

@@ -1,28 +1,44 @@
--- `store::revert`: the clauses `applied`, `refused`, `reverts` and `atomic`.
+-- `store::revert`: the clauses `applied`, `refused`, `reverts`, `atomic` and `stands`.
 use Rattle.std.proofs.Common.{rules}
-use Rattle.std.proofs.lemmas.Result.{IfOk-weaker, IfErr-weaker, MatchResult-from_both}
+use Rattle.std.proofs.lemmas.Result.{err_from_is_err_and}
 use Rattle.cs_group.specs.declared.conflict.Noop.TheVariants.{Report as Reported}
 use Rattle.cs_run.specs.declared.running.Direction.TheVariants.{Inverse}
-use Rattle.cs_run.specs.Running.{AlwaysAborts, IsResource}
+use Rattle.cs_run.specs.Running.{AlwaysAborts}
+use Rattle.cs_run.proofs.OutcomeLemmas.{told_reports}
 use Rattle.cs_apply.proofs.RevertLemmas.{reverts_ok, reverts_err, refuses_weaker, applies_weaker}
 use Rattle.cs_apply.proofs.CrashLemmas.{revert_atomic}
 use Rattle.cs_apply.proofs.store.revert.Goals as goal
 
 pub returns-clause-applied : goal.returns-clause-applied
 returns-clause-applied g c = λ clean.
-    IfOk-weaker c.run.result _ _ (λ report applies. applies_weaker _ AlwaysAborts (λ k chosen given. search rules) Reported c.args.file.now Inverse _ report _ applies) (c.run.ensures.applied clean)
-
-pub returns-clause-refused : goal.returns-clause-refused
-returns-clause-refused g c = λ clean.
-    IfErr-weaker c.run.result _ _ (λ e refuses. refuses_weaker _ AlwaysAborts (λ k chosen given. search rules) Reported c.args.file.now Inverse _ e refuses) (c.run.ensures.refused clean)
+    let report = c.into_report.ensures in
+    applies_weaker _ AlwaysAborts (λ k chosen given. search rules) Reported c.args.file.now Inverse _ c.into_report.result _
+    (told_reports _ Reported c.args.file.now Inverse _ c.in_ok-tally.tally _ c.into_report.result (c.in_ok-tally.ensures.applied clean) report.conflicts report.skipped report.written report.ignored)
 
 pub returns-clause-reverts : goal.returns-clause-reverts
 returns-clause-reverts g c = λ clean before leads.
-    let law = c.changeset_files_law.ensures in
-    MatchResult-from_both c.run.result _ IsResource
-    (IfOk-weaker c.run.result _ _ (λ report applies. reverts_ok _ law c.args.file.now before _ _ report leads applies) (c.run.ensures.applied clean))
-    (IfErr-weaker c.run.result _ _ (λ e refuses. reverts_err law c.args.file.now before _ e leads (refuses_weaker _ AlwaysAborts (λ k chosen given. search rules) Reported c.args.file.now Inverse _ e refuses)) (c.run.ensures.refused clean))
+    reverts_ok AlwaysAborts c.changeset_files_law.ensures c.args.file.now before _ _ c.into_report.result leads (returns-clause-applied g c clean)
+
+pub returns-in_err-tally-clause-refused : goal.returns-in_err-tally-clause-refused
+returns-in_err-tally-clause-refused g c = λ clean.
+    let p = err_from_is_err_and c.from_residual.result c.from_residual.ensures.1 in
+    rw (p.1, p.2) (refuses_weaker _ AlwaysAborts (λ k chosen given. search rules) Reported c.args.file.now Inverse _ _ (c.in_err-tally.ensures.refused clean))
+
+pub returns-in_err-tally-clause-reverts : goal.returns-in_err-tally-clause-reverts
+returns-in_err-tally-clause-reverts g c = λ clean before leads.
+    let p = err_from_is_err_and c.from_residual.result c.from_residual.ensures.1 in
+    rw (p.1, p.2)
+    (reverts_err c.changeset_files_law.ensures c.args.file.now before _ _ leads (refuses_weaker _ AlwaysAborts (λ k chosen given. search rules) Reported c.args.file.now Inverse _ _ (c.in_err-tally.ensures.refused clean)))
+
+pub returns-in_err-tally-clause-stands : goal.returns-in_err-tally-clause-stands
+returns-in_err-tally-clause-stands g c =
+    let p = err_from_is_err_and c.from_residual.result c.from_residual.ensures.1 in
+    rw p.1 c.in_err-tally.ensures.stands
 
 pub returns-clause-atomic : goal.returns-clause-atomic
 returns-clause-atomic g c =
+    revert_atomic _ AlwaysAborts (λ k chosen given. search rules) Reported c.args.file.now Inverse _ _ _ c.run.ensures.atomic
+
+pub returns-in_err-tally-clause-atomic : goal.returns-in_err-tally-clause-atomic
+returns-in_err-tally-clause-atomic g c =
     revert_atomic _ AlwaysAborts (λ k chosen given. search rules) Reported c.args.file.now Inverse _ _ _ c.run.ensures.atomic

@@ -1,15 +1,23 @@
 -- `store::run`: the clauses `others`, `atomic`, `left` and `stands`.
-use Rattle.std.proofs.Common.{◌≡◌, OnErr, rules}
+use Rattle.std.proofs.Common.{◌≡◌, ℕ, List, OnErr, rules}
 use Rattle.std.specs.Fn.{FnReturnsAt}
 use Rattle.sqlite.specs.Held.{state}
 use Rattle.sqlite.specs.State.{HasCleanDisk}
 use Rattle.cs_store.specs.Store.{tables_in}
-use Rattle.cs_store.specs.Laws.{was_clean}
 use Rattle.cs_store.specs.Crash.{CanBegin}
 use Rattle.cs_store.specs.Records.{KeepsContent, KeepsCrash}
 use Rattle.cs_store.proofs.CrashLemmas.{idle_atomic, dropped_atomic, made_atomic, made_others, left_new, refused_stands}
+use Rattle.cs_value.specs.State as tables
+use Rattle.cs_group.specs.declared.conflict.Noop.{Noop}
+use Rattle.cs_run.specs.declared.running.Direction.{Direction}
+use Rattle.cs_run.specs.declared.tally.Tally.{Tally}
+use Rattle.cs_run.specs.Running.{Handler, AppliesTold}
 use Rattle.cs_apply.specs.Crash.{AppliesInto}
 use Rattle.cs_apply.proofs.store.run.Goals as goal
+
+-- what a tally has is what the state was made with
+into : {chooses : Handler} {noop : Noop} {file : List ℕ} {direction : Direction} {before after : tables.State} (tally : Tally) → AppliesTold chooses noop file direction before tally after → AppliesInto chooses noop file direction before after
+into tally told = record { met = tally.conflicts.items; skips = _; writes = told.writes; passed = tally.ignored; applies = told.applies }
 
 pub returns-in_err-batch-clause-atomic : goal.returns-in_err-batch-clause-atomic
 returns-in_err-batch-clause-atomic g c =
@@ -18,45 +26,45 @@ returns-in_err-batch-clause-atomic g c =
     let keeps : KeepsCrash old new = search rules in
     idle_atomic old new c.crash_law.ensures CanBegin (AppliesInto (FnReturnsAt g.H.Fn c.args.handler.now) c.args.noop c.args.file.now c.args.direction (tables_in old.now)) keeps
 
-pub returns-in_err-report-clause-atomic : goal.returns-in_err-report-clause-atomic
-returns-in_err-report-clause-atomic g c =
+pub returns-in_err-tally-clause-atomic : goal.returns-in_err-tally-clause-atomic
+returns-in_err-tally-clause-atomic g c =
     let old = state g.S.Store c.args.store.now in
     let begun = state g.S.Store c.in_ok-batch.batch.store.now in
-    let mid = state g.S.Store c.run_in.new.rows.store.now in
+    let mid = state g.S.Store c.tally_in.new.rows.store.now in
     let last = state g.S.Store c.drop-batch.new.self.0 in
-    let same : c.drop-batch.new.self.0 ≡ c.store-in_err-report-1.given.0 = search rules in
+    let same : c.drop-batch.new.self.0 ≡ c.store-in_err-tally-1.given.0 = search rules in
     let may = AppliesInto (FnReturnsAt g.H.Fn c.args.handler.now) c.args.noop c.args.file.now c.args.direction (tables_in old.now) in
-    rw (← same) (dropped_atomic old begun mid last c.crash_law.ensures c.in_ok-batch.ensures.survives c.run_in.ensures.kept.1 may c.drop-batch.ensures.survives)
+    rw (← same) (dropped_atomic old begun mid last c.crash_law.ensures c.in_ok-batch.ensures.survives c.tally_in.ensures.kept.1 may c.drop-batch.ensures.survives)
 
 pub returns-in_err-commit-clause-atomic : goal.returns-in_err-commit-clause-atomic
 returns-in_err-commit-clause-atomic g c =
     let old = state g.S.Store c.args.store.now in
     let begun = state g.S.Store c.in_ok-batch.batch.store.now in
-    let mid = state g.S.Store c.run_in.new.rows.store.now in
+    let mid = state g.S.Store c.tally_in.new.rows.store.now in
     let last = state g.S.Store c.commit.new.self.0 in
     let same : c.commit.new.self.0 ≡ c.store-2-1.given.0 = search rules in
-    rw (← same) (made_atomic old begun mid last c.crash_law.ensures c.in_ok-batch.ensures.survives c.run_in.ensures.kept.1 (AppliesInto (FnReturnsAt g.H.Fn c.args.handler.now) c.args.noop c.args.file.now c.args.direction)
-    c.in_ok-batch.ensures.begun (λ clean. (c.in_ok-report.report, c.in_ok-report.ensures.applied clean)) c.commit.ensures.atomic.survives)
+    rw (← same) (made_atomic old begun mid last c.crash_law.ensures c.in_ok-batch.ensures.survives c.tally_in.ensures.kept.1 (AppliesInto (FnReturnsAt g.H.Fn c.args.handler.now) c.args.noop c.args.file.now c.args.direction)
+    c.in_ok-batch.ensures.begun (λ clean. into c.in_ok-tally.tally (c.in_ok-tally.ensures.applied clean)) c.commit.ensures.atomic.survives)
 
 pub returns-clause-atomic : goal.returns-clause-atomic
 returns-clause-atomic g c =
     let old = state g.S.Store c.args.store.now in
     let begun = state g.S.Store c.in_ok-batch.batch.store.now in
-    let mid = state g.S.Store c.run_in.new.rows.store.now in
+    let mid = state g.S.Store c.tally_in.new.rows.store.now in
     let last = state g.S.Store c.commit.new.self.0 in
     let same : c.commit.new.self.0 ≡ c.store-2-1.given.0 = search rules in
-    rw (← same) (made_atomic old begun mid last c.crash_law.ensures c.in_ok-batch.ensures.survives c.run_in.ensures.kept.1 (AppliesInto (FnReturnsAt g.H.Fn c.args.handler.now) c.args.noop c.args.file.now c.args.direction)
-    c.in_ok-batch.ensures.begun (λ clean. (c.in_ok-report.report, c.in_ok-report.ensures.applied clean)) c.commit.ensures.atomic.survives)
+    rw (← same) (made_atomic old begun mid last c.crash_law.ensures c.in_ok-batch.ensures.survives c.tally_in.ensures.kept.1 (AppliesInto (FnReturnsAt g.H.Fn c.args.handler.now) c.args.noop c.args.file.now c.args.direction)
+    c.in_ok-batch.ensures.begun (λ clean. into c.in_ok-tally.tally (c.in_ok-tally.ensures.applied clean)) c.commit.ensures.atomic.survives)
 
 pub returns-clause-others : goal.returns-clause-others
 returns-clause-others g c clean =
     let same : c.commit.new.self.0 ≡ c.store-2-1.given.0 = search rules in
     let last : HasCleanDisk (state g.S.Store c.commit.new.self.0) = rw same clean in
-    rw (← same) (made_others _ _ _ _ c.in_ok-batch.ensures.begun c.run_in.ensures.kept.1 c.commit.ensures.atomic.survives last (c.in_ok-commit.ensures.committed last) (c.in_ok-commit.ensures.others last))
+    rw (← same) (made_others _ _ _ _ c.in_ok-batch.ensures.begun c.tally_in.ensures.kept.1 c.commit.ensures.atomic.survives last (c.in_ok-commit.ensures.committed last) (c.in_ok-commit.ensures.others last))
 
 pub returns-clause-left : goal.returns-clause-left
 returns-clause-left g c =
-    let mid = state g.S.Store c.run_in.new.rows.store.now in
+    let mid = state g.S.Store c.tally_in.new.rows.store.now in
     let last = state g.S.Store c.commit.new.self.0 in
     let same : c.commit.new.self.0 ≡ c.store-2-1.given.0 = search rules in
     rw (← same) (left_new mid last c.in_ok-commit.ensures.committed c.in_ok-commit.ensures.left)
@@ -66,19 +74,19 @@ returns-in_err-batch-clause-stands g c =
     let kept : HasCleanDisk (state g.S.Store c.begin.follows.lender-at-none) → OnErr c.from_residual.result (KeepsContent (state g.S.Store c.args.store.now) (state g.S.Store c.begin.follows.lender-at-none)) = search rules in
     refused_stands g.S.Store g.met.S.Store.settled g.met.S.Store.stays c.args.store.now c.begin.follows.lender-at-none c.crash_law.ensures c.from_residual.result _ _ (returns-in_err-batch-clause-atomic g c) kept
 
-pub returns-in_err-report-clause-stands : goal.returns-in_err-report-clause-stands
-returns-in_err-report-clause-stands g c =
-    let kept : HasCleanDisk (state g.S.Store c.store-in_err-report-1.given.0) → OnErr c.from_residual-in_err-report.result (KeepsContent (state g.S.Store c.args.store.now) (state g.S.Store c.store-in_err-report-1.given.0)) = search rules in
-    refused_stands g.S.Store g.met.S.Store.settled g.met.S.Store.stays c.args.store.now c.store-in_err-report-1.given.0 c.crash_law.ensures c.from_residual-in_err-report.result _ _ (returns-in_err-report-clause-atomic g c) kept
+pub returns-in_err-tally-clause-stands : goal.returns-in_err-tally-clause-stands
+returns-in_err-tally-clause-stands g c =
+    let kept : HasCleanDisk (state g.S.Store c.store-in_err-tally-1.given.0) → OnErr c.from_residual-in_err-tally.result (KeepsContent (state g.S.Store c.args.store.now) (state g.S.Store c.store-in_err-tally-1.given.0)) = search rules in
+    refused_stands g.S.Store g.met.S.Store.settled g.met.S.Store.stays c.args.store.now c.store-in_err-tally-1.given.0 c.crash_law.ensures c.from_residual-in_err-tally.result _ _ (returns-in_err-tally-clause-atomic g c) kept
 
 pub returns-in_err-commit-clause-stands : goal.returns-in_err-commit-clause-stands
 returns-in_err-commit-clause-stands g c =
     let kept : HasCleanDisk (state g.S.Store c.store-2-1.given.0) → OnErr c.from_residual-in_err-commit.result (KeepsContent (state g.S.Store c.args.store.now) (state g.S.Store c.store-2-1.given.0)) = search rules in
     refused_stands g.S.Store g.met.S.Store.settled g.met.S.Store.stays c.args.store.now c.store-2-1.given.0 c.crash_law.ensures c.from_residual-in_err-commit.result _ _ (returns-in_err-commit-clause-atomic g c) kept
 
-pub returns-in_err-report-clause-refused : goal.returns-in_err-report-clause-refused
-returns-in_err-report-clause-refused g c clean =
-    let was : HasCleanDisk (state g.S.Store c.run_in.new.rows.store.now) = search rules in
-    let refused = c.in_err-report.ensures.refused was in
-    let began = c.in_ok-batch.ensures.begun (c.run_in.ensures.was_honest was) in
+pub returns-in_err-tally-clause-refused : goal.returns-in_err-tally-clause-refused
+returns-in_err-tally-clause-refused g c clean =
+    let was : HasCleanDisk (state g.S.Store c.tally_in.new.rows.store.now) = search rules in
+    let refused = c.in_err-tally.ensures.refused was in
+    let began = c.in_ok-batch.ensures.begun (c.tally_in.ensures.was_honest was) in
     search rules

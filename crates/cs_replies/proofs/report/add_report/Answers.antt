@@ -1,17 +1,17 @@
 -- `report::add_report`: what it ensures.
-use Rattle.std.proofs.Common.{◌≡◌, ◌++◌, length, refl, ◌∙◌}
+use Rattle.std.proofs.Common.{◌≡◌, ◌++◌, refl}
 use Rattle.std.specs.Prelude.{string_bytes}
 use Rattle.std.specs.List.{flat_map}
 use Rattle.std.proofs.lemmas.List.Folds.{flat_map-map}
-use Rattle.cs_run.specs.declared.report.Report.{Report}
+use Rattle.cs_run.specs.declared.report.Summary.{Summary}
 use Rattle.cs_run.specs.Report.{met_of}
 use Rattle.cs_texts.proofs.GatherLemmas.{Gathered-nil, Gathers-is, Gathers-stopped, Gathers-then}
 use Rattle.cs_replies.specs.Report.{skip_text, met_text, ignored_text, count_text, report_of}
 use Rattle.cs_replies.proofs.report.add_report.Goals as goal
 
 -- the text, of what the code has
-told : (report : Report) → report_of report ≡ flat_map (λ table. skip_text (string_bytes table)) report.skipped.items
-    ++ (flat_map (λ met. met_text (met_of met)) report.conflicts.items ++ (ignored_text report.ignored ++ count_text (length report.written.items)))
+told : (report : Summary) → report_of report ≡ flat_map (λ table. skip_text (string_bytes table)) report.skipped.items
+    ++ (flat_map (λ met. met_text (met_of met)) report.conflicts.items ++ (ignored_text report.ignored ++ count_text report.written))
 told report = rw (flat_map-map skip_text string_bytes report.skipped.items, flat_map-map met_text met_of report.conflicts.items) refl
 
 pub returns-in_err-add_skips : goal.returns-in_err-add_skips
@@ -35,5 +35,4 @@ pub returns : goal.returns
 returns g c =
     let skips = rw c.deref.ensures.value at c.in_ok-add_skips.ensures.gathered in
     let conflicts = rw c.deref-2.ensures.value at c.in_ok-add_conflicts.ensures.gathered in
-    let count = rw (c.len.ensures ∙ c.args.report.now.written.ok.0) at c.add_count.ensures in
-    Gathers-is _ (told c.args.report.now) (Gathers-then _ refl skips (Gathers-then _ refl conflicts (Gathers-then _ refl c.in_ok-add_ignored.ensures.gathered count)))
+    Gathers-is _ (told c.args.report.now) (Gathers-then _ refl skips (Gathers-then _ refl conflicts (Gathers-then _ refl c.in_ok-add_ignored.ensures.gathered c.add_count.ensures)))

@@ -1,12 +1,14 @@
--- `owned::run_changeset_in`: the invariant of the loop at `group`, the clauses `applied`, `refused`, `named`, `read`
--- and `caused`.
+-- `owned::run_changeset_in`: the invariant of the loop at `group`, the clauses `applied` and `refused`.
 use Rattle.std.proofs.Common.{◌≡◌, ◌<◌, ◌+◌, ℕ, List, length, get_or, refl, ap, ◌∙◌}
 use Rattle.std.specs.Fn.{FnReturnsAt}
 use Rattle.std.proofs.lemmas.List.{take_all}
+use Rattle.std.proofs.lemmas.Result.{err_from_is_err_and}
 use Rattle.cs_wire.specs.Changeset.{GroupData, file_bytes}
 use Rattle.cs_run.specs.Run.{directed}
 use Rattle.cs_run.proofs.BehindLemmas.{behind_start}
-use Rattle.cs_run.proofs.DirectedLemmas.{directed_none, group_names, groups_more, outcome_caused, outcome_named, outcome_read, read_as, run_outcome}
+use Rattle.cs_run.proofs.DirectedLemmas.{directed_none, group_names, groups_more, read_as, run_outcome}
+use Rattle.cs_group.specs.declared.conflict.Noop.TheVariants.{Report as Reported}
+use Rattle.cs_run.proofs.OutcomeLemmas.{told_reports}
 use Rattle.cs_run.proofs.owned.run_changeset_in.Goals as goal
 
 pub loop-group-init : goal.loop-group-init
@@ -15,6 +17,7 @@ loop-group-init g c = (
   g.B.Rows.keeps_itself _,
   c.in_ok-run.ensures.start.tables,
   (c.in_ok-run.ensures.noop, c.in_ok-run.ensures.start.empty.ignored),
+  c.in_ok-run.ensures.listed,
   λ honest. (honest, rw (directed_none c.args.direction) (behind_start (FnReturnsAt g.H.Fn c.args.handler.now) (g.B.Rows.state c.args.rows.now) c.in_ok-run.run' c.in_ok-run.ensures.start)),
 )
 
@@ -31,8 +34,9 @@ loop-group-preserved g c =
       g.B.Rows.keeps_then _ _ _ so.1 c.take_group.ensures.kept,
       c.in_ok-take_group.ensures.tables ∙ ap (λ (n : ℕ). n + 1) so.2,
       c.in_ok-take_group.ensures.reported,
+      c.take_group.ensures.listed ∙ so.4,
       λ honest.
-          let was = so.4 (c.take_group.ensures.was_honest honest) in (
+          let was = so.5 (c.take_group.ensures.was_honest honest) in (
             was.0,
             rw (groups_more c.args.direction all i group within is)
                 (c.in_ok-take_group.ensures.behind honest (g.B.Rows.state c.args.rows.now) _ (group_names c.args.direction all i group groups.well_formed within is) was.1),
@@ -44,24 +48,19 @@ returns-clause-applied g c = λ honest.
     let all = c.args.changeset.now in
     let groups = c.groups-group-items.ensures in
     let whole = take_all c.loop-group.group-index all (rw groups.same at c.loop-group-test.false) in
-    let behind = rw whole at (c.loop-group.invariant.4 honest).1 in
-    rw c.loop-group.invariant.3.0 at (run_outcome (FnReturnsAt g.H.Fn c.args.handler.now) c.args.direction (file_bytes all) (directed c.args.direction all) _ c.loop-group.run _ (read_as c.args.direction (file_bytes all) all (groups.well_formed, refl)) behind
-    c.finish.result c.finish.ensures).0
+    let behind = rw whole at (c.loop-group.invariant.5 honest).1 in
+    let outcome = rw c.loop-group.invariant.3.0 at (run_outcome (FnReturnsAt g.H.Fn c.args.handler.now) c.args.direction (file_bytes all) (directed c.args.direction all) _ c.loop-group.run _ (read_as c.args.direction (file_bytes all) all (groups.well_formed, refl)) behind
+    _ c.in_ok-tally.ensures).0 in
+    let report = c.into_report.ensures in
+    told_reports (FnReturnsAt g.H.Fn c.args.handler.now) Reported (file_bytes all) c.args.direction _ c.in_ok-tally.tally _ c.into_report.result outcome report.conflicts report.skipped report.written report.ignored
 
-pub returns-clause-refused : goal.returns-clause-refused
-returns-clause-refused g c = λ honest.
+pub returns-in_err-tally-clause-refused : goal.returns-in_err-tally-clause-refused
+returns-in_err-tally-clause-refused g c = λ honest.
     let all = c.args.changeset.now in
     let groups = c.groups-group-items.ensures in
     let whole = take_all c.loop-group.group-index all (rw groups.same at c.loop-group-test.false) in
-    let behind = rw whole at (c.loop-group.invariant.4 honest).1 in
-    rw c.loop-group.invariant.3.0 at (run_outcome (FnReturnsAt g.H.Fn c.args.handler.now) c.args.direction (file_bytes all) (directed c.args.direction all) _ c.loop-group.run _ (read_as c.args.direction (file_bytes all) all (groups.well_formed, refl)) behind
-    c.finish.result c.finish.ensures).1
-
-pub returns-clause-named : goal.returns-clause-named
-returns-clause-named g c = outcome_named c.loop-group.run c.finish.result c.finish.ensures
-
-pub returns-clause-read : goal.returns-clause-read
-returns-clause-read g c = outcome_read c.loop-group.run c.finish.result c.finish.ensures
-
-pub returns-clause-caused : goal.returns-clause-caused
-returns-clause-caused g c = λ honest. outcome_caused (g.B.Rows.fails_for c.loop-group.rows) c.loop-group.run c.finish.result c.finish.ensures
+    let behind = rw whole at (c.loop-group.invariant.5 honest).1 in
+    let refused = rw c.loop-group.invariant.3.0 at (run_outcome (FnReturnsAt g.H.Fn c.args.handler.now) c.args.direction (file_bytes all) (directed c.args.direction all) _ c.loop-group.run _ (read_as c.args.direction (file_bytes all) all (groups.well_formed, refl)) behind
+    _ c.in_err-tally.ensures).1 in
+    let p = err_from_is_err_and c.from_residual-in_err-tally.result c.from_residual-in_err-tally.ensures.1 in
+    rw (p.1, p.2) refused

@@ -24,6 +24,7 @@ loop-entry-init g c =
       c.take_table.ensures.kept,
       c.in_ok-take_table.ensures.tables,
       (c.take_table.ensures.noop ∙ c.requires.reported.0, c.take_table.ensures.ignored ∙ c.requires.reported.1),
+      c.take_table.ensures.listed,
       λ honest.
           let takes = rw same at c.in_ok-take_table.ensures.takes honest in (
             c.take_table.ensures.was_honest honest,
@@ -39,12 +40,12 @@ loop-entry-init g c =
 pub take_entry-requires-clause-table : goal.take_entry-requires-clause-table
 take_entry-requires-clause-table g c = λ honest compatible.
     let so = c.loop-entry.invariant in
-    has_judged_table (g.B.Rows.state c.loop-entry.rows) c.loop-entry.run c.args.group.now.header c.directed.result (so.4 honest).1 (so.4 honest).2
+    has_judged_table (g.B.Rows.state c.loop-entry.rows) c.loop-entry.run c.args.group.now.header c.directed.result (so.5 honest).1 (so.5 honest).2
     (ap (λ (x : FlaggedEntry). x.flags) c.directed.ensures ∙ ap (λ (x : FlaggedEntry). x.flags) c.from_entry-entry.ensures ∙ c.flags.ensures.same) compatible
 
 pub take_entry-requires-clause-rules : goal.take_entry-requires-clause-rules
 take_entry-requires-clause-rules g c = λ honest.
-    let was = c.loop-entry.invariant.4 honest in
+    let was = c.loop-entry.invariant.5 honest in
     was.3 ∙ ap (refuses_at (g.B.Rows.state c.loop-entry.rows)) (sym was.1)
 
 pub returns-in_err-take_entry-clause-kept : goal.returns-in_err-take_entry-clause-kept
@@ -69,8 +70,9 @@ loop-entry-preserved g c =
       g.B.Rows.keeps_then _ _ _ so.1 c.take_entry.ensures.kept,
       c.take_entry.ensures.tables ∙ so.2,
       (c.take_entry.ensures.noop ∙ so.3.0, c.take_entry.ensures.reported so.3.0 ∙ so.3.1),
+      c.take_entry.ensures.listed ∙ so.4,
       λ honest.
-          let was = so.4 (c.take_entry.ensures.was_honest honest) in (
+          let was = so.5 (c.take_entry.ensures.was_honest honest) in (
             was.0,
             ap (λ t. rc_str_bytes t) c.take_entry.ensures.table.0 ∙ was.1,
             c.take_entry.ensures.table.1 ∙ was.2 ∙ sym (judged_same (g.B.Rows.state c.loop-entry.rows) (g.B.Rows.state c.take_entry.new.rows) (c.in_ok-take_entry.ensures.schemas honest) (group_of h []) (group_of h []) refl),
@@ -88,4 +90,4 @@ returns-clause-behind g c = λ honest before closed names is.
     let group = c.args.group.now in
     let all = take_all c.loop-entry.entry-index group.entries (rw c.entries-entry-items.ensures.same at c.loop-entry-test.false) in
     let whole = ap (λ (es : List Entry). group_of group.header (directed_entries c.args.direction group.header.flags es)) all ∙ group_whole c.args.direction group in
-    rw (← whole) ((so.4 honest).4 before closed names is)
+    rw (← whole) ((so.5 honest).4 before closed names is)

@@ -4,7 +4,6 @@ use Rattle.std.specs.Fn.{FnReturnsAt}
 use Rattle.sqlite.specs.Held.{state}
 use Rattle.sqlite.specs.State.{HasCleanDisk}
 use Rattle.cs_run.specs.declared.running.Direction.TheVariants.{Forward}
-use Rattle.cs_store.specs.Laws.{was_clean}
 use Rattle.cs_store.specs.Crash.{CanBegin}
 use Rattle.cs_store.specs.Records.{KeepsContent, KeepsCrash}
 use Rattle.cs_store.specs.Store.{tables_in}
@@ -41,7 +40,7 @@ returns-in_err-commit-clause-atomic g c =
     let last = state g.S.Store c.commit.new.self.0 in
     let same : c.commit.new.self.0 ≡ c.store-2-1.given.0 = search rules in
     rw (← same) (made_atomic old begun mid last c.crash_law.ensures c.in_ok-batch.ensures.survives c.apply_rows.ensures.kept.1 (AppliesInto (FnReturnsAt g.H.Fn c.args.handler.now) c.args.noop c.args.file.now Forward)
-    c.in_ok-batch.ensures.begun (λ clean. (c.in_ok-report.report, (c.in_ok-report.ensures.recorded clean).applied)) c.commit.ensures.atomic.survives)
+    c.in_ok-batch.ensures.begun (λ clean. record { met = _; skips = _; writes = _; passed = _; applies = (c.in_ok-report.ensures.recorded clean).applied }) c.commit.ensures.atomic.survives)
 
 pub returns-clause-atomic : goal.returns-clause-atomic
 returns-clause-atomic g c =
@@ -51,7 +50,7 @@ returns-clause-atomic g c =
     let last = state g.S.Store c.commit.new.self.0 in
     let same : c.commit.new.self.0 ≡ c.store-2-1.given.0 = search rules in
     rw (← same) (made_atomic old begun mid last c.crash_law.ensures c.in_ok-batch.ensures.survives c.apply_rows.ensures.kept.1 (AppliesInto (FnReturnsAt g.H.Fn c.args.handler.now) c.args.noop c.args.file.now Forward)
-    c.in_ok-batch.ensures.begun (λ clean. (c.in_ok-report.report, (c.in_ok-report.ensures.recorded clean).applied)) c.commit.ensures.atomic.survives)
+    c.in_ok-batch.ensures.begun (λ clean. record { met = _; skips = _; writes = _; passed = _; applies = (c.in_ok-report.ensures.recorded clean).applied }) c.commit.ensures.atomic.survives)
 
 pub returns-clause-others : goal.returns-clause-others
 returns-clause-others g c clean =

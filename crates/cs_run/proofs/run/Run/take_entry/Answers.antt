@@ -15,4 +15,4 @@ returns-clause-behind g c = λ honest before closed header entries flags new is.
     behind_taken before closed header entries c.args.entry.entry (FnReturnsAt g.H.Fn c.args.handler.now) c.args.self.now _ is _ _ c.args.entry (search rules) new flags refl refl refl refl refl refl refl c.in_ok-self.ensures.skipped (c.in_ok-self.ensures.comes_to honest)
 
 pub returns-clause-schemas : goal.returns-clause-schemas
-returns-clause-schemas g c = λ honest name. comes_schemas (FnReturnsAt g.H.Fn c.args.handler.now) c.args.self.now.noop (placed_in_table (rc_str_bytes c.args.self.now.table) c.args.entry) (g.B.Rows.state c.args.rows.now) c.args.self.now.report (g.B.Rows.state c.apply_entry.new.rows) c.apply_entry.new.report c.in_ok-self.field-0 (c.in_ok-self.ensures.comes_to honest) name
+returns-clause-schemas g c = λ honest name. comes_schemas (FnReturnsAt g.H.Fn c.args.handler.now) c.args.self.now.noop (placed_in_table (rc_str_bytes c.args.self.now.table) c.args.entry) (g.B.Rows.state c.args.rows.now) c.args.self.now.tally (g.B.Rows.state c.apply_entry.new.rows) c.apply_entry.new.tally c.in_ok-self.field-0 (c.in_ok-self.ensures.comes_to honest) name

@@ -1,0 +1,25 @@
+-- `store::apply_counted`: the clauses `applied`, `clean` and `stands`.
+use Rattle.std.specs.Fn.{FnReturnsAt}
+use Rattle.std.proofs.lemmas.Result.{err_from_is_err_and}
+use Rattle.sqlite.specs.Held.{state}
+use Rattle.cs_store.specs.Laws.{was_clean}
+use Rattle.cs_run.proofs.OutcomeLemmas.{told_counts}
+use Rattle.cs_apply.proofs.RevertLemmas.{done_state, leads_clean}
+use Rattle.cs_apply.proofs.store.apply_counted.Goals as goal
+
+pub returns-clause-applied : goal.returns-clause-applied
+returns-clause-applied g c = λ clean.
+    let summary = c.into_summary.ensures in
+    told_counts (FnReturnsAt g.H.Fn c.args.handler.now) c.args.noop c.args.file.now _ _ c.in_ok-tally.tally _ c.into_summary.result (c.in_ok-tally.ensures.applied clean) summary.conflicts summary.skipped summary.written summary.ignored
+
+pub returns-clause-clean : goal.returns-clause-clean
+returns-clause-clean g c = λ clean.
+    let old = state g.S.Store c.args.store.now in
+    let new = state g.S.Store c.run.new.store in
+    let is = done_state old new c.in_ok-tally.tally (was_clean old new c.run.ensures.atomic.survives) (c.in_ok-tally.ensures.shut clean) c.tables_law.ensures clean in
+    leads_clean _ c.args.noop c.args.file.now _ _ _ _ _ _ is (returns-clause-applied g c clean).applies
+
+pub returns-in_err-tally-clause-stands : goal.returns-in_err-tally-clause-stands
+returns-in_err-tally-clause-stands g c =
+    let p = err_from_is_err_and c.from_residual.result c.from_residual.ensures.1 in
+    rw p.1 c.in_err-tally.ensures.stands
