@@ -43,9 +43,9 @@ MANY = 100_000
 
 # What is done here and not by SQLite.
 CHECKS = "the file is checked to its end first, for repeated keys too"
-INVERTS = CHECKS + "; SQLite copies INSERTs unread"
+INVERTS = "the file is checked, for repeated keys too; SQLite copies INSERTs unread"
 CHECKS_BOTH = "both files are checked to their ends first; crafted keys fall into one bucket"
-KEYS = "the places of the keys are kept, to find repeated ones"
+KEYS = "a number of each key of a table is kept, to find repeated ones"
 COPIES = "the bytes are made apart, and then copied into the buffer of the caller"
 VALUES = "each call reads its change up to the value: the square of the columns in all"
 RECORDS = "the file is checked page by page and index by index, and then each record is decoded"
@@ -53,7 +53,7 @@ OPENS = "the store is opened first (`opening a store`), and each row is a record
 IN_FILES = "the store is in files in memory, with a log, and each row is a record of one table"
 SENDS = "each row is a line to the program, another process, and each answer is parsed"
 RECORDED = SENDS + "; SQLite's side has no session"
-REPORTS = "the report has the key and the former row of each entry; the keys of a table are kept"
+LISTS = "the kit lists the rows of a table as a store is opened, caches pages, and copies rows"
 UNKNOWN = "no reason is known"
 
 
@@ -97,7 +97,7 @@ KINDS = (
     command("dump", "", "dump other file", ALL, CHECKS),
     command("sql", "", "dump other file", ALL, CHECKS),
     command("apply", " store", "apply base file", APPLIED, OPENS)._replace(
-        why_memory=REPORTS, state="before"
+        why_memory=LISTS, state="before"
     ),
     Kind(
         "opening a store",
