@@ -1,5 +1,5 @@
 -- Records where they lie, spelled in a file or owned; this project's own.
-use Rattle.std.specs.Prelude.{◌≡◌, ℕ, Bool, List, length, map, Option, Some, None}
+use Rattle.std.specs.Prelude.{◌≡◌, ◌≤◌, ℕ, ◌+◌, Bool, List, length, map, take, drop, Option, Some, None}
 use Rattle.cs_value.specs.declared.value.OwnedField.{OwnedField}
 use Rattle.cs_value.specs.declared.value.OwnedField.TheVariants.{Defined}
 use Rattle.cs_value.specs.Value.{IsRecord}
@@ -12,6 +12,7 @@ use Rattle.cs_entries.specs.declared.entry.Change.TheVariants as change
 use Rattle.cs_value.specs.declared.value.OwnedValue.{OwnedValue}
 use Rattle.cs_entries.specs.declared.record_ref.RecordRef.{RecordRef}
 use Rattle.cs_entries.specs.declared.record_ref.RecordRef.TheVariants.{Spelled, Values, Fields}
+use Rattle.cs_entries.specs.declared.spelled.KeyColumns.{KeyColumns}
 use Rattle.cs_entries.specs.Entry.{IsEntry, key_of, with_key}
 use Rattle.cs_entries.specs.Items.{FlaggedEntry, fields_in, first_record, shown, shown_entry}
 
@@ -62,3 +63,9 @@ pub record IsShown (exchanged : Bool) (seen : FlaggedEntry) (what : Operation) (
   pub first_is : IsWhole (length seen.flags) first
   pub fields : fields_at (length seen.flags) first ≡ first_record seen.entry.change
   pub second_is : what ≡ Update → IsWhole (length seen.flags) second
+
+-- these columns are the key of each record of a table
+pub record AreKeyColumns (flags : List ℕ) (columns : KeyColumns) : Type 0 where
+  pub within : columns.first + columns.count ≤ length flags
+  pub key : (fields : List OwnedField) → length fields ≡ length flags
+      → image_key flags fields ≡ record_bytes (take columns.count (drop columns.first fields))

@@ -3,13 +3,13 @@ ghost use Rattle.std.specs.Prelude.{◌≡◌, ◌<◌, ◌++◌, IfOk, IfSome, 
 ghost use Rattle.std.specs.Cow.{cow_slice_items};
 ghost use Rattle.cs_value.specs.Spelling.{record_bytes};
 ghost use Rattle.cs_entries.specs.Items.{shown_record, value_in};
-ghost use Rattle.cs_entries.specs.Records.{HasWidth, IsWhole, fields_at};
+ghost use Rattle.cs_entries.specs.Records.{AreKeyColumns, HasWidth, IsWhole, fields_at};
 
 use crate::entry::{Change, Entry, Operation};
 use crate::fields::{Fields, copy_cells, key_of_fields, write_fields};
 use crate::format::{DELETE, INSERT, UPDATE};
 use crate::record_ref::RecordRef;
-use crate::spelled::key_slice;
+use crate::spelled::KeyColumns;
 use crate::writer::{undo_refused, write_operation};
 use cs_value::{Field, Image, Key, NoMemory, OwnedField, OwnedValue, Row};
 use std::alloc::Global;
@@ -252,12 +252,24 @@ impl<'a> EntryRef<'a> {
         Ok(Key::from_bytes(self.key_bytes(alloc)?))
     }
 
+    /// Returns the bytes of the key where the entry lies in a file. `columns` are those of its table
+    /// ([`KeyColumns::of`]). It allocates nothing.
+    pub fn key_in(&self, columns: KeyColumns) -> Option<&'a [u8]>
+        requires { AreKeyColumns self.now.flags columns }
+        ensures { IfSome result (λ key. key.now ≡ key_of self.now.flags self.now.entry.change) }
+    {
+        match self.first {
+            RecordRef::Spelled(bytes) => Some(columns.slice(bytes)),
+            _ => None,
+        }
+    }
+
     /// Returns the bytes of the key. They are borrowed if they are contiguous in the file, and else copied.
     pub fn key_slice(&self, alloc: Global) -> Result<CowSlice<'a, u8, Global>, NoMemory>
         ensures { IfOk result (λ key. cow_slice_items key ≡ key_of self.now.flags self.now.entry.change) }
     {
-        if let RecordRef::Spelled(bytes) = self.first {
-            if let Some(key) = key_slice(self.flags, bytes) {
+        if let Some(columns) = KeyColumns::of(self.flags) {
+            if let Some(key) = self.key_in(columns) {
                 return Ok(CowSlice::Borrowed(key));
             }
         }
@@ -314,9 +326,7 @@ impl<'a> EntryRef<'a> {
     {
         write_operation(out, self.op(), self.indirect)?;
         match self.operation {
-            Operation::Insert | Operation::Delete => {
-                write_record(out, self.flags, self.first, self.first, false)
-            }
+            Operation::Insert | Operation::Delete => write_row(out, self.flags, self.first),
             Operation::Update => {
                 let exchanged = self.exchanged;
                 write_record(out, self.flags, self.first, self.second, exchanged)?;
@@ -342,6 +352,18 @@ impl<'a> EntryRef<'a> {
             indirect: self.indirect,
             change,
         })
+    }
+}
+
+/// Appends a row.
+fn write_row(out: &mut Vec<u8>, flags: &[u8], row: RecordRef<'_>) -> Result<(), NoMemory>
+    requires { IsWhole (length flags.now) row }
+    ensures ok { OnOk result (out.new.items ≡ out.old.items ++ record_bytes (fields_at (length flags.now) row.entry)) }
+    ensures err { OnErr result (take (length out.old.items) out.new.items ≡ out.old.items) }
+{
+    match row {
+        RecordRef::Spelled(bytes) => Ok(out.extend_from_slice(bytes)?),
+        _ => write_fields(out, Fields::new(flags, row, row, false)),
     }
 }
 

@@ -35,4 +35,5 @@ pub use fields::Fields;
 pub use format::{PATCHSET, TABLE};
 pub use inverse::invert_entries;
 pub use reader::{has_entry, read_entry, rest_from};
+pub use spelled::KeyColumns;
 pub use writer::undo_refused;

@@ -1,15 +1,43 @@
 //! Records in a file: the bytes of their fields, in column order.
-ghost use Rattle.std.specs.Prelude.{◌≡◌, ◌≤◌, ◌+◌, IfSome, List, length, take, drop};
+ghost use Rattle.std.specs.Prelude.{◌≡◌, ◌≤◌, ◌+◌, ◌++◌, ℕ, IfErr, IfOk, IfSome, IsOkAnd, List, Ok, length, take, drop};
 ghost use Rattle.std.specs.List.{AllByRecursion};
 ghost use Rattle.cs_value.specs.declared.value.OwnedField.{OwnedField};
 ghost use Rattle.cs_entries.specs.Reading.{is_key_flag};
-ghost use Rattle.cs_value.specs.Value.{FieldFits, IsRecord, field_of};
+ghost use Rattle.cs_value.specs.Value.{FieldFits, IsField, IsRecord, field_of};
 ghost use Rattle.cs_value.specs.Key.{image_key};
-ghost use Rattle.cs_value.specs.Spelling.{record_bytes};
+ghost use Rattle.cs_value.specs.FieldFaults.{FieldFails};
+ghost use Rattle.cs_value.specs.Reading.{field_at};
+ghost use Rattle.cs_value.specs.Spelling.{BeginsWith, field_bytes, record_bytes};
 ghost use Rattle.cs_entries.specs.Items.{front_of, fields_in};
+ghost use Rattle.cs_entries.specs.Records.{AreKeyColumns};
 
 use crate::reader::rest_from;
-use cs_value::{Field, field_read};
+use cs_value::{Field, FieldFault, Value, field_read};
+
+/// Reads the field at the front of some bytes, as [`field_read`] does, which it calls for all but integers.
+pub(crate) fn front_read(bytes: &[u8]) -> Result<(Field<'_>, usize), FieldFault>
+    ensures found { IfOk result (λ r. IsField (field_of r.0) × BeginsWith bytes.now (field_bytes (field_of r.0)) r.1) }
+    ensures only { (f : OwnedField) (rest : List ℕ) → IsField f → bytes.now ≡ field_bytes f ++ rest
+        → IsOkAnd result (λ r. (field_of r.0 ≡ f) × (r.1 ≡ length (field_bytes f))) }
+    ensures fault { IfErr result (λ f. FieldFails bytes.now f.kind f.place) }
+{
+    match front_integer(bytes) {
+        Some(integer) => Ok((integer, 9)),
+        None => field_read(bytes),
+    }
+}
+
+/// Returns the integer at the front of some bytes, if a whole one is there.
+#[tactic(auto, unfolding(cs_value::specs::Reading::field_at, cs_value::specs::Reading::integer_at))]
+fn front_integer(bytes: &[u8]) -> Option<Field<'_>>
+    ensures { IfSome result (λ integer. field_at bytes.now ≡ Ok (field_of integer, 9)) }
+{
+    let [1, content @ ..] = bytes else {
+        return None;
+    };
+    let number = content.first_chunk::<8>()?;
+    Some(Field::Defined(Value::Int(i64::from_be_bytes(*number))))
+}
 
 /// Returns the first field, and the bytes after it. If there is none, the field is undefined, and takes no byte.
 pub(crate) fn front_field(bytes: &[u8]) -> (Field<'_>, &[u8])
@@ -17,7 +45,7 @@ pub(crate) fn front_field(bytes: &[u8]) -> (Field<'_>, &[u8])
     ensures rest { result.1.now ≡ drop (front_of bytes.now).1 bytes.now }
     ensures fits { FieldFits result.0 }
 {
-    match field_read(bytes) {
+    match front_read(bytes) {
         Ok((field, used)) => (field, &bytes[used..]),
         Err(_) => (Field::Undefined, bytes),
     }
@@ -57,18 +85,34 @@ fn columns_in(bytes: &[u8], first: usize, count: usize) -> &[u8]
     &behind[..behind.len().saturating_sub(rest.len())]
 }
 
-/// Returns the bytes of the fields in the key columns, if these columns are contiguous.
-pub(crate) fn key_slice<'a>(flags: &[u8], bytes: &'a [u8]) -> Option<&'a [u8]>
-    requires fields { IsRecord (fields_in (length flags.now) bytes.now) }
-    requires spelled { bytes.now ≡ record_bytes (fields_in (length flags.now) bytes.now) }
-    ensures { IfSome result (λ key. key.now ≡ image_key flags.now (fields_in (length flags.now) bytes.now)) }
-{
-    let first = run_len(flags, false);
-    let others = rest_from(flags, first);
-    let count = run_len(others, true);
-    let behind = rest_from(others, count);
-    if run_len(behind, false) < behind.len() {
-        return None;
+/// The key columns of a table, if they are contiguous: how many columns are before them, and how many they are.
+#[derive(Clone, Copy, Debug)]
+pub struct KeyColumns {
+    first: usize,
+    count: usize,
+}
+
+impl KeyColumns {
+    /// Returns the key columns that these flags mark, or None if there are others between them.
+    pub fn of(flags: &[u8]) -> Option<KeyColumns>
+        ensures { IfSome result (AreKeyColumns flags.now) }
+    {
+        let first = run_len(flags, false);
+        let others = rest_from(flags, first);
+        let count = run_len(others, true);
+        let behind = rest_from(others, count);
+        if run_len(behind, false) < behind.len() {
+            return None;
+        }
+        Some(KeyColumns { first, count })
     }
-    Some(columns_in(bytes, first, count))
+
+    /// Returns the bytes of these columns in a record.
+    pub(crate) fn slice(self, bytes: &[u8]) -> &[u8]
+        ensures { (flags : List ℕ) → AreKeyColumns flags self → IsRecord (fields_in (length flags) bytes.now)
+            → bytes.now ≡ record_bytes (fields_in (length flags) bytes.now)
+            → result.now ≡ image_key flags (fields_in (length flags) bytes.now) }
+    {
+        columns_in(bytes, self.first, self.count)
+    }
 }

@@ -12,9 +12,7 @@ pub(crate) fn write_operation(
     ensures ok { OnOk result (out.new.items ≡ out.old.items ++ operation ∷ (if indirect then 1 else 0) ∷ []) }
     ensures err { OnErr result (take (length out.old.items) out.new.items ≡ out.old.items) }
 {
-    out.push(operation)?;
-    out.push(u8::from(indirect))?;
-    Ok(())
+    Ok(out.extend_from_slice(&[operation, u8::from(indirect)])?)
 }
 
 /// Cuts off what a failed write has left: the bytes from this offset on.
