@@ -24,19 +24,6 @@ HasEntries-none file at flags le = record {
   keys_are = refl;
 }
 
--- one more was
-abbrev pub HasEntries-push : (file : List ℕ) (at : ℕ) (flags keys : List ℕ) (place : ℕ) → HasEntries file at flags keys place → (seen : FlaggedEntry) (end number : ℕ) (grown : List ℕ)
-    → seen.flags ≡ flags → IsEntry flags seen.entry → Stands file place (entry_bytes seen.entry) end → number ≡ number_of (key_of seen.flags seen.entry.change) → grown ≡ keys ++ number ∷ []
-    → HasEntries file at flags grown end
-HasEntries-push file at flags keys place so seen end number grown same is stands number_is grown_is =
-    let number_by : Entry → ℕ = λ e. number_of (key_of flags e.change) in
-    let one : number ≡ number_by seen.entry = number_is ∙ ap (λ (fs : List ℕ). number_of (key_of fs seen.entry.change)) same in record {
-      entries = so.entries ++ seen.entry ∷ [];
-      each = All-push (IsEntry flags) so.entries seen.entry so.each is;
-      stand = rw (flat_map-append entry_bytes so.entries (seen.entry ∷ []), append-nil) (Stands-then file at place end (entries_bytes so.entries) (entry_bytes seen.entry) so.stand stands);
-      keys_are = rw (grown_is, one, so.keys_are) (sym (map-append number_by so.entries (seen.entry ∷ [])));
-    }
-
 -- a header and entries whose keys differ are the group of a table
 abbrev pub HasTable-read : (file : List ℕ) (at end : ℕ) (table : NamedTable) (keys : List ℕ) → IsHeader table.header → Stands file at (header_bytes table.header) table.start
     → HasEntries file table.start table.header.flags keys end → 0 < length keys → AllPairs (λ m n. m ≢ n) keys → HasTable file at table end

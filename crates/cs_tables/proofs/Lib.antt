@@ -4,5 +4,6 @@ pub mod DistinctLemmas
 pub mod HashedLemmas
 pub mod KeyedLemmas
 pub mod NamedLemmas
+pub mod PassLemmas
 pub mod TablesLemmas
 pub mod VisitLemmas

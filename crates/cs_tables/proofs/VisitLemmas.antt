@@ -11,7 +11,7 @@ use Rattle.cs_tables.specs.Checked.{VisitsEntries, VisitsTable, VisitsGroups, gr
 use Rattle.cs_tables.specs.Distinct.{number_of}
 use Rattle.cs_tables.specs.Named.{NamedTable}
 use Rattle.cs_tables.specs.Visits.{IsVisited, group_text}
-use Rattle.cs_tables.proofs.CheckedLemmas.{HasEntries-none, HasEntries-push, HasTable-read, HasGroups-none, HasGroups-push, IsFileOf-read}
+use Rattle.cs_tables.proofs.CheckedLemmas.{HasTable-read, HasGroups-none, HasGroups-push, IsFileOf-read}
 
 -- the text of one more thing is appended
 pub more_written : {X : Type 0} (text : X → List ℕ) (out written grown : List ℕ) (before : List X) (x : X) → written ≡ out ++ flat_map text before → grown ≡ written ++ text x → grown ≡ out ++ flat_map text (before ++ x ∷ [])
@@ -20,19 +20,6 @@ more_written text out written grown before x so grown_is =
     grown_is ∙ ap (λ (l : List ℕ). l ++ text x) so ∙ append_assoc out (flat_map text before) (text x) ∙ ap (λ (l : List ℕ). out ++ l) (sym pushed)
 
 module _ (header_text : HeaderData → List ℕ) (entry_text : List ℕ → Entry → List ℕ) (old : List ℕ) (file : List ℕ) where
-  -- no entry was visited
-  pub VisitsEntries-none : (at : ℕ) (flags : List ℕ) → at ≤ length file → VisitsEntries (entry_text flags) old old file at flags [] at
-  VisitsEntries-none at flags le = record { has = HasEntries-none file at flags le; written = sym (append-nil old) }
-
-  -- one more was
-  pub VisitsEntries-push : (written : List ℕ) (at : ℕ) (flags keys : List ℕ) (place : ℕ) → VisitsEntries (entry_text flags) old written file at flags keys place → (seen : FlaggedEntry) (end number : ℕ) (grown new : List ℕ)
-      → seen.flags ≡ flags → IsEntry flags seen.entry → Stands file place (entry_bytes seen.entry) end → number ≡ number_of (key_of seen.flags seen.entry.change) → grown ≡ keys ++ number ∷ []
-      → new ≡ written ++ entry_text seen.flags seen.entry → VisitsEntries (entry_text flags) old new file at flags grown end
-  VisitsEntries-push written at flags keys place so seen end number grown new same is stands number_is grown_is new_is = record {
-    has = HasEntries-push file at flags keys place so.has seen end number grown same is stands number_is grown_is;
-    written = more_written (entry_text flags) old written new so.has.entries seen.entry so.written (new_is ∙ ap (λ (fs : List ℕ). written ++ entry_text fs seen.entry) same);
-  }
-
   -- the header and the entries of a table were
   pub VisitsTable-read : (opened new : List ℕ) (at end : ℕ) (table : NamedTable) (keys : List ℕ) → IsHeader table.header → Stands file at (header_bytes table.header) table.start → opened ≡ old ++ header_text table.header
       → VisitsEntries (entry_text table.header.flags) opened new file table.start table.header.flags keys end → 0 < length keys → AllPairs (λ m n. m ≢ n) keys → VisitsTable (group_text header_text entry_text) old new file at table end

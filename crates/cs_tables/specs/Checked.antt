@@ -1,9 +1,10 @@
 -- What a quick pass through a file has found so far. No public contract names this.
-use Rattle.std.specs.Prelude.{◌≡◌, ℕ, ◌≤◌, List, ◌++◌, length, map, All}
+use Rattle.std.specs.Prelude.{◌≡◌, ◌≢◌, ℕ, ◌≤◌, true, List, ◌++◌, length, map, All, AllPairs}
 use Rattle.std.specs.List.{flat_map}
 use Rattle.cs_entries.specs.declared.entry.Entry.{Entry}
-use Rattle.cs_wire.specs.Entry.{IsEntry, key_of}
+use Rattle.cs_wire.specs.Entry.{IsEntry, entry_bytes, key_of}
 use Rattle.cs_wire.specs.Changeset.{GroupData, IsGroup, entries_bytes, group_bytes, file_bytes}
+use Rattle.cs_tables.specs.declared.checked.Passed.{Passed}
 use Rattle.cs_tables.specs.Distinct.{number_of}
 use Rattle.cs_tables.specs.Named.{NamedTable}
 use Rattle.cs_wire.specs.ReadFaults.{Stands}
@@ -20,6 +21,31 @@ pub record VisitsEntries (text : Entry → List ℕ) (old new : List ℕ) (file 
     (end : ℕ) : Type 0 where
   pub has : HasEntries file at flags keys end
   pub written : new ≡ old ++ flat_map text has.entries
+
+-- an entry stands there, this is the number of its key, and this was appended for it
+pub record VisitsEntry (text : Entry → List ℕ) (old new : List ℕ) (file : List ℕ) (at : ℕ) (flags : List ℕ)
+    (number end : ℕ) : Type 0 where
+  pub entry : Entry
+  pub is_entry : IsEntry flags entry
+  pub stands : Stands file at (entry_bytes entry) end
+  pub number_is : number ≡ number_of (key_of flags entry.change)
+  pub written : new ≡ old ++ text entry
+
+-- so many entries were visited, and if the numbers of their keys rise, no two are the same
+pub record Passes (text : Entry → List ℕ) (old new : List ℕ) (file : List ℕ) (at : ℕ) (flags : List ℕ)
+    (passed : Passed) : Type 0 where
+  pub numbers : List ℕ
+  pub visits : VisitsEntries text old new file at flags numbers passed.end
+  pub count_is : passed.count ≡ length numbers
+  pub apart : passed.rises ≡ true → AllPairs (λ m n. m ≢ n) numbers
+
+-- so many entries were visited, and no two of the numbers of their keys are the same
+pub record VisitsDistinct (text : Entry → List ℕ) (old new : List ℕ) (file : List ℕ) (at : ℕ) (flags : List ℕ)
+    (count end : ℕ) : Type 0 where
+  pub numbers : List ℕ
+  pub visits : VisitsEntries text old new file at flags numbers end
+  pub count_is : count ≡ length numbers
+  pub apart : AllPairs (λ m n. m ≢ n) numbers
 
 -- the group of a table that has these entries
 abbrev pub group_of : NamedTable → List Entry → GroupData

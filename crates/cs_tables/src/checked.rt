@@ -1,13 +1,16 @@
 //! The quick check of a file.
-ghost use Rattle.std.specs.Prelude.{◌≡◌, ◌<◌, ◌≤◌, [], IfOk, IfSome, IsTrue, length};
-ghost use Rattle.cs_tables.specs.Checked.{VisitsEntries, VisitsTable};
+ghost use Rattle.std.specs.Prelude.{◌≡◌, ◌<◌, ◌≤◌, ◌++◌, [], ℕ, IfOk, IfSome, IsTrue, List, OnOk, length};
+ghost use Rattle.cs_entries.specs.Records.{AreKeyColumns};
+ghost use Rattle.cs_tables.specs.Checked.{HasEntries, Passes, VisitsDistinct, VisitsEntries, VisitsEntry, VisitsTable};
 ghost use Rattle.cs_tables.specs.Distinct.{number_of as number_in};
 ghost use Rattle.cs_tables.specs.Named.{table_of};
 ghost use Rattle.cs_tables.specs.Visits.{IsVisited, group_text};
 ghost use Rattle.cs_wire.specs.Entry.{key_of};
+ghost use Rattle.cs_wire.specs.ReadFaults.{HasEntry};
 
 use crate::distinct::{number_of, take_distinct};
 use crate::visit::Visit;
+use cs_entries::KeyColumns;
 use cs_value::NoMemory;
 use cs_wire::{EntryRef, HeaderRef, has_entry, read_entry, read_header};
 use std::alloc::Global;
@@ -24,8 +27,9 @@ pub(crate) struct ListedTable<'a> {
 /// and entries is visited. A file that it rejects can still be one, if two names or two keys have the same number. Then
 /// those before the rejection are visited.
 ///
-/// It allocates eight bytes for each table and for each entry of one table at a time, and a copy of each key whose
-/// columns are not adjacent. It takes the time of reading the file and of sorting these numbers.
+/// It allocates eight bytes for each table, eight for each entry of one table at a time unless the numbers of their
+/// keys rise, and a copy of each key whose columns are not adjacent. It takes the time of reading the file and of
+/// sorting these numbers.
 ///
 /// # Errors
 ///
@@ -71,11 +75,10 @@ pub(crate) fn pass_table<'a, V: Visit>(
         return Ok(None);
     };
     visitor.visit_header(header)?;
-    let Some(end) = pass_entries(alloc, file, start, header.flags, keys, visitor)? else {
+    let Some((count, end)) = pass_distinct(alloc, file, start, header.flags, keys, visitor)? else {
         return Ok(None);
     };
-    let count = keys.len();
-    if count == 0 || !take_distinct(keys) {
+    if count == 0 {
         return Ok(None);
     }
     let table = ListedTable {
@@ -86,36 +89,176 @@ pub(crate) fn pass_table<'a, V: Visit>(
     Ok(Some((table, end)))
 }
 
-/// The end of the entries at a byte offset, if each is well formed. Appends the numbers of their keys, and visits them.
-fn pass_entries<V: Visit>(
+/// The number of the entries at a byte offset, and their end, if each is well formed and no two of their keys have the
+/// same number. Visits them. The numbers are only kept if they do not rise.
+fn pass_distinct<V: Visit>(
     alloc: Global,
     file: &[u8],
     at: usize,
     flags: &[u8],
     keys: &mut Vec<u64>,
     visitor: &mut V,
-) -> Result<Option<usize>, NoMemory>
+) -> Result<Option<(usize, usize)>, NoMemory>
     requires within { at ≤ length file.now }
     requires no_key { keys.old.items ≡ [] }
-    ensures { IfOk result (λ end. IfSome end (λ end. VisitsEntries (V.entry_text flags.now) (V.written visitor.old)
-        (V.written visitor.new) file.now at flags.now keys.new.items end)) }
+    ensures distinct { IfOk result (λ passed. IfSome passed (λ passed. VisitsDistinct (V.entry_text flags.now)
+        (V.written visitor.old) (V.written visitor.new) file.now at flags.now passed.0 passed.1)) }
+    ensures no_key { IfOk result (λ passed. IfSome passed (λ _. keys.new.items ≡ [])) }
+{
+    let columns = KeyColumns::of(flags);
+    let Some(passed) = pass_rising(alloc, file, at, flags, columns, visitor)? else {
+        return Ok(None);
+    };
+    if passed.rises {
+        return Ok(Some((passed.count, passed.end)));
+    }
+    list_numbers(alloc, file, at, passed.count, flags, columns, keys)?;
+    let Some(end) = pass_listed(alloc, file, passed.end, flags, columns, keys, visitor)? else {
+        return Ok(None);
+    };
+    let count = keys.len();
+    if !take_distinct(keys) {
+        return Ok(None);
+    }
+    Ok(Some((count, end)))
+}
+
+/// Entries that were passed: how many they are, where they end, and whether the numbers of their keys rise.
+#[derive(Clone, Copy, Debug)]
+struct Passed {
+    count: usize,
+    end: usize,
+    rises: bool,
+}
+
+/// The entries at a byte offset, up to the first whose key's number is not above that before, or else all, if each is
+/// well formed. Visits them.
+fn pass_rising<V: Visit>(
+    alloc: Global,
+    file: &[u8],
+    at: usize,
+    flags: &[u8],
+    columns: Option<KeyColumns>,
+    visitor: &mut V,
+) -> Result<Option<Passed>, NoMemory>
+    requires within { at ≤ length file.now }
+    requires columns { IfSome columns (AreKeyColumns flags.now) }
+    ensures { IfOk result (λ passed. IfSome passed (Passes (V.entry_text flags.now) (V.written visitor.old)
+        (V.written visitor.new) file.now at flags.now)) }
+{
+    let mut passed = Passed {
+        count: 0,
+        end: at,
+        rises: true,
+    };
+    let mut last = 0;
+    'entries: while passed.rises && has_entry(file, passed.end) {
+        let Some((number, end)) = pass_entry(alloc, file, passed.end, flags, columns, visitor)?
+        else {
+            return Ok(None);
+        };
+        passed = Passed {
+            count: passed.count + 1,
+            end,
+            rises: passed.count == 0 || last < number,
+        };
+        last = number;
+    }
+    Ok(Some(passed))
+}
+
+/// Appends the numbers of the keys of as many entries at a byte offset, which were passed.
+fn list_numbers(
+    alloc: Global,
+    file: &[u8],
+    at: usize,
+    count: usize,
+    flags: &[u8],
+    columns: Option<KeyColumns>,
+    keys: &mut Vec<u64>,
+) -> Result<(), NoMemory>
+    requires columns { IfSome columns (AreKeyColumns flags.now) }
+    ensures { (numbers : List ℕ) (end : ℕ) → HasEntries file.now at flags.now numbers end → length numbers ≡ count
+        → OnOk result (keys.new.items ≡ keys.old.items ++ numbers) }
+{
+    let mut place = at;
+    for _ in 0..count {
+        if !has_entry(file, place) {
+            return Ok(());
+        }
+        let Ok((seen, end)) = read_entry(file, place, flags) else {
+            return Ok(());
+        };
+        keys.push(key_number(alloc, &seen, columns)?)?;
+        place = end;
+    }
+    Ok(())
+}
+
+/// The end of the entries at a byte offset, if each is well formed. Appends the numbers of their keys, and visits them.
+fn pass_listed<V: Visit>(
+    alloc: Global,
+    file: &[u8],
+    at: usize,
+    flags: &[u8],
+    columns: Option<KeyColumns>,
+    keys: &mut Vec<u64>,
+    visitor: &mut V,
+) -> Result<Option<usize>, NoMemory>
+    requires within { at ≤ length file.now }
+    requires columns { IfSome columns (AreKeyColumns flags.now) }
+    ensures { IfOk result (λ end. IfSome end (λ end. (numbers : List ℕ)
+        × (keys.new.items ≡ keys.old.items ++ numbers)
+        × VisitsEntries (V.entry_text flags.now) (V.written visitor.old) (V.written visitor.new) file.now at flags.now
+        numbers end)) }
 {
     let mut place = at;
     'entries: while has_entry(file, place) {
-        let Ok((seen, end)) = read_entry(file, place, flags) else {
+        let Some((number, end)) = pass_entry(alloc, file, place, flags, columns, visitor)? else {
             return Ok(None);
         };
-        keys.push(key_number(alloc, &seen)?)?;
-        visitor.visit_entry(seen)?;
+        keys.push(number)?;
         place = end;
     }
     Ok(Some(place))
 }
 
-/// The number of an entry's key.
-pub(crate) fn key_number(alloc: Global, seen: &EntryRef<'_>) -> Result<u64, NoMemory>
+/// The number of the key of the entry at a byte offset, and the end of the entry, if it is well formed. Visits it.
+fn pass_entry<V: Visit>(
+    alloc: Global,
+    file: &[u8],
+    at: usize,
+    flags: &[u8],
+    columns: Option<KeyColumns>,
+    visitor: &mut V,
+) -> Result<Option<(u64, usize)>, NoMemory>
+    requires entry { HasEntry file.now at }
+    requires columns { IfSome columns (AreKeyColumns flags.now) }
+    ensures { IfOk result (λ read. IfSome read (λ read. VisitsEntry (V.entry_text flags.now) (V.written visitor.old)
+        (V.written visitor.new) file.now at flags.now read.0 read.1)) }
+{
+    let Ok((seen, end)) = read_entry(file, at, flags) else {
+        return Ok(None);
+    };
+    let number = key_number(alloc, &seen, columns)?;
+    visitor.visit_entry(seen)?;
+    Ok(Some((number, end)))
+}
+
+/// The number of an entry's key. These are the key columns of its table, if they are contiguous.
+pub(crate) fn key_number(
+    alloc: Global,
+    seen: &EntryRef<'_>,
+    columns: Option<KeyColumns>,
+) -> Result<u64, NoMemory>
+    requires { IfSome columns (AreKeyColumns seen.now.flags) }
     ensures { IfOk result (λ number. number ≡ number_in (key_of seen.now.flags seen.now.entry.change)) }
 {
+    if let Some(columns) = columns {
+        if let Some(key) = seen.key_in(columns) {
+            return Ok(number_of(key));
+        }
+    }
     let key = seen.key_slice(alloc)?;
     Ok(number_of(key.as_slice()))
 }

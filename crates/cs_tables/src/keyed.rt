@@ -14,6 +14,7 @@ use crate::chains::NumberChains;
 use crate::checked::key_number;
 use crate::distinct::number_of;
 use crate::tables::Tables;
+use cs_entries::KeyColumns;
 use cs_value::NoMemory;
 use cs_wire::EntryRef;
 use std::alloc::Global;
@@ -81,9 +82,10 @@ impl<'a> KeyedEntries<'a> {
             → IfOk result (λ keyed. AreKeyed keyed entries groups) }
     {
         let mut keyed = KeyedEntries::with_capacity(alloc, &tables, tables.count())?;
+        let columns = KeyColumns::of(tables.flags());
         let mut left = tables;
         'entries: while let Some(entry) = left.next_entry() {
-            let number = key_number(alloc, &entry)?;
+            let number = key_number(alloc, &entry, columns)?;
             keyed.push(number, left.place())?;
         }
         Ok(keyed)

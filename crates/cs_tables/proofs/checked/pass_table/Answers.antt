@@ -9,10 +9,11 @@ pub returns-clause-table : goal.returns-clause-table
 returns-clause-table g c =
     let v = g.V.Visit in
     let read = c.in-Ok.ensures in
-    let table : NamedTable = table_of (record { header = c.in-Ok.header; start = c.in-Ok.start; count = c.len-count.result }) in
-    let some : 0 < length c.pass_entries.new.keys.items = omega (arith, c.len-count.ensures) in
-    VisitsTable-read v.header_text v.entry_text (v.written c.args.visitor.now) c.args.file.now (v.written c.visit_header.new.self) (v.written c.pass_entries.new.visitor) c.args.at c.in-Some.end table c.pass_entries.new.keys.items
-    read.well_formed read.found c.in_ok-visit_header.ensures (rw c.in-Some.is at c.in_ok-end.ensures) some (c.take_distinct.ensures.distinct c.if-not-take_distinct.false)
+    let passed = rw c.in-Some.is at c.in_ok-count.ensures.distinct in
+    let table : NamedTable = table_of (record { header = c.in-Ok.header; start = c.in-Ok.start; count = c.in-Some.count }) in
+    let some : 0 < length passed.numbers = omega (arith, passed.count_is) in
+    VisitsTable-read v.header_text v.entry_text (v.written c.args.visitor.now) c.args.file.now (v.written c.visit_header.new.self) (v.written c.pass_distinct.new.visitor) c.args.at c.in-Some.end table passed.numbers
+    read.well_formed read.found c.in_ok-visit_header.ensures passed.visits some passed.apart
 
 pub returns-clause-forward : goal.returns-clause-forward
 returns-clause-forward g c = table_moves c.args.file.now c.args.at c.in-Some.end _ (returns-clause-table g c).has c.requires.within

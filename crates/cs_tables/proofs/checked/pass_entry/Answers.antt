@@ -1,0 +1,23 @@
+-- `checked::pass_entry`: what is asked of calls, and what it ensures.
+use Rattle.std.proofs.Common.{ℕ, List, ◌++◌, ap, ◌∙◌}
+use Rattle.cs_wire.specs.Entry.{key_of}
+use Rattle.cs_tables.specs.Distinct.{number_of}
+use Rattle.cs_tables.proofs.checked.pass_entry.Goals as goal
+
+pub key_number-requires : goal.key_number-requires
+key_number-requires g c = rw c.in-Ok.ensures.flags c.requires.columns
+
+pub visit_entry-requires : goal.visit_entry-requires
+visit_entry-requires g c = rw c.in-Ok.ensures.flags c.in-Ok.ensures.well_formed
+
+pub returns : goal.returns
+returns g c =
+    let v = g.V.Visit in
+    let read = c.in-Ok.ensures in
+    let entry = c.in-Ok.seen.entry in record {
+      entry = entry;
+      is_entry = read.well_formed;
+      stands = read.found;
+      number_is = c.in_ok-number.ensures ∙ ap (λ (fs : List ℕ). number_of (key_of fs entry.change)) read.flags;
+      written = c.in_ok-visit_entry.ensures ∙ ap (λ (fs : List ℕ). v.written c.args.visitor.now ++ v.entry_text fs entry) read.flags;
+    }
