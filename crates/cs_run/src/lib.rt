@@ -1,4 +1,4 @@
-//! Changesets carried out on rows, item by item.
+//! Changesets carried out on rows, entry by entry.
 //!
 //! ```rust
 //! // Entries with a conflict are skipped.

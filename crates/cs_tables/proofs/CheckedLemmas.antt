@@ -4,12 +4,11 @@ use Rattle.std.proofs.lemmas.List.{append-nil, drop_all, length-map, map-append}
 use Rattle.std.proofs.lemmas.List.Concat.{flat_map-append}
 use Rattle.std.proofs.lemmas.List.Elements.{All-nil, All-push}
 use Rattle.cs_entries.specs.declared.entry.Entry.{Entry}
-use Rattle.cs_wire.specs.Entry.{IsEntry, entry_bytes, key_of}
-use Rattle.cs_wire.specs.Changeset.{GroupData, IsFileOf, IsGroup, IsHeader, header_bytes, entries_bytes, group_bytes, file_bytes}
+use Rattle.cs_wire.specs.Entry.{IsEntry, key_of}
+use Rattle.cs_wire.specs.Changeset.{GroupData, IsFileOf, IsGroup, IsHeader, header_bytes, group_bytes, file_bytes}
 use Rattle.cs_tables.specs.Checked.{HasEntries, HasTable, HasGroups, group_of}
 use Rattle.cs_tables.specs.Distinct.{number_of}
 use Rattle.cs_tables.specs.Named.{NamedTable}
-use Rattle.cs_wire.specs.Items.{FlaggedEntry}
 use Rattle.cs_wire.specs.ReadFaults.{Stands}
 use Rattle.cs_tables.proofs.DistinctLemmas.{texts_differ}
 use Rattle.cs_wire.proofs.GroupsLemmas.{Stands-group, group_bytes_some}

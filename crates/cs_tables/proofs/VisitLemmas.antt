@@ -3,9 +3,7 @@ use Rattle.std.proofs.Common.{◌≡◌, ◌≢◌, ℕ, ◌<◌, ◌≤◌, Lis
 use Rattle.std.specs.List.{flat_map}
 use Rattle.std.proofs.lemmas.List.Concat.{flat_map-append}
 use Rattle.cs_entries.specs.declared.entry.Entry.{Entry}
-use Rattle.cs_wire.specs.Entry.{IsEntry, entry_bytes, key_of}
 use Rattle.cs_wire.specs.Changeset.{HeaderData, GroupData, IsHeader, header_bytes}
-use Rattle.cs_wire.specs.Items.{FlaggedEntry}
 use Rattle.cs_wire.specs.ReadFaults.{Stands}
 use Rattle.cs_tables.specs.Checked.{VisitsEntries, VisitsTable, VisitsGroups, group_of}
 use Rattle.cs_tables.specs.Distinct.{number_of}
