@@ -23,7 +23,7 @@ WITHOUT_MEMORY = {"claim"}
 # What names the descriptor to which a file that is loaded in front of the library writes.
 DESCRIPTORS = ("REFUSE_MARK", "RECORD_TO")
 
-TWO_TABLES = INSERT + insert(2, None) + header("w", 0, 1) + insert("blob", b"\x00\xff") + delete(None, 5)
+TWO_TABLES = INSERT + insert(2, None) + header("w", 0, 1) + delete(None, 5) + insert("blob", b"\x00\xff")
 
 # Scripts, by what they show.
 SCRIPTS = {

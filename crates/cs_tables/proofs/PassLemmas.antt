@@ -14,18 +14,15 @@ use Rattle.cs_wire.specs.ReadFaults.{Stands, HasEntry}
 use Rattle.cs_tables.specs.declared.checked.Passed.{Passed}
 use Rattle.cs_tables.specs.Checked.{HasEntries, Passes, VisitsEntries, VisitsEntry}
 use Rattle.cs_tables.specs.Distinct.{number_of}
+use Rattle.cs_tables.specs.KeyedFile.{key_number}
 use Rattle.cs_entries.proofs.EntryLemmas.{entry_bytes_some}
 use Rattle.cs_entries.proofs.ReadingLemmas.{Stands-moves, Stands-then, rest_is}
 use Rattle.cs_wire.proofs.EntriesLemmas.{HasEntry-entry}
 use Rattle.cs_tables.proofs.CheckedLemmas.{HasEntries-none}
 
--- the number of an entry's key
-abbrev pub number_by : List ℕ → Entry → ℕ
-number_by flags entry = number_of (key_of flags entry.change)
-
 -- ---- entries that were visited
 
--- one
+-- one entry was visited
 VisitsEntries-one : (text : Entry → List ℕ) (old new file : List ℕ) (at : ℕ) (flags : List ℕ) (number end : ℕ) → VisitsEntry text old new file at flags number end → VisitsEntries text old new file at flags (number ∷ []) end
 VisitsEntries-one text old new file at flags number end v = record {
   has = record {
@@ -37,7 +34,7 @@ VisitsEntries-one text old new file at flags number end v = record {
   written = v.written ∙ ap (λ (l : List ℕ). old ++ l) (sym (append-nil (text v.entry)));
 }
 
--- some and then others
+-- some entries were visited, and then others
 pub VisitsEntries-then : (text : Entry → List ℕ) (old written new file : List ℕ) (at : ℕ) (flags numbers : List ℕ) (place : ℕ) (others : List ℕ) (end : ℕ) → VisitsEntries text old written file at flags numbers place
     → VisitsEntries text written new file place flags others end → VisitsEntries text old new file at flags (numbers ++ others) end
 VisitsEntries-then text old written new file at flags numbers place others end p q =
@@ -47,22 +44,22 @@ VisitsEntries-then text old written new file at flags numbers place others end p
         entries = xs ++ ys;
         each = All-append (IsEntry flags) xs ys p.has.each q.has.each;
         stand = rw (flat_map-append entry_bytes xs ys) (Stands-then file at place end (entries_bytes xs) (entries_bytes ys) p.has.stand q.has.stand);
-        keys_are = rw (p.has.keys_are, q.has.keys_are) (sym (map-append (number_by flags) xs ys));
+        keys_are = rw (p.has.keys_are, q.has.keys_are) (sym (map-append (key_number flags) xs ys));
       };
       written = q.written ∙ ap (λ (l : List ℕ). l ++ flat_map text ys) p.written ∙ append_assoc old (flat_map text xs) (flat_map text ys) ∙ ap (λ (l : List ℕ). old ++ l) (sym (flat_map-append text xs ys));
     }
 
--- none
+-- no entry was visited
 pub VisitsEntries-none : (text : Entry → List ℕ) (old file : List ℕ) (at : ℕ) (flags : List ℕ) → at ≤ length file → VisitsEntries text old old file at flags [] at
 VisitsEntries-none text old file at flags le = record { has = HasEntries-none file at flags le; written = sym (append-nil old) }
 
--- one more
+-- one more entry was visited
 pub VisitsEntries-next : (text : Entry → List ℕ) (old written new file : List ℕ) (at : ℕ) (flags numbers : List ℕ) (place number end : ℕ) → VisitsEntries text old written file at flags numbers place
     → VisitsEntry text written new file place flags number end → VisitsEntries text old new file at flags (numbers ++ number ∷ []) end
 VisitsEntries-next text old written new file at flags numbers place number end so v =
     VisitsEntries-then text old written new file at flags numbers place (number ∷ []) end so (VisitsEntries-one text written new file place flags number end v)
 
--- the next entry ends behind its place
+-- an entry ends after its start
 pub entry_moves : (text : Entry → List ℕ) (old new file : List ℕ) (at : ℕ) (flags : List ℕ) (number end : ℕ) → VisitsEntry text old new file at flags number end → at < length file → at < end
 entry_moves text old new file at flags number end v within = Stands-moves file at end _ v.stands (entry_bytes_some v.entry) within
 
@@ -118,19 +115,19 @@ module _ (text : Entry → List ℕ) (old written file : List ℕ) (at : ℕ) (f
   pub PassesSoFar-passes : Passes text old written file at flags passed
   PassesSoFar-passes = record { numbers = so.numbers; visits = so.visits; count_is = so.count_is; apart = λ same. (so.rising same).apart }
 
--- ---- numbers that are listed of entries that were passed
+-- ---- the listed numbers of entries that were passed
 
--- so many of these numbers are listed
+-- the first i of these numbers are listed
 pub record ListedSoFar (file flags numbers : List ℕ) (end : ℕ) (initial keys : List ℕ) (i place : ℕ) : Type 0 where
   pub before : List Entry
   pub left : List Entry
   pub each : AllByRecursion (IsEntry flags) left
-  pub numbers_are : numbers ≡ map (number_by flags) before ++ map (number_by flags) left
+  pub numbers_are : numbers ≡ map (key_number flags) before ++ map (key_number flags) left
   pub count : length before ≡ i
-  pub keys_are : keys ≡ initial ++ map (number_by flags) before
+  pub keys_are : keys ≡ initial ++ map (key_number flags) before
   pub stands : Stands file place (entries_bytes left) end
 
--- whatever entries were passed
+-- the same for any entries that were passed
 abbrev pub Lists : (file : List ℕ) (at : ℕ) (flags : List ℕ) (count : ℕ) (initial keys : List ℕ) (i place : ℕ) → Type 0
 Lists file at flags count initial keys i place = (numbers : List ℕ) (end : ℕ) → HasEntries file at flags numbers end → length numbers ≡ count → ListedSoFar file flags numbers end initial keys i place
 
@@ -153,7 +150,7 @@ module _ (file flags numbers : List ℕ) (end : ℕ) (initial keys : List ℕ) (
       by : (left : List Entry) → so.left ≡ left → AllByRecursion (IsEntry flags) left → Stands file place (entries_bytes left) end → (entry : Entry) × (others : List Entry) × (so.left ≡ entry ∷ others) × IsEntry flags entry
           × (drop place file ≡ entry_bytes entry ++ (entries_bytes others ++ drop end file)) × AllByRecursion (IsEntry flags) others
       by [] is each stands =
-          absurd (omega (arith, lt, so.count, ap length so.numbers_are, length-append (map (number_by flags) so.before) (map (number_by flags) so.left), length-map so.before (number_by flags), length-map so.left (number_by flags), ap length is))
+          absurd (omega (arith, lt, so.count, ap length so.numbers_are, length-append (map (key_number flags) so.before) (map (key_number flags) so.left), length-map so.before (key_number flags), length-map so.left (key_number flags), ap length is))
       by (entry ∷ others) is each stands = (entry, others, is, each.0, stands.spelled ∙ append_assoc (entry_bytes entry) (entries_bytes others) (drop end file), each.1)
 
   -- an entry begins there
@@ -163,7 +160,7 @@ module _ (file flags numbers : List ℕ) (end : ℕ) (initial keys : List ℕ) (
       let rest = entries_bytes next.1 ++ drop end file in
       HasEntry-entry file place next.0 rest (omega (arith, ap length next.4, length-append (entry_bytes next.0) rest, entry_bytes_some next.0, length-drop place file)) next.4
 
-  -- and it is read
+  -- one more number is listed
   pub ListedSoFar-next : (so : ListedSoFar file flags numbers end initial keys i place) → i < length numbers → (seen : FlaggedEntry) (number to : ℕ) (grown : List ℕ) → seen.flags ≡ flags
       → Stands file place (entry_bytes seen.entry) to → ((entry : Entry) (rest : List ℕ) → IsEntry flags entry → drop place file ≡ entry_bytes entry ++ rest → seen.entry ≡ entry)
       → number ≡ number_of (key_of seen.flags seen.entry.change) → grown ≡ keys ++ number ∷ [] → ListedSoFar file flags numbers end initial grown (i + 1) to
@@ -172,15 +169,15 @@ module _ (file flags numbers : List ℕ) (end : ℕ) (initial keys : List ℕ) (
       let entry = next.0 in
       let others = next.1 in
       let same : seen.entry ≡ entry = only entry _ next.3 next.4 in
-      let own : number ≡ number_by flags entry = number_is ∙ ap (λ (fs : List ℕ). number_of (key_of fs seen.entry.change)) flags_are ∙ ap (number_by flags) same in
-      let more : map (number_by flags) (so.before ++ entry ∷ []) ≡ map (number_by flags) so.before ++ number_by flags entry ∷ [] = map-append (number_by flags) so.before (entry ∷ []) in record {
+      let own : number ≡ key_number flags entry = number_is ∙ ap (λ (fs : List ℕ). number_of (key_of fs seen.entry.change)) flags_are ∙ ap (key_number flags) same in
+      let more : map (key_number flags) (so.before ++ entry ∷ []) ≡ map (key_number flags) so.before ++ key_number flags entry ∷ [] = map-append (key_number flags) so.before (entry ∷ []) in record {
         before = so.before ++ entry ∷ [];
         left = others;
         each = next.5;
-        numbers_are = so.numbers_are ∙ ap (λ (es : List Entry). map (number_by flags) so.before ++ map (number_by flags) es) next.2
-            ∙ sym (append_assoc (map (number_by flags) so.before) (number_by flags entry ∷ []) (map (number_by flags) others)) ∙ ap (λ (ns : List ℕ). ns ++ map (number_by flags) others) (sym more);
+        numbers_are = so.numbers_are ∙ ap (λ (es : List Entry). map (key_number flags) so.before ++ map (key_number flags) es) next.2
+            ∙ sym (append_assoc (map (key_number flags) so.before) (key_number flags entry ∷ []) (map (key_number flags) others)) ∙ ap (λ (ns : List ℕ). ns ++ map (key_number flags) others) (sym more);
         count = omega (arith, so.count, length-append so.before (entry ∷ []));
-        keys_are = grown_is ∙ ap (λ (ns : List ℕ). ns ++ number ∷ []) so.keys_are ∙ append_assoc initial (map (number_by flags) so.before) (number ∷ []) ∙ ap (λ (n : ℕ). initial ++ (map (number_by flags) so.before ++ n ∷ [])) own
+        keys_are = grown_is ∙ ap (λ (ns : List ℕ). ns ++ number ∷ []) so.keys_are ∙ append_assoc initial (map (key_number flags) so.before) (number ∷ []) ∙ ap (λ (n : ℕ). initial ++ (map (key_number flags) so.before ++ n ∷ [])) own
             ∙ ap (λ (ns : List ℕ). initial ++ ns) (sym more);
         stands = record {
           spelled = rest_is file place to (entry_bytes seen.entry) (entries_bytes others ++ drop end file) stands (next.4 ∙ ap (λ (e : Entry). entry_bytes e ++ (entries_bytes others ++ drop end file)) (sym same));
@@ -194,7 +191,7 @@ module _ (file flags numbers : List ℕ) (end : ℕ) (initial keys : List ℕ) (
     where
       by : (left : List Entry) → so.left ≡ left → keys ≡ initial ++ numbers
       by [] is =
-          let all : numbers ≡ map (number_by flags) so.before = so.numbers_are ∙ ap (λ (es : List Entry). map (number_by flags) so.before ++ map (number_by flags) es) is ∙ append-nil (map (number_by flags) so.before) in
+          let all : numbers ≡ map (key_number flags) so.before = so.numbers_are ∙ ap (λ (es : List Entry). map (key_number flags) so.before ++ map (key_number flags) es) is ∙ append-nil (map (key_number flags) so.before) in
           so.keys_are ∙ ap (λ (ns : List ℕ). initial ++ ns) (sym all)
       by (entry ∷ others) is =
-          absurd (omega (arith, le, so.count, ap length so.numbers_are, length-append (map (number_by flags) so.before) (map (number_by flags) so.left), length-map so.before (number_by flags), length-map so.left (number_by flags), ap length is))
+          absurd (omega (arith, le, so.count, ap length so.numbers_are, length-append (map (key_number flags) so.before) (map (key_number flags) so.left), length-map so.before (key_number flags), length-map so.left (key_number flags), ap length is))

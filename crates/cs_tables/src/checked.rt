@@ -27,9 +27,9 @@ pub(crate) struct ListedTable<'a> {
 /// and entries is visited. A file that it rejects can still be one, if two names or two keys have the same number. Then
 /// those before the rejection are visited.
 ///
-/// It allocates eight bytes for each table, eight for each entry of one table at a time unless the numbers of their
-/// keys rise, and a copy of each key whose columns are not adjacent. It takes the time of reading the file and of
-/// sorting these numbers.
+/// It allocates eight bytes for each table, eight for each entry of one table at a time unless the numbers of the keys
+/// rise, and a copy of each key whose columns are not adjacent. It reads each entry at most twice, and sorts the numbers
+/// that it lists.
 ///
 /// # Errors
 ///
@@ -90,7 +90,7 @@ pub(crate) fn pass_table<'a, V: Visit>(
 }
 
 /// The number of the entries at a byte offset, and their end, if each is well formed and no two of their keys have the
-/// same number. Visits them. The numbers are only kept if they do not rise.
+/// same number. Visits them. The numbers of the keys are listed only if they do not rise. `keys` is room for them.
 fn pass_distinct<V: Visit>(
     alloc: Global,
     file: &[u8],
@@ -123,7 +123,7 @@ fn pass_distinct<V: Visit>(
     Ok(Some((count, end)))
 }
 
-/// Entries that were passed: how many they are, where they end, and whether the numbers of their keys rise.
+/// Entries that were passed: their number, where they end, and whether the numbers of their keys rise.
 #[derive(Clone, Copy, Debug)]
 struct Passed {
     count: usize,
@@ -131,8 +131,8 @@ struct Passed {
     rises: bool,
 }
 
-/// The entries at a byte offset, up to the first whose key's number is not above that before, or else all, if each is
-/// well formed. Visits them.
+/// Visits the entries at a byte offset, through the first whose key has a number that is not above the previous one, or
+/// else all. None if one of them is malformed.
 fn pass_rising<V: Visit>(
     alloc: Global,
     file: &[u8],
@@ -167,7 +167,8 @@ fn pass_rising<V: Visit>(
     Ok(Some(passed))
 }
 
-/// Appends the numbers of the keys of as many entries at a byte offset, which were passed.
+/// Appends the numbers of the keys of the first entries at a byte offset, which were read before. `count` says how many
+/// they are.
 fn list_numbers(
     alloc: Global,
     file: &[u8],
@@ -245,7 +246,7 @@ fn pass_entry<V: Visit>(
     Ok(Some((number, end)))
 }
 
-/// The number of an entry's key. These are the key columns of its table, if they are contiguous.
+/// The number of an entry's key. `columns` are those of its table, if they are contiguous.
 pub(crate) fn key_number(
     alloc: Global,
     seen: &EntryRef<'_>,
