@@ -10,8 +10,9 @@ from shapes import BLOB, CRAFTED, INSERTS, LONG, MADE, MIX, SHUFFLED, TEN, WIDE,
 class Kind(NamedTuple):
     """A kind of row: a command, SQLite's next to it or none, and the shapes that both are run on.
 
-    They run in the folder of the programs and the files. COUNT is the number of entries or rows.
-    The file after "<" is their input. A call prints the time of itself.
+    They run in the folder of the programs and the files. COUNT is the number of entries or rows,
+    and SHAPE is `mix` or `inserts`. The file after "<" is their input. A call prints the time of
+    itself.
     """
 
     name: str
@@ -28,6 +29,12 @@ class Kind(NamedTuple):
         """Return whether it is run on so many entries or rows of a shape."""
         most = shape.most_applied if self.state == "before" else self.most
         return shape.name in self.shapes and count <= most
+
+    def commands(self, shape: Shape, count: int) -> list[str]:
+        """Return our command for so many entries or rows of a shape, and SQLite's."""
+        word = "mix" if shape.is_mix else "inserts"
+        sides = (self.ours, self.theirs)
+        return [side.replace("COUNT", str(count)).replace("SHAPE", word) for side in sides]
 
     def files(self) -> set[str]:
         """Return the names of the files that have to be made."""
@@ -87,6 +94,10 @@ def look(name: str, file: str = "file", theirs: str = "") -> Kind:
     return Kind(f"`{name}`", ours, theirs, LOOKED, UNKNOWN, UNKNOWN, MANY)
 
 
+APPLY = command("apply", " store", "apply base file", APPLIED, OPENS)._replace(
+    why_memory=LISTS, state="before"
+)
+
 KINDS = (
     call("invert", "file", ALL, INVERTS, COPIES),
     call("concat", "file more", PAIRS, CHECKS_BOTH, COPIES),
@@ -96,8 +107,11 @@ KINDS = (
     command("concat", " more out", "concat other file more", PAIRS, CHECKS_BOTH),
     command("dump", "", "dump other file", ALL, CHECKS),
     command("sql", "", "dump other file", ALL, CHECKS),
-    command("apply", " store", "apply base file", APPLIED, OPENS)._replace(
-        why_memory=LISTS, state="before"
+    APPLY,
+    APPLY._replace(
+        name="statements of `changeset apply`, on the kit",
+        ours="./kit_apply store SHAPE COUNT",
+        shapes=(MIX, INSERTS),
     ),
     Kind(
         "opening a store",

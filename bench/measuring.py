@@ -15,7 +15,7 @@ import time
 from typing import NamedTuple, Optional
 
 from kinds import Kind
-from shapes import TOP
+from shapes import TOP, Shape
 
 BENCH = TOP / "bench"
 HEADER = TOP / "bindings/c"
@@ -56,7 +56,7 @@ def is_compiled(program: str, *words: str) -> bool:
     return subprocess.run(["cc", "-O2", "-o", program, *words], capture_output=True).returncode == 0
 
 
-def put_programs(program: pathlib.Path, library: pathlib.Path) -> bool:
+def put_programs(program: pathlib.Path, library: pathlib.Path, kit: pathlib.Path) -> bool:
     """Put the programs into the current folder. Return whether there are those of SQLite."""
     calls, folder = str(BENCH / "calls.c"), library.parent
     words = [calls, str(BENCH / "ours.c"), "-I", str(HEADER), str(library), f"-Wl,-rpath,{folder}"]
@@ -66,11 +66,22 @@ def put_programs(program: pathlib.Path, library: pathlib.Path) -> bool:
     if not is_compiled("calls", *words):
         sys.exit("bench/run: the program in C does not compile")
     os.symlink(program, "changeset")
+    os.symlink(kit, "kit_apply")
     package = pathlib.Path("package")
     package.write_text(f'#!/bin/sh\nexec "{sys.executable}" "{BENCH / "package.py"}" "$@"\n')
     package.chmod(0o755)
     has_library = is_compiled("library", calls, str(BENCH / "library.c"), "-lsqlite3")
     return has_library and is_compiled("sqlite", str(TOP / "tests/sqlite.c"), "-lsqlite3")
+
+
+def is_there(kind: Kind) -> bool:
+    """Return whether our program of a kind is there. If not, print that the kind is left out."""
+    program = kind.ours.split()[0]
+    if os.path.exists(program):
+        return True
+    missing = f"no program at {os.path.realpath(program)}"
+    print(f"bench/run: {missing}, so a row is left out: {kind.name}", file=sys.stderr)
+    return False
 
 
 def remove(*patterns: str) -> None:
@@ -113,16 +124,16 @@ def best(first: Optional[Run], second: Optional[Run]) -> Optional[Run]:
     return Run(min(first.seconds, second.seconds), max(first.memory, second.memory))
 
 
-def measure(kind: Kind, count: int, has_theirs: bool, long: float) -> Pair:
+def measure(kind: Kind, shape: Shape, count: int, has_theirs: bool, long: float) -> Pair:
     """Measure a kind and SQLite's in turn. What takes long is not repeated."""
-    sides = [kind.ours, kind.theirs] if has_theirs else [kind.ours]
+    sides = kind.commands(shape, count)[: 2 if has_theirs else 1]
     runs: list[Optional[Run]] = [None, None]
     remove("out", "other")
     started = time.monotonic()
     for _ in range(ROUNDS):
         for side, command in enumerate(sides):
             put_state(kind.state)
-            one = run(command.replace("COUNT", str(count)), kind.is_call)
+            one = run(command, kind.is_call)
             runs[side] = best(runs[side], one)
         if time.monotonic() - started > long:
             break

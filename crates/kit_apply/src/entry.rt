@@ -1,0 +1,45 @@
+//! The entries of the bench's files of one table, as `bench/shapes.py` makes them.
+
+/// Which entries a file has.
+#[derive(Clone, Copy, Debug)]
+pub(crate) enum Shape {
+    /// An INSERT, a DELETE and an UPDATE in turn.
+    Mix,
+    /// INSERTs only.
+    Inserts,
+}
+
+/// What an entry does to its row.
+#[derive(Clone, Copy, Debug)]
+pub(crate) enum Change {
+    Insert,
+    Delete,
+    Update,
+}
+
+impl Shape {
+    /// Returns what the entry with this key does.
+    pub(crate) fn change(self, key: i64) -> Change {
+        match (self, key % 3) {
+            (Shape::Inserts, _) | (Shape::Mix, 0) => Change::Insert,
+            (Shape::Mix, 1) => Change::Delete,
+            _ => Change::Update,
+        }
+    }
+}
+
+impl Change {
+    /// Returns the bytes of the row with this key, after the entry or before it is deleted. A value is the byte of its
+    /// type and its content, as `row_write` of `cs_value` writes it. The first nine bytes are those of the key.
+    pub(crate) fn row(self, key: i64) -> [u8; 16] {
+        let text = match self {
+            Change::Insert | Change::Delete => b"\x03\x05hello",
+            Change::Update => b"\x03\x05olleh",
+        };
+        let mut row = [0u8; 16];
+        row[0] = 1;
+        row[1..9].copy_from_slice(&key.to_be_bytes());
+        row[9..].copy_from_slice(text);
+        row
+    }
+}

@@ -1,0 +1,90 @@
+//! Runs on the kit's SQL engine alone the statements that `changeset FILE apply STORE` runs for the bench's files of
+//! one table, and reads no changeset. What an apply takes in addition is the part of this project.
+#![tactic(auto)]
+
+mod entry;
+mod texts;
+
+use crate::entry::{Change, Shape};
+use anyhow::{Result, bail, ensure};
+use sqlite::{Alter, Connection, Error, params};
+use std::env;
+
+/// The table of all rows.
+const TABLE: &str = "t";
+
+/// Reads each record.
+fn scan<S: Alter>(conn: &mut Connection<S>) -> Result<(), Error> {
+    let mut rows = conn.query(texts::SCAN, &[])?;
+    for _ in 0..u64::MAX {
+        if rows.next()?.is_none() {
+            return Ok(());
+        }
+    }
+    Ok(())
+}
+
+/// Reads the version and the declarations, and then each record, in a transaction, as `cs_adoption` opens a store.
+fn adopt<S: Alter>(conn: &mut Connection<S>) -> Result<(), Error> {
+    conn.execute("BEGIN", &[])?;
+    let _listed = conn.query_all(texts::LIST, params![""])?;
+    scan(conn)?;
+    conn.execute("COMMIT", &[])?;
+    Ok(())
+}
+
+/// Returns whether there is a record with this key.
+fn has_record<S: Alter>(conn: &mut Connection<S>, table: &str, key: &[u8]) -> Result<bool, Error> {
+    let found = conn.query_all(texts::FIND, params![table, key])?;
+    Ok(!found.is_empty())
+}
+
+/// Carries out the entry with this key. It fails if the entry has a conflict.
+fn apply_entry<S: Alter>(conn: &mut Connection<S>, shape: Shape, key: i64) -> Result<()> {
+    let change = shape.change(key);
+    let row = change.row(key);
+    let (key, row) = (&row[..9], row.as_slice());
+    let is_new = !has_record(conn, TABLE, key)?;
+    ensure!(
+        is_new == matches!(change, Change::Insert),
+        "the entry has a conflict"
+    );
+    match change {
+        Change::Insert => conn.execute(texts::INSERT, params![TABLE, key, row])?,
+        Change::Delete => conn.execute(texts::REMOVE, params![TABLE, key])?,
+        Change::Update => conn.execute(texts::PUT, params![TABLE, key, row])?,
+    };
+    Ok(())
+}
+
+/// Adopts a store, and carries out so many entries in a transaction.
+fn apply<S: Alter>(conn: &mut Connection<S>, shape: Shape, count: i64) -> Result<()> {
+    adopt(conn)?;
+    conn.execute("BEGIN", &[])?;
+    ensure!(
+        has_record(conn, "", TABLE.as_bytes())?,
+        "the store has no table t"
+    );
+    for key in 0..count {
+        apply_entry(conn, shape, key)?;
+    }
+    conn.execute("COMMIT", &[])?;
+    Ok(())
+}
+
+fn main(rt: HostRuntime) -> Result<()> {
+    let words: Vec<String> = env::args(&rt)?.collect(rt.alloc())?;
+    let [_, store, shape, count] = words.as_slice() else {
+        bail!("usage: kit_apply STORE mix|inserts COUNT");
+    };
+    let shape = match shape.as_str() {
+        "mix" => Shape::Mix,
+        "inserts" => Shape::Inserts,
+        _ => bail!("no shape {shape}"),
+    };
+    let count = count.parse::<i64>()?;
+    let mut conn = Connection::open(&rt, store)?;
+    let applied = apply(&mut conn, shape, count);
+    conn.close()?;
+    applied
+}

@@ -1,0 +1,14 @@
+//! The texts of SQL that read and write records: those of `crates/cs_records/src/texts.rt`.
+
+pub(crate) const FIND: &str = "SELECT rowb FROM rec WHERE tab = ?1 AND keyb = ?2";
+
+pub(crate) const LIST: &str = "SELECT keyb, rowb FROM rec WHERE tab = ?1 ORDER BY keyb";
+
+pub(crate) const SCAN: &str = "SELECT rowid, tab, keyb, rowb FROM rec ORDER BY rowid";
+
+pub(crate) const INSERT: &str = "INSERT INTO rec VALUES(?1, ?2, ?3)";
+
+pub(crate) const PUT: &str =
+    "INSERT INTO rec VALUES(?1, ?2, ?3) ON CONFLICT(tab, keyb) DO UPDATE SET rowb = ?3";
+
+pub(crate) const REMOVE: &str = "DELETE FROM rec WHERE tab = ?1 AND keyb = ?2";
