@@ -1,5 +1,5 @@
 -- Entries as they are shown, and their fields one after another.
-use Rattle.std.proofs.Common.{◌≡◌, ℕ, zero, suc, ◌+◌, ◌<◌, ◌≤◌, Bool, true, false, not, cond, ap₂, List, [], ◌∷◌, ◌++◌, length, map, drop, get_or, Option, Some, None, refl, sym, ap, ◌∙◌, append_assoc, arith, inl, inr}
+use Rattle.std.proofs.Common.{◌≡◌, ℕ, zero, suc, ◌+◌, ◌<◌, ◌≤◌, Bool, true, false, not, cond, ap₂, List, [], ◌∷◌, ◌++◌, length, map, drop, get_or, Option, Some, None, refl, sym, ap, ◌∙◌, append_assoc, arith, inl, inr, subst}
 use Rattle.std.specs.Borrow.{Bor}
 use Rattle.std.proofs.lemmas.List.{append-nil, drop_all, drop_more, append_cancel_left, length-map}
 use Rattle.std.proofs.lemmas.List.Concat.{flat_map-append}
@@ -22,9 +22,9 @@ use Rattle.cs_entries.specs.declared.entry.Operation.TheVariants.{Insert, Delete
 use Rattle.cs_entries.specs.declared.record_ref.RecordRef.{RecordRef}
 use Rattle.cs_entries.specs.declared.record_ref.RecordRef.TheVariants.{Spelled, Values, Fields as FieldsOf}
 use Rattle.cs_entries.specs.Entry.{IsChange, IsEntry, entry_bytes, key_of, operation, with_key}
-use Rattle.cs_entries.specs.Inverse.{IsInverseEntry}
-use Rattle.cs_entries.specs.Views.{inverse_operation, inverse_change}
-use Rattle.cs_entries.specs.Items.{IsNextField, IsSpelled, change_of, entry_in, entry_of, fields_in, first_record, shown, shown_entry, shown_record}
+use Rattle.cs_entries.specs.Inverse.{AppendsInverse, IsInverseEntry}
+use Rattle.cs_entries.specs.Views.{byte_of, inverse_operation, inverse_change}
+use Rattle.cs_entries.specs.Items.{FlaggedEntry, IsNextField, IsSpelled, change_of, entry_in, entry_of, fields_in, first_record, shown, shown_entry, shown_record, value_in}
 use Rattle.cs_entries.specs.Records.{IsRowOperation, IsShown, IsWhole, fields_at, row_change}
 use Rattle.cs_entries.proofs.EntryLemmas.{length-IsKeyedUpdate}
 use Rattle.cs_entries.proofs.InverseLemmas.{inverse_entry_is, IsChange-inverse, key_of-inverse, with_key_twice}
@@ -220,6 +220,28 @@ pub entry_bytes-update : (flags : List ℕ) (what : Operation) (exchanged indire
 unfolding entry_bytes
 entry_bytes-update flags what exchanged indirect first second byte e same =
     rw (same, e) (ap (λ (x : List ℕ). 0x17 ∷ cond indirect 1 0 ∷ x) (sym (flat_map-append field_bytes (shown_record exchanged flags first second) (shown_record exchanged flags second first))))
+
+-- a row with the other operation: the bytes of the inverse
+inverse_bytes : (flags : List ℕ) (what : Operation) (exchanged indirect : Bool) (first second : List OwnedField) → IsOfRow what → (byte : ℕ) → byte ≡ byte_of (inverse_operation what)
+    → byte ∷ drop 1 (entry_bytes (shown_entry exchanged (entry_of flags what indirect first second)).entry) ≡ entry_bytes (shown_entry (not exchanged) (entry_of flags (inverse_operation what) indirect first second)).entry
+unfolding entry_bytes
+inverse_bytes flags Insert exchanged indirect first second so byte same = ap (λ (b : ℕ). b ∷ cond indirect 1 0 ∷ record_bytes (map Defined (map value_in first))) same
+inverse_bytes flags Delete exchanged indirect first second so byte same = ap (λ (b : ℕ). b ∷ cond indirect 1 0 ∷ record_bytes (map Defined (map value_in first))) same
+inverse_bytes flags Update exchanged indirect first second so byte same = absurd (update_is_none so)
+
+pub AppendsInverse-row : (flags : List ℕ) (what : Operation) (exchanged indirect : Bool) (first second : RecordRef) → IsShown exchanged (entry_of flags what indirect (fields_at (length flags) first) (fields_at (length flags) second)) what first second
+    → IsOfRow what → (byte : ℕ) → byte ≡ byte_of (inverse_operation what) → (seen : FlaggedEntry) → shown_entry exchanged (entry_of flags what indirect (fields_at (length flags) first) (fields_at (length flags) second)) ≡ seen
+    → (bytes old new : List ℕ) → bytes ≡ entry_bytes seen.entry → new ≡ old ++ byte ∷ drop 1 bytes → AppendsInverse seen.flags seen.entry old new
+AppendsInverse-row flags what exchanged indirect first second is so byte same seen view bytes old new spelled grown =
+    let one = fields_at (length flags) first in
+    let two = fields_at (length flags) second in
+    let from : bytes ≡ entry_bytes (shown_entry exchanged (entry_of flags what indirect one two)).entry = spelled ∙ ap (λ (s : FlaggedEntry). entry_bytes s.entry) (sym view) in
+    subst (λ (s : FlaggedEntry). AppendsInverse s.flags s.entry old new) view (record {
+      inverse = (shown_entry (not exchanged) (entry_of flags (inverse_operation what) indirect one two)).entry;
+      is_entry = (IsShown-inverse flags what exchanged indirect first second is).is_shown;
+      undoes = shown_inverse_entry flags what exchanged indirect first second is;
+      written = grown ∙ ap (λ (b : List ℕ). old ++ byte ∷ drop 1 b) from ∙ ap (λ (b : List ℕ). old ++ b) (inverse_bytes flags what exchanged indirect one two so byte same);
+    })
 
 -- a record has as many fields as it is shown
 pub length-shown_record : (exchanged : Bool) (flags : List ℕ) (own other : List OwnedField) → length own ≡ length flags → (exchanged ≡ true → length other ≡ length flags) → length (shown_record exchanged flags own other) ≡ length flags

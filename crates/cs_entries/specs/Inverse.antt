@@ -1,9 +1,9 @@
 -- The inverse of an entry: the introduction to SQLite's session extension, under "inverting a changeset". That the
 -- indirect flag stays is this project's own.
-use Rattle.std.specs.Prelude.{◌≡◌, ℕ, List}
+use Rattle.std.specs.Prelude.{◌≡◌, ℕ, List, ◌++◌}
 use Rattle.std.specs.List.{AllZip}
 use Rattle.cs_entries.specs.declared.entry.Entry.{Entry}
-use Rattle.cs_entries.specs.Entry.{key_of}
+use Rattle.cs_entries.specs.Entry.{IsEntry, entry_bytes, key_of}
 use Rattle.cs_entries.specs.Changeset.{GroupData, ImageData, image_of}
 
 -- before and after exchanged
@@ -15,6 +15,13 @@ pub record IsInverseEntry (flags : List ℕ) (entry inverse : Entry) : Type 0 wh
   pub indirect : inverse.indirect ≡ entry.indirect
   pub key : key_of flags inverse.change ≡ key_of flags entry.change
   pub image : image_of flags inverse ≡ exchanged (image_of flags entry)
+
+-- the bytes of the inverse were appended
+pub record AppendsInverse (flags : List ℕ) (entry : Entry) (old new : List ℕ) : Type 0 where
+  pub inverse : Entry
+  pub is_entry : IsEntry flags inverse
+  pub undoes : IsInverseEntry flags entry inverse
+  pub written : new ≡ old ++ entry_bytes inverse
 
 -- the same header, and the inverses of the entries in their order
 pub record IsInverseGroup (group inverse : GroupData) : Type 0 where

@@ -10,7 +10,7 @@ use crate::fields::{Fields, copy_cells, key_of_fields, write_fields};
 use crate::format::{DELETE, INSERT, UPDATE};
 use crate::record_ref::RecordRef;
 use crate::spelled::KeyColumns;
-use crate::writer::{undo_refused, write_operation};
+use crate::writer::{undo_refused, write_as, write_operation};
 use cs_value::{Field, Image, Key, NoMemory, OwnedField, OwnedValue, Row};
 use std::alloc::Global;
 use std::borrow::CowSlice;
@@ -49,7 +49,7 @@ impl<'a> EntryRef<'a> {
     ghost use Rattle.cs_entries.specs.declared.entry.Change.TheVariants.{Update};
     ghost use Rattle.cs_entries.specs.Records.{IsRowOperation, row_change};
     ghost use Rattle.cs_entries.specs.Entry.{IsChange, IsEntry, after_image, before_image, entry_bytes, key_of, operation};
-    ghost use Rattle.cs_entries.specs.Inverse.{IsInverseEntry};
+    ghost use Rattle.cs_entries.specs.Inverse.{AppendsInverse, IsInverseEntry};
     ghost use Rattle.cs_value.specs.Value.{FieldFits, field_of};
     ghost use Rattle.cs_entries.specs.Items.{IsSpelled, entry_in, new_record, new_field as field_after, old_field as field_before};
 
@@ -254,7 +254,7 @@ impl<'a> EntryRef<'a> {
 
     /// Returns the bytes of the key where the entry lies in a file. `columns` are those of its table
     /// ([`KeyColumns::of`]). It allocates nothing.
-    pub fn key_in(&self, columns: KeyColumns) -> Option<&'a [u8]>
+    pub fn borrowed_key(&self, columns: KeyColumns) -> Option<&'a [u8]>
         requires { AreKeyColumns self.now.flags columns }
         ensures { IfSome result (λ key. key.now ≡ key_of self.now.flags self.now.entry.change) }
     {
@@ -269,7 +269,7 @@ impl<'a> EntryRef<'a> {
         ensures { IfOk result (λ key. cow_slice_items key ≡ key_of self.now.flags self.now.entry.change) }
     {
         if let Some(columns) = KeyColumns::of(self.flags) {
-            if let Some(key) = self.key_in(columns) {
+            if let Some(key) = self.borrowed_key(columns) {
                 return Ok(CowSlice::Borrowed(key));
             }
         }
@@ -309,6 +309,20 @@ impl<'a> EntryRef<'a> {
         }
     }
 
+    /// Appends the bytes of the inverse. `bytes` are those of the entry itself: a row is copied from them.
+    /// [`NoMemory`] leaves `out` unchanged.
+    pub fn write_inverse_to(self, bytes: &[u8], out: &mut Vec<u8>) -> Result<(), NoMemory>
+        requires { bytes.now ≡ entry_bytes self.entry }
+        ensures ok { OnOk result (AppendsInverse self.entry.flags self.entry.entry out.old.items out.new.items) }
+        ensures err { OnErr result (out.new.items ≡ out.old.items) }
+    {
+        match self.operation {
+            Operation::Insert => write_as(out, bytes, DELETE),
+            Operation::Delete => write_as(out, bytes, INSERT),
+            Operation::Update => self.inverted().write_to(out),
+        }
+    }
+
     /// Appends the bytes of the entry. [`NoMemory`] leaves `out` unchanged.
     pub fn write_to(&self, out: &mut Vec<u8>) -> Result<(), NoMemory>
         ensures ok { OnOk result (out.new.items ≡ out.old.items ++ entry_bytes self.now.entry) }
@@ -326,7 +340,7 @@ impl<'a> EntryRef<'a> {
     {
         write_operation(out, self.op(), self.indirect)?;
         match self.operation {
-            Operation::Insert | Operation::Delete => write_row(out, self.flags, self.first),
+            Operation::Insert | Operation::Delete => write_whole(out, self.flags, self.first),
             Operation::Update => {
                 let exchanged = self.exchanged;
                 write_record(out, self.flags, self.first, self.second, exchanged)?;
@@ -355,15 +369,15 @@ impl<'a> EntryRef<'a> {
     }
 }
 
-/// Appends a row.
-fn write_row(out: &mut Vec<u8>, flags: &[u8], row: RecordRef<'_>) -> Result<(), NoMemory>
-    requires { IsWhole (length flags.now) row }
-    ensures ok { OnOk result (out.new.items ≡ out.old.items ++ record_bytes (fields_at (length flags.now) row.entry)) }
+/// Appends a record as it is.
+fn write_whole(out: &mut Vec<u8>, flags: &[u8], own: RecordRef<'_>) -> Result<(), NoMemory>
+    requires { IsWhole (length flags.now) own }
+    ensures ok { OnOk result (out.new.items ≡ out.old.items ++ record_bytes (fields_at (length flags.now) own.entry)) }
     ensures err { OnErr result (take (length out.old.items) out.new.items ≡ out.old.items) }
 {
-    match row {
+    match own {
         RecordRef::Spelled(bytes) => Ok(out.extend_from_slice(bytes)?),
-        _ => write_fields(out, Fields::new(flags, row, row, false)),
+        _ => write_fields(out, Fields::new(flags, own, own, false)),
     }
 }
 
@@ -381,10 +395,10 @@ fn write_record(
         (fields_at (length flags.now) own.entry) (fields_at (length flags.now) other.entry))) }
     ensures err { OnErr result (take (length out.old.items) out.new.items ≡ out.old.items) }
 {
-    match own {
-        RecordRef::Spelled(bytes) if !exchanged => Ok(out.extend_from_slice(bytes)?),
-        _ => write_fields(out, Fields::new(flags, own, other, exchanged)),
+    if exchanged {
+        return write_fields(out, Fields::new(flags, own, other, true));
     }
+    write_whole(out, flags, own)
 }
 
 /// Returns a copy of a row.

@@ -47,7 +47,8 @@ mod writer;
 
 pub use changeset::Changeset;
 pub use cs_entries::{
-    Change, Entry, EntryRef, Fields, ReadError, ReadFault, ReadFaultKind, has_entry, read_entry,
+    Change, Entry, EntryRef, Fields, KeyColumns, ReadError, ReadFault, ReadFaultKind, has_entry,
+    read_entry,
 };
 pub use cursor::Cursor;
 pub use group::Group;
