@@ -28,8 +28,8 @@ impl Visit for Inverting {
         header.write_to(&mut self.out)
     }
 
-    fn visit_entry(&mut self, seen: EntryRef<'_>) -> Result<(), NoMemory> {
-        seen.inverted().write_to(&mut self.out)
+    fn visit_entry(&mut self, seen: EntryRef<'_>, bytes: &[u8]) -> Result<(), NoMemory> {
+        seen.write_inverse_to(bytes, &mut self.out)
     }
 }
 

@@ -14,8 +14,8 @@
 //! A file is no changeset if a table or a key is twice in it. The iterator does not notice that: a caller that has to
 //! know checks the file first, as `cs_tables` does.
 //!
-//! `change` has the step from one change to the next, `value` the value of a column of a change, and `count` a loop over
-//! all changes. `CALLING.md`, next to this folder, shows how to call them.
+//! `change` has the step from one change to the next, `value` the value of a column of a change, and `count` a loop
+//! over all changes. `CALLING.md`, next to this folder, shows how to call them.
 #![tactic(auto)]
 
 mod change;

@@ -11,7 +11,7 @@ use Rattle.cs_wire.specs.Entry.{IsEntry, entry_bytes, key_of}
 use Rattle.cs_wire.specs.Changeset.{entries_bytes}
 use Rattle.cs_wire.specs.Items.{FlaggedEntry}
 use Rattle.cs_wire.specs.ReadFaults.{Stands, HasEntry}
-use Rattle.cs_tables.specs.declared.checked.Passed.{Passed}
+use Rattle.cs_tables.specs.declared.checked.EntryRun.{EntryRun}
 use Rattle.cs_tables.specs.Checked.{HasEntries, Passes, VisitsEntries, VisitsEntry}
 use Rattle.cs_tables.specs.Distinct.{number_of}
 use Rattle.cs_tables.specs.KeyedFile.{key_number}
@@ -66,12 +66,12 @@ entry_moves text old new file at flags number end v within = Stands-moves file a
 -- ---- numbers that rise
 
 -- no two are the same, and none is above the last
-pub record Rises (numbers : List ℕ) (last : ℕ) : Type 0 where
+pub record DistinctUpTo (numbers : List ℕ) (last : ℕ) : Type 0 where
   pub apart : AllPairs (λ m n. m ≢ n) numbers
   pub highest : (k d : ℕ) → k < length numbers → get_or numbers k d ≤ last
 
-Rises-next : (numbers : List ℕ) (number : ℕ) → AllPairs (λ m n. m ≢ n) numbers → ((k d : ℕ) → k < length numbers → get_or numbers k d < number) → Rises (numbers ++ number ∷ []) number
-Rises-next numbers number apart below = record {
+DistinctUpTo-next : (numbers : List ℕ) (number : ℕ) → AllPairs (λ m n. m ≢ n) numbers → ((k d : ℕ) → k < length numbers → get_or numbers k d < number) → DistinctUpTo (numbers ++ number ∷ []) number
+DistinctUpTo-next numbers number apart below = record {
   apart = all_pairs_push (λ m n. m ≢ n) numbers number apart (λ k d lt same. omega (arith, below k d lt, same));
   highest = λ k d lt. ⊎_elim
       (λ at. rw (get_or_at numbers number [] d k (sym at)) (omega arith))
@@ -82,12 +82,12 @@ Rises-next numbers number apart below = record {
 }
 
 -- the entries that were visited so far
-pub record PassesSoFar (text : Entry → List ℕ) (old new file : List ℕ) (at : ℕ) (flags : List ℕ) (passed : Passed) (last : ℕ) : Type 0 where
+pub record PassesSoFar (text : Entry → List ℕ) (old new file : List ℕ) (at : ℕ) (flags : List ℕ) (passed : EntryRun) (last : ℕ) : Type 0 where
   pub numbers : List ℕ
   pub visits : VisitsEntries text old new file at flags numbers passed.end
   pub count_is : passed.count ≡ length numbers
   pub few : passed.count ≤ passed.end
-  pub rising : passed.rises ≡ true → Rises numbers last
+  pub rising : passed.rises ≡ true → DistinctUpTo numbers last
 
 pub PassesSoFar-none : (text : Entry → List ℕ) (old file : List ℕ) (at : ℕ) (flags : List ℕ) → at ≤ length file → PassesSoFar text old old file at flags (record { count = 0; end = at; rises = true }) 0
 PassesSoFar-none text old file at flags le = record {
@@ -98,15 +98,15 @@ PassesSoFar-none text old file at flags le = record {
   rising = λ same. record { apart = λ i j d lt within. absurd (omega arith); highest = λ k d lt. absurd (omega arith) };
 }
 
-module _ (text : Entry → List ℕ) (old written file : List ℕ) (at : ℕ) (flags : List ℕ) (passed : Passed) (last : ℕ) (so : PassesSoFar text old written file at flags passed last) where
-  pub PassesSoFar-next : passed.rises ≡ true → passed.end < length file → (new : List ℕ) (number : ℕ) (next : Passed) → VisitsEntry text written new file passed.end flags number next.end → next.count ≡ passed.count + 1
+module _ (text : Entry → List ℕ) (old written file : List ℕ) (at : ℕ) (flags : List ℕ) (passed : EntryRun) (last : ℕ) (so : PassesSoFar text old written file at flags passed last) where
+  pub PassesSoFar-next : passed.rises ≡ true → passed.end < length file → (new : List ℕ) (number : ℕ) (next : EntryRun) → VisitsEntry text written new file passed.end flags number next.end → next.count ≡ passed.count + 1
       → (next.rises ≡ true → (passed.count ≡ 0) ⊎ (last < number)) → PassesSoFar text old new file at flags next number
   PassesSoFar-next rose within new number next v count rises = record {
     numbers = so.numbers ++ number ∷ [];
     visits = VisitsEntries-next text old written new file at flags so.numbers passed.end number next.end so.visits v;
     count_is = omega (arith, count, so.count_is, length-append so.numbers (number ∷ []));
     few = omega (arith, count, so.few, entry_moves text written new file passed.end flags number next.end v within);
-    rising = λ same. Rises-next so.numbers number (so.rising rose).apart (λ k d lt. ⊎_elim
+    rising = λ same. DistinctUpTo-next so.numbers number (so.rising rose).apart (λ k d lt. ⊎_elim
         (λ (none : passed.count ≡ 0). absurd (omega (arith, none, so.count_is, lt)))
         (λ (above : last < number). omega (arith, (so.rising rose).highest k d lt, above))
         (rises same));

@@ -4,7 +4,7 @@ use Rattle.std.specs.List.{flat_map}
 use Rattle.cs_entries.specs.declared.entry.Entry.{Entry}
 use Rattle.cs_wire.specs.Entry.{IsEntry, entry_bytes, key_of}
 use Rattle.cs_wire.specs.Changeset.{GroupData, IsGroup, entries_bytes, group_bytes, file_bytes}
-use Rattle.cs_tables.specs.declared.checked.Passed.{Passed}
+use Rattle.cs_tables.specs.declared.checked.EntryRun.{EntryRun}
 use Rattle.cs_tables.specs.Distinct.{number_of}
 use Rattle.cs_tables.specs.Named.{NamedTable}
 use Rattle.cs_wire.specs.ReadFaults.{Stands}
@@ -33,7 +33,7 @@ pub record VisitsEntry (text : Entry → List ℕ) (old new : List ℕ) (file : 
 
 -- so many entries were visited, and if the numbers of their keys rise, no two are the same
 pub record Passes (text : Entry → List ℕ) (old new : List ℕ) (file : List ℕ) (at : ℕ) (flags : List ℕ)
-    (passed : Passed) : Type 0 where
+    (passed : EntryRun) : Type 0 where
   pub numbers : List ℕ
   pub visits : VisitsEntries text old new file at flags numbers passed.end
   pub count_is : passed.count ≡ length numbers

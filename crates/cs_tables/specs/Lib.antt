@@ -13,4 +13,3 @@ pub use Rattle.cs_wire.specs.ReadFaults
 pub use Rattle.cs_wire.specs.Items
 pub use Rattle.cs_wire.specs.Headers
 pub use Rattle.cs_wire.specs.Views
-pub use Rattle.cs_wire.specs.Keyed

@@ -1,18 +1,17 @@
 //! The quick check of a file.
-ghost use Rattle.std.specs.Prelude.{◌≡◌, ◌<◌, ◌≤◌, ◌++◌, [], ℕ, IfOk, IfSome, IsTrue, List, OnOk, length};
+ghost use Rattle.std.specs.Prelude.{◌≡◌, ◌<◌, ◌≤◌, ◌++◌, ◌⊎◌, [], ℕ, IfOk, IfSome, IsTrue, List, OnOk, length};
 ghost use Rattle.cs_entries.specs.Records.{AreKeyColumns};
 ghost use Rattle.cs_tables.specs.Checked.{HasEntries, Passes, VisitsDistinct, VisitsEntries, VisitsEntry, VisitsTable};
 ghost use Rattle.cs_tables.specs.Distinct.{number_of as number_in};
 ghost use Rattle.cs_tables.specs.Named.{table_of};
 ghost use Rattle.cs_tables.specs.Visits.{IsVisited, group_text};
 ghost use Rattle.cs_wire.specs.Entry.{key_of};
-ghost use Rattle.cs_wire.specs.ReadFaults.{HasEntry};
+ghost use Rattle.cs_wire.specs.ReadFaults.{HasEntry, Stands};
 
 use crate::distinct::{number_of, take_distinct};
 use crate::visit::Visit;
-use cs_entries::KeyColumns;
 use cs_value::NoMemory;
-use cs_wire::{EntryRef, HeaderRef, has_entry, read_entry, read_header};
+use cs_wire::{EntryRef, HeaderRef, KeyColumns, has_entry, read_entry, read_header};
 use std::alloc::Global;
 
 /// A table, the byte offset of its first entry, and the number of its entries.
@@ -28,8 +27,8 @@ pub(crate) struct ListedTable<'a> {
 /// those before the rejection are visited.
 ///
 /// It allocates eight bytes for each table, eight for each entry of one table at a time unless the numbers of the keys
-/// rise, and a copy of each key whose columns are not adjacent. It reads each entry at most twice, and sorts the numbers
-/// that it lists.
+/// rise, and a copy of each key whose columns are not adjacent. It reads each entry at most twice, and sorts the
+/// numbers that it lists.
 ///
 /// # Errors
 ///
@@ -113,7 +112,7 @@ fn pass_distinct<V: Visit>(
         return Ok(Some((passed.count, passed.end)));
     }
     list_numbers(alloc, file, at, passed.count, flags, columns, keys)?;
-    let Some(end) = pass_listed(alloc, file, passed.end, flags, columns, keys, visitor)? else {
+    let Some(end) = pass_rest(alloc, file, passed.end, flags, columns, keys, visitor)? else {
         return Ok(None);
     };
     let count = keys.len();
@@ -123,9 +122,9 @@ fn pass_distinct<V: Visit>(
     Ok(Some((count, end)))
 }
 
-/// Entries that were passed: their number, where they end, and whether the numbers of their keys rise.
+/// Entries that were visited: their number, where they end, and whether the numbers of their keys rise.
 #[derive(Clone, Copy, Debug)]
-struct Passed {
+struct EntryRun {
     count: usize,
     end: usize,
     rises: bool,
@@ -140,13 +139,13 @@ fn pass_rising<V: Visit>(
     flags: &[u8],
     columns: Option<KeyColumns>,
     visitor: &mut V,
-) -> Result<Option<Passed>, NoMemory>
+) -> Result<Option<EntryRun>, NoMemory>
     requires within { at ≤ length file.now }
     requires columns { IfSome columns (AreKeyColumns flags.now) }
     ensures { IfOk result (λ passed. IfSome passed (Passes (V.entry_text flags.now) (V.written visitor.old)
         (V.written visitor.new) file.now at flags.now)) }
 {
-    let mut passed = Passed {
+    let mut passed = EntryRun {
         count: 0,
         end: at,
         rises: true,
@@ -157,14 +156,21 @@ fn pass_rising<V: Visit>(
         else {
             return Ok(None);
         };
-        passed = Passed {
+        passed = EntryRun {
             count: passed.count + 1,
             end,
-            rises: passed.count == 0 || last < number,
+            rises: is_above(number, last, passed.count),
         };
         last = number;
     }
     Ok(Some(passed))
+}
+
+/// Whether a number is above the last one, or the first of all.
+fn is_above(number: u64, last: u64, count: usize) -> bool
+    ensures { IsTrue result → (count ≡ 0) ⊎ (last < number) }
+{
+    count == 0 || last < number
 }
 
 /// Appends the numbers of the keys of the first entries at a byte offset, which were read before. `count` says how many
@@ -197,7 +203,7 @@ fn list_numbers(
 }
 
 /// The end of the entries at a byte offset, if each is well formed. Appends the numbers of their keys, and visits them.
-fn pass_listed<V: Visit>(
+fn pass_rest<V: Visit>(
     alloc: Global,
     file: &[u8],
     at: usize,
@@ -242,8 +248,19 @@ fn pass_entry<V: Visit>(
         return Ok(None);
     };
     let number = key_number(alloc, &seen, columns)?;
-    visitor.visit_entry(seen)?;
+    visitor.visit_entry(seen, part(file, at, end))?;
     Ok(Some((number, end)))
+}
+
+/// The part of a file between two byte offsets, or nothing if they are not in order or not in the file.
+pub(crate) fn part(file: &[u8], start: usize, end: usize) -> &[u8]
+    ensures { (bytes : List ℕ) → Stands file.now start bytes end → start ≤ length file.now → result.now ≡ bytes }
+{
+    if start <= end && end <= file.len() {
+        &file[start..end]
+    } else {
+        &[]
+    }
 }
 
 /// The number of an entry's key. `columns` are those of its table, if they are contiguous.
@@ -256,7 +273,7 @@ pub(crate) fn key_number(
     ensures { IfOk result (λ number. number ≡ number_in (key_of seen.now.flags seen.now.entry.change)) }
 {
     if let Some(columns) = columns {
-        if let Some(key) = seen.key_in(columns) {
+        if let Some(key) = seen.borrowed_key(columns) {
             return Ok(number_of(key));
         }
     }

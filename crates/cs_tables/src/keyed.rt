@@ -1,22 +1,20 @@
 //! The entries of a table by their keys.
-ghost use Rattle.std.specs.Prelude.{◌≡◌, ◌≢◌, ◌<◌, ◌≤◌, ◌↔◌, ◌∷◌, [], ℕ, IfOk, IfSome, IsTrue, List, OnErr, OnOk};
+ghost use Rattle.std.specs.Prelude.{◌≡◌, ◌≢◌, ◌<◌, ◌↔◌, ◌∷◌, [], ℕ, IfOk, IfSome, IsTrue, List, OnErr, OnOk};
 ghost use Rattle.std.specs.Prelude.{is_none, is_some, length};
 ghost use Rattle.cs_entries.specs.declared.entry.Entry.{Entry as EntryData};
 ghost use Rattle.cs_wire.specs.Changeset.{GroupData, IsNewKey};
 ghost use Rattle.cs_wire.specs.Entry.{entry_bytes, key_of};
-ghost use Rattle.cs_wire.specs.ReadFaults.{Stands};
 ghost use Rattle.cs_wire.specs.Views.{IsPlaceOf};
 ghost use Rattle.cs_tables.specs.Distinct.{number_of as number_in};
 ghost use Rattle.cs_tables.specs.KeyedFile.{AreKeyed, count_of, with_entry};
 ghost use Rattle.cs_tables.specs.Tables.{AreLeft};
 
 use crate::chains::NumberChains;
-use crate::checked::key_number;
+use crate::checked::{key_number, part};
 use crate::distinct::number_of;
 use crate::tables::Tables;
-use cs_entries::KeyColumns;
 use cs_value::NoMemory;
-use cs_wire::EntryRef;
+use cs_wire::{EntryRef, KeyColumns};
 use std::alloc::Global;
 use std::marker::Model;
 
@@ -200,15 +198,4 @@ fn has_key(alloc: Global, entry: &EntryRef<'_>, key: &[u8]) -> Result<bool, NoMe
 {
     let own = entry.key_slice(alloc)?;
     Ok(own.as_slice() == key)
-}
-
-/// The part of a file between two byte offsets, or nothing if they are not in order or not in the file.
-fn part(file: &[u8], start: usize, end: usize) -> &[u8]
-    ensures { (bytes : List ℕ) → Stands file.now start bytes end → start ≤ length file.now → result.now ≡ bytes }
-{
-    if start <= end && end <= file.len() {
-        &file[start..end]
-    } else {
-        &[]
-    }
 }

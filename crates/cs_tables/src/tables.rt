@@ -38,10 +38,10 @@ impl<'a> Model for Tables<'a> {
 impl<'a> Tables<'a> {
     /// Reads a file to its end, and returns its tables from the first one on.
     ///
-    /// The quick check accepts most files of changesets. It allocates eight bytes for each table, and a copy of each key
-    /// whose columns are not adjacent. It allocates eight bytes for each entry of one table at a time, but none if the
-    /// keys are single integers in order, from -2 to the 62 up to 2 to the 62. If the quick check fails, a [`Cursor`]
-    /// decides, and finds the fault.
+    /// The quick check accepts most files of changesets. It allocates eight bytes for each table, and a copy of each
+    /// key whose columns are not adjacent. It allocates eight bytes for each entry of one table at a time, but none if
+    /// the keys are single integers in order, from -2 to the 62 up to 2 to the 62. If the quick check fails, a
+    /// [`Cursor`] decides, and finds the fault.
     ///
     /// # Errors
     ///

@@ -1,7 +1,7 @@
 //! What is done with a file as it is checked.
 ghost use Rattle.std.specs.Prelude.{◌≡◌, ◌++◌, [], OnOk};
 ghost use Rattle.cs_wire.specs.Changeset.{IsHeader};
-ghost use Rattle.cs_wire.specs.Entry.{IsEntry};
+ghost use Rattle.cs_wire.specs.Entry.{IsEntry, entry_bytes};
 ghost use Rattle.cs_wire.specs.Headers.{header_of};
 
 use cs_value::NoMemory;
@@ -32,13 +32,14 @@ pub trait Visit {
         requires { IsHeader (header_of header) }
         ensures { OnOk result (written self.new ≡ written self.old ++ header_text (header_of header.entry)) };
 
-    /// Visits the next entry of that table.
+    /// Visits the next entry of that table, whose bytes in the file these are.
     ///
     /// # Errors
     ///
     /// [`NoMemory`] if memory runs out.
-    fn visit_entry(&mut self, seen: EntryRef<'_>) -> Result<(), NoMemory>
-        requires { IsEntry seen.flags seen.entry }
+    fn visit_entry(&mut self, seen: EntryRef<'_>, bytes: &[u8]) -> Result<(), NoMemory>
+        requires entry { IsEntry seen.flags seen.entry }
+        requires bytes { bytes.now ≡ entry_bytes seen.entry }
         ensures { OnOk result (written self.new ≡ written self.old ++ entry_text seen.entry.flags seen.entry.entry) };
 }
 
@@ -57,7 +58,7 @@ impl Visit for Unvisited {
         Ok(())
     }
 
-    fn visit_entry(&mut self, _seen: EntryRef<'_>) -> Result<(), NoMemory> {
+    fn visit_entry(&mut self, _seen: EntryRef<'_>, _bytes: &[u8]) -> Result<(), NoMemory> {
         Ok(())
     }
 }

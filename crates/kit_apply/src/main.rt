@@ -1,5 +1,5 @@
-//! Runs on the kit's SQL engine alone the statements that `changeset FILE apply STORE` runs for the bench's files of
-//! one table, and reads no changeset. What an apply takes in addition is the part of this project.
+//! Runs the statements of `changeset FILE apply STORE` on the kit's SQL engine, for the bench's files of one table. It
+//! reads no changeset. What an apply takes in addition is the part of this project.
 #![tactic(auto)]
 
 mod entry;

@@ -1,7 +1,7 @@
--- `keyed::part`: what it ensures.
+-- `checked::part`: what it ensures.
 use Rattle.std.proofs.Common.{⊎_elim, arith}
 use Rattle.cs_tables.proofs.KeyedLemmas.{part_after}
-use Rattle.cs_tables.proofs.keyed.part.Goals as goal
+use Rattle.cs_tables.proofs.checked.part.Goals as goal
 
 pub returns-else-start-end : goal.returns-else-start-end
 returns-else-start-end c = λ bytes stands within.

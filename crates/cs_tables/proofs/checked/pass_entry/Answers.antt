@@ -1,14 +1,17 @@
 -- `checked::pass_entry`: what is asked of calls, and what it ensures.
-use Rattle.std.proofs.Common.{ℕ, List, ◌++◌, ap, ◌∙◌}
-use Rattle.cs_wire.specs.Entry.{key_of}
+use Rattle.std.proofs.Common.{ℕ, List, ◌++◌, ap, ◌∙◌, arith}
+use Rattle.cs_wire.specs.Entry.{entry_bytes, key_of}
 use Rattle.cs_tables.specs.Distinct.{number_of}
 use Rattle.cs_tables.proofs.checked.pass_entry.Goals as goal
 
 pub key_number-requires : goal.key_number-requires
 key_number-requires g c = rw c.in-Ok.ensures.flags c.requires.columns
 
-pub visit_entry-requires : goal.visit_entry-requires
-visit_entry-requires g c = rw c.in-Ok.ensures.flags c.in-Ok.ensures.well_formed
+pub visit_entry-requires-clause-entry : goal.visit_entry-requires-clause-entry
+visit_entry-requires-clause-entry g c = rw c.in-Ok.ensures.flags c.in-Ok.ensures.well_formed
+
+pub visit_entry-requires-clause-bytes : goal.visit_entry-requires-clause-bytes
+visit_entry-requires-clause-bytes g c = c.part.ensures (entry_bytes c.in-Ok.seen.entry) c.in-Ok.ensures.found (omega (arith, c.requires.entry.within))
 
 pub returns : goal.returns
 returns g c =

@@ -1,7 +1,7 @@
--- `checked::pass_listed`: the loop.
+-- `checked::pass_rest`: the loop.
 use Rattle.std.proofs.Common.{◌++◌, ◌∷◌, [], ℕ, List, ap, sym, ◌∙◌, append_assoc, append-nil, arith}
 use Rattle.cs_tables.proofs.PassLemmas.{VisitsEntries-none, VisitsEntries-next, entry_moves}
-use Rattle.cs_tables.proofs.checked.pass_listed.Goals as goal
+use Rattle.cs_tables.proofs.checked.pass_rest.Goals as goal
 
 pub entries-init : goal.entries-init
 entries-init g c = ([], sym (append-nil c.args.keys.now.items), VisitsEntries-none (g.V.Visit.entry_text c.args.flags.now) (g.V.Visit.written c.args.visitor.now) c.args.file.now c.args.at c.args.flags.now c.requires.within)

@@ -1,7 +1,7 @@
 -- The entries up to a place were visited, and the numbers of their keys appended.
 use Rattle.std.proofs.Common.{◌≡◌, ◌-◌, ◌++◌, ℕ, List, length}
 use Rattle.cs_tables.specs.Checked.{VisitsEntries}
-use Rattle.cs_tables.proofs.checked.pass_listed.Given as goal
+use Rattle.cs_tables.proofs.checked.pass_rest.Given as goal
 
 abbrev pub invariant-entries : goal.invariant-entries
 invariant-entries g l = (numbers : List ℕ) × (l.keys.items ≡ l.initial.keys.items ++ numbers)

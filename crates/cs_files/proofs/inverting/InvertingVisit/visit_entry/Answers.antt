@@ -1,12 +1,12 @@
 -- `inverting::Inverting::visit_entry`: what it ensures.
-use Rattle.std.proofs.Common.{◌≡◌}
-use Rattle.cs_wire.specs.Views.{inverse_entry}
+use Rattle.std.proofs.Common.{◌++◌, ap, ◌∙◌}
+use Rattle.std.proofs.lemmas.Result.{on_ok_weaker}
+use Rattle.cs_entries.specs.declared.entry.Entry.{Entry}
+use Rattle.cs_wire.specs.Entry.{entry_bytes}
 use Rattle.cs_group.proofs.InverseGroups.{inverse_is}
 use Rattle.cs_files.proofs.inverting.InvertingVisit.visit_entry.Goals as goal
 
 pub returns : goal.returns
 returns c =
     let seen = c.args.seen in
-    let inverse = c.inverted.ensures in
-    let same : c.inverted.result.entry ≡ inverse_entry seen.flags seen.entry = inverse_is seen.flags seen.entry c.inverted.result.entry c.requires (rw inverse.flags at inverse.well_formed) inverse.inverse in
-    rw same at c.write_to.ensures.ok
+    on_ok_weaker c.write_inverse_to.result (λ is. is.written ∙ ap (λ (e : Entry). c.args.self.now.out.items ++ entry_bytes e) (inverse_is seen.flags seen.entry is.inverse c.requires.entry is.is_entry is.undoes)) c.write_inverse_to.ensures.ok
