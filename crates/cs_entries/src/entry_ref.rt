@@ -10,7 +10,7 @@ use crate::fields::{Fields, copy_cells, key_of_fields, write_fields};
 use crate::format::{DELETE, INSERT, UPDATE};
 use crate::record_ref::RecordRef;
 use crate::spelled::KeyColumns;
-use crate::writer::{undo_refused, write_as, write_operation};
+use crate::writer::{undo_refused, write_operation, write_with_operation};
 use cs_value::{Field, Image, Key, NoMemory, OwnedField, OwnedValue, Row};
 use std::alloc::Global;
 use std::borrow::CowSlice;
@@ -309,7 +309,7 @@ impl<'a> EntryRef<'a> {
         }
     }
 
-    /// Appends the bytes of the inverse. `bytes` are those of the entry itself: a row is copied from them.
+    /// Appends the bytes of the inverse. `bytes` are those of the entry itself: an insert or a delete is copied from them.
     /// [`NoMemory`] leaves `out` unchanged.
     pub fn write_inverse_to(self, bytes: &[u8], out: &mut Vec<u8>) -> Result<(), NoMemory>
         requires { bytes.now ≡ entry_bytes self.entry }
@@ -317,8 +317,8 @@ impl<'a> EntryRef<'a> {
         ensures err { OnErr result (out.new.items ≡ out.old.items) }
     {
         match self.operation {
-            Operation::Insert => write_as(out, bytes, DELETE),
-            Operation::Delete => write_as(out, bytes, INSERT),
+            Operation::Insert => write_with_operation(out, bytes, DELETE),
+            Operation::Delete => write_with_operation(out, bytes, INSERT),
             Operation::Update => self.inverted().write_to(out),
         }
     }
@@ -340,7 +340,7 @@ impl<'a> EntryRef<'a> {
     {
         write_operation(out, self.op(), self.indirect)?;
         match self.operation {
-            Operation::Insert | Operation::Delete => write_whole(out, self.flags, self.first),
+            Operation::Insert | Operation::Delete => write_own(out, self.flags, self.first),
             Operation::Update => {
                 let exchanged = self.exchanged;
                 write_record(out, self.flags, self.first, self.second, exchanged)?;
@@ -370,7 +370,7 @@ impl<'a> EntryRef<'a> {
 }
 
 /// Appends a record as it is.
-fn write_whole(out: &mut Vec<u8>, flags: &[u8], own: RecordRef<'_>) -> Result<(), NoMemory>
+fn write_own(out: &mut Vec<u8>, flags: &[u8], own: RecordRef<'_>) -> Result<(), NoMemory>
     requires { IsWhole (length flags.now) own }
     ensures ok { OnOk result (out.new.items ≡ out.old.items ++ record_bytes (fields_at (length flags.now) own.entry)) }
     ensures err { OnErr result (take (length out.old.items) out.new.items ≡ out.old.items) }
@@ -398,7 +398,7 @@ fn write_record(
     if exchanged {
         return write_fields(out, Fields::new(flags, own, other, true));
     }
-    write_whole(out, flags, own)
+    write_own(out, flags, own)
 }
 
 /// Returns a copy of a row.

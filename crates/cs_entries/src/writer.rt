@@ -16,7 +16,11 @@ pub(crate) fn write_operation(
 }
 
 /// Appends the bytes of an entry, with this operation in place of its own.
-pub(crate) fn write_as(out: &mut Vec<u8>, entry: &[u8], operation: u8) -> Result<(), NoMemory>
+pub(crate) fn write_with_operation(
+    out: &mut Vec<u8>,
+    entry: &[u8],
+    operation: u8,
+) -> Result<(), NoMemory>
     requires { 0 < length entry.now }
     ensures ok { OnOk result (out.new.items ≡ out.old.items ++ operation ∷ drop 1 entry.now) }
     ensures err { OnErr result (out.new.items ≡ out.old.items) }

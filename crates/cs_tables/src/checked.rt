@@ -1,5 +1,5 @@
 //! The quick check of a file.
-ghost use Rattle.std.specs.Prelude.{◌≡◌, ◌<◌, ◌≤◌, ◌++◌, ◌⊎◌, [], ℕ, IfOk, IfSome, IsTrue, List, OnOk, length};
+ghost use Rattle.std.specs.Prelude.{◌≡◌, ◌<◌, ◌≤◌, ◌++◌, ◌↔◌, ◌⊎◌, [], ℕ, IfOk, IfSome, IsTrue, List, OnOk, length};
 ghost use Rattle.cs_entries.specs.Records.{AreKeyColumns};
 ghost use Rattle.cs_tables.specs.Checked.{HasEntries, Passes, VisitsDistinct, VisitsEntries, VisitsEntry, VisitsTable};
 ghost use Rattle.cs_tables.specs.Distinct.{number_of as number_in};
@@ -159,16 +159,16 @@ fn pass_rising<V: Visit>(
         passed = EntryRun {
             count: passed.count + 1,
             end,
-            rises: is_above(number, last, passed.count),
+            rises: rises_to(last, number, passed.count),
         };
         last = number;
     }
     Ok(Some(passed))
 }
 
-/// Whether a number is above the last one, or the first of all.
-fn is_above(number: u64, last: u64, count: usize) -> bool
-    ensures { IsTrue result → (count ≡ 0) ⊎ (last < number) }
+/// Whether a number is above the last of `count` numbers, or is the first.
+fn rises_to(last: u64, number: u64, count: usize) -> bool
+    ensures { IsTrue result ↔ (count ≡ 0) ⊎ (last < number) }
 {
     count == 0 || last < number
 }

@@ -32,7 +32,7 @@ pub trait Visit {
         requires { IsHeader (header_of header) }
         ensures { OnOk result (written self.new ≡ written self.old ++ header_text (header_of header.entry)) };
 
-    /// Visits the next entry of that table, whose bytes in the file these are.
+    /// Visits the next entry of that table. `bytes` are those of the entry in the file.
     ///
     /// # Errors
     ///

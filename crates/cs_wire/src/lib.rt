@@ -28,7 +28,7 @@
 //! tables that `reader` reads. `places` indexes entries and groups, and `laws` has what holds of all changesets. The
 //! names of `cs_entries` are passed on. `CALLING.md`, next to this folder, shows a caller.
 //!
-//! `read_header`, `has_entry`, `read_entry` and `word_of` are for the crate above, `cs_tables`.
+//! `read_header`, `has_entry`, `read_entry`, `KeyColumns` and `word_of` are for the crate above, `cs_tables`.
 #![tactic(auto)]
 
 mod changeset;

@@ -14,8 +14,8 @@ returns-in-Insert-clause-ok c =
     let byte = c.op.ensures ∙ sym (ap (λ (seen : FlaggedEntry). operation seen.entry.change) c.self.view_is) in
     let first = fields_at (length i.flags.now) i.first in
     let spelled = entry_bytes-row i.flags.now i.operation i.exchanged i.indirect first (fields_at (length i.flags.now) i.second) c.in-Insert.is c.self.invariant.fields c.op.result byte in
-    on_ok_weaker c.write_whole.result (λ e. e ∙ ap (λ (x : List ℕ). x ++ record_bytes first) c.in_ok-write_operation.ensures.ok ∙ append_assoc c.args.out.now.items _ (record_bytes first)
-    ∙ ap (λ (x : List ℕ). c.args.out.now.items ++ x) (spelled ∙ ap (λ (seen : FlaggedEntry). entry_bytes seen.entry) c.self.view_is)) c.write_whole.ensures.ok
+    on_ok_weaker c.write_own.result (λ e. e ∙ ap (λ (x : List ℕ). x ++ record_bytes first) c.in_ok-write_operation.ensures.ok ∙ append_assoc c.args.out.now.items _ (record_bytes first)
+    ∙ ap (λ (x : List ℕ). c.args.out.now.items ++ x) (spelled ∙ ap (λ (seen : FlaggedEntry). entry_bytes seen.entry) c.self.view_is)) c.write_own.ensures.ok
 
 pub returns-in_ok-write_record-in-Update-clause-ok : goal.returns-in_ok-write_record-in-Update-clause-ok
 returns-in_ok-write_record-in-Update-clause-ok c =

@@ -1,25 +1,25 @@
--- `entry_ref::EntryRef::write_inverse_to`: what `write_as` requires, the clause `ok`.
+-- `entry_ref::EntryRef::write_inverse_to`: what `write_with_operation` requires, the clause `ok`.
 use Rattle.std.proofs.Common.{inl, inr, refl, length, ap, sym, arith}
 use Rattle.std.proofs.lemmas.Result.{on_ok_weaker}
 use Rattle.cs_entries.proofs.EntryLemmas.{entry_bytes_some}
 use Rattle.cs_entries.proofs.ShownLemmas.{AppendsInverse-row}
 use Rattle.cs_entries.proofs.entry_ref.EntryRef.write_inverse_to.Goals as goal
 
-pub write_as-requires : goal.write_as-requires
-write_as-requires c = omega (arith, ap length c.requires, entry_bytes_some c.args.self.entry)
+pub write_with_operation-requires : goal.write_with_operation-requires
+write_with_operation-requires c = omega (arith, ap length c.requires, entry_bytes_some c.args.self.entry)
 
-pub write_as-requires-in-Delete : goal.write_as-requires-in-Delete
-write_as-requires-in-Delete c = omega (arith, ap length c.requires, entry_bytes_some c.args.self.entry)
+pub write_with_operation-requires-in-Delete : goal.write_with_operation-requires-in-Delete
+write_with_operation-requires-in-Delete c = omega (arith, ap length c.requires, entry_bytes_some c.args.self.entry)
 
 pub returns-in-Insert-clause-ok : goal.returns-in-Insert-clause-ok
 returns-in-Insert-clause-ok c =
     let i = c.self.inside in
-    on_ok_weaker c.write_as.result (λ grown. AppendsInverse-row i.flags.now i.operation i.exchanged i.indirect i.first i.second c.self.invariant (inl c.in-Insert.is) 0x09 (rw c.in-Insert.is refl) c.args.self c.self.view_is c.args.bytes.now c.args.out.now.items _ c.requires grown) c.write_as.ensures.ok
+    on_ok_weaker c.write_with_operation.result (λ grown. AppendsInverse-row i.flags.now i.operation i.exchanged i.indirect i.first i.second c.self.invariant (inl c.in-Insert.is) 0x09 (rw c.in-Insert.is refl) c.args.self c.self.view_is c.args.bytes.now c.args.out.now.items _ c.requires grown) c.write_with_operation.ensures.ok
 
 pub returns-in-Delete-clause-ok : goal.returns-in-Delete-clause-ok
 returns-in-Delete-clause-ok c =
     let i = c.self.inside in
-    on_ok_weaker c.write_as-in-Delete.result (λ grown. AppendsInverse-row i.flags.now i.operation i.exchanged i.indirect i.first i.second c.self.invariant (inr c.in-Delete.is) 0x12 (rw c.in-Delete.is refl) c.args.self c.self.view_is c.args.bytes.now c.args.out.now.items _ c.requires grown) c.write_as-in-Delete.ensures.ok
+    on_ok_weaker c.write_with_operation-in-Delete.result (λ grown. AppendsInverse-row i.flags.now i.operation i.exchanged i.indirect i.first i.second c.self.invariant (inr c.in-Delete.is) 0x12 (rw c.in-Delete.is refl) c.args.self c.self.view_is c.args.bytes.now c.args.out.now.items _ c.requires grown) c.write_with_operation-in-Delete.ensures.ok
 
 pub returns-in-Update-clause-ok : goal.returns-in-Update-clause-ok
 returns-in-Update-clause-ok c =
