@@ -291,35 +291,36 @@ impl<'a> EntryRef<'a> {
         ensures inverse { IsInverseEntry self.entry.flags self.entry.entry result.entry }
         ensures well_formed { IsEntry result.flags result.entry }
     {
-        let EntryRef {
-            flags,
-            operation,
-            indirect,
-            first,
-            second,
-            exchanged,
-        } = self;
+        self.inverse()
+    }
+
+    /// Returns the inverse, which borrows what this borrows.
+    fn inverse(&self) -> EntryRef<'a>
+        ensures flags { result.flags ≡ self.now.flags }
+        ensures inverse { IsInverseEntry self.now.flags self.now.entry result.entry }
+        ensures well_formed { IsEntry result.flags result.entry }
+    {
         EntryRef {
-            flags,
-            operation: operation.inverse(),
-            indirect,
-            first,
-            second,
-            exchanged: !exchanged,
+            flags: self.flags,
+            operation: self.operation.inverse(),
+            indirect: self.indirect,
+            first: self.first,
+            second: self.second,
+            exchanged: !self.exchanged,
         }
     }
 
     /// Appends the bytes of the inverse. `bytes` are those of the entry itself: an insert or a delete is copied from them.
     /// [`NoMemory`] leaves `out` unchanged.
-    pub fn write_inverse_to(self, bytes: &[u8], out: &mut Vec<u8>) -> Result<(), NoMemory>
-        requires { bytes.now ≡ entry_bytes self.entry }
-        ensures ok { OnOk result (AppendsInverse self.entry.flags self.entry.entry out.old.items out.new.items) }
+    pub fn write_inverse_to(&self, bytes: &[u8], out: &mut Vec<u8>) -> Result<(), NoMemory>
+        requires { bytes.now ≡ entry_bytes self.now.entry }
+        ensures ok { OnOk result (AppendsInverse self.now.flags self.now.entry out.old.items out.new.items) }
         ensures err { OnErr result (out.new.items ≡ out.old.items) }
     {
         match self.operation {
             Operation::Insert => write_with_operation(out, bytes, DELETE),
             Operation::Delete => write_with_operation(out, bytes, INSERT),
-            Operation::Update => self.inverted().write_to(out),
+            Operation::Update => self.inverse().write_to(out),
         }
     }
 

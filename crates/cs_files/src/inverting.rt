@@ -28,7 +28,7 @@ impl Visit for Inverting {
         header.write_to(&mut self.out)
     }
 
-    fn visit_entry(&mut self, seen: EntryRef<'_>, bytes: &[u8]) -> Result<(), NoMemory> {
+    fn visit_entry(&mut self, seen: &EntryRef<'_>, bytes: &[u8]) -> Result<(), NoMemory> {
         seen.write_inverse_to(bytes, &mut self.out)
     }
 }

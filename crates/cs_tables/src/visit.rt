@@ -37,10 +37,10 @@ pub trait Visit {
     /// # Errors
     ///
     /// [`NoMemory`] if memory runs out.
-    fn visit_entry(&mut self, seen: EntryRef<'_>, bytes: &[u8]) -> Result<(), NoMemory>
-        requires entry { IsEntry seen.flags seen.entry }
-        requires bytes { bytes.now ≡ entry_bytes seen.entry }
-        ensures { OnOk result (written self.new ≡ written self.old ++ entry_text seen.entry.flags seen.entry.entry) };
+    fn visit_entry(&mut self, seen: &EntryRef<'_>, bytes: &[u8]) -> Result<(), NoMemory>
+        requires entry { IsEntry seen.now.flags seen.now.entry }
+        requires bytes { bytes.now ≡ entry_bytes seen.now.entry }
+        ensures { OnOk result (written self.new ≡ written self.old ++ entry_text seen.now.flags seen.now.entry) };
 }
 
 /// Does nothing.
@@ -58,7 +58,7 @@ impl Visit for Unvisited {
         Ok(())
     }
 
-    fn visit_entry(&mut self, _seen: EntryRef<'_>, _bytes: &[u8]) -> Result<(), NoMemory> {
+    fn visit_entry(&mut self, _seen: &EntryRef<'_>, _bytes: &[u8]) -> Result<(), NoMemory> {
         Ok(())
     }
 }

@@ -1,11 +1,11 @@
--- `entry_ref::EntryRef::inverted`: the invariant, the clauses `inverse` and `well_formed`.
+-- `entry_ref::EntryRef::inverse`: the invariant, the clauses `inverse` and `well_formed`.
 use Rattle.std.proofs.Common.{length, not, subst}
 use Rattle.cs_entries.specs.Inverse.{IsInverseEntry}
 use Rattle.cs_entries.specs.Items.{FlaggedEntry, entry_of, shown_entry}
 use Rattle.cs_entries.specs.Records.{fields_at}
 use Rattle.cs_entries.specs.Views.{inverse_operation}
 use Rattle.cs_entries.proofs.ShownLemmas.{IsShown-inverse, shown_inverse_entry}
-use Rattle.cs_entries.proofs.entry_ref.EntryRef.inverted.Goals as goal
+use Rattle.cs_entries.proofs.entry_ref.EntryRef.inverse.Goals as goal
 
 pub invariant_of-result : goal.invariant_of-result
 invariant_of-result c =

@@ -1,6 +1,6 @@
--- `seen::word_of`: what it ensures.
+-- `seen::short_word`: what it ensures.
 use Rattle.cs_wire.specs.Seen.{word_of}
-use Rattle.cs_wire.proofs.seen.word_of.Goals as goal
+use Rattle.cs_wire.proofs.seen.short_word.Goals as goal
 
 pub returns : goal.returns
 unfolding word_of
