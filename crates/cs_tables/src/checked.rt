@@ -244,13 +244,14 @@ fn pass_entry<V: Visit>(
     ensures { IfOk result (λ read. IfSome read (λ read. VisitsEntry (V.entry_text flags.now) (V.written visitor.old)
         (V.written visitor.new) file.now at flags.now read.0 read.1)) }
 {
-    let read = read_entry(file, at, flags);
-    let Ok((seen, end)) = &read else {
-        return Ok(None);
-    };
-    let number = key_number(alloc, seen, columns)?;
-    visitor.visit_entry(seen, part(file, at, *end))?;
-    Ok(Some((number, *end)))
+    match &read_entry(file, at, flags) {
+        Ok((seen, end)) => {
+            let number = key_number(alloc, seen, columns)?;
+            visitor.visit_entry(seen, part(file, at, *end))?;
+            Ok(Some((number, *end)))
+        }
+        Err(_) => Ok(None),
+    }
 }
 
 /// The part of a file between two byte offsets, or nothing if they are not in order or not in the file.
