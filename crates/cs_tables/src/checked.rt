@@ -244,14 +244,12 @@ fn pass_entry<V: Visit>(
     ensures { IfOk result (λ read. IfSome read (λ read. VisitsEntry (V.entry_text flags.now) (V.written visitor.old)
         (V.written visitor.new) file.now at flags.now read.0 read.1)) }
 {
-    match &read_entry(file, at, flags) {
-        Ok((seen, end)) => {
-            let number = key_number(alloc, seen, columns)?;
-            visitor.visit_entry(seen, part(file, at, *end))?;
-            Ok(Some((number, *end)))
-        }
-        Err(_) => Ok(None),
-    }
+    let Ok((seen, end)) = read_entry(file, at, flags) else {
+        return Ok(None);
+    };
+    let number = key_number(alloc, &seen, columns)?;
+    visitor.visit_entry(&seen, part(file, at, end))?;
+    Ok(Some((number, end)))
 }
 
 /// The part of a file between two byte offsets, or nothing if they are not in order or not in the file.
