@@ -2,6 +2,7 @@
 
 from __future__ import annotations
 
+import contextlib
 import glob
 import os
 import pathlib
@@ -12,6 +13,7 @@ import subprocess
 import sys
 import threading
 import time
+from collections.abc import Iterator
 from typing import NamedTuple, Optional
 
 from kinds import Kind
@@ -24,7 +26,7 @@ HEADER = TOP / "bindings/c"
 ROOM = 4 << 30
 
 # The rounds of a measurement, and the most seconds of a run.
-ROUNDS, LONGEST = 3, 60
+ROUNDS, LONGEST = 4, 60
 
 
 class Run(NamedTuple):
@@ -117,6 +119,17 @@ def run(command: str, is_call: bool) -> Optional[Run]:
     return Run(max(seconds, 1e-9), usage.ru_maxrss * 1024)
 
 
+@contextlib.contextmanager
+def on_processor(turn: int) -> Iterator[None]:
+    """Run on one processor, each in turn, with what this process starts."""
+    processors = sorted(os.sched_getaffinity(0))
+    os.sched_setaffinity(0, {processors[turn % len(processors)]})
+    try:
+        yield
+    finally:
+        os.sched_setaffinity(0, processors)
+
+
 def best(first: Optional[Run], second: Optional[Run]) -> Optional[Run]:
     """Return the shortest time of two runs, and their most memory."""
     if first is None or second is None:
@@ -130,10 +143,11 @@ def measure(kind: Kind, shape: Shape, count: int, has_theirs: bool, long: float)
     runs: list[Optional[Run]] = [None, None]
     remove("out", "other")
     started = time.monotonic()
-    for _ in range(ROUNDS):
+    for turn in range(ROUNDS):
         for side, command in enumerate(sides):
             put_state(kind.state)
-            one = run(command, kind.is_call)
+            with on_processor(turn):
+                one = run(command, kind.is_call)
             runs[side] = best(runs[side], one)
         if time.monotonic() - started > long:
             break

@@ -34,6 +34,7 @@ pub fn has_entry(file: &[u8], at: usize) -> bool
 /// # Errors
 ///
 /// The fault of the file, if an entry can begin there.
+#[inline(always)]
 pub fn read_entry<'a>(
     file: &'a [u8],
     at: usize,
@@ -91,6 +92,7 @@ fn read_indirect(file: &[u8], at: usize) -> Result<(bool, usize), ReadFault>
 
 /// Returns the records of a change with this operation: the bytes of the row or of the old record, those of the new
 /// record, and the offset after them.
+#[inline(always)]
 fn read_records<'a>(
     file: &'a [u8],
     at: usize,

@@ -15,6 +15,7 @@ use crate::reader::rest_from;
 use cs_value::{Field, FieldFault, Value, field_read};
 
 /// Reads the field at the front of some bytes, as [`field_read`] does, which it calls for all but integers.
+#[inline(always)]
 pub(crate) fn front_read(bytes: &[u8]) -> Result<(Field<'_>, usize), FieldFault>
     ensures found { IfOk result (λ r. IsField (field_of r.0) × BeginsWith bytes.now (field_bytes (field_of r.0)) r.1) }
     ensures only { (f : OwnedField) (rest : List ℕ) → IsField f → bytes.now ≡ field_bytes f ++ rest
@@ -64,6 +65,7 @@ fn run_len(flags: &[u8], of_key: bool) -> usize
 }
 
 /// Returns the bytes after this many fields.
+#[inline(always)]
 fn skip_fields(bytes: &[u8], count: usize) -> &[u8]
     ensures { (fields : List OwnedField) → IsRecord fields → count ≤ length fields → bytes.now ≡ record_bytes fields
         → result.now ≡ record_bytes (drop count fields) }
@@ -76,6 +78,7 @@ fn skip_fields(bytes: &[u8], count: usize) -> &[u8]
 }
 
 /// Returns the bytes of this many fields, after the first ones.
+#[inline(always)]
 fn columns_in(bytes: &[u8], first: usize, count: usize) -> &[u8]
     ensures { (fields : List OwnedField) → IsRecord fields → first + count ≤ length fields → bytes.now ≡ record_bytes fields
         → result.now ≡ record_bytes (take count (drop first fields)) }

@@ -166,7 +166,7 @@ fn pass_rising<V: Visit>(
     Ok(Some(passed))
 }
 
-/// Whether a number is above the last of `count` numbers, or is the first.
+/// Returns whether a number is the first, or above the previous one. `count` numbers are before it.
 fn rises_to(last: u64, number: u64, count: usize) -> bool
     ensures { IsTrue result ↔ (count ≡ 0) ⊎ (last < number) }
 {
@@ -231,6 +231,7 @@ fn pass_rest<V: Visit>(
 }
 
 /// The number of the key of the entry at a byte offset, and the end of the entry, if it is well formed. Visits it.
+#[inline(always)]
 fn pass_entry<V: Visit>(
     alloc: Global,
     file: &[u8],
@@ -264,6 +265,7 @@ pub(crate) fn part(file: &[u8], start: usize, end: usize) -> &[u8]
 }
 
 /// The number of an entry's key. `columns` are those of its table, if they are contiguous.
+#[inline(always)]
 pub(crate) fn key_number(
     alloc: Global,
     seen: &EntryRef<'_>,

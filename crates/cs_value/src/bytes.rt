@@ -6,8 +6,7 @@ use crate::refusal::NoMemory;
 use std::alloc::Global;
 use std::marker::Model;
 
-/// The bytes of a blob: at most [`MAX_CONTENT_LEN`](crate::MAX_CONTENT_LEN), which contracts see as
-/// their list.
+/// The bytes of a blob, at most [`MAX_CONTENT_LEN`](crate::MAX_CONTENT_LEN). Contracts see their list.
 #[derive(Debug, Drop)]
 pub struct Bytes {
     bytes: Vec<u8>,
@@ -22,8 +21,8 @@ impl Model for Bytes {
 }
 
 impl Bytes {
-    /// Makes a blob of a vector, and takes no memory.
-    /// [`OwnedValue::fits`](crate::OwnedValue::fits) tests whether the vector is short enough.
+    /// Returns the blob of a vector. It allocates nothing. [`OwnedValue::fits`](crate::OwnedValue::fits) tests whether
+    /// the vector is short enough.
     pub fn new(bytes: Vec<u8>) -> Bytes
         requires { vec_len bytes ≤ MAX_CONTENT_LEN }
         ensures { result ≡ bytes.items }
@@ -31,7 +30,7 @@ impl Bytes {
         Bytes { bytes }
     }
 
-    /// The bytes as a slice.
+    /// Returns the bytes as a slice.
     pub fn as_slice(&self) -> &[u8]
         ensures same { result.now ≡ self.now }
         ensures short { length result.now ≤ MAX_CONTENT_LEN }
@@ -39,14 +38,14 @@ impl Bytes {
         self.bytes.as_slice()
     }
 
-    /// A copy of the blob, in memory of its own.
+    /// Returns a copy of the blob.
     pub fn copy(&self, alloc: Global) -> Result<Bytes, NoMemory>
         ensures { IfOk result (λ x. x ≡ self.now) }
     {
         Ok(Bytes::new(Vec::from_slice(alloc, self.as_slice())?))
     }
 
-    /// Gives the vector back, and takes no memory.
+    /// Returns the vector. It allocates nothing.
     pub fn into_vec(self) -> Vec<u8>
         ensures { result.items ≡ self }
     {

@@ -1,11 +1,11 @@
-//! Why bytes do not begin with a field or an image.
+//! The faults of reading a field, a varint or an image.
 ghost use Rattle.std.specs.Prelude.{◌≡◌, ◌+◌, ◌<◌, ◌^◌};
 ghost use Rattle.cs_value.specs.FieldFaults.{code_of, name_of};
 
 use crate::refusal::{Fault, OrNoMemory};
 use thiserror::Error;
 
-/// What is wrong with bytes that were to begin with a field or a varint.
+/// Why bytes do not begin with a field or a varint.
 #[derive(Clone, Copy, Debug, PartialEq, Eq, Error)]
 pub enum FieldFaultKind {
     /// The bytes end inside the field.
@@ -26,7 +26,7 @@ pub enum FieldFaultKind {
 }
 
 impl FieldFaultKind {
-    /// The number of this fault among the faults of the product.
+    /// Returns the number of this fault among the faults of the product.
     pub fn code(self) -> u8
         ensures { result ≡ code_of self }
     {
@@ -39,7 +39,7 @@ impl FieldFaultKind {
         }
     }
 
-    /// The name that error lines print.
+    /// Returns the name that error lines print.
     pub fn name(self) -> &'static str
         ensures { result.now ≡ name_of self }
     {
@@ -53,7 +53,7 @@ impl FieldFaultKind {
     }
 }
 
-/// A fault, and its place: a count of bytes from the start of the slice that was read.
+/// A fault, and its byte offset in the slice that was read.
 #[derive(Clone, Copy, Debug, PartialEq, Eq, Error)]
 #[error("{kind} at byte {place}")]
 pub struct FieldFault {
@@ -82,7 +82,7 @@ impl Fault for FieldFault {
 }
 
 impl FieldFault {
-    /// The fault of a field that was read from `start` on, placed from where `start` is counted.
+    /// Returns the fault of a field that was read at the offset `start`, with its offset counted as `start` is.
     pub fn behind(self, start: usize) -> FieldFault
         requires { start + self.place < 2 ^ 64 }
         ensures { result ≡ record { kind = self.kind; place = start + self.place } }
@@ -94,6 +94,5 @@ impl FieldFault {
     }
 }
 
-/// Why an image is not read: the bytes do not begin with as many fields as there are columns, or
-/// memory was refused.
+/// Why an image is not read: the bytes begin with fewer fields than there are columns, or memory runs out.
 pub type ImageFault = OrNoMemory<FieldFault>;

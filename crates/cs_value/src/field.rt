@@ -13,12 +13,14 @@ use crate::value::{Field, Value};
 use crate::varint::{read_number, varint_write};
 use std::str;
 
-/// Reads the field at the front of `bytes`: the field, which borrows from them, and the count of
-/// bytes that it takes. Bytes may follow it. It takes no memory.
+/// Returns the field at the front of `bytes`, which borrows from them, and its length in bytes. Bytes may follow it. It
+/// allocates nothing. The format is that of the comment at the top of SQLite's `sqlite3session.c`.
 ///
-/// Refuses with `Truncated` where the bytes end inside the field, `BadVarint` where a count is no
-/// varint, `BadType` and `RealValue` for a type byte that is above 0x05 or 0x02, and `BadText`
-/// for a text that is not UTF-8.
+/// # Errors
+///
+/// `Truncated` if the bytes end inside the field, `BadVarint` if a count is no varint, `BadType` for a type byte above
+/// 0x05, `RealValue` for the type byte 0x02, and `BadText` for a text that is not UTF-8.
+#[inline(always)]
 pub fn field_read(bytes: &[u8]) -> Result<(Field<'_>, usize), FieldFault>
     ensures found { IfOk result (λ r. IsField (field_of r.0) × BeginsWith bytes.now (field_bytes (field_of r.0)) r.1) }
     ensures only { (f : OwnedField) (rest : List ℕ) → IsField f → bytes.now ≡ field_bytes f ++ rest
@@ -34,8 +36,9 @@ fn fault<T: Drop>(kind: FieldFaultKind, place: usize) -> Result<T, FieldFault>
     Err(FieldFault { kind, place })
 }
 
-// The field at the front, by its type byte.
+/// Returns the field at the front, by its type byte.
 #[tactic(auto, unfolding(crate::specs::Reading::field_at))]
+#[inline(always)]
 fn read_by_type(bytes: &[u8]) -> Result<(Field<'_>, usize), FieldFault>
     ensures { Reads (λ r. (field_of r.0, r.1)) result (field_at bytes.now) }
 {
@@ -53,7 +56,7 @@ fn read_by_type(bytes: &[u8]) -> Result<(Field<'_>, usize), FieldFault>
     }
 }
 
-// What follows a type byte: an integer.
+/// Returns the integer after a type byte.
 #[tactic(auto, unfolding(crate::specs::Reading::integer_at))]
 fn read_integer(content: &[u8]) -> Result<(Field<'_>, usize), FieldFault>
     ensures { Reads (λ r. (field_of r.0, r.1)) result (integer_at content.now) }
@@ -64,8 +67,9 @@ fn read_integer(content: &[u8]) -> Result<(Field<'_>, usize), FieldFault>
     }
 }
 
-// What follows a type byte: a text.
+/// Returns the text after a type byte.
 #[tactic(auto, unfolding(crate::specs::Reading::text_at))]
+#[inline(always)]
 fn read_text(content: &[u8]) -> Result<(Field<'_>, usize), FieldFault>
     ensures { Reads (λ r. (field_of r.0, r.1)) result (text_at content.now) }
 {
@@ -76,7 +80,7 @@ fn read_text(content: &[u8]) -> Result<(Field<'_>, usize), FieldFault>
     }
 }
 
-// What follows a type byte: a blob.
+/// Returns the blob after a type byte.
 #[tactic(auto, unfolding(crate::specs::Reading::blob_at))]
 fn read_blob(content: &[u8]) -> Result<(Field<'_>, usize), FieldFault>
     ensures { Reads (λ r. (field_of r.0, r.1)) result (blob_at content.now) }
@@ -85,8 +89,9 @@ fn read_blob(content: &[u8]) -> Result<(Field<'_>, usize), FieldFault>
     Ok((Field::Defined(Value::Blob(blob)), used))
 }
 
-// What follows a type byte: a count, and as many bytes. They end behind so many bytes, the type byte included.
+/// Returns the counted bytes after a type byte, and the length of the field with its type byte.
 #[tactic(auto, unfolding(crate::specs::Reading::counted_at))]
+#[inline(always)]
 fn read_counted(content: &[u8]) -> Result<(&[u8], usize), FieldFault>
     ensures exact { Reads (λ r. (r.0.now, r.1)) result (counted_at content.now) }
     ensures within { IfOk result (λ r. length r.0.now ≤ r.1) }
@@ -103,8 +108,7 @@ fn read_counted(content: &[u8]) -> Result<(&[u8], usize), FieldFault>
     Ok((&rest[..count], 1 + start + count))
 }
 
-/// Appends the bytes of the field, whose text or blob has at most 2147483647 bytes.
-/// [`NoMemory`] leaves `out` as it was.
+/// Appends the bytes of a field, whose text or blob has at most 2147483647 bytes. [`NoMemory`] leaves `out` unchanged.
 #[tactic(auto, unfolding(crate::specs::Spelling::field_bytes))]
 pub fn field_write(out: &mut Vec<u8>, field: &Field) -> Result<(), NoMemory>
     requires { FieldFits field.now }
@@ -117,7 +121,7 @@ pub fn field_write(out: &mut Vec<u8>, field: &Field) -> Result<(), NoMemory>
     }
 }
 
-/// Appends the bytes of the value.
+/// Appends the bytes of a value.
 pub(crate) fn value_write(out: &mut Vec<u8>, value: Value) -> Result<(), NoMemory>
     requires { Fits value }
     ensures ok { OnOk result (out.new.items ≡ out.old.items ++ value_bytes (value_of value.entry)) }
@@ -131,7 +135,7 @@ pub(crate) fn value_write(out: &mut Vec<u8>, value: Value) -> Result<(), NoMemor
     written
 }
 
-// The same, but for what a refusal leaves.
+/// Appends the bytes of a value. [`NoMemory`] can leave some of them.
 #[tactic(auto, unfolding(crate::specs::Spelling::value_bytes))]
 fn append_value(out: &mut Vec<u8>, value: Value) -> Result<(), NoMemory>
     requires { Fits value }
@@ -156,7 +160,7 @@ fn append_value(out: &mut Vec<u8>, value: Value) -> Result<(), NoMemory>
     Ok(())
 }
 
-// The count of the bytes, and the bytes.
+/// Appends the count of some bytes, and the bytes.
 #[tactic(auto, unfolding(crate::specs::Spelling::counted))]
 fn append_counted(out: &mut Vec<u8>, content: &[u8]) -> Result<(), NoMemory>
     requires { length content.now ≤ MAX_CONTENT_LEN }

@@ -1,4 +1,4 @@
-//! Images: the fields of a record, of which some may be undefined.
+//! Images: the fields of a record, some of which may be undefined.
 ghost use Rattle.std.specs.Prelude.{◌≡◌, ◌+◌, ◌≤◌, ◌++◌, ℕ, List, length, drop, IfOk, IfErr, OnOk, OnErr};
 ghost use Rattle.cs_value.specs.declared.value.OwnedField.{OwnedField};
 ghost use Rattle.cs_value.specs.Value.{IsField, IsRecord};
@@ -15,7 +15,7 @@ use crate::value::OwnedField;
 use std::alloc::Global;
 use std::marker::Model;
 
-/// An image: the fields of a record, as an UPDATE's old or new one. Contracts see it as their list.
+/// The fields of a record, such as the old or the new one of an UPDATE. Contracts see their list.
 #[derive(Debug, Drop)]
 pub struct Image {
     fields: Vec<OwnedField>,
@@ -30,7 +30,7 @@ impl Model for Image {
 }
 
 impl Image {
-    /// Makes an image of fields, and takes no memory.
+    /// Returns the image of some fields. It allocates nothing.
     pub fn new(fields: Vec<OwnedField>) -> Image
         ensures { result ≡ fields.items }
     {
@@ -38,7 +38,7 @@ impl Image {
         Image { fields }
     }
 
-    /// The fields, in column order.
+    /// Returns the fields, in column order.
     pub fn fields(&self) -> &[OwnedField]
         ensures same { result.now ≡ self.now }
         ensures are_fields { IsRecord self.now }
@@ -46,14 +46,14 @@ impl Image {
         &self.fields
     }
 
-    /// A copy of the image, in memory of its own.
+    /// Returns a copy of the image.
     pub fn copy(&self, alloc: Global) -> Result<Image, NoMemory>
         ensures { IfOk result (λ i. i ≡ self.now) }
     {
         Ok(Image::new(parts_copy(alloc, self.fields())?))
     }
 
-    /// Gives the fields back, and takes no memory.
+    /// Returns the fields. It allocates nothing.
     pub fn into_fields(self) -> Vec<OwnedField>
         ensures { result.items ≡ self }
     {
@@ -82,7 +82,7 @@ impl Eq for Image {
     ghost laws = { lists_equiv laws-law };
 }
 
-/// Appends the bytes of the image's fields in turn. [`NoMemory`] leaves `out` as it was.
+/// Appends the bytes of the fields of an image, in column order. [`NoMemory`] leaves `out` unchanged.
 pub fn image_write(out: &mut Vec<u8>, image: &Image) -> Result<(), NoMemory>
     ensures ok { OnOk result (out.new.items ≡ out.old.items ++ record_bytes image.now) }
     ensures err { OnErr result (out.new.items ≡ out.old.items) }
@@ -90,12 +90,12 @@ pub fn image_write(out: &mut Vec<u8>, image: &Image) -> Result<(), NoMemory>
     parts_write(out, image.fields())
 }
 
-/// Reads the image at the front of `bytes`, of a record of so many columns: the image, and the
-/// count of bytes that it takes. Bytes may follow it. It takes memory only for what it has read,
-/// however many `columns` are claimed.
+/// Returns the image of this many columns at the front of `bytes`, and its length in bytes. Bytes may follow it. It
+/// allocates only for the fields that it has read.
 ///
-/// Refuses with the fault of the first field that is none, whose place is counted from the start
-/// of `bytes`, and where memory is refused.
+/// # Errors
+///
+/// The fault of the first column that has no field, with its byte offset in `bytes`. `NoMemory` if memory runs out.
 pub fn image_read(alloc: Global, bytes: &[u8], columns: usize) -> Result<(Image, usize), ImageFault>
     ensures found { IfOk result (λ r. IsRecord r.0 × (length r.0 ≡ columns)
         × BeginsWith bytes.now (record_bytes r.0) r.1) }
@@ -114,7 +114,7 @@ pub fn image_read(alloc: Global, bytes: &[u8], columns: usize) -> Result<(Image,
     Ok((Image::new(fields), end))
 }
 
-// The field that begins at a place, and the count of bytes that it takes.
+/// Returns the field at an offset, and its length in bytes.
 fn read_at(alloc: Global, bytes: &[u8], at: usize) -> Result<(OwnedField, usize), ImageFault>
     requires { at ≤ length bytes.now }
     ensures found { IfOk result (λ r. IsField r.0 × BeginsWith (drop at bytes.now) (field_bytes r.0) r.1) }

@@ -1,4 +1,4 @@
-//! Keys: what tells the rows of a table apart.
+//! Keys, which identify the rows of a table.
 ghost use Rattle.std.specs.Prelude.{◌≡◌, length, IfOk};
 ghost use Rattle.cs_value.specs.Key.{row_key, image_key};
 ghost use Rattle.cs_value.specs.Spelling.{row_bytes};
@@ -13,8 +13,8 @@ use std::cmp::Ordering;
 use std::hash::{Hash, Hasher};
 use std::marker::Model;
 
-/// The key of a row or an image: the bytes of what stands in its key columns, in column order.
-/// Contracts see it as these bytes, by which keys are compared and ordered.
+/// The key of a row or an image: the bytes of its key columns, in column order. Contracts see these bytes, by which keys
+/// are compared and ordered.
 #[derive(Debug, Drop)]
 pub struct Key {
     bytes: Vec<u8>,
@@ -29,8 +29,7 @@ impl Model for Key {
 }
 
 impl Key {
-    /// The key of a row under these flags, one for each column, of which those other than 0 mark
-    /// the key columns.
+    /// Returns the key of a row. There is a flag for each column, and those other than 0 mark the key columns.
     pub fn of_row(alloc: Global, flags: &[u8], row: &Row) -> Result<Key, NoMemory>
         requires { length flags.now ≡ length row.now }
         ensures { IfOk result (λ key. key ≡ row_key flags.now row.now) }
@@ -40,7 +39,7 @@ impl Key {
         })
     }
 
-    /// The key of an image, in the same way: the bytes of the fields in its key columns.
+    /// Returns the key of an image: the bytes of the fields in the key columns, which the flags mark.
     pub fn of_image(alloc: Global, flags: &[u8], image: &Image) -> Result<Key, NoMemory>
         requires { length flags.now ≡ length image.now }
         ensures { IfOk result (λ key. key ≡ image_key flags.now image.now) }
@@ -50,7 +49,7 @@ impl Key {
         })
     }
 
-    /// The key of these values, in column order. A table's key has one at least, and none that is NULL.
+    /// Returns the key of these values, in column order. The key of a table has at least one value, and no NULL.
     pub fn from_values(alloc: Global, values: &[OwnedValue]) -> Result<Key, NoMemory>
         ensures { IfOk result (λ key. key ≡ row_bytes values.now) }
     {
@@ -59,21 +58,21 @@ impl Key {
         Ok(Key { bytes })
     }
 
-    /// The key whose values are spelled by these bytes, one behind the other. It takes no memory.
+    /// Returns the key that has these bytes: those of its values, in column order. It allocates nothing.
     pub fn from_bytes(bytes: Vec<u8>) -> Key
         ensures { result ≡ bytes.items }
     {
         Key { bytes }
     }
 
-    /// The bytes of the key's values.
+    /// Returns the bytes of the values.
     pub fn bytes(&self) -> &[u8]
         ensures { result.now ≡ self.now }
     {
         &self.bytes
     }
 
-    /// A copy of the key, in memory of its own.
+    /// Returns a copy of the key.
     pub fn copy(&self, alloc: Global) -> Result<Key, NoMemory>
         ensures { IfOk result (λ x. x ≡ self.now) }
     {
@@ -82,7 +81,7 @@ impl Key {
         })
     }
 
-    /// Gives the bytes back, and takes no memory.
+    /// Returns the bytes. It allocates nothing.
     pub fn into_bytes(self) -> Vec<u8>
         ensures { result.items ≡ self }
     {

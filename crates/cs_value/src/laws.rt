@@ -1,5 +1,5 @@
-//! What holds of all spellings. These functions do nothing: each has a law as its contract, and a
-//! caller states the law where it needs it, by calling it.
+//! Laws of all spellings. Each function has no effect, and a law as its contract. A caller that needs the law calls
+//! the function.
 ghost use Rattle.cs_value.specs.Laws.{VarintSpellings, FieldSpellings, RecordSpellings, KeyBytes};
 
 /// No varint begins another's spelling.
@@ -17,7 +17,7 @@ pub fn record_spellings_law()
     ensures { RecordSpellings }
 {}
 
-/// Keys of one column count have equal bytes only if their values are equal.
+/// Two keys of as many columns have equal bytes only if their values are equal.
 pub fn key_bytes_law()
     ensures { KeyBytes }
 {}

@@ -1,8 +1,7 @@
-//! Values, fields, rows, images and keys of SQLite changesets, and the bytes that spell them.
+//! Values, fields, rows, images and keys of SQLite changesets, and their bytes.
 //!
-//! A value is an integer of 64 bits, a text, a blob or NULL. A field is a value or undefined. What
-//! a field, a row, an image or a key is written as follows the format comment of SQLite's
-//! `sqlite3session.c`; this crate reads and writes exactly that spelling.
+//! A value is an integer of 64 bits, a text, a blob or NULL. A field is a value or undefined. The bytes are those of the
+//! format comment of SQLite's `sqlite3session.c`.
 //!
 //! ```rust
 //! let (field, used) = field_read(&[0x03, 0x01, 0x78])?;
@@ -10,10 +9,10 @@
 //! assert_eq!(rt; used, 3);
 //! ```
 //!
-//! `value` has the values, `text` and `bytes` what they hold, `varint` the numbers of the format,
-//! `field` the reader and the writer of fields, `row` lists of values, `image` lists of fields,
-//! `parts` what both are made of, `key` what tells rows apart, `name` what tables are called,
-//! `fault` and `refusal` what calls refuse with, and `laws` what holds of all spellings.
+//! `value` has the values, `text` and `bytes` their contents, `varint` the numbers of the format, and `field` the reader
+//! and the writer of fields. `row` has lists of values, `image` lists of fields, and `parts` what both are made of. `key`
+//! has the keys of rows, `name` the names of tables, `fault` and `refusal` the reasons why calls fail, and `laws` the laws
+//! of all spellings.
 #![tactic(auto)]
 
 mod bytes;
@@ -43,9 +42,8 @@ pub use text::Text;
 pub use value::{Field, OwnedField, OwnedValue, Value};
 pub use varint::{varint_len, varint_read, varint_write};
 
-/// The most bytes that a text or a blob of a changeset can have: SQLite writes their count as a
-/// varint of 31 bits.
+/// The most bytes of a text or a blob of a changeset. SQLite writes their count as a varint of 31 bits.
 pub const MAX_CONTENT_LEN: usize = 2_147_483_647;
 
-/// The most columns that a table has: no SQLite can be built with more.
+/// The most columns of a table. SQLite cannot be built with more.
 pub const MAX_COLUMNS: usize = 32_767;

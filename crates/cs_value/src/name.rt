@@ -2,8 +2,8 @@
 ghost use Rattle.std.specs.Prelude.{◌↔◌, IsTrue};
 ghost use Rattle.cs_value.specs.Table.{IsName};
 
-/// Whether a table of a changeset can have this name: it has a byte, and none that is zero. It takes
-/// no memory.
+/// Returns whether a table of a changeset can have this name: it has at least one byte, and none that is zero. It
+/// allocates nothing.
 pub fn is_table_name(name: &str) -> bool
     ensures { IsTrue result ↔ IsName name.now }
 {

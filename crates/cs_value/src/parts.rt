@@ -1,4 +1,4 @@
-//! What rows and images are made of, one part after another: values and fields.
+//! The parts of rows and images: values and fields.
 ghost use Rattle.std.specs.Prelude.{◌≡◌, ◌++◌, ℕ, List, length, IfOk, OnOk, OnErr, take};
 ghost use Rattle.std.specs.List.{flat_map, AllByRecursion};
 ghost use Rattle.cs_value.specs.Value.{IsValue, IsField};
@@ -10,22 +10,22 @@ use crate::refusal::NoMemory;
 use crate::value::{OwnedField, OwnedValue};
 use std::alloc::Global;
 
-/// A value or a field: what can be written and copied.
+/// A value or a field, which can be written and copied.
 pub(crate) trait Part: Drop {
     ghost IsPart: { Self → Type 0 };
 
     ghost spelled: { Self → List ℕ };
 
-    /// Does nothing. What is here is what the type says.
+    /// Has no effect. Its contract says that the part is as its type says.
     fn see(&self)
         ensures { IsPart self.now };
 
-    /// Appends the bytes of the part. [`NoMemory`] leaves `out` as it was.
+    /// Appends the bytes of the part. [`NoMemory`] leaves `out` unchanged.
     fn write(&self, out: &mut Vec<u8>) -> Result<(), NoMemory>
         ensures ok { OnOk result (out.new.items ≡ out.old.items ++ spelled self.now) }
         ensures err { OnErr result (out.new.items ≡ out.old.items) };
 
-    /// A copy of the part, in memory of its own.
+    /// Returns a copy of the part.
     fn duplicate(&self, alloc: Global) -> Result<Self, NoMemory>
         ensures { IfOk result (λ x. x ≡ self.now) };
 }
@@ -66,7 +66,7 @@ impl Part for OwnedField {
     }
 }
 
-/// Does nothing. Each of the parts is what its type says.
+/// Has no effect. Its contract says that each of the parts is as its type says.
 pub(crate) fn see_parts<T: Part>(parts: &[T])
     ensures { AllByRecursion T.IsPart parts.now }
 {
@@ -75,7 +75,7 @@ pub(crate) fn see_parts<T: Part>(parts: &[T])
     }
 }
 
-/// Appends the bytes of the parts in turn. [`NoMemory`] leaves `out` as it was.
+/// Appends the bytes of the parts, in order. [`NoMemory`] leaves `out` unchanged.
 pub(crate) fn parts_write<T: Part>(out: &mut Vec<u8>, parts: &[T]) -> Result<(), NoMemory>
     ensures ok { OnOk result (out.new.items ≡ out.old.items ++ flat_map T.spelled parts.now) }
     ensures err { OnErr result (out.new.items ≡ out.old.items) }
@@ -88,7 +88,7 @@ pub(crate) fn parts_write<T: Part>(out: &mut Vec<u8>, parts: &[T]) -> Result<(),
     written
 }
 
-// The same, but for what a refusal leaves.
+/// Appends the bytes of the parts, in order. [`NoMemory`] can leave some of them.
 fn append_parts<T: Part>(out: &mut Vec<u8>, parts: &[T]) -> Result<(), NoMemory>
     ensures ok { OnOk result (out.new.items ≡ out.old.items ++ flat_map T.spelled parts.now) }
     ensures err { OnErr result (take (length out.old.items) out.new.items ≡ out.old.items) }
@@ -99,7 +99,7 @@ fn append_parts<T: Part>(out: &mut Vec<u8>, parts: &[T]) -> Result<(), NoMemory>
     Ok(())
 }
 
-/// A copy of the parts.
+/// Returns a copy of the parts.
 pub(crate) fn parts_copy<T: Part>(alloc: Global, parts: &[T]) -> Result<Vec<T>, NoMemory>
     ensures { IfOk result (λ copies. copies.items ≡ parts.now) }
 {
@@ -110,7 +110,7 @@ pub(crate) fn parts_copy<T: Part>(alloc: Global, parts: &[T]) -> Result<Vec<T>, 
     Ok(copies)
 }
 
-/// The bytes of the parts in the key columns, under these flags.
+/// Returns the bytes of the parts in the key columns, which the flags mark.
 pub(crate) fn key_parts<T: Part>(
     alloc: Global,
     flags: &[u8],

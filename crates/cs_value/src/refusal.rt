@@ -1,4 +1,4 @@
-//! What calls refuse with: a fault of their own, or that memory was refused.
+//! Why calls fail: a fault of their own, or memory that runs out.
 ghost use Rattle.std.specs.Prelude.{◌≡◌, ℕ, List, codes};
 ghost use Rattle.cs_value.specs.Refusals.{of_refusal};
 ghost use Rattle.cs_value.specs.declared.refusal.OrNoMemory.TheVariants.{NoMemory as OutOfMemory};
@@ -7,7 +7,7 @@ use std::alloc::{AllocError, AllocFailed};
 use std::fmt::Display;
 use thiserror::Error;
 
-/// A fault of the product: it has a number, a class and a name, and telling them takes no memory.
+/// A fault of the product. It has a number, a class and a name. Returning them allocates nothing.
 pub trait Fault {
     ghost code_of: { Self → ℕ };
 
@@ -15,20 +15,20 @@ pub trait Fault {
 
     ghost name_of: { Self → List ℕ };
 
-    /// The number of this fault, which no other fault of the product has.
+    /// Returns the number of this fault, which no other fault of the product has.
     fn code(&self) -> u8
         ensures { result ≡ code_of self.now };
 
-    /// SQLite's result code for it, as `SQLITE_CORRUPT`.
+    /// Returns SQLite's result code for it, such as `SQLITE_CORRUPT`.
     fn class(&self) -> u8
         ensures { result ≡ class_of self.now };
 
-    /// The name that error lines print.
+    /// Returns the name that error lines print.
     fn name(&self) -> &'static str
         ensures { result.now ≡ name_of self.now };
 }
 
-/// Memory that a call needed was refused.
+/// Memory runs out in a call.
 #[derive(Clone, Copy, Debug, PartialEq, Eq, Drop, Error)]
 #[error("out of memory")]
 pub struct NoMemory;
@@ -65,14 +65,14 @@ impl<T: Drop> From<AllocFailed<T>> for NoMemory {
     }
 }
 
-/// Why a call is refused that can fail and takes memory: a fault, or that memory was refused.
+/// Why a call fails that allocates: a fault of its own, or memory that runs out.
 #[derive(Debug, PartialEq, Eq, Drop, Error)]
 #[error_bound(F: Display)]
 pub enum OrNoMemory<F> {
     /// The call's own fault.
     #[error("{0}")]
     Fault(F),
-    /// Memory was refused.
+    /// Memory runs out.
     #[error("out of memory")]
     NoMemory,
 }

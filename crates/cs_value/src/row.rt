@@ -10,7 +10,7 @@ use crate::value::OwnedValue;
 use std::alloc::Global;
 use std::marker::Model;
 
-/// A row: the values of its columns, which contracts see as their list.
+/// The values of the columns of a row. Contracts see their list.
 #[derive(Debug, Drop)]
 pub struct Row {
     values: Vec<OwnedValue>,
@@ -29,7 +29,7 @@ impl Model for Row {
 }
 
 impl Row {
-    /// Makes a row of values, and takes no memory.
+    /// Returns the row of some values. It allocates nothing.
     pub fn new(values: Vec<OwnedValue>) -> Row
         ensures { result ≡ values.items }
     {
@@ -37,7 +37,7 @@ impl Row {
         Row { values }
     }
 
-    /// The values, in column order.
+    /// Returns the values, in column order.
     pub fn values(&self) -> &[OwnedValue]
         ensures same { result.now ≡ self.now }
         ensures are_values { IsRow self.now }
@@ -45,15 +45,15 @@ impl Row {
         &self.values
     }
 
-    /// A copy of the row, in memory of its own.
+    /// Returns a copy of the row.
     pub fn copy(&self, alloc: Global) -> Result<Row, NoMemory>
         ensures { IfOk result (λ x. x ≡ self.now) }
     {
         Ok(Row::new(parts_copy(alloc, self.values())?))
     }
 
-    /// Whether the row has a value for each of these flags, and none that is NULL where the flag is
-    /// other than 0, as a row of a table has. It takes no memory.
+    /// Returns whether the row has a value for each of these flags, and no NULL if the flag is not 0, as a row of a
+    /// table has. It allocates nothing.
     pub fn is_keyed(&self, flags: &[u8]) -> bool
         ensures keyed { IsTrue result ↔ IsKeyedRow flags.now self.now }
         ensures are_values { IsRow self.now }
@@ -70,7 +70,7 @@ impl Row {
         true
     }
 
-    /// Gives the values back, and takes no memory.
+    /// Returns the values. It allocates nothing.
     pub fn into_values(self) -> Vec<OwnedValue>
         ensures { result.items ≡ self }
     {
@@ -99,14 +99,14 @@ impl Eq for Row {
     ghost laws = { lists_equiv laws-law };
 }
 
-/// Whether the row of this column alone is keyed.
+/// Returns whether a value can be in a column with this flag.
 fn may_stand(flag: u8, value: &OwnedValue) -> bool
     ensures { IsTrue result ↔ IsKeyedRow (flag ∷ []) (value.now ∷ []) }
 {
     flag == 0 || !matches!(value, OwnedValue::Null)
 }
 
-/// Appends the bytes of the row's values in turn. [`NoMemory`] leaves `out` as it was.
+/// Appends the bytes of the values of a row, in column order. [`NoMemory`] leaves `out` unchanged.
 pub fn row_write(out: &mut Vec<u8>, row: &Row) -> Result<(), NoMemory>
     ensures ok { OnOk result (out.new.items ≡ out.old.items ++ row_bytes row.now) }
     ensures err { OnErr result (out.new.items ≡ out.old.items) }

@@ -7,8 +7,8 @@ use crate::refusal::NoMemory;
 use std::alloc::Global;
 use std::marker::Model;
 
-/// The text of a value: UTF-8 of at most [`MAX_CONTENT_LEN`](crate::MAX_CONTENT_LEN) bytes, which
-/// contracts see as the list of its bytes.
+/// The text of a value: UTF-8 of at most [`MAX_CONTENT_LEN`](crate::MAX_CONTENT_LEN) bytes. Contracts see the list of
+/// its bytes.
 #[derive(Debug, Drop)]
 pub struct Text {
     text: String,
@@ -23,8 +23,8 @@ impl Model for Text {
 }
 
 impl Text {
-    /// Makes a text of a string, and takes no memory.
-    /// [`OwnedValue::fits`](crate::OwnedValue::fits) tests whether the string is short enough.
+    /// Returns the text of a string. It allocates nothing. [`OwnedValue::fits`](crate::OwnedValue::fits) tests whether
+    /// the string is short enough.
     pub fn new(text: String) -> Text
         requires { string_len text ≤ MAX_CONTENT_LEN }
         ensures { result ≡ string_bytes text }
@@ -32,7 +32,7 @@ impl Text {
         Text { text }
     }
 
-    /// The text as a string slice.
+    /// Returns the text as a string slice.
     pub fn as_str(&self) -> &str
         ensures same { result.now ≡ self.now }
         ensures short { length result.now ≤ MAX_CONTENT_LEN }
@@ -40,14 +40,14 @@ impl Text {
         self.text.as_str()
     }
 
-    /// A copy of the text, in memory of its own.
+    /// Returns a copy of the text.
     pub fn copy(&self, alloc: Global) -> Result<Text, NoMemory>
         ensures { IfOk result (λ x. x ≡ self.now) }
     {
         Ok(Text::new(String::from_str(alloc, self.as_str())?))
     }
 
-    /// Gives the string back, and takes no memory.
+    /// Returns the string. It allocates nothing.
     pub fn into_string(self) -> String
         ensures { string_bytes result ≡ self }
     {

@@ -18,14 +18,14 @@ pub enum Value<'a> {
     Null,
 }
 
-/// A field that borrows its value: undefined, as a column that an UPDATE does not name, or a value.
+/// A field that borrows its value: a value, or undefined, such as a column that an UPDATE does not modify.
 #[derive(Clone, Copy, Debug, PartialEq, Eq)]
 pub enum Field<'a> {
     Undefined,
     Defined(Value<'a>),
 }
 
-/// A value. Two values are equal where type and content are: 1 and '1' differ.
+/// A value. Two values are equal if their types and contents are: 1 and '1' differ.
 #[derive(Debug, PartialEq, Eq, Drop)]
 pub enum OwnedValue {
     Int(i64),
@@ -42,7 +42,7 @@ pub enum OwnedField {
 }
 
 impl OwnedValue {
-    /// Whether a text or a blob of `len` bytes is a value: at most 2147483647.
+    /// Returns whether a text or a blob of `len` bytes can be a value: at most 2147483647.
     pub fn fits(len: usize) -> bool
         ensures within { IsTrue result ↔ (len ≤ MAX_CONTENT_LEN) }
         ensures below { IsTrue result ↔ (len < 2 ^ 31) }
@@ -50,7 +50,7 @@ impl OwnedValue {
         len <= MAX_CONTENT_LEN
     }
 
-    /// The same value, borrowed.
+    /// Returns the value, borrowed.
     pub fn as_value(&self) -> Value<'_>
         ensures same { value_of result ≡ self.now }
         ensures short { Fits result }
@@ -67,7 +67,7 @@ impl OwnedValue {
         }
     }
 
-    /// A copy of the value, in memory of its own.
+    /// Returns a copy of the value.
     pub fn copy(&self, alloc: Global) -> Result<OwnedValue, NoMemory>
         ensures { IfOk result (λ x. x ≡ self.now) }
     {
@@ -76,7 +76,7 @@ impl OwnedValue {
 }
 
 impl OwnedField {
-    /// The same field, borrowed.
+    /// Returns the field, borrowed.
     pub fn as_field(&self) -> Field<'_>
         ensures same { field_of result ≡ self.now }
         ensures short { FieldFits result }
@@ -88,7 +88,7 @@ impl OwnedField {
         }
     }
 
-    /// A copy of the field, in memory of its own.
+    /// Returns a copy of the field.
     pub fn copy(&self, alloc: Global) -> Result<OwnedField, NoMemory>
         ensures { IfOk result (λ x. x ≡ self.now) }
     {
@@ -97,8 +97,7 @@ impl OwnedField {
 }
 
 impl Value<'_> {
-    /// A copy of the value that owns its content. The content is short enough, as
-    /// [`OwnedValue::fits`] tests.
+    /// Returns a copy of the value that owns its content. The content is short enough, as [`OwnedValue::fits`] tests.
     pub fn to_owned(self, alloc: Global) -> Result<OwnedValue, NoMemory>
         requires { Fits self }
         ensures { IfOk result (λ v. v ≡ value_of self.entry) }
@@ -113,8 +112,7 @@ impl Value<'_> {
 }
 
 impl Field<'_> {
-    /// A copy of the field that owns its content. The content is short enough, as
-    /// [`OwnedValue::fits`] tests.
+    /// Returns a copy of the field that owns its content. The content is short enough, as [`OwnedValue::fits`] tests.
     pub fn to_owned(self, alloc: Global) -> Result<OwnedField, NoMemory>
         requires { FieldFits self }
         ensures { IfOk result (λ f. f ≡ field_of self.entry) }

@@ -1,4 +1,4 @@
-//! The numbers of the format: how many columns a table has, how many bytes a text or a blob.
+//! Varints: the number of columns of a table, and of bytes of a text or a blob.
 ghost use Rattle.std.specs.Prelude.{◌≡◌, ◌≤◌, ◌++◌, ℕ, List, length, IfOk, IfErr, OnOk, OnErr, MatchResult};
 ghost use Rattle.cs_value.specs.declared.TheConstants.{MAX_CONTENT_LEN};
 ghost use Rattle.cs_value.specs.Varint.{varint};
@@ -10,7 +10,7 @@ use crate::MAX_CONTENT_LEN;
 use crate::fault::{FieldFault, FieldFaultKind};
 use crate::refusal::NoMemory;
 
-/// How many bytes the varint of `number` has, 1 to 5. The number is at most 2147483647.
+/// Returns the length of the varint of `number` in bytes, 1 to 5. The number is at most 2147483647.
 pub fn varint_len(number: u32) -> usize
     requires { number ≤ MAX_CONTENT_LEN }
     ensures { result ≡ length (varint number) }
@@ -24,8 +24,7 @@ pub fn varint_len(number: u32) -> usize
     }
 }
 
-/// Appends the varint of `number`, which is at most 2147483647.
-/// [`NoMemory`] leaves `out` as it was.
+/// Appends the varint of `number`, which is at most 2147483647. [`NoMemory`] leaves `out` unchanged.
 pub fn varint_write(out: &mut Vec<u8>, number: u32) -> Result<(), NoMemory>
     requires { number ≤ MAX_CONTENT_LEN }
     ensures ok { OnOk result (out.new.items ≡ out.old.items ++ varint number) }
@@ -44,11 +43,13 @@ pub fn varint_write(out: &mut Vec<u8>, number: u32) -> Result<(), NoMemory>
     Ok(())
 }
 
-/// Reads the varint at the front of `bytes`: the number and the count of bytes that it takes.
-/// Bytes may follow it. It takes no memory.
+/// Returns the number of the varint at the front of `bytes`, and its length in bytes. Bytes may follow it. It allocates
+/// nothing.
 ///
-/// Refuses with `Truncated` where the bytes end inside the varint, and with `BadVarint` where they
-/// begin with none: not the shortest spelling, or a number above 2147483647.
+/// # Errors
+///
+/// `Truncated` if the bytes end inside the varint, and `BadVarint` if it is not the shortest spelling, or of a number
+/// above 2147483647.
 pub fn varint_read(bytes: &[u8]) -> Result<(u32, usize), FieldFault>
     ensures found { IfOk result (λ r. (r.0 ≤ MAX_CONTENT_LEN) × BeginsWith bytes.now (varint r.0) r.1) }
     ensures only { (n : ℕ) (rest : List ℕ) → n ≤ MAX_CONTENT_LEN → bytes.now ≡ varint n ++ rest
@@ -58,7 +59,8 @@ pub fn varint_read(bytes: &[u8]) -> Result<(u32, usize), FieldFault>
     read_number(bytes)
 }
 
-// The number at the front, read digit by digit.
+/// Returns the number at the front, which is read digit by digit, and the length of its varint in bytes.
+#[inline(always)]
 pub(crate) fn read_number(bytes: &[u8]) -> Result<(u32, usize), FieldFault>
     ensures exact { result ≡ number_at bytes.now }
     ensures within { MatchResult result (λ r. r.1 ≤ length bytes.now) (λ f. f.place ≤ length bytes.now) }

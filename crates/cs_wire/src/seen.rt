@@ -77,7 +77,7 @@ pub fn word_of(text: &[u8]) -> u64
     }
 }
 
-/// Returns the same, byte by byte.
+/// Returns the number of [`word_of`], read byte by byte.
 fn short_word(text: &[u8]) -> u64
     ensures { result ≡ seen.word_of text.now }
 {

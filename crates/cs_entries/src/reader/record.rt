@@ -86,6 +86,7 @@ impl<'a> Columns<'a> {
 }
 
 /// Returns the bytes of the record at an offset, whose fields are all allowed, and the offset after it.
+#[inline(always)]
 pub(crate) fn read_record<'a>(
     file: &'a [u8],
     at: usize,
@@ -114,6 +115,7 @@ fn part(file: &[u8], from: usize, to: usize) -> &[u8]
 }
 
 /// Returns the offset after the record at an offset, whose fields are all allowed.
+#[inline(always)]
 fn pass_record(file: &[u8], at: usize, flags: &[u8], columns: Columns) -> Result<usize, ReadFault>
     requires { at ≤ length file.now }
     ensures forward { IfOk result (λ end. (at ≤ end) × (end ≤ length file.now)) }
@@ -136,6 +138,7 @@ fn pass_record(file: &[u8], at: usize, flags: &[u8], columns: Columns) -> Result
 }
 
 /// Returns the field at an offset, which is allowed there and borrows from the file, and the offset after it.
+#[inline(always)]
 fn read_wanted(file: &[u8], at: usize, want: Want) -> Result<(Field<'_>, usize), ReadFault>
     requires { at ≤ length file.now }
     ensures found { IfOk result (λ r. IsFieldAt want file.now at (field_of r.0) r.1) }
