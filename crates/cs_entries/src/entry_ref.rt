@@ -312,7 +312,6 @@ impl<'a> EntryRef<'a> {
 
     /// Appends the bytes of the inverse. `bytes` are those of the entry itself: an insert or a delete is copied from
     /// them. [`NoMemory`] leaves `out` unchanged.
-    #[inline(always)]
     pub fn write_inverse_to(&self, bytes: &[u8], out: &mut Vec<u8>) -> Result<(), NoMemory>
         requires { bytes.now ≡ entry_bytes self.now.entry }
         ensures ok { OnOk result (AppendsInverse self.now.flags self.now.entry out.old.items out.new.items) }

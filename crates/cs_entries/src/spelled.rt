@@ -1,44 +1,16 @@
 //! Records in a file: the bytes of their fields, in column order.
-ghost use Rattle.std.specs.Prelude.{◌≡◌, ◌≤◌, ◌+◌, ◌++◌, ℕ, IfErr, IfOk, IfSome, IsOkAnd, List, Ok, length, take, drop};
+ghost use Rattle.std.specs.Prelude.{◌≡◌, ◌≤◌, ◌+◌, ℕ, IfSome, List, length, take, drop};
 ghost use Rattle.std.specs.List.{AllByRecursion};
 ghost use Rattle.cs_value.specs.declared.value.OwnedField.{OwnedField};
 ghost use Rattle.cs_entries.specs.Reading.{is_key_flag};
-ghost use Rattle.cs_value.specs.Value.{FieldFits, IsField, IsRecord, field_of};
+ghost use Rattle.cs_value.specs.Value.{FieldFits, IsRecord, field_of};
 ghost use Rattle.cs_value.specs.Key.{image_key};
-ghost use Rattle.cs_value.specs.FieldFaults.{FieldFails};
-ghost use Rattle.cs_value.specs.Reading.{field_at};
-ghost use Rattle.cs_value.specs.Spelling.{BeginsWith, field_bytes, record_bytes};
+ghost use Rattle.cs_value.specs.Spelling.{record_bytes};
 ghost use Rattle.cs_entries.specs.Items.{front_of, fields_in};
 ghost use Rattle.cs_entries.specs.Records.{AreKeyColumns};
 
 use crate::reader::rest_from;
-use cs_value::{Field, FieldFault, Value, field_read};
-
-/// Reads the field at the front of some bytes, as [`field_read`] does, which it calls for all but integers.
-#[inline(always)]
-pub(crate) fn front_read(bytes: &[u8]) -> Result<(Field<'_>, usize), FieldFault>
-    ensures found { IfOk result (λ r. IsField (field_of r.0) × BeginsWith bytes.now (field_bytes (field_of r.0)) r.1) }
-    ensures only { (f : OwnedField) (rest : List ℕ) → IsField f → bytes.now ≡ field_bytes f ++ rest
-        → IsOkAnd result (λ r. (field_of r.0 ≡ f) × (r.1 ≡ length (field_bytes f))) }
-    ensures fault { IfErr result (λ f. FieldFails bytes.now f.kind f.place) }
-{
-    match front_integer(bytes) {
-        Some(integer) => Ok((integer, 9)),
-        None => field_read(bytes),
-    }
-}
-
-/// Returns the integer at the front of some bytes, if a whole one is there.
-#[tactic(auto, unfolding(cs_value::specs::Reading::field_at, cs_value::specs::Reading::integer_at))]
-fn front_integer(bytes: &[u8]) -> Option<Field<'_>>
-    ensures { IfSome result (λ integer. field_at bytes.now ≡ Ok (field_of integer, 9)) }
-{
-    let [1, content @ ..] = bytes else {
-        return None;
-    };
-    let number = content.first_chunk::<8>()?;
-    Some(Field::Defined(Value::Int(i64::from_be_bytes(*number))))
-}
+use cs_value::{Field, field_read};
 
 /// Returns the first field, and the bytes after it. If there is none, the field is undefined, and takes no byte.
 pub(crate) fn front_field(bytes: &[u8]) -> (Field<'_>, &[u8])
@@ -46,7 +18,7 @@ pub(crate) fn front_field(bytes: &[u8]) -> (Field<'_>, &[u8])
     ensures rest { result.1.now ≡ drop (front_of bytes.now).1 bytes.now }
     ensures fits { FieldFits result.0 }
 {
-    match front_read(bytes) {
+    match field_read(bytes) {
         Ok((field, used)) => (field, &bytes[used..]),
         Err(_) => (Field::Undefined, bytes),
     }
@@ -65,7 +37,6 @@ fn run_len(flags: &[u8], of_key: bool) -> usize
 }
 
 /// Returns the bytes after this many fields.
-#[inline(always)]
 fn skip_fields(bytes: &[u8], count: usize) -> &[u8]
     ensures { (fields : List OwnedField) → IsRecord fields → count ≤ length fields → bytes.now ≡ record_bytes fields
         → result.now ≡ record_bytes (drop count fields) }
@@ -78,7 +49,6 @@ fn skip_fields(bytes: &[u8], count: usize) -> &[u8]
 }
 
 /// Returns the bytes of this many fields, after the first ones.
-#[inline(always)]
 fn columns_in(bytes: &[u8], first: usize, count: usize) -> &[u8]
     ensures { (fields : List OwnedField) → IsRecord fields → first + count ≤ length fields → bytes.now ≡ record_bytes fields
         → result.now ≡ record_bytes (take count (drop first fields)) }

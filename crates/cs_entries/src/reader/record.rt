@@ -10,8 +10,8 @@ ghost use Rattle.cs_entries.specs.Reading.{in_new, is_modified, wants_in, refusa
 
 use crate::fault::{ReadFault, ReadFaultKind, fault_at, fault_behind};
 use crate::reader::rest_from;
-use crate::spelled::{front_field, front_read};
-use cs_value::{Field, Value};
+use crate::spelled::front_field;
+use cs_value::{Field, Value, field_read};
 
 /// What a record can have in a column.
 #[derive(Clone, Copy, Debug)]
@@ -146,7 +146,7 @@ fn read_wanted(file: &[u8], at: usize, want: Want) -> Result<(Field<'_>, usize),
         → drop at file.now ≡ field_bytes f ++ rest → IsOkAnd result (λ r. field_of r.0 ≡ f) }
     ensures fault { FaultIs result (FieldRefused want file.now at) }
 {
-    match front_read(rest_from(file, at)) {
+    match field_read(rest_from(file, at)) {
         Ok((field, used)) => match want.refusal(field) {
             Some(kind) => Err(fault_at(kind, at)),
             None => Ok((field, at + used)),

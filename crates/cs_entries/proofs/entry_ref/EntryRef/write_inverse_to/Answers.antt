@@ -1,5 +1,5 @@
 -- `entry_ref::EntryRef::write_inverse_to`: what `write_with_operation` requires, the clause `ok`.
-use Rattle.std.proofs.Common.{inl, inr, refl, length, ap, sym, arith}
+use Rattle.std.proofs.Common.{inl, inr, refl, length, ap, arith}
 use Rattle.std.proofs.lemmas.Result.{on_ok_weaker}
 use Rattle.cs_entries.proofs.EntryLemmas.{entry_bytes_some}
 use Rattle.cs_entries.proofs.ShownLemmas.{AppendsInverse-row}

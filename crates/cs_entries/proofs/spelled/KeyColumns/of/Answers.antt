@@ -1,5 +1,5 @@
 -- `spelled::KeyColumns::of`: what it ensures of columns that stand side by side.
-use Rattle.std.proofs.Common.{List, ℕ, false, length, drop, ap, sym, ◌∙◌, arith}
+use Rattle.std.proofs.Common.{List, ℕ, false, drop, ap, sym, ◌∙◌, arith}
 use Rattle.std.proofs.lemmas.List.{length-drop, take_all}
 use Rattle.cs_value.specs.Spelling.{record_bytes}
 use Rattle.cs_entries.proofs.RunLemmas.{IsRun, key_run}
