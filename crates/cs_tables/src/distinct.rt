@@ -1,4 +1,4 @@
-//! Numbers by which texts are told apart.
+//! Numbers of texts, to find texts that are equal.
 ghost use Rattle.std.specs.Prelude.{◌≡◌, ◌≢◌, [], AllPairs, IsTrue, drop, get_or};
 ghost use Rattle.std.specs.List.Sorted.{IsStrictlyIncreasing};
 ghost use Rattle.cs_tables.specs.Distinct as distinct;

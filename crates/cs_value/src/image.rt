@@ -1,4 +1,4 @@
-//! Images: the fields of a record, some of which may be undefined.
+//! Images: the fields of a record. Some may be undefined.
 ghost use Rattle.std.specs.Prelude.{◌≡◌, ◌+◌, ◌≤◌, ◌++◌, ℕ, List, length, drop, IfOk, IfErr, OnOk, OnErr};
 ghost use Rattle.cs_value.specs.declared.value.OwnedField.{OwnedField};
 ghost use Rattle.cs_value.specs.Value.{IsField, IsRecord};

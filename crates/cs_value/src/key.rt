@@ -13,8 +13,8 @@ use std::cmp::Ordering;
 use std::hash::{Hash, Hasher};
 use std::marker::Model;
 
-/// The key of a row or an image: the bytes of its key columns, in column order. Contracts see these bytes, by which keys
-/// are compared and ordered.
+/// The key of a row or an image: the bytes of its key columns, in column order. Contracts see these bytes, by which
+/// keys are compared and ordered.
 #[derive(Debug, Drop)]
 pub struct Key {
     bytes: Vec<u8>,

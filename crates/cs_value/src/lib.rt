@@ -1,7 +1,7 @@
 //! Values, fields, rows, images and keys of SQLite changesets, and their bytes.
 //!
-//! A value is an integer of 64 bits, a text, a blob or NULL. A field is a value or undefined. The bytes are those of the
-//! format comment of SQLite's `sqlite3session.c`.
+//! A value is an integer of 64 bits, a text, a blob or NULL. A field is a value or undefined. The format is that of the
+//! comment at the top of SQLite's `sqlite3session.c`.
 //!
 //! ```rust
 //! let (field, used) = field_read(&[0x03, 0x01, 0x78])?;
@@ -9,10 +9,10 @@
 //! assert_eq!(rt; used, 3);
 //! ```
 //!
-//! `value` has the values, `text` and `bytes` their contents, `varint` the numbers of the format, and `field` the reader
-//! and the writer of fields. `row` has lists of values, `image` lists of fields, and `parts` what both are made of. `key`
-//! has the keys of rows, `name` the names of tables, `fault` and `refusal` the reasons why calls fail, and `laws` the laws
-//! of all spellings.
+//! `value` has the values, `text` and `bytes` their contents, `varint` the numbers of the format, and `field` the
+//! reader and the writer of fields. `row` has lists of values, `image` lists of fields, and `parts` what both are made
+//! of. `key` has the keys of rows, `name` the names of tables, `fault` and `refusal` the reasons why calls fail, and
+//! `laws` the laws of all spellings.
 #![tactic(auto)]
 
 mod bytes;

@@ -13,7 +13,7 @@ use std::marker::Model;
 #[derive(Debug, Drop)]
 pub struct Changeset {
     groups: Vec<Group>,
-    // Where the group of each table stands, by its name.
+    // The place of the group of each table, by its name.
     places: Places,
 }
 
@@ -30,7 +30,7 @@ impl Model for Changeset {
 }
 
 impl Changeset {
-    /// The changeset of no table.
+    /// Returns the changeset without tables.
     pub fn new(alloc: Global) -> Changeset
         ensures { result ≡ [] }
     {
@@ -40,7 +40,7 @@ impl Changeset {
         }
     }
 
-    /// The changeset of groups, no two of one table.
+    /// Returns the changeset of some groups. No two of them are of one table.
     pub fn from_groups(alloc: Global, groups: Vec<Group>) -> Result<Changeset, NoMemory>
         requires { IsChangeset groups.items }
         ensures made { IfOk result (λ c. c ≡ groups.items) }
@@ -50,7 +50,7 @@ impl Changeset {
         Ok(Changeset { groups, places })
     }
 
-    /// The groups, in the order of the file.
+    /// Returns the groups, in the order of the file.
     pub fn groups(&self) -> &[Group]
         ensures same { result.now ≡ self.now }
         ensures well_formed { IsChangeset self.now }
@@ -58,8 +58,8 @@ impl Changeset {
         &self.groups
     }
 
-    /// The place of the group of a table, from 0, or None where there is none. It takes no memory,
-    /// and time in proportion to the logarithm of the count of groups.
+    /// Returns the zero-based place of the group of a table, or None if there is none. It allocates nothing, and takes
+    /// time in proportion to the logarithm of the number of groups.
     pub fn find(&self, name: &str) -> Option<usize>
         ensures found { IfSome result (IsPlaceOf (λ g. g.header.name ≡ name.now) self.now) }
         ensures absent { IsTrue (is_none result) ↔ IsNewName self.now name.now }
@@ -67,8 +67,8 @@ impl Changeset {
         self.places.get(name.as_bytes())
     }
 
-    /// Appends a group of a table that is not yet there ([`Changeset::find`]).
-    /// [`NoMemory`] leaves the changeset as it was, and drops the group.
+    /// Appends a group of a table that the changeset does not have ([`Changeset::find`]). [`NoMemory`] leaves the
+    /// changeset unchanged, and drops the group.
     pub fn push(&mut self, group: Group) -> Result<(), NoMemory>
         requires { IsNewName self.old group.header.name }
         ensures ok { OnOk result (self.new ≡ self.old ++ group ∷ []) }
@@ -87,7 +87,7 @@ impl Changeset {
         }
     }
 
-    /// Gives the groups back, and takes no memory.
+    /// Returns the groups. It allocates nothing.
     pub fn into_groups(self) -> Vec<Group>
         ensures same { result.items ≡ self }
         ensures well_formed { IsChangeset self }
@@ -117,7 +117,7 @@ impl Eq for Changeset {
     ghost laws = { lists_equiv laws-law };
 }
 
-/// The place of the name of each of some groups, no two of one table.
+/// Returns the place of the name of each of some groups. No two of them are of one table.
 fn places_of(alloc: Global, groups: &[Group]) -> Result<Places, NoMemory>
     requires { IsChangeset groups.now }
     ensures { IfOk result (λ places. IsIndex places (group_names groups.now)) }

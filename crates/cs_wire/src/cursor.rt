@@ -11,10 +11,9 @@ use cs_entries::ReadError;
 use std::alloc::Global;
 use std::marker::Model;
 
-/// Goes through a file, and hands out its tables and entries where they stand, one after another. It knows the names of
-/// the tables and the keys of the one that is open where they lie in the file, but copies a key whose columns do not
-/// stand side by side. Contracts see the file, the place behind what was handed out, and how the cursor ended, if it
-/// did.
+/// An iterator over the tables and entries of a file, which borrow from it. It keeps the names of the tables, and the
+/// keys of the open table. Both borrow from the file, but a key whose columns are not adjacent is copied. Contracts see
+/// the file, the byte offset after the last item, and how the cursor ended, if it did.
 #[derive(Debug, Drop)]
 pub struct Cursor<'a> {
     walk: Walk<'a>,
@@ -35,7 +34,7 @@ impl<'a> Cursor<'a> {
     ghost use Rattle.cs_wire.specs.Cursor.{Begins, IsItem, IsNext, answer_of, ending_of as ending_in, with_item};
     ghost use Rattle.cs_entries.specs.Changeset.{IsFileOf};
 
-    /// A cursor before the first item of a file. It takes no memory.
+    /// Returns a cursor before the first item of a file. It allocates nothing.
     pub fn new(alloc: Global, file: &'a [u8]) -> Cursor<'a>
         ensures before { result ≡ record { file = file.now; place = 0; over = None } }
         ensures begins { Begins file.now 0 [] }
@@ -46,14 +45,14 @@ impl<'a> Cursor<'a> {
         }
     }
 
-    /// The next item, or None at the end of a changeset's file. What was handed out is what the file begins
-    /// with: tables, and their entries, of which the last table may have none yet. After None, a fault or
-    /// `NoMemory` a cursor answers the same from then on.
+    /// Returns the next item, or None at the end of a changeset's file. The file begins with the items that were
+    /// returned: tables, each with its entries. The last table may have none yet. After None, a fault or `NoMemory` the
+    /// cursor returns the same again.
     ///
     /// # Errors
     ///
-    /// `Fault` where the file is that of no changeset, behind the items that stand before the fault: the first
-    /// fault that is met, in the order of the file. `NoMemory` where memory is refused.
+    /// `Fault` if the file is not the file of a changeset: the first fault, in the order of the file. The items before
+    /// it are returned first. `NoMemory` if memory runs out.
     pub fn next(&mut self) -> Result<Option<Item<'a>>, ReadError>
         ensures file { self.new.file ≡ self.old.file }
         ensures item { (groups : List GroupData) → Begins self.old.file self.old.place groups →

@@ -14,7 +14,7 @@ use cs_value::NoMemory;
 use std::alloc::Global;
 use std::marker::Model;
 
-/// The header of a table, and its entries that were read. There can be none yet.
+/// The header of a table, and those of its entries that were read.
 #[derive(Debug, Drop)]
 pub(crate) struct Draft {
     header: Header,
@@ -64,7 +64,7 @@ pub(crate) fn read_drafts(alloc: Global, file: &[u8]) -> Result<Vec<Draft>, Read
     Ok(drafts)
 }
 
-/// The groups of tables that were read to their end.
+/// Returns the groups of tables that were read to their ends.
 pub(crate) fn groups_of(alloc: Global, drafts: Vec<Draft>) -> Result<Vec<Group>, NoMemory>
     requires { IsChangeset drafts.items }
     ensures { IfOk result (λ groups. groups.items ≡ drafts.items) }

@@ -5,19 +5,19 @@ ghost use Rattle.cs_wire.specs.Cursor.{answer_of, ending_of as ending_of_answer}
 use crate::item::Item;
 use cs_entries::{ReadError, ReadFault};
 
-/// How a cursor came to its end.
+/// Why a cursor has no next item.
 #[derive(Clone, Copy, Debug)]
 pub enum Ending {
     /// The file is at its end.
     Done,
-    /// The file is that of no changeset.
+    /// The file is not the file of a changeset.
     Fault(ReadFault),
-    /// Memory was refused.
+    /// Memory ran out.
     NoMemory,
 }
 
 impl Ending {
-    /// What a cursor answers that ended so.
+    /// Returns what a cursor returns that ended so.
     pub(crate) fn answer<'a>(self) -> Result<Option<Item<'a>>, ReadError>
         ensures { result ≡ answer_of self }
     {
@@ -29,7 +29,7 @@ impl Ending {
     }
 }
 
-/// How a cursor ends with an answer, if it does.
+/// Returns how a cursor ends with a result, if it does.
 pub(crate) fn ending_of(answer: &Result<Option<Item<'_>>, ReadError>) -> Option<Ending>
     ensures { result ≡ ending_of_answer answer.now }
 {

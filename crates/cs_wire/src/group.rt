@@ -10,12 +10,12 @@ use cs_value::{Key, NoMemory};
 use std::alloc::Global;
 use std::marker::Model;
 
-/// A table's header and entries, of which there is at least one, each with a key of its own.
+/// The header of a table, and its entries. There is at least one, and no two have the same key.
 #[derive(Debug, Drop)]
 pub struct Group {
     header: Header,
     entries: Vec<Entry>,
-    // Where the entry of each key stands.
+    // The place of the entry of each key.
     places: Places,
 }
 
@@ -37,7 +37,7 @@ impl Group {
     ghost use Rattle.cs_entries.specs.Inverse.{IsInverseGroup};
     ghost use Rattle.cs_entries.specs.Views.{IsPlaceOf};
 
-    /// A group of one entry, which fits the header's flags ([`Header::admits`]).
+    /// Returns the group of one entry, which fits the header's flags ([`Header::admits`]).
     pub fn new(alloc: Global, header: Header, first: Entry) -> Result<Group, NoMemory>
         requires { IsEntry header.flags first }
         ensures made { IfOk result (λ g. g ≡ record { header = header; entries = first ∷ [] }) }
@@ -46,8 +46,8 @@ impl Group {
         Group::from_entries(alloc, header, vec![in alloc; first]?)
     }
 
-    /// A group of entries, of which there is at least one. Each fits the header's flags
-    /// ([`Header::admits`]), and no two have one key.
+    /// Returns the group of some entries, at least one. Each fits the header's flags ([`Header::admits`]), and no two
+    /// have the same key.
     pub fn from_entries(
         alloc: Global,
         header: Header,
@@ -61,7 +61,8 @@ impl Group {
         Group::from_keyed_entries(alloc, header, entries, keys)
     }
 
-    /// The same, where the keys of the entries are there already, in their order ([`Header::key_of`]).
+    /// Returns the group of some entries, as [`Group::from_entries`] does. `keys` are those of the entries, in their
+    /// order ([`Header::key_of`]).
     pub fn from_keyed_entries(
         alloc: Global,
         header: Header,
@@ -81,7 +82,7 @@ impl Group {
         })
     }
 
-    /// A copy of the group, in memory of its own.
+    /// Returns a copy of the group.
     pub fn copy(&self, alloc: Global) -> Result<Group, NoMemory>
         ensures { IfOk result (λ g. g ≡ self.now) }
     {
@@ -92,7 +93,7 @@ impl Group {
         Group::from_entries(alloc, self.header.copy(alloc)?, entries)
     }
 
-    /// The table's header.
+    /// Returns the header of the table.
     pub fn header(&self) -> &Header
         ensures same { result.now ≡ self.now.header }
         ensures well_formed { IsGroup self.now }
@@ -100,7 +101,7 @@ impl Group {
         &self.header
     }
 
-    /// The flags of the table's columns.
+    /// Returns the flags of the table, one for each column.
     pub fn flags(&self) -> &[u8]
         ensures same { result.now ≡ self.now.header.flags }
         ensures well_formed { IsGroup self.now }
@@ -108,7 +109,7 @@ impl Group {
         self.header.flags()
     }
 
-    /// The entries, in the order of the file.
+    /// Returns the entries, in the order of the file.
     pub fn entries(&self) -> &[Entry]
         ensures same { result.now ≡ self.now.entries }
         ensures well_formed { IsGroup self.now }
@@ -116,7 +117,7 @@ impl Group {
         &self.entries
     }
 
-    /// The key of an entry that fits the header's flags ([`Header::admits`]).
+    /// Returns the key of an entry that fits the header's flags ([`Header::admits`]).
     pub fn key_of(&self, alloc: Global, entry: &Entry) -> Result<Key, NoMemory>
         requires { IsEntry self.now.header.flags entry.now }
         ensures { IfOk result (λ key. key ≡ key_of self.now.header.flags entry.now.change) }
@@ -124,8 +125,8 @@ impl Group {
         self.header.key_of(alloc, entry)
     }
 
-    /// The place of the entry with a key, from 0, or None where the key is new. It takes no memory,
-    /// and time in proportion to the logarithm of the count of entries.
+    /// Returns the zero-based place of the entry with a key, or None if there is none. It allocates nothing, and takes
+    /// time in proportion to the logarithm of the number of entries.
     pub fn find(&self, key: &Key) -> Option<usize>
         ensures found { IfSome result (IsPlaceOf
             (λ e. key_of self.now.header.flags e.change ≡ key.now) self.now.entries) }
@@ -134,8 +135,8 @@ impl Group {
         self.places.get(key.bytes())
     }
 
-    /// Appends an entry that fits the header's flags ([`Header::admits`]), whose key is new
-    /// ([`Group::find`]). [`NoMemory`] leaves the group as it was, and drops the entry.
+    /// Appends an entry that fits the header's flags ([`Header::admits`]). No entry of the group has its key
+    /// ([`Group::find`]). [`NoMemory`] leaves the group unchanged, and drops the entry.
     pub fn push(&mut self, entry: Entry) -> Result<(), NoMemory>
         requires fits { IsEntry self.old.header.flags entry }
         requires fresh { IsNewKey self.old.header.flags self.old.entries (key_of self.old.header.flags entry.change) }
@@ -148,7 +149,7 @@ impl Group {
         self.push_with_key(key, entry)
     }
 
-    /// The same, where the key is there already: it is the entry's ([`Group::key_of`]).
+    /// Appends an entry, as [`Group::push`] does. `key` is that of the entry ([`Group::key_of`]).
     pub fn push_with_key(&mut self, key: Key, entry: Entry) -> Result<(), NoMemory>
         requires fits { IsEntry self.old.header.flags entry }
         requires key { key ≡ key_of self.old.header.flags entry.change }
@@ -169,9 +170,8 @@ impl Group {
         }
     }
 
-    /// Makes of the group the one that undoes it, and takes no memory: each insert becomes the
-    /// delete of its row and each delete the insert, and in updates the two values of each modified
-    /// column are exchanged. Header, indirect flags and order stay.
+    /// Inverts the group. Each insert becomes the delete of its row, and each delete the insert. In updates the two
+    /// values of each modified column are exchanged. Header, indirect flags and order stay. It allocates nothing.
     pub fn invert(&mut self)
         ensures inverse { IsInverseGroup self.old self.new }
         ensures well_formed { IsGroup self.new }
@@ -183,7 +183,7 @@ impl Group {
         );
     }
 
-    /// Gives the header and the entries back, and takes no memory.
+    /// Returns the header and the entries. It allocates nothing.
     pub fn into_parts(self) -> (Header, Vec<Entry>)
         ensures header { result.0 ≡ self.header }
         ensures entries { result.1.items ≡ self.entries }
@@ -225,7 +225,7 @@ impl Eq for Group {
     ghost laws = { Prim.search (comparing, laws-law, header_laws, rules) };
 }
 
-/// The keys of some entries, which make a group with this header.
+/// Returns the keys of some entries, which make a group with this header.
 fn keys_of(alloc: Global, header: &Header, entries: &[Entry]) -> Result<Vec<Key>, NoMemory>
     requires { IsGroup (record { header = header.now; entries = entries.now }) }
     ensures { IfOk result (λ keys. keys.items ≡ group_keys header.now.flags entries.now) }
@@ -237,7 +237,7 @@ fn keys_of(alloc: Global, header: &Header, entries: &[Entry]) -> Result<Vec<Key>
     Ok(keys)
 }
 
-/// The place of each of some keys.
+/// Returns the place of each of some keys.
 fn places_of(alloc: Global, keys: Vec<Key>) -> Result<Places, NoMemory>
     ensures { IfOk result (λ places. IsIndex places keys.items) }
 {

@@ -1,4 +1,4 @@
-//! What heads the changes of a table.
+//! The headers of tables.
 ghost use Rattle.std.specs.Prelude.{◌≡◌, ◌<◌, ◌↔◌, ◌∷◌, [], IfOk, IsTrue, Any, string_bytes};
 ghost use Rattle.cs_value.specs.Value.{IsValue, IsField, IsRow, IsRecord};
 ghost use Rattle.cs_value.specs.Table.{IsKeyedRow};
@@ -11,8 +11,8 @@ use cs_value::{Field, Key, MAX_COLUMNS, NoMemory, OwnedField, Value, is_table_na
 use std::alloc::Global;
 use std::marker::Model;
 
-/// The name and the flags of a table: a flag for each column, those other than 0 for the columns of
-/// the primary key.
+/// The name and the flags of a table. There is a flag for each column, which is not 0 if the column is of the primary
+/// key.
 #[derive(Debug, Drop)]
 pub struct Header {
     name: String,
@@ -33,15 +33,15 @@ impl Model for Header {
 impl Header {
     ghost use Rattle.cs_entries.specs.Entry.{IsEntry, key_of};
 
-    /// Whether a name and flags make a header: the name has a byte and none that is zero; there are
-    /// 1 to 32767 flags, and one is not 0. It takes no memory.
+    /// Returns whether a name and flags make a header. The name has at least one byte, and none that is zero. There are
+    /// 1 to 32767 flags, and at least one is not 0. It allocates nothing.
     pub fn fits(name: &str, flags: &[u8]) -> bool
         ensures { IsTrue result ↔ IsHeader (record { name = name.now; flags = flags.now }) }
     {
         is_table_name(name) && flags.len() <= MAX_COLUMNS && has_key(flags)
     }
 
-    /// Makes a header of a name and flags that fit ([`Header::fits`]), and takes no memory.
+    /// Returns the header of a name and flags that fit ([`Header::fits`]). It allocates nothing.
     pub fn new(name: String, flags: Vec<u8>) -> Header
         requires { IsHeader (record { name = string_bytes name; flags = flags.items }) }
         ensures { result ≡ record { name = string_bytes name; flags = flags.items } }
@@ -49,14 +49,14 @@ impl Header {
         Header { name, flags }
     }
 
-    /// The table's name.
+    /// Returns the name of the table.
     pub fn name(&self) -> &str
         ensures { result.now ≡ self.now.name }
     {
         self.name.as_str()
     }
 
-    /// The flags, one for each column.
+    /// Returns the flags, one for each column.
     pub fn flags(&self) -> &[u8]
         ensures same { result.now ≡ self.now.flags }
         ensures well_formed { IsHeader self.now }
@@ -64,7 +64,7 @@ impl Header {
         &self.flags
     }
 
-    /// A copy of the header.
+    /// Returns a copy of the header.
     pub fn copy(&self, alloc: Global) -> Result<Header, NoMemory>
         ensures { IfOk result (λ h. h ≡ self.now) }
     {
@@ -75,7 +75,7 @@ impl Header {
         .to_header(alloc)
     }
 
-    /// The key of an entry that fits the flags ([`Header::admits`]).
+    /// Returns the key of an entry that fits the flags ([`Header::admits`]).
     pub fn key_of(&self, alloc: Global, entry: &Entry) -> Result<Key, NoMemory>
         requires { IsEntry self.now.flags entry.now }
         ensures { IfOk result (λ key. key ≡ key_of self.now.flags entry.now.change) }
@@ -86,10 +86,10 @@ impl Header {
         }
     }
 
-    /// Whether an entry fits the flags: each record has a field for each flag; the row of an insert
-    /// or a delete has no NULL in a key column; an update's old record has a value other than NULL
-    /// in each key column and its new one nothing there; elsewhere both fields are defined or both
-    /// undefined. It takes no memory.
+    /// Returns whether an entry fits the flags. Each record has a field for each flag. The row of an insert or a delete
+    /// has no NULL in a key column. In an update, the old record has a value other than NULL in each key column, and
+    /// the new record has undefined fields there. In other columns both fields are defined or both undefined. It
+    /// allocates nothing.
     pub fn admits(&self, entry: &Entry) -> bool
         ensures { IsTrue result ↔ IsEntry self.now.flags entry.now }
     {
@@ -123,10 +123,10 @@ impl Eq for Header {
     ghost laws = { Prim.search (comparing, rules) };
 }
 
-/// The name and the flags of a table, where they stand in a file.
+/// The name and the flags of a table, borrowed from a file.
 #[derive(Clone, Copy, Debug)]
 pub struct HeaderRef<'a> {
-    /// The table's name.
+    /// The name of the table.
     pub name: &'a str,
     /// The flags, one for each column.
     pub flags: &'a [u8],
@@ -137,7 +137,7 @@ impl HeaderRef<'_> {
     ghost use Rattle.cs_entries.specs.Changeset.{header_bytes};
     ghost use Rattle.cs_wire.specs.Headers.{header_of};
 
-    /// A copy of the header, in memory of its own. Its name and its flags make one ([`Header::fits`]).
+    /// Returns a copy of the header. Its name and its flags make one ([`Header::fits`]).
     pub fn to_header(&self, alloc: Global) -> Result<Header, NoMemory>
         requires { IsHeader (header_of self.now) }
         ensures { IfOk result (λ h. h ≡ header_of self.now) }
@@ -148,8 +148,8 @@ impl HeaderRef<'_> {
         })
     }
 
-    /// Appends the header's bytes. Its name and its flags make one ([`Header::fits`]). [`NoMemory`] leaves `out` as it
-    /// was.
+    /// Appends the bytes of the header. Its name and its flags make one ([`Header::fits`]). [`NoMemory`] leaves `out`
+    /// unchanged.
     pub fn write_to(&self, out: &mut Vec<u8>) -> Result<(), NoMemory>
         requires { IsHeader (header_of self.now) }
         ensures ok { OnOk result (out.new.items ≡ out.old.items ++ header_bytes (header_of self.now)) }
@@ -161,8 +161,8 @@ impl HeaderRef<'_> {
     }
 }
 
-/// Whether the records of an update have a field for each flag: in a key column a value other than
-/// NULL and nothing, elsewhere two values or nothing twice.
+/// Returns whether the records of an update have a field for each flag: in a key column a value other than NULL and an
+/// undefined field, and in other columns two values or two undefined fields.
 fn admits_update(flags: &[u8], old: &[OwnedField], new: &[OwnedField]) -> bool
     ensures { IsTrue result ↔ (IsRecord old.now × IsRecord new.now × IsKeyedUpdate flags.now old.now new.now) }
 {
@@ -177,7 +177,7 @@ fn admits_update(flags: &[u8], old: &[OwnedField], new: &[OwnedField]) -> bool
     true
 }
 
-/// Whether an update of this column alone is admitted.
+/// Returns whether an update can have these two fields in a column with this flag.
 fn admits_fields(flag: u8, old: &OwnedField, new: &OwnedField) -> bool
     ensures are_fields { IsField old.now × IsField new.now }
     ensures admitted { IsTrue result ↔ IsKeyedUpdate (flag ∷ []) (old.now ∷ []) (new.now ∷ []) }
@@ -190,7 +190,7 @@ fn admits_fields(flag: u8, old: &OwnedField, new: &OwnedField) -> bool
     }
 }
 
-/// Whether some column is one of the key.
+/// Returns whether some column is of the key.
 pub(crate) fn has_key(flags: &[u8]) -> bool
     ensures { IsTrue result ↔ Any (λ flag. 0 < flag) flags.now }
 {

@@ -1,12 +1,12 @@
-//! What a cursor hands out.
+//! The items of a cursor.
 
 use crate::header::HeaderRef;
 use cs_entries::EntryRef;
 
-/// A part of a changeset, where it stands in the file.
+/// A part of a changeset, borrowed from the file.
 #[derive(Debug, Drop)]
 pub enum Item<'a> {
-    /// The header of a table, whose entries follow.
+    /// The header of a table. Its entries follow.
     Table(HeaderRef<'a>),
     /// An entry of that table.
     Entry(EntryRef<'a>),

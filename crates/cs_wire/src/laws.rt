@@ -1,10 +1,10 @@
-//! What holds of all changesets. These functions do nothing: each has a law as its contract, and a
-//! caller states the law where it needs it, by calling it.
+//! Laws of all changesets. Each function has no effect, and a law as its contract. A caller that needs the law calls
+//! the function.
 ghost use Rattle.cs_wire.specs.Laws.{ChangesetFiles, RowKeys, EntryInverses};
 
 use cs_value::{record_spellings_law, varint_spellings_law};
 
-/// Changesets with one file are equal.
+/// Changesets with the same file are equal.
 pub fn changeset_files_law()
     ensures { ChangesetFiles }
 {
@@ -12,12 +12,12 @@ pub fn changeset_files_law()
     record_spellings_law();
 }
 
-/// A row that an entry finds, and one that it leaves, has the key of the entry.
+/// The row that an entry finds, and the row that it leaves, have the key of the entry.
 pub fn row_keys_law()
     ensures { RowKeys }
 {}
 
-/// An entry has one inverse alone.
+/// An entry has only one inverse.
 pub fn entry_inverses_law()
     ensures { EntryInverses }
 {}

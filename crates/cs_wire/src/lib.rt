@@ -1,9 +1,9 @@
 //! Changesets and their files: the format of SQLite's session extension.
 //!
-//! A changeset is a list of groups, one for each table. A group has a header, which is the table's
-//! name and the flags of its columns, and entries: inserts, deletes and updates of rows. The bytes
-//! follow the format comment of SQLite's `sqlite3session.c`. A file is accepted if and only if it is
-//! the file of a changeset; a fault has a kind and a byte offset.
+//! A changeset is a list of groups, one for each table. A group has a header, with the name of the table and the flags
+//! of its columns, and entries: inserts, deletes and updates of rows. The format is that of the comment at the top of
+//! SQLite's `sqlite3session.c`. A file is accepted if and only if it is the file of a changeset. A fault has a kind and
+//! a byte offset.
 //!
 //! ```rust
 //! // An INSERT of ('x') into the table t of one column.
@@ -22,10 +22,10 @@
 //! }
 //! ```
 //!
-//! `header`, `group` and `changeset` are what a file holds besides its entries, which `cs_entries` has. `reader` and
-//! `writer` go from bytes to that and back. A `cursor` goes through a file by a `walk`, until its `ending`, and returns
-//! each `item` borrowed from the file; a name or a key that it has `seen` before is a fault. `draft` collects the
-//! tables that `reader` reads. `places` indexes entries and groups, and `laws` has what holds of all changesets. The
+//! `header`, `group` and `changeset` have the parts of a file, besides its entries, which `cs_entries` has. `reader`
+//! reads files, and `writer` writes them. A `cursor` goes through a file by a `walk`, until its `ending`, and returns
+//! each `item`, borrowed from the file. A name or a key that it has `seen` before is a fault. `draft` collects the
+//! tables that `reader` reads. `places` indexes entries and groups, and `laws` has the laws of all changesets. The
 //! names of `cs_entries` are passed on. `CALLING.md`, next to this folder, shows a caller.
 //!
 //! `read_header`, `has_entry`, `read_entry`, `KeyColumns` and `word_of` are for the crate above, `cs_tables`.

@@ -1,4 +1,4 @@
-//! Where texts stand in a list.
+//! The places of texts in a list.
 ghost use Rattle.std.specs.Prelude.{◌≡◌, OnOk, OnErr};
 ghost use Rattle.std.specs.FinMap as map;
 
@@ -7,9 +7,8 @@ use std::alloc::Global;
 use std::collections::BTreeMap;
 use std::marker::Model;
 
-/// The place of each of some texts, which are lists of bytes, each there once. Contracts see the
-/// map from text to place. A look-up takes time in proportion to the logarithm of their count,
-/// whatever they are.
+/// The places of distinct texts, which are lists of bytes. Contracts see the map from text to place. A look-up takes
+/// time in proportion to the logarithm of the number of texts, for all texts.
 #[derive(Debug, Drop)]
 pub(crate) struct Places {
     places: BTreeMap<Vec<u8>, usize>,
@@ -29,7 +28,7 @@ impl Model for Places {
 }
 
 impl Places {
-    /// No text has a place.
+    /// Returns the places of no texts.
     pub(crate) fn new(alloc: Global) -> Places
         ensures { result ≡ map.empty }
     {
@@ -38,14 +37,14 @@ impl Places {
         }
     }
 
-    /// The place of a text.
+    /// Returns the place of a text.
     pub(crate) fn get(&self, text: &[u8]) -> Option<usize>
         ensures { result ≡ map.get self.now text.now }
     {
         self.places.get(text).copied()
     }
 
-    /// Gives a text a place. [`NoMemory`] leaves all as it was.
+    /// Sets the place of a text. [`NoMemory`] leaves the places unchanged.
     pub(crate) fn insert(&mut self, text: Vec<u8>, place: usize) -> Result<(), NoMemory>
         ensures ok { OnOk result (self.new ≡ map.insert self.old text.items place) }
         ensures err { OnErr result (self.new ≡ self.old) }

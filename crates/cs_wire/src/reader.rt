@@ -30,7 +30,7 @@ pub fn read(alloc: Global, file: &[u8]) -> Result<Changeset, ReadError>
     Ok(Changeset::from_groups(alloc, groups)?)
 }
 
-/// Refuses the file for what is at an offset.
+/// Returns the fault of a file at an offset.
 pub(crate) fn refuse<T: Drop>(kind: ReadFaultKind, place: usize) -> Result<T, ReadError>
     ensures { result ≡ Err (tool.Fault (record { kind = kind; place = place })) }
 {

@@ -38,7 +38,7 @@ impl<'a> Model for Seen<'a> {
 }
 
 impl<'a> Seen<'a> {
-    /// The empty set.
+    /// Returns the empty set.
     pub(crate) fn new(alloc: Global) -> Seen<'a>
         ensures { result ≡ [] }
     {
@@ -66,8 +66,7 @@ impl<'a> Seen<'a> {
     }
 }
 
-/// Returns the eight bytes after the first of a text as a big-endian number. A missing byte counts
-/// as 0.
+/// Returns the eight bytes after the first of a text, as a big-endian number. A missing byte counts as 0.
 pub fn word_of(text: &[u8]) -> u64
     ensures { result ≡ seen.word_of text.now }
 {
@@ -93,7 +92,7 @@ fn short_word(text: &[u8]) -> u64
     ])
 }
 
-/// A byte of a text, or 0 past its end.
+/// Returns a byte of a text, or 0 after its end.
 fn byte_at(text: &[u8], place: usize) -> u8
     ensures { result ≡ get_or text.now place 0 }
 {

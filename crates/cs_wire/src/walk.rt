@@ -1,4 +1,4 @@
-//! Walking through a file, from one item to the next.
+//! The steps of a cursor from one item of a file to the next.
 ghost use Rattle.std.specs.Prelude.{◌≡◌, ◌↔◌, ◌<◌, ◌≤◌, ◌++◌, ◌∷◌, [], false, length, IfErr, IfOk, IfSome, IsTrue, List, Ok, None};
 ghost use Rattle.cs_value.specs.Refusals.{Refuses};
 ghost use Rattle.cs_entries.specs.Entry.{IsEntry};
@@ -16,16 +16,16 @@ use std::alloc::Global;
 use std::borrow::CowSlice;
 use std::marker::Model;
 
-/// A place in a file, and what is known of what stands before it.
+/// A place in a file, and what is known of the items before it.
 #[derive(Debug, Drop)]
 pub(crate) struct Walk<'a> {
     file: &'a [u8],
     place: usize,
-    // Those of the table that is open: none before the first.
+    // The flags of the open table, or none before the first table.
     flags: &'a [u8],
-    // Whether that has no entry yet.
+    // Whether no entry of the open table was passed.
     is_bare: bool,
-    // The names of the tables, and the keys of the entries of the one that is open.
+    // The names of the tables, and the keys of the entries of the open table.
     names: Seen<'a>,
     keys: Seen<'a>,
     alloc: Global,
@@ -44,7 +44,7 @@ impl<'a> Model for Walk<'a> {
 impl<'a> Walk<'a> {
     ghost use Rattle.cs_wire.specs.Cursor.{Begins, IsItem, IsNext, with_entry, with_item, last_flags};
     ghost use Rattle.cs_wire.specs.Headers.{header_of};
-    /// Before a file.
+    /// Returns the place at the start of a file.
     pub(crate) fn new(alloc: Global, file: &'a [u8]) -> Walk<'a>
         ensures { result ≡ record { file = file.now; place = 0; flags = []; is_bare = false } }
     {
@@ -59,7 +59,7 @@ impl<'a> Walk<'a> {
         }
     }
 
-    /// The next item, or None at the end of the file.
+    /// Returns the next item, or None at the end of the file.
     pub(crate) fn advance(&mut self) -> Result<Option<Item<'a>>, ReadError>
         ensures file { self.new.file ≡ self.old.file }
         ensures item { (groups : List GroupData) → Begins self.old.file self.old.place groups →
@@ -85,7 +85,7 @@ impl<'a> Walk<'a> {
         Ok(Some(Item::Table(self.pass_table()?)))
     }
 
-    /// Whether an entry of the table that is open is next.
+    /// Returns whether an entry of the open table is next.
     fn is_at_entry(&self) -> bool
         ensures { IsTrue result ↔ ((0 < length self.now.flags) × HasEntry self.now.file self.now.place) }
     {

@@ -8,11 +8,11 @@ use cs_entries::{EntryRef, TABLE};
 use cs_value::{NoMemory, varint_write};
 use std::alloc::Global;
 
-/// The file of a changeset.
+/// Returns the file of a changeset.
 ///
 /// # Errors
 ///
-/// [`NoMemory`] where memory is refused.
+/// [`NoMemory`] if memory runs out.
 pub fn write(alloc: Global, changeset: &Changeset) -> Result<Vec<u8>, NoMemory>
     ensures { IfOk result (λ out. out.items ≡ file_bytes changeset.now) }
 {

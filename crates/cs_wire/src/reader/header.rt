@@ -40,7 +40,7 @@ pub fn read_header(file: &[u8], at: usize) -> Result<(HeaderRef<'_>, usize), Rea
     Ok((HeaderRef { name, flags }, at))
 }
 
-/// The number of columns, and a flag for each.
+/// Returns the flags, one for each column, after the number of columns.
 fn read_flags(file: &[u8], at: usize) -> Result<(&[u8], usize), ReadFault>
     requires { at ≤ length file.now }
     ensures found { IfOk result (λ r. IsFlags r.0.now × Stands file.now at (flags_bytes r.0.now) r.1) }
@@ -63,7 +63,7 @@ fn read_flags(file: &[u8], at: usize) -> Result<(&[u8], usize), ReadFault>
     Ok((flags, start + count))
 }
 
-/// A varint.
+/// Returns the number of a varint.
 fn read_count(file: &[u8], at: usize) -> Result<(usize, usize), ReadFault>
     requires { at ≤ length file.now }
     ensures found { IfOk result (λ r. (r.0 ≤ MAX_CONTENT_LEN) × Stands file.now at (varint r.0) r.1) }
@@ -77,7 +77,7 @@ fn read_count(file: &[u8], at: usize) -> Result<(usize, usize), ReadFault>
     }
 }
 
-/// The name of a table, and the zero byte after it.
+/// Returns the name of a table, which a zero byte ends.
 fn read_name(file: &[u8], at: usize) -> Result<(&str, usize), ReadFault>
     requires { at ≤ length file.now }
     ensures found { IfOk result (λ r. IsName r.0.now × Stands file.now at (r.0.now ++ 0 ∷ []) r.1) }
@@ -100,7 +100,7 @@ fn read_name(file: &[u8], at: usize) -> Result<(&str, usize), ReadFault>
     }
 }
 
-/// The offset of the first zero byte.
+/// Returns the offset of the first zero byte.
 fn zero_at(bytes: &[u8]) -> Option<usize>
     ensures found { IfSome result (λ n. (n < length bytes.now) × (slice_index bytes.now n ≡ 0)
         × ((k : ℕ) → k < n → slice_index bytes.now k ≢ 0)) }
