@@ -121,7 +121,7 @@ def run(command: str, is_call: bool) -> Optional[Run]:
 
 @contextlib.contextmanager
 def on_processor(turn: int) -> Iterator[None]:
-    """Run on one processor, each in turn, with what this process starts."""
+    """Pin this process, and what it starts, to one processor: the next one for each turn."""
     processors = sorted(os.sched_getaffinity(0))
     os.sched_setaffinity(0, {processors[turn % len(processors)]})
     try:

@@ -35,7 +35,7 @@ impl Model for NumberChains {
 }
 
 impl NumberChains {
-    /// No numbers, with room for some.
+    /// Returns an empty list, with room for some numbers.
     pub(crate) fn with_capacity(alloc: Global, capacity: usize) -> Result<NumberChains, NoMemory>
         ensures { IfOk result (λ chains. chains.numbers ≡ []) }
     {
@@ -45,14 +45,14 @@ impl NumberChains {
         })
     }
 
-    /// The count of numbers.
+    /// Returns the count of numbers.
     pub(crate) fn len(&self) -> usize
         ensures { result ≡ length self.now.numbers }
     {
         self.links.len()
     }
 
-    /// The number at a zero-based place, which is below [`NumberChains::len`].
+    /// Returns the number at a zero-based place, which is below [`NumberChains::len`].
     pub(crate) fn number(&self, place: usize) -> u64
         requires { place < length self.now.numbers }
         ensures { result ≡ get_or self.now.numbers place 0 }
@@ -60,14 +60,14 @@ impl NumberChains {
         self.links[place].number
     }
 
-    /// One more than the last place of the bucket of a number, or 0 if it has none.
+    /// Returns one more than the last place of the bucket of a number, or 0 if it has none.
     pub(crate) fn end(&self, number: u64) -> usize
         ensures { IsEnd self.now (bucket_of self.now number) (length self.now.numbers) result }
     {
         self.ends[bucket(number, self.ends.len())]
     }
 
-    /// One more than the previous place of the bucket of a place, or 0 if it has none.
+    /// Returns one more than the previous place of the bucket of a place, or 0 if it has none.
     pub(crate) fn before(&self, place: usize) -> usize
         requires { place < length self.now.numbers }
         ensures { IsEnd self.now (bucket_at self.now place) place result }
@@ -92,7 +92,7 @@ impl NumberChains {
     }
 }
 
-/// The bucket of a number.
+/// Returns the bucket of a number.
 fn bucket(number: u64, buckets: usize) -> usize
     requires { 0 < buckets }
     ensures value { result ≡ number % buckets }
@@ -101,8 +101,8 @@ fn bucket(number: u64, buckets: usize) -> usize
     (number % (buckets as u64)) as usize
 }
 
-/// As many buckets as there are numbers, or some more. It is no multiple of 2, 3 or 5, so that keys in steps of ten do
-/// not share their buckets.
+/// Returns the number of buckets for some numbers: as many, or some more. It is no multiple of 2, 3 or 5, so that keys
+/// in steps of ten do not share their buckets.
 fn bucket_count(capacity: usize) -> usize
     ensures { 0 < result }
 {

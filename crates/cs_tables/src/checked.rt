@@ -22,9 +22,9 @@ pub(crate) struct ListedTable<'a> {
     pub(crate) count: usize,
 }
 
-/// Whether the quick check accepts a file. A file that it accepts is the file of a changeset, and each of its headers
-/// and entries is visited. A file that it rejects can still be one, if two names or two keys have the same number. Then
-/// those before the rejection are visited.
+/// Returns whether the quick check accepts a file. A file that it accepts is the file of a changeset, and each of its
+/// headers and entries is visited. A file that it rejects can still be one, if two names or two keys have the same
+/// number. Then those before the rejection are visited.
 ///
 /// It allocates eight bytes for each table, eight for each entry of one table at a time unless the numbers of the keys
 /// rise, and a copy of each key whose columns are not adjacent. It reads each entry at most twice, and sorts the
@@ -54,8 +54,8 @@ pub(crate) fn check_file<V: Visit>(
     Ok(take_distinct(&mut names))
 }
 
-/// The table at a byte offset and its end, if its header and entries are well formed and no two of its keys have the
-/// same number. Visits them.
+/// Returns the table at a byte offset and its end, if its header and entries are well formed and no two of its keys
+/// have the same number. Visits them.
 pub(crate) fn pass_table<'a, V: Visit>(
     alloc: Global,
     file: &'a [u8],
@@ -88,8 +88,9 @@ pub(crate) fn pass_table<'a, V: Visit>(
     Ok(Some((table, end)))
 }
 
-/// The number of the entries at a byte offset, and their end, if each is well formed and no two of their keys have the
-/// same number. Visits them. The numbers of the keys are listed only if they do not rise. `keys` is room for them.
+/// Returns the number of the entries at a byte offset, and their end, if each is well formed and no two of their keys
+/// have the same number. Visits them. The numbers of the keys are listed only if they do not rise. `keys` is room for
+/// them.
 fn pass_distinct<V: Visit>(
     alloc: Global,
     file: &[u8],
@@ -202,7 +203,8 @@ fn list_numbers(
     Ok(())
 }
 
-/// The end of the entries at a byte offset, if each is well formed. Appends the numbers of their keys, and visits them.
+/// Returns the end of the entries at a byte offset, if each is well formed. Appends the numbers of their keys, and
+/// visits them.
 fn pass_rest<V: Visit>(
     alloc: Global,
     file: &[u8],
@@ -230,7 +232,8 @@ fn pass_rest<V: Visit>(
     Ok(Some(place))
 }
 
-/// The number of the key of the entry at a byte offset, and the end of the entry, if it is well formed. Visits it.
+/// Returns the number of the key of the entry at a byte offset, and the end of the entry, if it is well formed. Visits
+/// it.
 #[inline(always)]
 fn pass_entry<V: Visit>(
     alloc: Global,
@@ -253,7 +256,7 @@ fn pass_entry<V: Visit>(
     Ok(Some((number, end)))
 }
 
-/// The part of a file between two byte offsets, or nothing if they are not in order or not in the file.
+/// Returns the part of a file between two byte offsets, or nothing if they are not in order or not in the file.
 pub(crate) fn part(file: &[u8], start: usize, end: usize) -> &[u8]
     ensures { (bytes : List ℕ) → Stands file.now start bytes end → start ≤ length file.now → result.now ≡ bytes }
 {
@@ -264,7 +267,7 @@ pub(crate) fn part(file: &[u8], start: usize, end: usize) -> &[u8]
     }
 }
 
-/// The number of an entry's key. `columns` are those of its table, if they are contiguous.
+/// Returns the number of an entry's key. `columns` are those of its table, if they are contiguous.
 #[inline(always)]
 pub(crate) fn key_number(
     alloc: Global,

@@ -31,7 +31,7 @@ impl<'a> Model for HashedPlaces<'a> {
 }
 
 impl<'a> HashedPlaces<'a> {
-    /// An empty index.
+    /// Returns an empty index.
     pub(crate) fn new(alloc: Global) -> HashedPlaces<'a>
         ensures { result ≡ map.empty }
     {
@@ -40,7 +40,7 @@ impl<'a> HashedPlaces<'a> {
         }
     }
 
-    /// The place of a text.
+    /// Returns the place of a text.
     pub(crate) fn get(&self, text: &[u8]) -> Option<usize>
         ensures { result ≡ map.get self.now text.now }
     {

@@ -49,7 +49,7 @@ impl<'a> Model for KeyedEntries<'a> {
 }
 
 impl<'a> KeyedEntries<'a> {
-    /// No entries of the open table, with room for some.
+    /// Returns an empty list for the entries of the open table, with room for some.
     fn with_capacity(
         alloc: Global,
         tables: &Tables<'a>,
@@ -105,14 +105,15 @@ impl<'a> KeyedEntries<'a> {
         }
     }
 
-    /// The number of entries.
+    /// Returns the number of entries.
     pub fn len(&self) -> usize
         ensures { result ≡ count_of self.now }
     {
         self.chains.len()
     }
 
-    /// The bytes of the entry at a zero-based place, which is below [`KeyedEntries::len`], as the file has them.
+    /// Returns the bytes of the entry at a zero-based place, which is below [`KeyedEntries::len`], as the file has
+    /// them.
     pub fn bytes(&self, place: usize) -> &'a [u8]
         requires { place < count_of self.now }
         ensures { (entries : List EntryData) (groups : List GroupData) → AreKeyed self.now entries groups
@@ -121,8 +122,8 @@ impl<'a> KeyedEntries<'a> {
         part(self.file, self.bounds[place], self.bounds[place + 1])
     }
 
-    /// The entry with a key, or None if there is none. It allocates a copy of each key that has its number and whose
-    /// columns are not adjacent.
+    /// Returns the entry with a key, or None if there is none. It allocates a copy of each key that has its number and
+    /// whose columns are not adjacent.
     ///
     /// # Errors
     ///
@@ -148,7 +149,7 @@ impl<'a> KeyedEntries<'a> {
         Ok(None)
     }
 
-    /// The entry at a zero-based place, if it has a key, which has this number.
+    /// Returns the entry at a zero-based place, if it has a key, which has this number.
     fn candidate(
         &self,
         alloc: Global,
@@ -179,7 +180,7 @@ impl<'a> KeyedEntries<'a> {
         }
     }
 
-    /// The entry at a zero-based place.
+    /// Returns the entry at a zero-based place.
     fn entry(&self, place: usize) -> Option<EntryRef<'a>>
         requires { place < count_of self.now }
         ensures flags { IfSome result (λ e. e.flags ≡ self.now.flags) }
@@ -192,7 +193,7 @@ impl<'a> KeyedEntries<'a> {
     }
 }
 
-/// Whether an entry has a key.
+/// Returns whether an entry has a key.
 fn has_key(alloc: Global, entry: &EntryRef<'_>, key: &[u8]) -> Result<bool, NoMemory>
     ensures { IfOk result (λ yes. IsTrue yes ↔ key_of entry.now.flags entry.now.entry.change ≡ key.now) }
 {

@@ -105,7 +105,7 @@ impl<'a> NamedTables<'a> {
         Ok(named)
     }
 
-    /// An empty list of tables of a file.
+    /// Returns an empty list of tables of a file.
     fn new(alloc: Global, file: &'a [u8]) -> NamedTables<'a>
         ensures { result ≡ record { file = file.now; tables = [] } }
     {
@@ -135,14 +135,14 @@ impl<'a> NamedTables<'a> {
         }
     }
 
-    /// The number of tables.
+    /// Returns the number of tables.
     pub fn len(&self) -> usize
         ensures { result ≡ length self.now.tables }
     {
         self.tables.len()
     }
 
-    /// The zero-based place of the table with a name, or None if there is none. It allocates nothing.
+    /// Returns the zero-based place of the table with a name, or None if there is none. It allocates nothing.
     pub fn find(&self, name: &str) -> Option<usize>
         ensures found { IfSome result (IsPlaceOf (λ t. t.header.name ≡ name.now) self.now.tables) }
         ensures absent { IsTrue (is_none result) ↔ All (λ t. t.header.name ≢ name.now) self.now.tables }
@@ -150,7 +150,7 @@ impl<'a> NamedTables<'a> {
         self.places.get(name.as_bytes())
     }
 
-    /// The header of the table at a zero-based place, which is below [`NamedTables::len`].
+    /// Returns the header of the table at a zero-based place, which is below [`NamedTables::len`].
     pub fn header(&self, place: usize) -> HeaderRef<'a>
         requires { place < length self.now.tables }
         ensures same { header_of result ≡ header_at self.now place }
@@ -159,7 +159,7 @@ impl<'a> NamedTables<'a> {
         self.tables[place].header
     }
 
-    /// The file at the first entry of the table at a zero-based place, which is below [`NamedTables::len`].
+    /// Returns the file at the first entry of the table at a zero-based place, which is below [`NamedTables::len`].
     pub fn open(&self, place: usize) -> Tables<'a>
         requires { place < length self.now.tables }
         ensures { result ≡ tables_at self.now place }

@@ -88,7 +88,7 @@ impl<'a> Tables<'a> {
         Ok(Some(Tables::whole(file)))
     }
 
-    /// The tables of a file that was read, from the first one on.
+    /// Returns the tables of a file that was read, from the first one on.
     fn whole(file: &'a [u8]) -> Tables<'a>
         requires { IsAccepted file.now }
         ensures left { (groups : List GroupData) × IsFileOf file.now groups × AreLeft result [] groups }
@@ -97,7 +97,8 @@ impl<'a> Tables<'a> {
         Tables::at(file, 0, &[], 0)
     }
 
-    /// A file that was read, at a byte offset where entries of a table with these flags remain, and their number or 0.
+    /// Returns the tables of a file that was read, from a byte offset on. Entries of a table with these flags remain
+    /// there. `count` is their number, or 0.
     pub(crate) fn at(file: &'a [u8], place: usize, flags: &'a [u8], count: usize) -> Tables<'a>
         ensures { result ≡ record { file = file.now; place = place; flags = flags.now } }
     {
@@ -109,21 +110,21 @@ impl<'a> Tables<'a> {
         }
     }
 
-    /// The file.
+    /// Returns the file.
     pub(crate) fn file(&self) -> &'a [u8]
         ensures { result.now ≡ self.now.file }
     {
         self.file
     }
 
-    /// The flags of the open table.
+    /// Returns the flags of the open table.
     pub(crate) fn flags(&self) -> &'a [u8]
         ensures { result.now ≡ self.now.flags }
     {
         self.flags
     }
 
-    /// The number of entries of the open table if they were counted, or else 0.
+    /// Returns the number of entries of the open table if they were counted, or else 0.
     pub(crate) fn count(&self) -> usize {
         self.count
     }
@@ -138,14 +139,15 @@ impl<'a> Tables<'a> {
         count
     }
 
-    /// The byte offset.
+    /// Returns the byte offset.
     pub(crate) fn place(&self) -> usize
         ensures { result ≡ self.now.place }
     {
         self.place
     }
 
-    /// The header of the next table, or None after the last. Remaining entries of the previous table are skipped.
+    /// Returns the header of the next table, or None after the last. Remaining entries of the previous table are
+    /// skipped.
     pub fn next_table(&mut self) -> Option<HeaderRef<'a>>
         ensures next { (entries : List EntryData) (groups : List GroupData) → AreLeft self.old entries groups
             → NextTable groups result self.new }
@@ -168,7 +170,7 @@ impl<'a> Tables<'a> {
         'entries: while self.next_entry().is_some() {}
     }
 
-    /// The header of the next table, if no entry of the previous one remains.
+    /// Returns the header of the next table, if no entry of the previous one remains.
     fn open_table(&mut self) -> Option<HeaderRef<'a>>
         ensures next { (groups : List GroupData) → AreLeft self.old [] groups → NextTable groups result self.new }
         ensures well_formed { IfSome result (λ header. IsHeader (header_of header)) }
@@ -188,7 +190,7 @@ impl<'a> Tables<'a> {
         Some(header)
     }
 
-    /// The next entry of the open table, or None if none remains.
+    /// Returns the next entry of the open table, or None if none remains.
     pub fn next_entry(&mut self) -> Option<EntryRef<'a>>
         ensures next { (entries : List EntryData) (groups : List GroupData) → AreLeft self.old entries groups
             → NextEntry self.old.flags entries groups result self.new }

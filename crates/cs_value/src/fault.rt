@@ -82,7 +82,7 @@ impl Fault for FieldFault {
 }
 
 impl FieldFault {
-    /// Returns the fault of a field that was read at the offset `start`, with its offset counted as `start` is.
+    /// Returns the fault with `start` added to its offset. `start` is the offset at which the field was read.
     pub fn behind(self, start: usize) -> FieldFault
         requires { start + self.place < 2 ^ 64 }
         ensures { result ≡ record { kind = self.kind; place = start + self.place } }

@@ -14,7 +14,7 @@ use crate::varint::{read_number, varint_write};
 use std::str;
 
 /// Returns the field at the front of `bytes`, which borrows from them, and its length in bytes. Bytes may follow it. It
-/// allocates nothing. The format is that of the comment at the top of SQLite's `sqlite3session.c`.
+/// allocates nothing.
 ///
 /// # Errors
 ///
@@ -36,7 +36,7 @@ fn fault<T: Drop>(kind: FieldFaultKind, place: usize) -> Result<T, FieldFault>
     Err(FieldFault { kind, place })
 }
 
-/// Returns the field at the front, by its type byte.
+/// Returns the field at the front, by its type byte, and its length in bytes.
 #[tactic(auto, unfolding(crate::specs::Reading::field_at))]
 #[inline(always)]
 fn read_by_type(bytes: &[u8]) -> Result<(Field<'_>, usize), FieldFault>
@@ -56,7 +56,7 @@ fn read_by_type(bytes: &[u8]) -> Result<(Field<'_>, usize), FieldFault>
     }
 }
 
-/// Returns the integer after a type byte.
+/// Returns the integer after a type byte, and the length of the field with its type byte.
 #[tactic(auto, unfolding(crate::specs::Reading::integer_at))]
 fn read_integer(content: &[u8]) -> Result<(Field<'_>, usize), FieldFault>
     ensures { Reads (λ r. (field_of r.0, r.1)) result (integer_at content.now) }
@@ -67,7 +67,7 @@ fn read_integer(content: &[u8]) -> Result<(Field<'_>, usize), FieldFault>
     }
 }
 
-/// Returns the text after a type byte.
+/// Returns the text after a type byte, and the length of the field with its type byte.
 #[tactic(auto, unfolding(crate::specs::Reading::text_at))]
 #[inline(always)]
 fn read_text(content: &[u8]) -> Result<(Field<'_>, usize), FieldFault>
@@ -80,7 +80,7 @@ fn read_text(content: &[u8]) -> Result<(Field<'_>, usize), FieldFault>
     }
 }
 
-/// Returns the blob after a type byte.
+/// Returns the blob after a type byte, and the length of the field with its type byte.
 #[tactic(auto, unfolding(crate::specs::Reading::blob_at))]
 fn read_blob(content: &[u8]) -> Result<(Field<'_>, usize), FieldFault>
     ensures { Reads (λ r. (field_of r.0, r.1)) result (blob_at content.now) }
@@ -121,7 +121,7 @@ pub fn field_write(out: &mut Vec<u8>, field: &Field) -> Result<(), NoMemory>
     }
 }
 
-/// Appends the bytes of a value.
+/// Appends the bytes of a value. [`NoMemory`] leaves `out` unchanged.
 pub(crate) fn value_write(out: &mut Vec<u8>, value: Value) -> Result<(), NoMemory>
     requires { Fits value }
     ensures ok { OnOk result (out.new.items ≡ out.old.items ++ value_bytes (value_of value.entry)) }
@@ -135,7 +135,7 @@ pub(crate) fn value_write(out: &mut Vec<u8>, value: Value) -> Result<(), NoMemor
     written
 }
 
-/// Appends the bytes of a value. [`NoMemory`] can leave some of them.
+/// Appends the bytes of a value. [`NoMemory`] can leave some of them after the previous bytes.
 #[tactic(auto, unfolding(crate::specs::Spelling::value_bytes))]
 fn append_value(out: &mut Vec<u8>, value: Value) -> Result<(), NoMemory>
     requires { Fits value }
@@ -160,7 +160,7 @@ fn append_value(out: &mut Vec<u8>, value: Value) -> Result<(), NoMemory>
     Ok(())
 }
 
-/// Appends the count of some bytes, and the bytes.
+/// Appends the count of some bytes, and the bytes. [`NoMemory`] can leave some of them after the previous ones.
 #[tactic(auto, unfolding(crate::specs::Spelling::counted))]
 fn append_counted(out: &mut Vec<u8>, content: &[u8]) -> Result<(), NoMemory>
     requires { length content.now ≤ MAX_CONTENT_LEN }

@@ -90,8 +90,8 @@ pub fn image_write(out: &mut Vec<u8>, image: &Image) -> Result<(), NoMemory>
     parts_write(out, image.fields())
 }
 
-/// Returns the image of this many columns at the front of `bytes`, and its length in bytes. Bytes may follow it. It
-/// allocates only for the fields that it has read.
+/// Returns the image of `columns` columns at the front of `bytes`, and its length in bytes. Bytes may follow it. It
+/// allocates only for the fields that it has read, however large `columns` is.
 ///
 /// # Errors
 ///

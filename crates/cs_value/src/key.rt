@@ -39,7 +39,7 @@ impl Key {
         })
     }
 
-    /// Returns the key of an image: the bytes of the fields in the key columns, which the flags mark.
+    /// Returns the key of an image: the bytes of the fields in the key columns. The flags are as in [`Key::of_row`].
     pub fn of_image(alloc: Global, flags: &[u8], image: &Image) -> Result<Key, NoMemory>
         requires { length flags.now ≡ length image.now }
         ensures { IfOk result (λ key. key ≡ image_key flags.now image.now) }
@@ -49,7 +49,8 @@ impl Key {
         })
     }
 
-    /// Returns the key of these values, in column order. The key of a table has at least one value, and no NULL.
+    /// Returns the key of these values, in column order. It accepts NULL and no values, but no row of a table has such
+    /// a key.
     pub fn from_values(alloc: Global, values: &[OwnedValue]) -> Result<Key, NoMemory>
         ensures { IfOk result (λ key. key ≡ row_bytes values.now) }
     {
@@ -58,7 +59,8 @@ impl Key {
         Ok(Key { bytes })
     }
 
-    /// Returns the key that has these bytes: those of its values, in column order. It allocates nothing.
+    /// Returns the key with these bytes. They are meant to be those of its values, in column order, and are not tested.
+    /// It allocates nothing.
     pub fn from_bytes(bytes: Vec<u8>) -> Key
         ensures { result ≡ bytes.items }
     {

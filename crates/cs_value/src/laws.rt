@@ -17,7 +17,7 @@ pub fn record_spellings_law()
     ensures { RecordSpellings }
 {}
 
-/// Two keys of as many columns have equal bytes only if their values are equal.
+/// Two keys with the same number of columns have equal bytes only if their values are equal.
 pub fn key_bytes_law()
     ensures { KeyBytes }
 {}

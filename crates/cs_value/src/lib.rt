@@ -1,7 +1,8 @@
 //! Values, fields, rows, images and keys of SQLite changesets, and their bytes.
 //!
-//! A value is an integer of 64 bits, a text, a blob or NULL. A field is a value or undefined. The format is that of the
-//! comment at the top of SQLite's `sqlite3session.c`.
+//! A value is an integer of 64 bits, a text, a blob or NULL. A field is a value or undefined. The bytes are those of
+//! the comment "record format" of SQLite's `ext/session/sqlite3session.c`, without real numbers, and with the shortest
+//! varints only.
 //!
 //! ```rust
 //! let (field, used) = field_read(&[0x03, 0x01, 0x78])?;

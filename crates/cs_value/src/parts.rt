@@ -88,7 +88,7 @@ pub(crate) fn parts_write<T: Part>(out: &mut Vec<u8>, parts: &[T]) -> Result<(),
     written
 }
 
-/// Appends the bytes of the parts, in order. [`NoMemory`] can leave some of them.
+/// Appends the bytes of the parts, in order. [`NoMemory`] can leave some of them after the previous bytes.
 fn append_parts<T: Part>(out: &mut Vec<u8>, parts: &[T]) -> Result<(), NoMemory>
     ensures ok { OnOk result (out.new.items ≡ out.old.items ++ flat_map T.spelled parts.now) }
     ensures err { OnErr result (take (length out.old.items) out.new.items ≡ out.old.items) }

@@ -28,7 +28,7 @@ pub trait Fault {
         ensures { result.now ≡ name_of self.now };
 }
 
-/// Memory runs out in a call.
+/// The fault of a call that runs out of memory.
 #[derive(Clone, Copy, Debug, PartialEq, Eq, Drop, Error)]
 #[error("out of memory")]
 pub struct NoMemory;

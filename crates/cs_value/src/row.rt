@@ -52,8 +52,8 @@ impl Row {
         Ok(Row::new(parts_copy(alloc, self.values())?))
     }
 
-    /// Returns whether the row has a value for each of these flags, and no NULL if the flag is not 0, as a row of a
-    /// table has. It allocates nothing.
+    /// Returns whether the row has as many values as there are flags, and no NULL in a column whose flag is not 0, as
+    /// each row of a table does. It allocates nothing.
     pub fn is_keyed(&self, flags: &[u8]) -> bool
         ensures keyed { IsTrue result ↔ IsKeyedRow flags.now self.now }
         ensures are_values { IsRow self.now }

@@ -18,7 +18,8 @@ pub enum Value<'a> {
     Null,
 }
 
-/// A field that borrows its value: a value, or undefined, such as a column that an UPDATE does not modify.
+/// A field that borrows its value: a value, or undefined, such as a column outside the key that an UPDATE does not
+/// modify.
 #[derive(Clone, Copy, Debug, PartialEq, Eq)]
 pub enum Field<'a> {
     Undefined,
@@ -97,7 +98,7 @@ impl OwnedField {
 }
 
 impl Value<'_> {
-    /// Returns a copy of the value that owns its content. The content is short enough, as [`OwnedValue::fits`] tests.
+    /// Returns a copy of the value that owns its content, of at most 2147483647 bytes ([`OwnedValue::fits`]).
     pub fn to_owned(self, alloc: Global) -> Result<OwnedValue, NoMemory>
         requires { Fits self }
         ensures { IfOk result (λ v. v ≡ value_of self.entry) }
@@ -112,7 +113,7 @@ impl Value<'_> {
 }
 
 impl Field<'_> {
-    /// Returns a copy of the field that owns its content. The content is short enough, as [`OwnedValue::fits`] tests.
+    /// Returns a copy of the field that owns its content, of at most 2147483647 bytes ([`OwnedValue::fits`]).
     pub fn to_owned(self, alloc: Global) -> Result<OwnedField, NoMemory>
         requires { FieldFits self }
         ensures { IfOk result (λ f. f ≡ field_of self.entry) }

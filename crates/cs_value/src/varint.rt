@@ -48,8 +48,8 @@ pub fn varint_write(out: &mut Vec<u8>, number: u32) -> Result<(), NoMemory>
 ///
 /// # Errors
 ///
-/// `Truncated` if the bytes end inside the varint, and `BadVarint` if it is not the shortest spelling, or of a number
-/// above 2147483647.
+/// `Truncated` if the bytes end inside the varint. `BadVarint` if it is not the shortest spelling of its number, or the
+/// number is above 2147483647.
 pub fn varint_read(bytes: &[u8]) -> Result<(u32, usize), FieldFault>
     ensures found { IfOk result (λ r. (r.0 ≤ MAX_CONTENT_LEN) × BeginsWith bytes.now (varint r.0) r.1) }
     ensures only { (n : ℕ) (rest : List ℕ) → n ≤ MAX_CONTENT_LEN → bytes.now ≡ varint n ++ rest

@@ -46,8 +46,8 @@ impl<'a> Cursor<'a> {
     }
 
     /// Returns the next item, or None at the end of a changeset's file. The file begins with the items that were
-    /// returned: tables, each with its entries. The last table may have none yet. After None, a fault or `NoMemory` the
-    /// cursor returns the same again.
+    /// returned: tables, each with its entries. The last table may have none yet. After None, a fault or `NoMemory`,
+    /// each further call returns the same.
     ///
     /// # Errors
     ///

@@ -12,7 +12,7 @@ pub enum Ending {
     Done,
     /// The file is not the file of a changeset.
     Fault(ReadFault),
-    /// Memory ran out.
+    /// Memory runs out.
     NoMemory,
 }
 

@@ -11,8 +11,8 @@ use cs_value::{Field, Key, MAX_COLUMNS, NoMemory, OwnedField, Value, is_table_na
 use std::alloc::Global;
 use std::marker::Model;
 
-/// The name and the flags of a table. There is a flag for each column, which is not 0 if the column is of the primary
-/// key.
+/// The name and the flags of a table. There is a flag for each column. Those of the primary key are not 0, and the
+/// others are 0.
 #[derive(Debug, Drop)]
 pub struct Header {
     name: String,

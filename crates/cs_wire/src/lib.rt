@@ -1,9 +1,9 @@
 //! Changesets and their files: the format of SQLite's session extension.
 //!
 //! A changeset is a list of groups, one for each table. A group has a header, with the name of the table and the flags
-//! of its columns, and entries: inserts, deletes and updates of rows. The format is that of the comment at the top of
-//! SQLite's `sqlite3session.c`. A file is accepted if and only if it is the file of a changeset. A fault has a kind and
-//! a byte offset.
+//! of its columns, and entries: inserts, deletes and updates of rows. The format is that of the comment "changeset
+//! format" of SQLite's `ext/session/sqlite3session.c`. A file is accepted if and only if it is the file of a changeset.
+//! A fault has a kind and a byte offset.
 //!
 //! ```rust
 //! // An INSERT of ('x') into the table t of one column.
