@@ -11,8 +11,8 @@ class Kind(NamedTuple):
     """A kind of row: a command, SQLite's next to it or none, and the shapes that both are run on.
 
     They run in the folder of the programs and the files. COUNT is the number of entries or rows,
-    and SHAPE is `mix` or `inserts`. The file after "<" is their input. A call prints the time of
-    itself.
+    and SHAPE is `mix`, `inserts` or `blob`. The file after "<" is their input. A call prints the
+    time of itself.
     """
 
     name: str
@@ -32,7 +32,7 @@ class Kind(NamedTuple):
 
     def commands(self, shape: Shape, count: int) -> list[str]:
         """Return our command for so many entries or rows of a shape, and SQLite's."""
-        word = "mix" if shape.is_mix else "inserts"
+        word = "mix" if shape.is_mix else "blob" if shape.name == BLOB else "inserts"
         sides = (self.ours, self.theirs)
         return [side.replace("COUNT", str(count)).replace("SHAPE", word) for side in sides]
 
@@ -111,7 +111,7 @@ KINDS = (
     APPLY._replace(
         name="statements of `changeset apply`, on the kit",
         ours="./kit_apply store SHAPE COUNT",
-        shapes=(MIX, INSERTS),
+        shapes=(MIX, INSERTS, BLOB),
     ),
     Kind(
         "opening a store",

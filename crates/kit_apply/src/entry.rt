@@ -1,5 +1,10 @@
 //! The entries of the bench's files of one table, as `bench/shapes.py` makes them.
 
+use std::alloc::{AllocError, Global};
+
+/// The number of bytes of the blob.
+const BLOB_LEN: usize = 100_000_000;
+
 /// Which entries a file has.
 #[derive(Clone, Copy, Debug)]
 pub(crate) enum Shape {
@@ -7,6 +12,8 @@ pub(crate) enum Shape {
     Mix,
     /// INSERTs only.
     Inserts,
+    /// INSERTs of a blob.
+    Blob,
 }
 
 /// What an entry does to its row.
@@ -21,7 +28,7 @@ impl Shape {
     /// Returns what the entry with this key does.
     pub(crate) fn change(self, key: i64) -> Change {
         match (self, key % 3) {
-            (Shape::Inserts, _) | (Shape::Mix, 0) => Change::Insert,
+            (Shape::Inserts | Shape::Blob, _) | (Shape::Mix, 0) => Change::Insert,
             (Shape::Mix, 1) => Change::Delete,
             _ => Change::Update,
         }
@@ -42,4 +49,11 @@ impl Change {
         row[9..].copy_from_slice(text);
         row
     }
+}
+
+/// Returns the bytes of a row with the key 0 and a blob of zero bytes.
+pub(crate) fn blob_row(alloc: Global) -> Result<Vec<u8>, AllocError> {
+    let mut row = Vec::from_slice(alloc, b"\x01\0\0\0\0\0\0\0\0\x04\xaf\xd7\xc2\0")?;
+    row.resize(row.len().saturating_add(BLOB_LEN), 0)?;
+    Ok(row)
 }

@@ -5,9 +5,10 @@
 mod entry;
 mod texts;
 
-use crate::entry::{Change, Shape};
+use crate::entry::{Change, Shape, blob_row};
 use anyhow::{Result, bail, ensure};
 use sqlite::{Alter, Connection, Error, params};
+use std::alloc::Global;
 use std::env;
 
 /// The table of all rows.
@@ -40,10 +41,24 @@ fn has_record<S: Alter>(conn: &mut Connection<S>, table: &str, key: &[u8]) -> Re
 }
 
 /// Carries out the entry with this key. It fails if the entry has a conflict.
-fn apply_entry<S: Alter>(conn: &mut Connection<S>, shape: Shape, key: i64) -> Result<()> {
+fn apply_entry<S: Alter>(
+    alloc: Global,
+    conn: &mut Connection<S>,
+    shape: Shape,
+    key: i64,
+) -> Result<()> {
     let change = shape.change(key);
-    let row = change.row(key);
-    let (key, row) = (&row[..9], row.as_slice());
+    match shape {
+        Shape::Blob => apply_row(conn, change, &blob_row(alloc)?),
+        _ => apply_row(conn, change, &change.row(key)),
+    }
+}
+
+/// Carries out the entry that has this row. It fails if the entry has a conflict.
+fn apply_row<S: Alter>(conn: &mut Connection<S>, change: Change, row: &[u8]) -> Result<()> {
+    let Some(key) = row.get(..9) else {
+        bail!("the row has no key");
+    };
     let is_new = !has_record(conn, TABLE, key)?;
     ensure!(
         is_new == matches!(change, Change::Insert),
@@ -58,7 +73,12 @@ fn apply_entry<S: Alter>(conn: &mut Connection<S>, shape: Shape, key: i64) -> Re
 }
 
 /// Adopts a store, and carries out so many entries in a transaction.
-fn apply<S: Alter>(conn: &mut Connection<S>, shape: Shape, count: i64) -> Result<()> {
+fn apply<S: Alter>(
+    alloc: Global,
+    conn: &mut Connection<S>,
+    shape: Shape,
+    count: i64,
+) -> Result<()> {
     adopt(conn)?;
     conn.execute("BEGIN", &[])?;
     ensure!(
@@ -66,7 +86,7 @@ fn apply<S: Alter>(conn: &mut Connection<S>, shape: Shape, count: i64) -> Result
         "the store has no table t"
     );
     for key in 0..count {
-        apply_entry(conn, shape, key)?;
+        apply_entry(alloc, conn, shape, key)?;
     }
     conn.execute("COMMIT", &[])?;
     Ok(())
@@ -75,16 +95,17 @@ fn apply<S: Alter>(conn: &mut Connection<S>, shape: Shape, count: i64) -> Result
 fn main(rt: HostRuntime) -> Result<()> {
     let words: Vec<String> = env::args(&rt)?.collect(rt.alloc())?;
     let [_, store, shape, count] = words.as_slice() else {
-        bail!("usage: kit_apply STORE mix|inserts COUNT");
+        bail!("usage: kit_apply STORE mix|inserts|blob COUNT");
     };
     let shape = match shape.as_str() {
         "mix" => Shape::Mix,
         "inserts" => Shape::Inserts,
+        "blob" => Shape::Blob,
         _ => bail!("no shape {shape}"),
     };
     let count = count.parse::<i64>()?;
     let mut conn = Connection::open(&rt, store)?;
-    let applied = apply(&mut conn, shape, count);
+    let applied = apply(rt.alloc(), &mut conn, shape, count);
     conn.close()?;
     applied
 }
