@@ -61,6 +61,9 @@ IN_FILES = "the store is in files in memory, with a log, and each row is a recor
 SENDS = "each row is a line to the program, another process, and each answer is parsed"
 RECORDED = SENDS + "; SQLite's side has no session"
 LISTS = "the kit lists the rows of a table as a store is opened, caches pages, and copies rows"
+LISTS_AGAIN = LISTS + "; the program lists the rows before it prints them"
+KEEPS = "the session keeps each key, and its changeset allocates each row and each key"
+OBJECTS = "each row is objects of Python until all rows are one changeset"
 UNKNOWN = "no reason is known"
 
 
@@ -76,16 +79,20 @@ def command(name: str, words: str, theirs: str, shapes: tuple[str, ...], why: st
     return Kind(f"`changeset {name}`", ours, theirs, shapes, why, KEYS)
 
 
-def script(name: str, store: str, lines: str, asked: str, why: str = "") -> Kind:
+def script(
+    name: str, store: str, lines: str, asked: str, why: str = "", why_memory: str = UNKNOWN
+) -> Kind:
     """Return the kind of a script of lines."""
     ours, theirs = f"./changeset {store} shell < {lines}", asked and f"./sqlite < {asked}"
-    return Kind(f"script{name}", ours, theirs, SCRIPTS, why, UNKNOWN, MANY)
+    return Kind(f"script{name}", ours, theirs, SCRIPTS, why, why_memory, MANY)
 
 
-def store(call: str, name: str, theirs: str, why: str, state: str = "") -> Kind:
+def store(
+    call: str, name: str, theirs: str, why: str, why_memory: str = UNKNOWN, state: str = ""
+) -> Kind:
     """Return the kind of a call of a store from Python."""
     ours, theirs = f"./package ours {call} store COUNT", f"./package sqlite {theirs} base COUNT"
-    return Kind(f"`Store.{name}", ours, theirs, (INSERTS,), why, UNKNOWN, MANY, state)
+    return Kind(f"`Store.{name}", ours, theirs, (INSERTS,), why, why_memory, MANY, state)
 
 
 def look(name: str, file: str = "file", theirs: str = "") -> Kind:
@@ -124,14 +131,14 @@ KINDS = (
     ),
     script("", "store", "lines", "asked", OPENS),
     script(" in memory", ":memory:", "lines", "memory", IN_FILES),
-    script(" with a session", "store", "session", "asked_session", OPENS),
-    script(" with a session, in memory", ":memory:", "session", "memory_session", IN_FILES),
+    script(" with a session", "store", "session", "asked_session", OPENS, KEEPS),
+    script(" with a session, in memory", ":memory:", "session", "memory_session", IN_FILES, KEEPS),
     script(" with an undo", "store", "undo", ""),
     script(" with an undo, in memory", ":memory:", "undo", ""),
     store("insert", "insert`", "insert", SENDS),
-    store("insert_in_session", "insert` in a session", "insert", RECORDED),
-    store("insert_many", "insert_many`", "insert_many", SENDS),
-    store("rows", "rows`", "rows", "the store is opened first; " + SENDS, "full"),
+    store("insert_in_session", "insert` in a session", "insert", RECORDED, KEEPS),
+    store("insert_many", "insert_many`", "insert_many", SENDS, OBJECTS),
+    store("rows", "rows`", "rows", "the store is opened first; " + SENDS, LISTS_AGAIN, "full"),
     look("changes", theirs="./package sqlite changes file"),
     look("Builder"),
     look("write_json"),
