@@ -32,7 +32,7 @@ class Kind(NamedTuple):
 
     def commands(self, shape: Shape, count: int) -> list[str]:
         """Return our command for so many entries or rows of a shape, and SQLite's."""
-        word = "mix" if shape.is_mix else "blob" if shape.name == BLOB else "inserts"
+        word = WORDS.get(shape.name, "")
         sides = (self.ours, self.theirs)
         return [side.replace("COUNT", str(count)).replace("SHAPE", word) for side in sides]
 
@@ -48,6 +48,9 @@ SCRIPTS = (MIX, INSERTS)
 LOOKED = (MIX, WIDE)
 MANY = 100_000
 
+# The words for shapes that `kit_apply` takes.
+WORDS = {MIX: "mix", INSERTS: "inserts", BLOB: "blob"}
+
 # What is done here and not by SQLite.
 CHECKS = "the file is checked to its end first, for repeated keys too"
 INVERTS = "the file is checked, for repeated keys too; SQLite copies INSERTs unread"
@@ -57,13 +60,21 @@ COPIES = "the bytes are made apart, and then copied into the buffer of the calle
 VALUES = "each call reads its change up to the value: the square of the columns in all"
 RECORDS = "the file is checked page by page and index by index, and then each record is decoded"
 OPENS = "the store is opened first (`opening a store`), and each row is a record of one table"
+ON_KIT = OPENS + "; the kit copies a blob five times"
 IN_FILES = "the store is in files in memory, with a log, and each row is a record of one table"
 SENDS = "each row is a line to the program, another process, and each answer is parsed"
 RECORDED = SENDS + "; SQLite's side has no session"
 LISTS = "the kit lists the rows of a table as a store is opened, caches pages, and copies rows"
-LISTS_AGAIN = LISTS + "; the program lists the rows before it prints them"
-KEEPS = "the session keeps each key, and its changeset allocates each row and each key"
-OBJECTS = "each row is objects of Python until all rows are one changeset"
+ROWS = "the program lists the records, and then their rows, before it prints the first row"
+NOTES = "the session keeps a copy of each key; SQLite's side has no session"
+OWNED = (
+    "each row and each key of the changeset is allocated by itself before its file is written; "
+    "the session keeps a copy of each key"
+)
+OBJECTS = (
+    "Python keeps the fields of all rows as objects, and their changeset as a line, until it is "
+    "applied"
+)
 UNKNOWN = "no reason is known"
 
 
@@ -101,7 +112,7 @@ def look(name: str, file: str = "file", theirs: str = "") -> Kind:
     return Kind(f"`{name}`", ours, theirs, LOOKED, UNKNOWN, UNKNOWN, MANY)
 
 
-APPLY = command("apply", " store", "apply base file", APPLIED, OPENS)._replace(
+APPLY = command("apply", " store", "apply base file", APPLIED, ON_KIT)._replace(
     why_memory=LISTS, state="before"
 )
 
@@ -131,14 +142,14 @@ KINDS = (
     ),
     script("", "store", "lines", "asked", OPENS),
     script(" in memory", ":memory:", "lines", "memory", IN_FILES),
-    script(" with a session", "store", "session", "asked_session", OPENS, KEEPS),
-    script(" with a session, in memory", ":memory:", "session", "memory_session", IN_FILES, KEEPS),
+    script(" with a session", "store", "session", "asked_session", OPENS, OWNED),
+    script(" with a session, in memory", ":memory:", "session", "memory_session", IN_FILES, OWNED),
     script(" with an undo", "store", "undo", ""),
     script(" with an undo, in memory", ":memory:", "undo", ""),
     store("insert", "insert`", "insert", SENDS),
-    store("insert_in_session", "insert` in a session", "insert", RECORDED, KEEPS),
+    store("insert_in_session", "insert` in a session", "insert", RECORDED, NOTES),
     store("insert_many", "insert_many`", "insert_many", SENDS, OBJECTS),
-    store("rows", "rows`", "rows", "the store is opened first; " + SENDS, LISTS_AGAIN, "full"),
+    store("rows", "rows`", "rows", "the store is opened first; " + SENDS, ROWS, state="full"),
     look("changes", theirs="./package sqlite changes file"),
     look("Builder"),
     look("write_json"),

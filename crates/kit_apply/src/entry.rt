@@ -2,8 +2,14 @@
 
 use std::alloc::{AllocError, Global};
 
+/// The number of bytes of a key.
+pub(crate) const KEY_LEN: usize = 9;
+
 /// The number of bytes of the blob.
 const BLOB_LEN: usize = 100_000_000;
+
+/// The bytes before the content of the blob: the byte of its type, and `BLOB_LEN` as a varint.
+const BLOB_START: &[u8] = b"\x04\xaf\xd7\xc2\0";
 
 /// Which entries a file has.
 #[derive(Clone, Copy, Debug)]
@@ -51,9 +57,11 @@ impl Change {
     }
 }
 
-/// Returns the bytes of a row with the key 0 and a blob of zero bytes.
-pub(crate) fn blob_row(alloc: Global) -> Result<Vec<u8>, AllocError> {
-    let mut row = Vec::from_slice(alloc, b"\x01\0\0\0\0\0\0\0\0\x04\xaf\xd7\xc2\0")?;
+/// Returns the bytes of the row with this key and a blob whose bytes are all 0. The first bytes are those of the key.
+pub(crate) fn blob_row(alloc: Global, key: i64) -> Result<Vec<u8>, AllocError> {
+    let mut row = Vec::from_slice(alloc, b"\x01")?;
+    row.extend_from_slice(&key.to_be_bytes())?;
+    row.extend_from_slice(BLOB_START)?;
     row.resize(row.len().saturating_add(BLOB_LEN), 0)?;
     Ok(row)
 }

@@ -5,7 +5,7 @@
 mod entry;
 mod texts;
 
-use crate::entry::{Change, Shape, blob_row};
+use crate::entry::{Change, KEY_LEN, Shape, blob_row};
 use anyhow::{Result, bail, ensure};
 use sqlite::{Alter, Connection, Error, params};
 use std::alloc::Global;
@@ -49,14 +49,14 @@ fn apply_entry<S: Alter>(
 ) -> Result<()> {
     let change = shape.change(key);
     match shape {
-        Shape::Blob => apply_row(conn, change, &blob_row(alloc)?),
-        _ => apply_row(conn, change, &change.row(key)),
+        Shape::Mix | Shape::Inserts => apply_row(conn, change, &change.row(key)),
+        Shape::Blob => apply_row(conn, change, &blob_row(alloc, key)?),
     }
 }
 
-/// Carries out the entry that has this row. It fails if the entry has a conflict.
+/// Carries out the entry that has this row, whose first bytes are its key. It fails if the entry has a conflict.
 fn apply_row<S: Alter>(conn: &mut Connection<S>, change: Change, row: &[u8]) -> Result<()> {
-    let Some(key) = row.get(..9) else {
+    let Some(key) = row.get(..KEY_LEN) else {
         bail!("the row has no key");
     };
     let is_new = !has_record(conn, TABLE, key)?;
