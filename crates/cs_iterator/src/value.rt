@@ -147,6 +147,7 @@ fn skip_fields(file: &[u8], start: usize, count: usize) -> Result<usize, ReadFau
 }
 
 /// Returns the offset after a field.
+#[inline(always)]
 fn skip_field(file: &[u8], place: usize) -> Result<usize, ReadFault>
     requires { place ≤ length file.now }
     ensures skipped { (field : OwnedField) (rest : List ℕ) → IsField field → drop place file.now ≡ field_bytes field ++ rest
@@ -169,6 +170,7 @@ fn read_value(file: &[u8], place: usize) -> Result<ValueSpan, ReadFault>
 }
 
 /// Returns the field at an offset, and the offset after it.
+#[inline(always)]
 fn read_field(file: &[u8], place: usize) -> Result<(Field<'_>, usize), ReadFault>
     requires { place ≤ length file.now }
     ensures found { IfOk result (λ r. Stands file.now place (field_bytes (field_of r.0)) r.1) }
