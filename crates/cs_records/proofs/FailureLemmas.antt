@@ -30,11 +30,6 @@ pub failure_so : {X : Type 0} (r : Result X RecordsError) (One Other : Error →
 failure_so (Ok x) One Other f is fails so = tt
 failure_so (Err g) One Other f is fails so = subst (IsFailure Other) (sym is) (so_fails One Other f fails so)
 
--- a call that is refused only memory fails so
-pub memory_fails : {X : Type 0} (r : Result X RecordsError) (Fails : Error → Type 0) → IfErr r (λ f. f ≡ NoMemory) → IfErr r (IsFailure Fails)
-memory_fails (Ok x) Fails h = tt
-memory_fails (Err f) Fails h = subst (IsFailure Fails) (sym h) tt
-
 -- a blob is read, unless memory runs out
 pub blob_read : {X : Type 0} (r : Result X RecordsError) (Fails : Error → Type 0) (e : Error) (row shown : Row) (at : ℕ) (bytes : List ℕ) → IsErrAnd r (λ f. f ≡ refusal_of e)
     → row ≡ shown → at < length shown → column shown at ≡ Blob bytes

@@ -3,10 +3,12 @@ pub mod AnswerLemmas
 pub mod ContentLemmas
 pub mod FailureLemmas
 pub mod EditLemmas
+mod ExpectedLemmas
 pub mod Examples
 pub mod FoundRows
 pub mod ListedRows
 pub mod OrderLemmas
+mod PlaceLemmas
 pub mod PutLemmas
 pub mod QueryLemmas
 pub mod QueryTexts

@@ -17,12 +17,12 @@ use Rattle.sqlite_value.specs.declared.value.Value.TheVariants.{Text}
 use Rattle.sqlite_value.specs.Order.{Row, column}
 use Rattle.sqlite_value.proofs.OrderLemmas.{value_cmp-Blob, then-Equal}
 use Rattle.sqlite_trees.specs.Tree.{IsAscending}
-use Rattle.sqlite_trees.proofs.ListLemmas.{all-map, map-map, filter_same, all_weaker, ascending-map}
+use Rattle.sqlite_trees.proofs.ListLemmas.{map-map, filter_same, all_weaker, ascending-map}
 use Rattle.sqlite_rules.specs.Lists.{Has}
 use Rattle.sqlite_rules.proofs.ListLemmas.{all_has, all_from, has_filtered}
 use Rattle.sqlite.specs.Effect.{Database}
 use Rattle.sqlite.specs.State.{State, Shown}
-use Rattle.cs_records.specs.Records.{records_tree, record_rows, record_of, Records, HoldsRecords, ListsTable, is_under, content, records_of, records_in, shown_keyed, ShowsKeyed}
+use Rattle.cs_records.specs.Records.{records_tree, record_rows, record_of, Records, HoldsRecords, ListsTable, is_under, content, records_of, records_in, shown_keyed}
 use Rattle.cs_records.proofs.RowLemmas.{IsRecordRow, AreRecords, HaveOneKey, IsUnder, same_is, under_is, under_from, records_under, records_in_is, are_records, records_filtered, records_permuted, records_of-permutation, records_of-filter, ascending_of_members, has_permuted}
 use Rattle.cs_records.proofs.OrderLemmas.{tied_bytes, below_from, ascending_both}
 use Rattle.cs_records.specs.Statements.{list_text, list_query}
@@ -112,14 +112,6 @@ lists_table tab old new rows h shown =
           (rise (sorts (list_query tree) (Text tab ∷ [])) by_key (on_total (λ r. content (column r 2)) nat_list_cmp_total) (list_sorts tree tab) s.chosen one chosen_records s.rising));
       each = λ key. found_entry tab key s.chosen named ∙ records_of-permutation _ s.chosen tab key named_records same ∙ records_of-filter (has_name tab) all tab key (λ row has fails. rw fails);
     })
-
--- each row that it shows is two blobs
-pub lists_blobs : (tab : List ℕ) (old new : State) (rows : List Row) → HoldsRecords old.now → Shown list_text (Text tab ∷ []) old new rows → AllByRecursion ShowsKeyed rows
-lists_blobs tab old new rows h shown =
-    let records = are_records old.now h in
-    let s = shows_chosen list_text (records_tree old.now.schema) _ _ _ (Text tab ∷ []) old new rows h.declares.statements.lists shown in
-    subst (AllByRecursion ShowsKeyed) (sym s.is) (all-map ShowsKeyed _ s.chosen (all_weaker IsRecordRow _ (λ row r. (r.key, r.value, rw r.is refl)) s.chosen
-    (records_permuted _ s.chosen s.same (records_filtered (passes_where (list_query (records_tree old.now.schema)) (Text tab ∷ [])) (record_rows old.now) records)).each))
 
 -- ---- what is listed, and what is there
 

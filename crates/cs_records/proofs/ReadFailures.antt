@@ -1,5 +1,5 @@
 -- Why a query on records fails: the disk failed, memory ran out, or its steps are limited.
-use Rattle.std.proofs.Common.{◌≡◌, ◌≢◌, inl, inr, ℕ, zero, suc, ◌+◌, ◌≤◌, ◌^◌, ◌==◌, nat_le, Bool, true, false, true≢false, append-nil, List, [], ◌∷◌, length, find, slice_get, Some, None, IsSome, Any, refl, sym, ap, subst, ◌∙◌, arith}
+use Rattle.std.proofs.Common.{◌≡◌, ◌≢◌, inl, inr, ℕ, zero, suc, ◌+◌, ◌≤◌, ◌^◌, ◌==◌, nat_le, true, false, true≢false, append-nil, List, [], ◌∷◌, length, find, slice_get, Some, IsSome, Any, refl, sym, ap, subst, ◌∙◌, arith}
 use Rattle.std.proofs.Common.{IsTrue}
 use Rattle.std.specs.List.{AllByRecursion, position_from}
 use Rattle.std.proofs.lemmas.Bool.{cases_Bool, lt-leb, false_from_ne_true, eqb-true, eq-eqb}
@@ -22,9 +22,12 @@ use Rattle.sqlite.specs.Effect.{Database, RefusesQuery}
 use Rattle.sqlite.specs.State.{State, FailsToQuery, IsNotRun}
 use Rattle.sqlite_schema.specs.declared.schema.Table.{Table}
 use Rattle.sqlite_schema.specs.declared.schema.Schema.{Schema}
-use Rattle.cs_records.specs.Records.{records_table, records_tree, table_name, IsApart, IsQuery, DeclaresRecords}
-use Rattle.cs_records.specs.Failing.{CannotRead}
-use Rattle.cs_records.specs.Statements.{find_query, list_query, plain_query, alone, IsSelect}
+use Rattle.cs_records.specs.Records.{records_table, records_tree, table_name, IsApart, IsQuery, DeclaresRecords, KeepsCrash}
+use Rattle.sqlite_disk.specs.Disk.{MoreFaults}
+use Rattle.sqlite_trees.specs.declared.error.StoreError.{StoreError}
+use Rattle.sqlite_trees.specs.declared.error.StoreError.TheVariants as store
+use Rattle.cs_records.specs.Failing.{CannotRead, HasDiskFailed, IsHindered}
+use Rattle.cs_records.specs.Statements.{find_query, list_query, scan_query, plain_query, alone, IsSelect}
 use Rattle.cs_records.proofs.QueryLemmas.{returns_nothing}
 use Rattle.cs_records.proofs.QueryTexts.{understood_is, unlisted}
 use Rattle.cs_records.proofs.StatementLemmas.{IsWhole, is_statement, by_disk}
@@ -70,14 +73,6 @@ module _ (sql : List ℕ) (tree : ℕ) (terms project : List Term) (order : List
 
 -- ---- the table of a tree
 
--- a place is not below the first
-place_above : (p : Table → Bool) (tables : List Table) (from at : ℕ) → position_from p from tables ≡ Some at → from ≤ at
-place_above p [] from at is = absurd cc
-place_above p (t ∷ tables) from at is = elim (cases_Bool (p t)) [
-  | inl here ↦ let same : from ≡ at = (let e = rw here at is in cc) in omega (arith, same)
-  | inr later ↦ let above = place_above p tables (from + 1) at (rw later at is) in omega (arith, above)
-]
-
 -- the first table with the tree of records is that of records
 found_from : (tree : ℕ) (it : Table) → it.tree ≡ tree → (tables : List Table) (from place : ℕ) → AllByRecursion (IsApart tree) tables
     → position_from (λ t. same_name t.name table_name) from tables ≡ Some (from + place) → slice_get tables place ≡ Some it → find (λ t. t.tree == tree) tables ≡ Some it
@@ -111,3 +106,49 @@ module _ (schema : Schema) (declares : DeclaresRecords schema) where
 
   pub list_accepted : (tab : List ℕ) → accepts schema (list_query tree) (Text tab ∷ []) ≡ true
   list_accepted tab = rw (is_stored, table_found) refl
+
+  pub scan_accepted : accepts schema (scan_query tree) [] ≡ true
+  scan_accepted = rw (is_stored, table_found) refl
+
+-- ---- one call after another
+
+-- a fault that was counted later was counted since an earlier call, and stays counted
+more_from : (a b c : ℕ) → a ≤ b → MoreFaults b c → MoreFaults a c
+more_from a b c le more = omega (arith, le, more)
+
+more_to : (a b c : ℕ) → b ≤ c → MoreFaults a b → MoreFaults a c
+more_to a b c le more = omega (arith, le, more)
+
+-- a hindrance after calls that kept the connection open is one from before them, and stays one
+hindered_from : (old mid new : State) → KeepsCrash old mid → IsTrue mid.is_open → (kind : StoreError) → IsHindered mid new kind → IsHindered old new kind
+hindered_from old mid new keeps live store.Io more = more_from old.faults mid.faults new.faults keeps.counts more
+hindered_from old mid new keeps live store.Corrupt more = more_from old.faults mid.faults new.faults keeps.counts more
+hindered_from old mid new keeps live store.Full more = more_from old.faults mid.faults new.faults keeps.counts more
+hindered_from old mid new keeps live store.Broken (inl more) = inl (more_from old.faults mid.faults new.faults keeps.counts more)
+hindered_from old mid new keeps live store.Broken (inr shut) = absurd (true≢false (sym live ∙ shut))
+hindered_from old mid new keeps live store.OutOfMemory none = none
+hindered_from old mid new keeps live store.Unstorable none = none
+
+hindered_to : (old mid new : State) → KeepsCrash mid new → (kind : StoreError) → IsHindered old mid kind → IsHindered old new kind
+hindered_to old mid new keeps store.Io more = more_to old.faults mid.faults new.faults keeps.counts more
+hindered_to old mid new keeps store.Corrupt more = more_to old.faults mid.faults new.faults keeps.counts more
+hindered_to old mid new keeps store.Full more = more_to old.faults mid.faults new.faults keeps.counts more
+hindered_to old mid new keeps store.Broken (inl more) = inl (more_to old.faults mid.faults new.faults keeps.counts more)
+hindered_to old mid new keeps store.Broken (inr shut) = inr shut
+hindered_to old mid new keeps store.OutOfMemory none = none
+hindered_to old mid new keeps store.Unstorable none = none
+
+pub disk_from : (old mid new : State) (e : Error) → KeepsCrash old mid → IsTrue mid.is_open → HasDiskFailed mid new e → HasDiskFailed old new e
+disk_from old mid new e keeps live failed = (failed.0, failed.1, hindered_from old mid new keeps live failed.0 failed.2)
+
+pub disk_to : (old mid new : State) (e : Error) → KeepsCrash mid new → HasDiskFailed old mid e → HasDiskFailed old new e
+disk_to old mid new e keeps failed = (failed.0, failed.1, hindered_to old mid new keeps failed.0 failed.2)
+
+-- so is a read that fails
+pub read_from : (old mid new : State) (e : Error) → KeepsCrash old mid → IsTrue mid.is_open → CannotRead mid new e → CannotRead old new e
+read_from old mid new e keeps live (inl failed) = inl (disk_from old mid new e keeps live failed)
+read_from old mid new e keeps live (inr limited) = inr (limited.0, subst IsSome keeps.limit limited.1)
+
+pub read_to : (old mid new : State) (e : Error) → KeepsCrash mid new → CannotRead old mid e → CannotRead old new e
+read_to old mid new e keeps (inl failed) = inl (disk_to old mid new e keeps failed)
+read_to old mid new e keeps (inr limited) = inr limited

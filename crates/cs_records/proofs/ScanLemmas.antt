@@ -1,5 +1,6 @@
 -- A scan, one row after another: what is known while it goes on, and where it ends.
-use Rattle.std.proofs.Common.{ℤ, List, [], ◌∷◌, ◌++◌, Option, Some, None, Result, Ok, Err, IsSome, inl, inr, sym, subst, ◌∙◌, arith}
+use Rattle.std.proofs.Common.{◌≢◌, ℕ, ◌+◌, ◌-◌, ◌^◌, ◌<◌, ℤ, pos, negsuc, ◌<ℤ◌, w64, FitsSigned, IfSome, List, [], ◌∷◌, ◌++◌, Option, Some, None, Result, Ok, Err, IsSome, inl, inr, sym, subst, ◌∙◌, arith}
+use Rattle.std.proofs.Math.Facts.{ltb_yes}
 use Rattle.sqlite_value.specs.Order.{Row}
 use Rattle.sqlite_trees.specs.declared.store.Store.{Ghosts}
 use Rattle.sqlite_resolve.specs.declared.compiled.Compiled.{Compiled}
@@ -7,12 +8,17 @@ use Rattle.sqlite_resolve.specs.declared.error.CompileError.{CompileError}
 use Rattle.sqlite.specs.declared.error.Error.{Error}
 use Rattle.sqlite.specs.Effect.{Database}
 use Rattle.sqlite.specs.Listing.{understood}
-use Rattle.sqlite.specs.State.{State, HasCleanDisk, IsUnchanged, Survives, CommitsShowing}
+use Rattle.sqlite.specs.State.{State, HasCleanDisk, IsUnchanged, Survives, CommitsShowing, FailsToQuery}
 use Rattle.sqlite.specs.Held.{Held, state}
 use Rattle.sqlite.specs.Given.{Returns, HasGiven, HasBegun, Advances, FailsToAdvance}
 use Rattle.sqlite.proofs.Callers.{unchanged_then, given_begin}
-use Rattle.cs_records.specs.Records.{RecordData, record_of, record_rows, DeclaresRecords, HasNumberAbove, Pass, Rests, KeepsCrash, ShowsOnly}
-use Rattle.cs_records.specs.Statements.{scan_text}
+use Rattle.cs_records.specs.Records.{RecordData, record_of, record_rows, records_tree, DeclaresRecords, HasNumberAbove, Pass, Rests, KeepsCrash, ShowsOnly}
+use Rattle.cs_records.specs.Failing.{CannotRead}
+use Rattle.cs_records.specs.Statements.{scan_text, up}
+use Rattle.cs_records.proofs.ReadFailures.{query_fails, scan_accepted, read_from}
+use Rattle.sqlite_sql.specs.Term.{col}
+use Rattle.sqlite.specs.declared.error.Error.TheVariants.{SqliteFailure}
+use Rattle.sqlite.specs.declared.error.ErrorCode.TheVariants.{OutOfMemory}
 use Rattle.cs_records.proofs.ContentLemmas.{crash_then}
 use Rattle.cs_records.proofs.QueryLemmas.{keeps_crash, fails_rests}
 use Rattle.cs_records.proofs.QueryTexts.{scan_is_query}
@@ -33,6 +39,29 @@ rests_then a b c same (inr back) = inr (record {
   unmarked = back.unmarked;
   counts = record { changes = back.counts.changes ∙ same.1.changes; last_rowid = back.counts.last_rowid ∙ same.1.last_rowid };
 })
+
+-- where the table is declared, a scan fails only as a read does
+pub scan_fails : (old new : State) (e : Error) → DeclaresRecords old.now.schema → e ≢ SqliteFailure OutOfMemory → FailsToQuery scan_text [] old new e → CannotRead old new e
+scan_fails old new e has other fails =
+    query_fails scan_text (records_tree old.now.schema) [] (col 1 0 ∷ col 1 1 ∷ col 1 2 ∷ col 1 3 ∷ []) ((col 1 0, up) ∷ []) [] old new e scan_is_query
+    (λ live. (has.statements.scans, scan_accepted old.now.schema has)) other fails
+
+-- ---- the numbers of rows rise, so that there are only so many
+
+-- how many numbers of 64 bits are above the last
+abbrev pub room : Option ℤ → ℕ
+room None = 2 ^ 64 + 1
+room (Some (pos n)) = 2 ^ 63 - n
+room (Some (negsuc n)) = 2 ^ 63 + n + 1
+
+-- a number above it leaves less room
+pub room_falls : (last : Option ℤ) (number : ℤ) → IfSome last (λ before. before <ℤ number) → FitsSigned w64 number → room (Some number) < room last
+room_falls None (pos n) above fits = omega arith
+room_falls None (negsuc n) above fits = omega (arith, fits.sfits)
+room_falls (Some (pos a)) (pos b) above fits = let less : a < b = ltb_yes above.lt in omega (arith, less, fits.sfits)
+room_falls (Some (pos a)) (negsuc b) above fits = absurd above.lt
+room_falls (Some (negsuc a)) (pos b) above fits = omega arith
+room_falls (Some (negsuc a)) (negsuc b) above fits = let less : b < a = ltb_yes above.lt in omega (arith, less)
 
 module _ {S : Type 0} (g : Ghosts S) (Passes : RecordData → Type 0) (old : State) where
   -- the connection shows what it showed, and the rows that were shown so far passed
@@ -57,6 +86,13 @@ module _ {S : Type 0} (g : Ghosts S) (Passes : RecordData → Type 0) (old : Sta
       -- a step that fails leaves the connection, or takes it back
       pub step_rests : (e : Error) → FailsToAdvance g mid new e → Rests old (state g new)
       step_rests e fails = rests_then old (state g mid) (state g new) before.same (fails_rests scan_text [] (state g mid) (state g new) e (fails scan_text [] before.given before.gives))
+
+      -- a step fails for a reason that a read has
+      pub step_fails : DeclaresRecords old.now.schema → (e : Error) → e ≢ SqliteFailure OutOfMemory → FailsToAdvance g mid new e → CannotRead old (state g new) e
+      step_fails has e other fails =
+          let s = before in
+          let here = subst (λ (db : Database). DeclaresRecords db.schema) (sym s.same.0.now_is) has in
+          read_from old (state g mid) (state g new) e so.0 s.same.0.is_open (scan_fails (state g mid) (state g new) e here other (fails scan_text [] s.given s.gives))
 
       -- after the last row, all passed
       pub step_passed : DeclaresRecords old.now.schema → Advances g mid new None → Pass Passes (record_rows old.now)

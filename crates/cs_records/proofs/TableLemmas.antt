@@ -1,5 +1,5 @@
 -- What CREATE TABLE makes where nothing has the name of the table of records.
-use Rattle.std.proofs.Common.{◌≡◌, ◌⊎◌, ◌||◌, inl, inr, ℕ, codes, List, [], ◌∷◌, ◌++◌, Bool, true, false, is_some, Option, Some, None, slice_get, Result, Ok, Err, IsTrue, length, refl, sym, ap, subst, ◌∙◌, arith}
+use Rattle.std.proofs.Common.{◌≡◌, ◌≢◌, ◌⊎◌, ◌||◌, inl, inr, ℕ, codes, List, [], ◌∷◌, ◌++◌, Bool, true, false, is_some, Option, Some, None, slice_get, slice_range, Result, Ok, Err, IsTrue, length, refl, sym, ap, subst, ◌∙◌, arith}
 use Rattle.std.proofs.lemmas.Bool.{or_parts, true≢false}
 use Rattle.sqlite_value.specs.Order.{Row}
 use Rattle.sqlite_schema.specs.declared.schema.Table.{Table}
@@ -18,19 +18,27 @@ use Rattle.sqlite.specs.Effect.{Database, IsDatabase}
 use Rattle.sqlite.specs.Does.{Tally, lacks_sequence, sequence_text, MakesSequence}
 use Rattle.sqlite.specs.State.{State, HasCleanDisk, Survives, Writes, Executes, CommitsBy}
 use Rattle.sqlite.proofs.Callers.{statement_of, runs_as}
-use Rattle.cs_records.specs.Records.{records_table, records_tree, record_rows, table_name, LacksRecords, IsDeclaredOtherwise, DeclaresRecords, HoldsRecords, AreNumbered, Adds, Makes, IsOther, with_records, AddsAlone, AddsCounts, AddsRecords, KeepsOthers, by_one, by_each, GoesOn, KeepsCrash}
+use Rattle.cs_records.specs.Records.{records_table, records_tree, record_rows, table_name, LacksRecords, IsDeclaredOtherwise, DeclaresRecords, HoldsRecords, AreNumbered, Adds, Makes, IsOther, with_records, AddsAlone, AddsCounts, AddsRecords, IsUnsupported, KeepsOthers, by_one, by_each, GoesOn, KeepsCrash}
+use Rattle.cs_records.specs.declared.layout.Declaration.{Declaration}
+use Rattle.cs_records.specs.declared.layout.Declaration.TheVariants as declared
+use Rattle.cs_records.specs.Layout.{IsDeclaration}
 use Rattle.cs_records.specs.Statements.{create_text, Creates}
+use Rattle.cs_records.proofs.PlaceLemmas.{found_passes}
 use Rattle.cs_records.proofs.QueryTexts.{understood_is, plainly, commands}
 use Rattle.cs_records.proofs.StatementLemmas.{went, same_value, inside_keeps_crash, write_goes_on}
 
 -- the statement writes as its command says
+-- the whole text is that of the statement
+whole_text : (start end : ℕ) → start ≡ 0 → end ≡ length create_text → slice_range create_text start end ≡ create_text
+whole_text start end first last = rw (first, last) refl
+
 writes : (old new : State) (count : ℕ) → Creates old.now.schema → Executes create_text [] old new (Ok count) → Writes old new None CreateTable create_text [] count
 writes old new count makes h =
     let schema = old.now.schema in
     let it = makes.0 in
-    let text = ap (statement_of create_text) (understood_is schema create_text it makes.1.is) ∙ makes.3 in
+    let text = ap (statement_of create_text) (understood_is schema create_text it makes.1.is) ∙ whole_text it.start it.end makes.2.start makes.2.end in
     subst (λ t. Writes old new None CreateTable t [] count) text
-    (runs_as create_text [] old new schema refl CreateTable (commands schema create_text it makes.1 ∙ makes.2) (plainly schema create_text it makes.1) count h)
+    (runs_as create_text [] old new schema refl CreateTable (commands schema create_text it makes.1 ∙ makes.2.command) (plainly schema create_text it makes.1) count h)
 
 -- ---- what is added
 
@@ -67,7 +75,7 @@ make_goes_on old new count creates inside h = write_goes_on old new _ _ _ _ coun
 pub make_keeps_crash : (old new : State) → Creates old.now.schema → (HasCleanDisk old → IsTrue old.in_transaction) → Survives old new (CommitsBy create_text [] old) → KeepsCrash old new
 make_keeps_crash old new creates = inside_keeps_crash create_text [] old new (λ clean. record {
   command = CreateTable;
-  is = commands old.now.schema create_text creates.0 creates.1 ∙ creates.2;
+  is = commands old.now.schema create_text creates.0 creates.1 ∙ creates.2.command;
   plain = plainly old.now.schema create_text creates.0 creates.1;
   commits = λ same. absurd (cc);
   releases = λ name same. absurd (cc);
@@ -113,12 +121,15 @@ nothing_there : (o : Option ℕ) → is_some o ≡ false → o ≡ None
 nothing_there None h = refl
 nothing_there (Some at) h = absurd (cc)
 
+lacking_named : (schema : Schema) → LacksRecords schema → table_named schema table_name ≡ None
+lacking_named schema lacks =
+    let parts = or_parts (is_some (table_named schema table_name) || is_some (index_named schema table_name)) (is_some (view_named schema table_name)) lacks in
+    nothing_there (table_named schema table_name) (or_parts (is_some (table_named schema table_name)) (is_some (index_named schema table_name)) parts.0).0
+
 unlisted : (schema : Schema) (table : Table) → LacksRecords schema → table.name ≡ table_name → Has schema.tables table → ⊥
 unfolding same_name
 unlisted schema table lacks is has =
-    let parts = or_parts (is_some (table_named schema table_name) || is_some (index_named schema table_name)) (is_some (view_named schema table_name)) lacks in
-    let named = nothing_there (table_named schema table_name) (or_parts (is_some (table_named schema table_name)) (is_some (index_named schema table_name)) parts.0).0 in
-    let other = none_placed (λ t. same_name t.name table_name) schema.tables 0 table named has in
+    let other = none_placed (λ t. same_name t.name table_name) schema.tables 0 table (lacking_named schema lacks) has in
     true≢false (sym (ap (λ n. same_name n table_name) is) ∙ other)
 
 -- a schema that declares the table does not lack it
@@ -133,9 +144,25 @@ made_schema old new added =
       added.schema ∙ ap (created old.schema) is,
     )
 
+made_adds : (old new : Database) → Makes old new → AddsRecords old new
+made_adds old new made =
+    let one = made_schema old made.first made.adds in
+    record {
+      lacks = one.0;
+      adds = elim made.counts [
+        | inl same ↦ inl (subst (λ (s : Schema). AddsAlone s new) one.1 (record { has = same.0; is = ap (λ (d : Database). d.schema) same.1 }))
+        | inr more ↦ inr (subst (λ (s : Schema). AddsCounts s new) one.1 (record {
+          lacks = more.0;
+          table = more.1.table;
+          defined = more.1.defined;
+          is = more.1.schema;
+          empty = more.1.empty;
+        }))
+      ];
+    }
+
 pub made_keeps : (old new : Database) → Makes old new → KeepsOthers old new
 made_keeps old new made =
-    let one = made_schema old made.first made.adds in
     record {
       rows = λ table has other. elim made.counts [
         | inl same ↦ subst (λ (d : Database). d.trees table.tree ≡ old.trees table.tree) (sym same.1) (table_stays create_text old made.first made.adds table has).1
@@ -143,19 +170,7 @@ made_keeps old new made =
             let first = table_stays create_text old made.first made.adds table has in
             (table_stays sequence_text made.first new more.1 table first.0).1 ∙ first.1
       ];
-      schema = inr (record {
-        lacks = one.0;
-        adds = elim made.counts [
-          | inl same ↦ inl (subst (λ (s : Schema). AddsAlone s new) one.1 (record { has = same.0; is = ap (λ (d : Database). d.schema) same.1 }))
-          | inr more ↦ inr (subst (λ (s : Schema). AddsCounts s new) one.1 (record {
-            lacks = more.0;
-            table = more.1.table;
-            defined = more.1.defined;
-            is = more.1.schema;
-            empty = more.1.empty;
-          }))
-        ];
-      });
+      schema = inr (made_adds old new made);
       frozen = by_one old new made.frozen;
     }
 
@@ -173,18 +188,23 @@ tables_stay old new keeps table has = elim keeps.schema [
       ]
 ]
 
--- the table of records is not added twice
-added_once : (old new : Database) → AddsRecords old new → LacksRecords new.schema → ⊥
-added_once old new added lacks = unlisted new.schema made lacks refl (elim added.adds [
+-- the table of records that is added has its name
+added_once_named : (old new : Database) → AddsRecords old new → table_named new.schema table_name ≡ None → ⊥
+unfolding same_name
+added_once_named old new added none = true≢false (none_placed (λ t. same_name t.name table_name) new.schema.tables 0 made none (elim added.adds [
   | inl one ↦ subst (λ (s : Schema). Has s.tables made) (sym one.is) listed
   | inr two ↦ subst (λ (s : Schema). Has s.tables made) (sym two.is) (has_left (with_records old.schema).tables _ made listed)
-])
+]))
   where
     made : Table
     made = records_table (next_tree old.schema)
 
     listed : Has (with_records old.schema).tables made
     listed = has_right old.schema.tables (made ∷ []) made (inl refl)
+
+-- so it is not added twice
+added_once : (old new : Database) → AddsRecords old new → LacksRecords new.schema → ⊥
+added_once old new added lacks = added_once_named old new added (lacking_named new.schema lacks)
 
 -- the table in which SQL counts is another one than that of records
 counts_other : (table : Table) → table_defined_by sequence_text ≡ Ok table → IsOther table
@@ -259,6 +279,42 @@ otherwise_used schema otherwise lacks =
     let named = nothing_there (table_named schema table_name) (or_parts (is_some (table_named schema table_name)) (is_some (index_named schema table_name)) parts.0).0 in
     let viewed = nothing_there (view_named schema table_name) parts.1 in
     elim otherwise [ inl it ↦ absurd (let e = sym named ∙ it.2 in cc) | inr it ↦ absurd (let e = sym viewed ∙ it.3 in cc) ]
+
+-- the table that is added is the one of its name
+added_is : (old new : Database) → AddsRecords old new → (table : Table) → same_name table.name table_name ≡ true → Has new.schema.tables table → table ≡ records_table table.tree
+added_is old new added table named has = elim added.adds [
+  | inl alone ↦ of_records (subst (λ (s : Schema). Has s.tables table) alone.is has)
+  | inr two ↦ elim (has_either (with_records old.schema).tables _ table (subst (λ (s : Schema). Has s.tables table) two.is has)) [
+    | inl before ↦ of_records before
+    | inr here ↦ elim here [
+      | inl same ↦ absurd (true≢false (sym named ∙ ap (λ (t : Table). same_name t.name table_name) same ∙ counts_other two.table two.defined))
+      | inr nothing ↦ absurd nothing
+    ]
+  ]
+]
+  where
+    of_records : Has (with_records old.schema).tables table → table ≡ records_table table.tree
+    of_records there = elim (has_either old.schema.tables _ table there) [
+      | inl before ↦ absurd (true≢false (sym named ∙ none_placed (λ t. same_name t.name table_name) old.schema.tables 0 table (lacking_named old.schema added.lacks) before))
+      | inr here ↦ elim here [
+        | inl same ↦ same ∙ ap (λ (t : Table). records_table t.tree) (sym same)
+        | inr nothing ↦ absurd nothing
+      ]
+    ]
+
+-- so it is not declared otherwise
+added_not_otherwise : (old new : Database) → AddsRecords old new → IsDeclaredOtherwise new.schema → ⊥
+added_not_otherwise old new added (inl it) =
+    let named = found_passes (λ t. same_name t.name table_name) new.schema.tables 0 it.0 it.1 (subst (λ n. table_named new.schema table_name ≡ Some n) (omega arith) it.2) it.3 in
+    it.4 (added_is old new added it.1 named (has_got new.schema.tables it.0 it.1 it.3))
+added_not_otherwise old new added (inr it) = added_once_named old new added it.0
+
+-- where the table was made, and is not declared, the statements on records are not used
+pub made_unsupported : (old new : Database) (it : Declaration) → Makes old new → IsDeclaration new.schema it → (it ≢ declared.Records) → IsUnsupported new.schema
+made_unsupported old new declared.Missing made is other = absurd (added_once old new (made_adds old new made) is)
+made_unsupported old new declared.Records made is other = absurd (other refl)
+made_unsupported old new declared.Other made is other = absurd (added_not_otherwise old new (made_adds old new made) is)
+made_unsupported old new declared.Unsupported made is other = is
 
 -- the last of the tables, where it is none of those before
 last_is : (tables : List Table) (last table : Table) → (Has tables table → ⊥) → Has (tables ++ last ∷ []) table → table ≡ last

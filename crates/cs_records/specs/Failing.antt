@@ -5,12 +5,13 @@ use Rattle.sqlite_value.specs.declared.value.Value.TheVariants.{Text, Blob}
 use Rattle.sqlite_trees.specs.declared.error.StoreError.{StoreError}
 use Rattle.sqlite_trees.specs.declared.error.StoreError.TheVariants as store
 use Rattle.sqlite.specs.declared.error.Error.{Error}
-use Rattle.sqlite.specs.declared.error.Error.TheVariants.{SqliteFailure}
+use Rattle.sqlite.specs.declared.error.Error.TheVariants.{SqliteFailure, InvalidQuery}
 use Rattle.sqlite.specs.declared.error.ErrorCode.TheVariants.{OutOfMemory, OperationInterrupted, TransactionState}
 use Rattle.sqlite.specs.State.{State, Executes, store_error}
 use Rattle.cs_records.specs.declared.fault.RecordsError.{RecordsError}
 use Rattle.cs_records.specs.declared.fault.RecordsError.TheVariants.{NoMemory, Database}
-use Rattle.cs_records.specs.Statements.{put_text, remove_text}
+use Rattle.cs_records.specs.Records.{IsUnsupported, Makes}
+use Rattle.cs_records.specs.Statements.{create_text, put_text, remove_text, Creates}
 
 -- Out of memory, or the database failed with another error, and `Fails` holds of it.
 abbrev pub IsFailure : (Error → Type 0) → RecordsError → Type 0
@@ -48,3 +49,13 @@ CannotRead old new error = HasDiskFailed old new error ⊎ ((error ≡ SqliteFai
 -- A transaction begins only where none is open, and ends only where one is.
 abbrev pub IsMisplaced : Type 0 → Error → Type 0
 IsMisplaced Open error = Open × (error ≡ SqliteFailure TransactionState)
+
+-- The table of records is not created: the text that makes it is another statement under the schema, or the database
+-- failed at it.
+abbrev pub CannotCreate : State → State → Error → Type 0
+CannotCreate old new error = ((error ≡ InvalidQuery) × ¬ Creates old.now.schema) ⊎ Executes create_text [] old new (Err error)
+
+-- It is not made: it is not created, or the statements on records cannot be used under the schema that then declares it.
+abbrev pub CannotMake : State → State → Error → Type 0
+CannotMake old new error =
+    CannotCreate old new error ⊎ ((error ≡ InvalidQuery) × Makes old.now new.now × IsUnsupported new.now.schema)

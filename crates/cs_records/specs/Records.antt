@@ -1,7 +1,7 @@
 -- Records in one SQL table: a record has the name of a table, a key and a value, and no two records have both the name
 -- and the key.
-use Rattle.std.specs.Prelude.{bytes_eq, ◌⊎◌, ◌≡◌, ◌≢◌, ◌<◌, ◌^◌, ◌<ℤ◌, ℕ, ℤ, Bool, true, false, ◌&&◌, if◌then◌else◌, List, [], ◌∷◌, codes}
-use Rattle.std.specs.Prelude.{Option, Some, None, option_map, option_and_then, unwrap_or, slice_get, Result, Ok, Err, ⊤, IsTrue, IfSome, All, AllPairs}
+use Rattle.std.specs.Prelude.{bytes_eq, ◌⊎◌, ◌≡◌, ◌≢◌, ◌<◌, ◌≤◌, ◌^◌, ◌<ℤ◌, ℕ, ℤ, Bool, true, false, ◌&&◌, if◌then◌else◌, List, [], ◌∷◌, codes}
+use Rattle.std.specs.Prelude.{Option, Some, None, option_map, option_and_then, unwrap_or, slice_get, Result, Ok, Err, ⊤, IsTrue, IsSome, IfSome, All, AllPairs}
 use Rattle.std.specs.List.{AllByRecursion, find}
 use Rattle.std.specs.Cmp.Lexicographic.{slice_cmp}
 use Rattle.std.specs.Ordering.{nat_cmp}
@@ -20,7 +20,7 @@ use Rattle.sqlite_schema.specs.declared.schema.Table.{Table}
 use Rattle.sqlite_schema.specs.declared.schema.Index.{Index}
 use Rattle.sqlite_schema.specs.declared.schema.Schema.{Schema}
 use Rattle.sqlite_schema.specs.declared.schema.View.{View}
-use Rattle.sqlite_schema.specs.Names.{same_name, table_named, view_named}
+use Rattle.sqlite_schema.specs.Names.{same_name, table_named, index_named, view_named}
 use Rattle.sqlite_rules.specs.Lists.{Has}
 use Rattle.sqlite_catalog.specs.Change.{is_used, created, next_tree, KeepsRows}
 use Rattle.sqlite_resolve.specs.Compile.{table_defined_by}
@@ -99,6 +99,32 @@ IsDeclaredOtherwise schema =
     × (table ≢ records_table table.tree))
     ⊎ ((table_named schema table_name ≡ None) × (place : ℕ) × (view : View) × (view_named schema table_name ≡ Some place)
     × (slice_get schema.views place ≡ Some view) × (view.foreign ≡ None))
+
+-- Why a table that is declared as that of records is not used. A statement computes its tree, another table shares that
+-- or refers to the table, an index compares its keys in another way, or a text is another statement on it.
+abbrev pub IsBarred : Schema → ℕ → ℕ → Type 0
+IsBarred schema place tree =
+    (2 ^ 31 ≤ tree)
+    ⊎ ((¬ All (IsApart tree) schema.tables)
+    ⊎ ((¬ All (IsOfKey tree) schema.indexes)
+    ⊎ (¬ AreStatements schema place tree)))
+
+-- No statement reaches a table of the name, and the name is not free. An index has it, or something that the database
+-- keeps as it is: an index or a trigger of this name; or a table that has a trigger, an index on some of its rows or on
+-- an expression, or no numbers of its rows.
+abbrev pub IsOutOfReach : Schema → Type 0
+IsOutOfReach schema =
+    (table_named schema table_name ≡ None)
+    × (IsSome (index_named schema table_name)
+    ⊎ ((place : ℕ) × (view : View) × (view_named schema table_name ≡ Some place) × (slice_get schema.views place ≡ Some view)
+    × IsSome view.foreign))
+
+-- why the statements on records cannot be used under the schema
+abbrev pub IsUnsupported : Schema → Type 0
+IsUnsupported schema =
+    IsOutOfReach schema
+    ⊎ ((place : ℕ) × (table : Table) × (table_named schema table_name ≡ Some place) × (slice_get schema.tables place ≡ Some table)
+    × (table ≡ records_table table.tree) × IsBarred schema place table.tree)
 
 -- nothing has the name of the table
 abbrev pub LacksRecords : Schema → Type 0
@@ -273,10 +299,6 @@ IsQuery sql = (schema : Schema) → ShowsOnly (understood schema sql)
 -- a key and a value, in a row that a query shows
 abbrev pub shown_keyed : Row → List ℕ × List ℕ
 shown_keyed row = (content (column row 0), content (column row 1))
-
--- the row shows two blobs
-abbrev pub ShowsKeyed : Row → Type 0
-ShowsKeyed row = (key value : List ℕ) × (row ≡ Blob key ∷ Blob value ∷ [])
 
 -- the row shows this number first, and it is above the last one
 abbrev pub HasNumberAbove : Option ℤ → Row → ℤ → Type 0

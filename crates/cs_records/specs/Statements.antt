@@ -1,5 +1,5 @@
 -- The texts of SQL that read and write records, and what they are on a table of records.
-use Rattle.std.specs.Prelude.{◌≡◌, ◌≤◌, ℕ, pos, negsuc, Bool, true, false, List, [], ◌∷◌, length, map, slice_range, codes, Some, None, Ok}
+use Rattle.std.specs.Prelude.{◌≡◌, ◌≤◌, ℕ, pos, negsuc, Bool, true, false, List, [], ◌∷◌, length, map, codes, Some, None, Ok}
 use Rattle.sqlite_value.specs.declared.value.Value.TheVariants as value
 use Rattle.sqlite_value.specs.declared.keys.Collation.TheVariants.{Binary}
 use Rattle.sqlite_value.specs.declared.keys.Key.{Key}
@@ -107,8 +107,11 @@ abbrev pub alone : Query → Program
 alone q = record { lets = []; body = q }
 
 -- the row of a record, whose number is chosen
+abbrev pub source_terms : List Term
+source_terms = lit value.Null ∷ col 0 0 ∷ col 0 1 ∷ col 0 2 ∷ []
+
 abbrev pub source : Source
-source = Values (lit value.Null ∷ col 0 0 ∷ col 0 1 ∷ col 0 2 ∷ []) 4
+source = Values source_terms 4
 
 -- of the row with the number that is the fourth parameter, that number, and the row with the new value
 abbrev pub update_query : ℕ → Query
@@ -154,7 +157,12 @@ IsSelectOf command program = (names : List (List ℕ)) × (command ≡ Select pr
 abbrev pub IsSelect : Schema → List ℕ → ℕ → Query → Type 0
 IsSelect schema sql count q = IsStatement schema sql count (λ its. IsSelectOf its (alone q))
 
+-- the statement makes a table, and is the whole of the text that makes the table of records
+pub record IsCreation (it : Compiled) : Type 0 where
+  pub command : it.command ≡ CreateTable
+  pub start : it.start ≡ 0
+  pub end : it.end ≡ length create_text
+
 -- the text that makes the table does so, as the whole of its text
 abbrev pub Creates : Schema → Type 0
-Creates schema =
-    (it : Compiled) × IsPlainStatement schema create_text 0 it × (it.command ≡ CreateTable) × (slice_range create_text it.start it.end ≡ create_text)
+Creates schema = (it : Compiled) × IsPlainStatement schema create_text 0 it × IsCreation it

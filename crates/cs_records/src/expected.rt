@@ -1,5 +1,5 @@
 //! A compiled query, compared with one that is expected.
-ghost use Rattle.std.specs.Prelude.{◌≡◌, length, map, IsTrue};
+ghost use Rattle.std.specs.Prelude.{◌≡◌, ◌↔◌, length, map, IsTrue};
 ghost use Rattle.sqlite_value.specs.declared.value.Value.TheVariants.{Int as Number};
 ghost use Rattle.sqlite_sql.specs.Term.{lit, col};
 ghost use Rattle.sqlite_sql.specs.Query.{inner, end};
@@ -33,7 +33,7 @@ pub(crate) struct Shape<'a> {
 
 /// Whether the node at this place is this column.
 fn is_column(nodes: &[Node<'_>], depth: usize, at: usize, slot: usize, column: usize) -> bool
-    ensures { IsTrue result → term_at nodes.now depth at ≡ col slot column }
+    ensures { IsTrue result ↔ (term_at nodes.now depth at ≡ col slot column) }
 {
     let (node, _) = open(nodes, depth, at);
     match node {
@@ -44,7 +44,7 @@ fn is_column(nodes: &[Node<'_>], depth: usize, at: usize, slot: usize, column: u
 
 /// Whether the node at this place tests this column of the row for this parameter.
 fn is_equality(nodes: &[Node<'_>], depth: usize, at: usize, column: usize, param: usize) -> bool
-    ensures { IsTrue result → term_at nodes.now depth at ≡ equals (col 1 column) (col 0 param) }
+    ensures { IsTrue result ↔ (term_at nodes.now depth at ≡ equals (col 1 column) (col 0 param)) }
 {
     let (node, below) = open(nodes, depth, at);
     match node {
@@ -57,7 +57,7 @@ fn is_equality(nodes: &[Node<'_>], depth: usize, at: usize, column: usize, param
 
 /// Whether the node at this place is NULL.
 fn is_null(nodes: &[Node<'_>], at: usize) -> bool
-    ensures { IsTrue result → term_of nodes.now at ≡ expected_term Expected.Null }
+    ensures { IsTrue result ↔ (term_of nodes.now at ≡ expected_term Expected.Null) }
 {
     let (node, _) = open(nodes, nodes.len(), at);
     matches!(node, Node::Literal(ValueRef::Null))
@@ -65,7 +65,7 @@ fn is_null(nodes: &[Node<'_>], at: usize) -> bool
 
 /// Whether the node at this place is this number.
 fn is_number(nodes: &[Node<'_>], at: usize, number: i64) -> bool
-    ensures { IsTrue result → term_of nodes.now at ≡ lit (Number number) }
+    ensures { IsTrue result ↔ (term_of nodes.now at ≡ lit (Number number)) }
 {
     let (node, _) = open(nodes, nodes.len(), at);
     match node {
@@ -75,7 +75,7 @@ fn is_number(nodes: &[Node<'_>], at: usize, number: i64) -> bool
 }
 
 fn is_expected(nodes: &[Node<'_>], at: usize, expected: Expected) -> bool
-    ensures { IsTrue result → term_of nodes.now at ≡ expected_term expected }
+    ensures { IsTrue result ↔ (term_of nodes.now at ≡ expected_term expected) }
 {
     match expected {
         Expected::Null => is_null(nodes, at),
@@ -86,7 +86,7 @@ fn is_expected(nodes: &[Node<'_>], at: usize, expected: Expected) -> bool
 
 /// Whether the terms with these roots are the expected ones.
 pub(crate) fn are_expected(nodes: &[Node<'_>], roots: &[usize], expected: &[Expected]) -> bool
-    ensures { IsTrue result → terms_of nodes.now roots.now ≡ map expected_term expected.now }
+    ensures { IsTrue result ↔ (terms_of nodes.now roots.now ≡ map expected_term expected.now) }
 {
     if roots.len() != expected.len() {
         return false;
@@ -100,7 +100,7 @@ pub(crate) fn are_expected(nodes: &[Node<'_>], roots: &[usize], expected: &[Expe
 }
 
 fn is_rising(nodes: &[Node<'_>], key: &SortKey, column: usize) -> bool
-    ensures { IsTrue result → (term_of nodes.now key.now.node, key.now.key) ≡ by_column column }
+    ensures { IsTrue result ↔ ((term_of nodes.now key.now.node, key.now.key) ≡ by_column column) }
 {
     is_column(nodes, nodes.len(), key.node, 1, column)
         && key.key.collation == Collation::Binary
@@ -109,7 +109,7 @@ fn is_rising(nodes: &[Node<'_>], key: &SortKey, column: usize) -> bool
 
 /// Whether rows are sorted by these columns.
 fn are_rising(nodes: &[Node<'_>], keys: &[SortKey], columns: &[usize]) -> bool
-    ensures { IsTrue result → order_of nodes.now keys.now ≡ map by_column columns.now }
+    ensures { IsTrue result ↔ (order_of nodes.now keys.now ≡ map by_column columns.now) }
 {
     if keys.len() != columns.len() {
         return false;
@@ -122,19 +122,28 @@ fn are_rising(nodes: &[Node<'_>], keys: &[SortKey], columns: &[usize]) -> bool
     true
 }
 
+/// Whether no step follows from this one on, where so many are read.
+fn is_end(nodes: &[Node<'_>], steps: &[Step<'_>], depth: usize, at: usize) -> bool
+    ensures { IsTrue result ↔ (join_at nodes.now steps.now depth at ≡ end) }
+{
+    depth == 0 || matches!(steps.get(at), None | Some(Step::End))
+}
+
 /// Whether the steps from this one on are those of one table.
 fn is_one_table(nodes: &[Node<'_>], steps: &[Step<'_>], from: usize, tree: u32) -> bool
-    ensures { IsTrue result → join_at nodes.now steps.now (length steps.now) from ≡ inner tree end }
+    ensures { IsTrue result ↔ (join_at nodes.now steps.now (length steps.now) from ≡ inner tree end) }
 {
-    match steps {
-        [Step::End, Step::Inner(table, _, more)] => from == 1 && *table == tree && *more == 0,
+    match steps.get(from) {
+        Some(Step::Inner(table, _, more)) => {
+            *table == tree && is_end(nodes, steps, steps.len() - 1, *more)
+        }
         _ => false,
     }
 }
 
 /// Whether this is the query of that shape on the table with this tree.
 pub(crate) fn is_query(select: &Select<'_>, tree: u32, shape: &Shape<'_>) -> bool
-    ensures { IsTrue result → query_of select.now ≡ expected_query tree shape.now }
+    ensures { IsTrue result ↔ (query_of select.now ≡ expected_query tree shape.now) }
 {
     is_one_table(select.nodes, select.steps, select.from, tree)
         && are_expected(select.nodes, select.filter, shape.filter)

@@ -1,17 +1,16 @@
 //! What a database declares, compared with the table of records.
-ghost use Rattle.std.specs.Prelude.{◌≡◌, ◌≢◌, ◌<◌, ◌^◌, ◌↔◌, [], ◌∷◌, true, false, None, IsTrue, All, IfOk};
+ghost use Rattle.std.specs.Prelude.{◌≡◌, ◌≢◌, ◌<◌, ◌^◌, ◌↔◌, ℕ, [], ◌∷◌, true, false, None, Some, IsTrue, All, IfOk, slice_get};
 ghost use Rattle.sqlite_value.specs.Keys.{plain};
-ghost use Rattle.sqlite_schema.specs.Names.{same_name, table_named};
+ghost use Rattle.sqlite_schema.specs.Names.{same_name, table_named, view_named};
 ghost use Rattle.cs_records.specs.Layout.{IsDeclaration};
-ghost use Rattle.cs_records.specs.Records.{required, records_table, table_name, IsApart, IsOfKey};
+ghost use Rattle.cs_records.specs.Records.{required, records_table, table_name, IsApart, IsBarred, IsOfKey};
 
-use crate::fault::RecordsError;
 use crate::meaning::are_statements;
 use sqlite_schema::names::same_name;
-use sqlite_schema::schema::{Column, Index, Kind, Reference, Schema, Stamps, Table};
+use sqlite_schema::schema::{Column, Index, Kind, Reference, Schema, Stamps, Table, View};
 use sqlite_value::keys::{Collation, Order};
 use sqlite_value::value::Value;
-use std::alloc::Global;
+use std::alloc::{AllocError, Global};
 
 /// What a database declares under the name of the table of records.
 #[derive(Clone, Copy, Debug)]
@@ -27,27 +26,44 @@ pub enum Declaration {
     Unsupported,
 }
 
-/// What the schema declares under the name of the table of records.
-pub fn declaration_of(alloc: Global, schema: &Schema) -> Result<Declaration, RecordsError>
+/// Returns what the schema declares under the name of the table of records.
+pub fn declaration_of(alloc: Global, schema: &Schema) -> Result<Declaration, AllocError>
     ensures { IfOk result (IsDeclaration schema.now) }
 {
     let Some(place) = schema.table_named(b"rec") else {
         return Ok(without_table(schema));
     };
-    let Some(table) = schema.tables.get(place) else {
-        return Ok(Declaration::Unsupported);
-    };
+    match schema.tables.get(place) {
+        Some(table) => declared_at(alloc, schema, place, table),
+        None => unreachable!(),
+    }
+}
+
+/// Returns what a database declares that has this table at this place, with the name of the table of records.
+fn declared_at(
+    alloc: Global,
+    schema: &Schema,
+    place: usize,
+    table: &Table,
+) -> Result<Declaration, AllocError>
+    requires named { table_named schema.now table_name ≡ Some place }
+    requires there { slice_get schema.now.tables place ≡ Some table.now }
+    ensures { IfOk result (IsDeclaration schema.now) }
+{
     if !is_declared_as_records(table) {
         return Ok(Declaration::Other);
     }
-    if is_apart(schema, table.tree) && are_statements(alloc, schema, place, table.tree)? {
+    if !is_apart(schema, table.tree) {
+        return Ok(Declaration::Unsupported);
+    }
+    if are_statements(alloc, schema, place, table.tree)? {
         Ok(Declaration::Records)
     } else {
         Ok(Declaration::Unsupported)
     }
 }
 
-/// What a database declares that has no table with the name of the table of records.
+/// Returns what a database declares that has no table with the name of the table of records.
 fn without_table(schema: &Schema) -> Declaration
     requires { table_named schema.now table_name ≡ None }
     ensures { IsDeclaration schema.now result }
@@ -59,16 +75,30 @@ fn without_table(schema: &Schema) -> Declaration
         return Declaration::Missing;
     };
     match schema.views.get(at) {
-        Some(view) if view.foreign.is_none() => Declaration::Other,
-        _ => Declaration::Unsupported,
+        Some(view) => declared_by(schema, at, view),
+        None => unreachable!(),
     }
 }
 
-/// Whether the table with this tree is stored and shares it with no other, no table refers to it, and indexes compare
-/// the keys of its rows by their bytes.
+/// Returns what a database declares that has this view at this place, with the name of the table of records.
+fn declared_by(schema: &Schema, at: usize, view: &View) -> Declaration
+    requires lacks { table_named schema.now table_name ≡ None }
+    requires named { view_named schema.now table_name ≡ Some at }
+    requires there { slice_get schema.now.views at ≡ Some view.now }
+    ensures { IsDeclaration schema.now result }
+{
+    match view.foreign {
+        Some(_) => Declaration::Unsupported,
+        None => Declaration::Other,
+    }
+}
+
+/// Returns whether the table with this tree is stored and shares it with no other, no table refers to it, and indexes
+/// compare the keys of its rows by their bytes.
 fn is_apart(schema: &Schema, tree: u32) -> bool
-    ensures { IsTrue result → (tree < 2 ^ 31) × All (IsApart tree) schema.now.tables
+    ensures apart { IsTrue result → (tree < 2 ^ 31) × All (IsApart tree) schema.now.tables
         × All (IsOfKey tree) schema.now.indexes }
+    ensures barred { (place : ℕ) → result ≡ false → IsBarred schema.now place tree }
 {
     // Trees from 2^31 on are computed by a statement.
     tree < 0x8000_0000
@@ -77,7 +107,7 @@ fn is_apart(schema: &Schema, tree: u32) -> bool
 }
 
 fn are_tables_apart(tables: &[Table], tree: u32) -> bool
-    ensures { IsTrue result → All (IsApart tree) tables.now }
+    ensures { IsTrue result ↔ All (IsApart tree) tables.now }
 {
     for table in tables {
         if !is_table_apart(table, tree) {
@@ -88,14 +118,14 @@ fn are_tables_apart(tables: &[Table], tree: u32) -> bool
 }
 
 fn is_table_apart(table: &Table, tree: u32) -> bool
-    ensures { IsTrue result → IsApart tree table.now }
+    ensures { IsTrue result ↔ IsApart tree table.now }
 {
     (table.is_named(b"rec") || table.tree != tree) && refers_elsewhere(table.references.as_slice())
 }
 
 /// Whether no key refers to the table of records.
 fn refers_elsewhere(keys: &[Reference]) -> bool
-    ensures { IsTrue result → All (λ key. same_name key.parent table_name ≡ false) keys.now }
+    ensures { IsTrue result ↔ All (λ key. same_name key.parent table_name ≡ false) keys.now }
 {
     for key in keys {
         if same_name(key.parent.as_slice(), b"rec") {
@@ -107,7 +137,7 @@ fn refers_elsewhere(keys: &[Reference]) -> bool
 
 /// Whether indexes compare the keys of rows of the table with this tree by their bytes.
 fn are_of_key(indexes: &[Index], tree: u32) -> bool
-    ensures { IsTrue result → All (IsOfKey tree) indexes.now }
+    ensures { IsTrue result ↔ All (IsOfKey tree) indexes.now }
 {
     for index in indexes {
         if !is_of_key(index, tree) {
@@ -118,7 +148,7 @@ fn are_of_key(indexes: &[Index], tree: u32) -> bool
 }
 
 fn is_of_key(index: &Index, tree: u32) -> bool
-    ensures { IsTrue result → IsOfKey tree index.now }
+    ensures { IsTrue result ↔ IsOfKey tree index.now }
 {
     !index.is_unique
         || index.table != tree

@@ -2,21 +2,21 @@
 //!
 //! Each is compiled under that schema, and compared with the statement on the table of records that it is meant to be.
 //! So it reads and writes the rows of that table, whatever else the database declares.
-ghost use Rattle.std.specs.Prelude.{◌≡◌, [], true, false, IsTrue, IfOk, IfSome};
+ghost use Rattle.std.specs.Prelude.{◌≡◌, ◌↔◌, [], true, false, IsTrue, IfOk, MatchOption};
 ghost use Rattle.cs_records.specs.Meaning.{AreStatements, AreWrites, IsMeant};
 ghost use Rattle.cs_records.specs.Statements.{alone, expected_query, find_query, list_query, scan_query};
-ghost use Rattle.cs_records.specs.Statements.{put_command, remove_command, source, clause};
+ghost use Rattle.cs_records.specs.Statements.{put_command, remove_command, source, source_terms, clause};
 ghost use Rattle.cs_records.specs.Statements.{find_text, list_text, scan_text};
-ghost use Rattle.cs_records.specs.Statements.{IsPlainStatement, IsStatement, IsSelectOf, IsSelect, Creates};
+ghost use Rattle.cs_records.specs.Statements.{IsPlainStatement, IsStatement, IsSelectOf, IsSelect, IsCreation, Creates};
 
 use crate::expected::{Expected, Shape, are_expected, is_query};
-use crate::fault::RecordsError;
 use crate::texts;
 use sqlite_resolve::{CompileError, Compiled, compile};
+use sqlite_schema::code::Terms;
 use sqlite_schema::command::{Command, Conflict, Source, Upsert};
 use sqlite_schema::program::Program;
 use sqlite_schema::schema::Schema;
-use std::alloc::Global;
+use std::alloc::{AllocError, Global};
 
 /// The statement of the text under the schema, if it is all of the text, has so many parameters and no RETURNING, and
 /// does not read the time.
@@ -25,12 +25,13 @@ fn plain_statement(
     schema: &Schema,
     sql: &str,
     count: usize,
-) -> Result<Option<Compiled>, RecordsError>
-    ensures { IfOk result (λ found. IfSome found (IsPlainStatement schema.now sql.now count)) }
+) -> Result<Option<Compiled>, AllocError>
+    ensures { IfOk result (λ found. MatchOption found ((it : _) → ¬ IsPlainStatement schema.now sql.now count it)
+        (IsPlainStatement schema.now sql.now count)) }
 {
     let it = match compile(alloc, schema, sql.as_bytes()) {
         Ok(it) => it,
-        Err(CompileError::OutOfMemory) => return Err(RecordsError::NoMemory),
+        Err(CompileError::OutOfMemory) => return Err(AllocError),
         Err(_) => return Ok(None),
     };
     let is_plain = it.returning.is_none() && it.formats.is_empty();
@@ -48,8 +49,8 @@ fn is_program(
     program: &Program,
     tree: u32,
     shape: &Shape<'_>,
-) -> Result<bool, RecordsError>
-    ensures { IfOk result (λ yes. IsTrue yes → program.now ≡ alone (expected_query tree shape.now)) }
+) -> Result<bool, AllocError>
+    ensures { IfOk result (λ yes. IsTrue yes ↔ (program.now ≡ alone (expected_query tree shape.now))) }
 {
     if !program.lets.is_empty() {
         return Ok(false);
@@ -64,8 +65,8 @@ fn is_select(
     command: &Command,
     tree: u32,
     shape: &Shape<'_>,
-) -> Result<bool, RecordsError>
-    ensures { IfOk result (λ yes. IsTrue yes → IsSelectOf command.now (alone (expected_query tree shape.now))) }
+) -> Result<bool, AllocError>
+    ensures { IfOk result (λ yes. IsTrue yes ↔ IsSelectOf command.now (alone (expected_query tree shape.now))) }
 {
     match command {
         Command::Select(program, _) => is_program(alloc, program, tree, shape),
@@ -73,13 +74,10 @@ fn is_select(
     }
 }
 
-/// Whether these are the rows of an INSERT of one record, whose number is chosen.
-fn is_source(alloc: Global, rows: &Source) -> Result<bool, RecordsError>
-    ensures { IfOk result (λ yes. IsTrue yes → rows.now ≡ source) }
+/// Whether these are the terms of the row of a record, whose number is chosen.
+fn are_source_terms(alloc: Global, terms: &Terms) -> Result<bool, AllocError>
+    ensures { IfOk result (λ yes. IsTrue yes ↔ (terms.now ≡ source_terms)) }
 {
-    let Source::Values(terms, width) = rows else {
-        return Ok(false);
-    };
     let lent = terms.lend(alloc)?;
     let expected = [
         Expected::Null,
@@ -87,12 +85,22 @@ fn is_source(alloc: Global, rows: &Source) -> Result<bool, RecordsError>
         Expected::Column(0, 1),
         Expected::Column(0, 2),
     ];
-    Ok(*width == 4 && are_expected(lent.nodes.as_slice(), lent.roots, &expected))
+    Ok(are_expected(lent.nodes.as_slice(), lent.roots, &expected))
+}
+
+/// Whether these are the rows of an INSERT of one record, whose number is chosen.
+fn is_source(alloc: Global, rows: &Source) -> Result<bool, AllocError>
+    ensures { IfOk result (λ yes. IsTrue yes ↔ (rows.now ≡ source)) }
+{
+    match rows {
+        Source::Values(terms, width) => Ok(*width == 4 && are_source_terms(alloc, terms)?),
+        _ => Ok(false),
+    }
 }
 
 /// Whether the command inserts a record.
-fn is_insert(alloc: Global, command: &Command, place: usize) -> Result<bool, RecordsError>
-    ensures { IfOk result (λ yes. IsTrue yes → command.now ≡ put_command place 0 true) }
+fn is_insert(alloc: Global, command: &Command, place: usize) -> Result<bool, AllocError>
+    ensures { IfOk result (λ yes. IsTrue yes ↔ (command.now ≡ put_command place 0 true)) }
 {
     match command {
         Command::Insert(at, rows) => Ok(*at == place && is_source(alloc, rows)?),
@@ -101,8 +109,8 @@ fn is_insert(alloc: Global, command: &Command, place: usize) -> Result<bool, Rec
 }
 
 /// Whether the clause replaces the value of the record that is there.
-fn is_clause(alloc: Global, upsert: &Upsert, tree: u32) -> Result<bool, RecordsError>
-    ensures { IfOk result (λ yes. IsTrue yes → upsert.now ≡ clause tree) }
+fn is_clause(alloc: Global, upsert: &Upsert, tree: u32) -> Result<bool, AllocError>
+    ensures { IfOk result (λ yes. IsTrue yes ↔ (upsert.now ≡ clause tree)) }
 {
     let Some(target) = &upsert.target else {
         return Ok(false);
@@ -125,8 +133,8 @@ fn is_clause(alloc: Global, upsert: &Upsert, tree: u32) -> Result<bool, RecordsE
 }
 
 /// Whether the command inserts a record, or replaces the value of the one that is there.
-fn is_put(alloc: Global, command: &Command, place: usize, tree: u32) -> Result<bool, RecordsError>
-    ensures { IfOk result (λ yes. IsTrue yes → command.now ≡ put_command place tree false) }
+fn is_put(alloc: Global, command: &Command, place: usize, tree: u32) -> Result<bool, AllocError>
+    ensures { IfOk result (λ yes. IsTrue yes ↔ (command.now ≡ put_command place tree false)) }
 {
     let Command::InsertOr(at, Conflict::Abort, rows, clauses) = command else {
         return Ok(false);
@@ -138,13 +146,8 @@ fn is_put(alloc: Global, command: &Command, place: usize, tree: u32) -> Result<b
 }
 
 /// Whether the command removes the record with a name and a key.
-fn is_remove(
-    alloc: Global,
-    command: &Command,
-    place: usize,
-    tree: u32,
-) -> Result<bool, RecordsError>
-    ensures { IfOk result (λ yes. IsTrue yes → command.now ≡ remove_command place tree) }
+fn is_remove(alloc: Global, command: &Command, place: usize, tree: u32) -> Result<bool, AllocError>
+    ensures { IfOk result (λ yes. IsTrue yes ↔ (command.now ≡ remove_command place tree)) }
 {
     let shape = Shape {
         filter: &[Expected::Equal(1, 0), Expected::Equal(2, 1)],
@@ -175,8 +178,8 @@ fn is_meant(
     place: usize,
     tree: u32,
     meant: Meant<'_>,
-) -> Result<bool, RecordsError>
-    ensures { IfOk result (λ yes. IsTrue yes → IsMeant command.now place tree meant.entry) }
+) -> Result<bool, AllocError>
+    ensures { IfOk result (λ yes. IsTrue yes ↔ IsMeant command.now place tree meant.entry) }
 {
     match meant {
         Meant::Select(shape) => is_select(alloc, command, tree, shape),
@@ -195,9 +198,9 @@ fn is_statement(
     place: usize,
     tree: u32,
     meant: Meant<'_>,
-) -> Result<bool, RecordsError>
+) -> Result<bool, AllocError>
     ensures { IfOk result (λ yes. IsTrue yes
-        → IsStatement schema.now sql.now count (λ command. IsMeant command place tree meant.entry)) }
+        ↔ IsStatement schema.now sql.now count (λ command. IsMeant command place tree meant.entry)) }
 {
     let Some(it) = plain_statement(alloc, schema, sql, count)? else {
         return Ok(false);
@@ -208,8 +211,8 @@ fn is_statement(
 }
 
 /// Whether the text that finds a record does so.
-fn finds(alloc: Global, schema: &Schema, tree: u32) -> Result<bool, RecordsError>
-    ensures { IfOk result (λ yes. IsTrue yes → IsSelect schema.now find_text 2 (find_query tree)) }
+fn finds(alloc: Global, schema: &Schema, tree: u32) -> Result<bool, AllocError>
+    ensures { IfOk result (λ yes. IsTrue yes ↔ IsSelect schema.now find_text 2 (find_query tree)) }
 {
     let shape = Shape {
         filter: &[Expected::Equal(1, 0), Expected::Equal(2, 1)],
@@ -228,8 +231,8 @@ fn finds(alloc: Global, schema: &Schema, tree: u32) -> Result<bool, RecordsError
 }
 
 /// Whether the text that lists the records under a name does so.
-fn lists(alloc: Global, schema: &Schema, tree: u32) -> Result<bool, RecordsError>
-    ensures { IfOk result (λ yes. IsTrue yes → IsSelect schema.now list_text 1 (list_query tree)) }
+fn lists(alloc: Global, schema: &Schema, tree: u32) -> Result<bool, AllocError>
+    ensures { IfOk result (λ yes. IsTrue yes ↔ IsSelect schema.now list_text 1 (list_query tree)) }
 {
     let shape = Shape {
         filter: &[Expected::Equal(1, 0)],
@@ -248,8 +251,8 @@ fn lists(alloc: Global, schema: &Schema, tree: u32) -> Result<bool, RecordsError
 }
 
 /// Whether the text that shows all records does so.
-fn scans(alloc: Global, schema: &Schema, tree: u32) -> Result<bool, RecordsError>
-    ensures { IfOk result (λ yes. IsTrue yes → IsSelect schema.now scan_text 0 (scan_query tree)) }
+fn scans(alloc: Global, schema: &Schema, tree: u32) -> Result<bool, AllocError>
+    ensures { IfOk result (λ yes. IsTrue yes ↔ IsSelect schema.now scan_text 0 (scan_query tree)) }
 {
     let shape = Shape {
         filter: &[],
@@ -273,8 +276,8 @@ fn scans(alloc: Global, schema: &Schema, tree: u32) -> Result<bool, RecordsError
 }
 
 /// Whether the texts that write records do so.
-fn are_writes(alloc: Global, schema: &Schema, place: usize, tree: u32) -> Result<bool, RecordsError>
-    ensures { IfOk result (λ yes. IsTrue yes → AreWrites schema.now place tree) }
+fn are_writes(alloc: Global, schema: &Schema, place: usize, tree: u32) -> Result<bool, AllocError>
+    ensures { IfOk result (λ yes. IsTrue yes ↔ AreWrites schema.now place tree) }
 {
     Ok(
         is_statement(alloc, schema, texts::INSERT, 3, place, tree, Meant::Insert)?
@@ -290,8 +293,8 @@ pub(crate) fn are_statements(
     schema: &Schema,
     place: usize,
     tree: u32,
-) -> Result<bool, RecordsError>
-    ensures { IfOk result (λ yes. IsTrue yes → AreStatements schema.now place tree) }
+) -> Result<bool, AllocError>
+    ensures { IfOk result (λ yes. IsTrue yes ↔ AreStatements schema.now place tree) }
 {
     Ok(
         finds(alloc, schema, tree)?
@@ -301,15 +304,21 @@ pub(crate) fn are_statements(
     )
 }
 
+/// Whether the statement makes a table, and is the whole of the text that makes the table of records.
+fn is_creation(it: &Compiled) -> bool
+    ensures { IsTrue result ↔ IsCreation it.now }
+{
+    it.start == 0 && it.end == texts::CREATE.len() && matches!(it.command, Command::CreateTable)
+}
+
 /// Whether the text that makes the table does so under the schema.
-pub(crate) fn creates(alloc: Global, schema: &Schema) -> Result<bool, RecordsError>
-    ensures { IfOk result (λ yes. IsTrue yes → Creates schema.now) }
+pub(crate) fn creates(alloc: Global, schema: &Schema) -> Result<bool, AllocError>
+    ensures { IfOk result (λ yes. IsTrue yes ↔ Creates schema.now) }
 {
     let Some(it) = plain_statement(alloc, schema, texts::CREATE, 0)? else {
         return Ok(false);
     };
-    let is_whole = it.start == 0 && it.end == texts::CREATE.len();
-    let is_create = matches!(it.command, Command::CreateTable);
+    let is_it = is_creation(&it);
     drop(it);
-    Ok(is_whole && is_create)
+    Ok(is_it)
 }

@@ -1,13 +1,11 @@
 //! The table of records, one statement at a time: a record has the name of a table, a key and a
 //! value. A call that is refused leaves the database as it was, or takes it back to its last commit.
 ghost use Rattle.std.specs.Prelude.{◌≡◌, [], Some, None, option_map, map, IsTrue, IfOk, IfErr, OnOk, OnErr};
-ghost use Rattle.std.specs.List.{AllByRecursion};
 ghost use Rattle.sqlite.specs.State.{FailsToQuery, HasCleanDisk, IsUnchanged, KeepsCommit, Shown, Survives};
 ghost use Rattle.sqlite.specs.Held.{state};
 ghost use Rattle.sqlite.specs.Values.{bound};
-ghost use Rattle.cs_records.specs.declared.fault.RecordsError.TheVariants.{NoMemory as OutOfMemory};
-ghost use Rattle.cs_records.specs.Failing.{CannotRead, FailsAt, IsFailure, puts, removes};
-ghost use Rattle.cs_records.specs.Records.{HoldsRecords, Sets, ListsTable, ShowsKeyed};
+ghost use Rattle.cs_records.specs.Failing.{CannotCreate, CannotMake, CannotRead, FailsAt, IsFailure, puts, removes};
+ghost use Rattle.cs_records.specs.Records.{DeclaresRecords, HoldsRecords, Sets, ListsTable};
 ghost use Rattle.cs_records.specs.Records.{records_in, Makes, Rests, GoesOn, KeepsCrash};
 ghost use Rattle.cs_records.specs.Records.{IsQuery, shown_keyed};
 ghost use Rattle.cs_records.specs.Records.{LacksRecords, KeepsOthers, record_rows};
@@ -16,10 +14,11 @@ ghost use Rattle.cs_records.specs.Statements.{put_text as text_that_puts};
 use crate::fault::RecordsError;
 use crate::layout::{Declaration, declaration_of};
 use crate::meaning::creates;
+use crate::scan::content_at;
 use crate::texts;
 use sqlite::types::ValueRef;
 use sqlite::{Alter, Connection, Error, Row, params};
-use std::alloc::Global;
+use std::alloc::{AllocError, Global};
 use std::marker::Model;
 
 /// A key and a value, of a record of a known table.
@@ -142,25 +141,23 @@ pub fn remove_record<S: Alter>(
     Ok(())
 }
 
-/// A key and a value in a row that shows them.
-fn read_keyed(row: &Row) -> Result<Keyed, RecordsError>
-    ensures read { IfOk result (λ keyed. keyed ≡ shown_keyed row.now) }
-    ensures failed { ShowsKeyed row.now → IfErr result (λ e. e ≡ OutOfMemory) }
+/// Returns the key and the value that a row shows.
+fn read_keyed(alloc: Global, row: &Row) -> Result<Keyed, AllocError>
+    ensures { IfOk result (λ keyed. keyed ≡ shown_keyed row.now) }
 {
     Ok(Keyed {
-        key: row.get(0)?,
-        value: row.get(1)?,
+        key: Vec::from_slice(alloc, content_at(row, 0))?,
+        value: Vec::from_slice(alloc, content_at(row, 1))?,
     })
 }
 
-/// What the rows of a listing under a name hold.
-fn keyed_rows(alloc: Global, rows: &[Row]) -> Result<Vec<Keyed>, RecordsError>
-    ensures read { IfOk result (λ listed. listed.items ≡ map shown_keyed rows.now) }
-    ensures failed { AllByRecursion ShowsKeyed rows.now → IfErr result (λ e. e ≡ OutOfMemory) }
+/// Returns what the rows of a listing under a name show.
+fn keyed_rows(alloc: Global, rows: &[Row]) -> Result<Vec<Keyed>, AllocError>
+    ensures { IfOk result (λ listed. listed.items ≡ map shown_keyed rows.now) }
 {
     let mut listed = Vec::new(alloc);
     for row in rows {
-        listed.push(read_keyed(row)?)?;
+        listed.push(read_keyed(alloc, row)?)?;
     }
     Ok(listed)
 }
@@ -178,12 +175,12 @@ pub fn list_records<S: Alter>(
     ensures rests { HasCleanDisk (state S.Store conn.new)
         → OnErr result (Rests (state S.Store conn.old) (state S.Store conn.new)) }
     ensures failed { HasCleanDisk (state S.Store conn.new)
-        → (IsTrue (state S.Store conn.old).is_open → HoldsRecords (state S.Store conn.old).now)
+        → (IsTrue (state S.Store conn.old).is_open → DeclaresRecords (state S.Store conn.old).now.schema)
         → IfErr result (IsFailure (CannotRead (state S.Store conn.old) (state S.Store conn.new))) }
     ensures keeps_crash { KeepsCrash (state S.Store conn.old) (state S.Store conn.new) }
 {
     let rows = query_rows(conn, texts::LIST, params![tab])?;
-    keyed_rows(alloc, rows.as_slice())
+    Ok(keyed_rows(alloc, rows.as_slice())?)
 }
 
 /// Executes the text that makes the table of records, if it does so under the schema of the database.
@@ -194,6 +191,8 @@ fn create_table<S: Alter>(conn: &mut Connection<S>, alloc: Global) -> Result<(),
         → OnOk result (GoesOn (state S.Store conn.old) (state S.Store conn.new)) }
     ensures commit { HasCleanDisk (state S.Store conn.new)
         → OnErr result (KeepsCommit (state S.Store conn.old) (state S.Store conn.new)) }
+    ensures failed { HasCleanDisk (state S.Store conn.new)
+        → IfErr result (IsFailure (CannotCreate (state S.Store conn.old) (state S.Store conn.new))) }
     ensures survives { (HasCleanDisk (state S.Store conn.old) → IsTrue (state S.Store conn.old).in_transaction)
         → KeepsCrash (state S.Store conn.old) (state S.Store conn.new) }
 {
@@ -215,6 +214,8 @@ pub fn make_table<S: Alter>(conn: &mut Connection<S>, alloc: Global) -> Result<(
         → OnOk result (GoesOn (state S.Store conn.old) (state S.Store conn.new)) }
     ensures commit { HasCleanDisk (state S.Store conn.new)
         → OnErr result (KeepsCommit (state S.Store conn.old) (state S.Store conn.new)) }
+    ensures failed { HasCleanDisk (state S.Store conn.new)
+        → IfErr result (IsFailure (CannotMake (state S.Store conn.old) (state S.Store conn.new))) }
     ensures survives { KeepsCrash (state S.Store conn.old) (state S.Store conn.new) }
 {
     create_table(conn, alloc)?;

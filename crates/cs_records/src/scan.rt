@@ -1,15 +1,16 @@
 //! One pass over all records: each is tested where it lies in its row.
-ghost use Rattle.std.specs.Prelude.{◌≡◌, ◌↔◌, ◌<ℤ◌, ℤ, List, ℕ, false, IsTrue, IfOk, IfSome, MatchOption, OnOk, OnErr};
+ghost use Rattle.std.specs.Prelude.{◌≡◌, ◌↔◌, ◌<ℤ◌, ℤ, List, ℕ, false, IsTrue, IfOk, IfSome, MatchOption, IfErr, OnOk, OnErr};
 ghost use Rattle.sqlite_value.specs.Order.{column};
 ghost use Rattle.sqlite.specs.State.{HasCleanDisk, IsUnchanged, Survives};
 ghost use Rattle.sqlite.specs.Held.{state};
 ghost use Rattle.cs_records.specs.Records.{content, record_of, record_rows, DeclaresRecords, HasNumberAbove, Pass};
+ghost use Rattle.cs_records.specs.Failing.{CannotRead, IsFailure};
 ghost use Rattle.cs_records.specs.Records.{Rests, KeepsCrash};
 
 use crate::fault::RecordsError;
 use crate::texts;
 use sqlite::types::ValueRef;
-use sqlite::{Alter, Connection, Error, Row};
+use sqlite::{Alter, Connection, Row};
 use std::alloc::{AllocError, Global};
 
 /// A test of one record.
@@ -42,38 +43,35 @@ fn is_above(last: Option<i64>, number: i64) -> bool
     }
 }
 
-/// The number of a row, if it is above the last.
-fn number_above(row: &Row, last: Option<i64>) -> Result<Option<i64>, RecordsError>
-    ensures { IfOk result (λ o. MatchOption o ((number : ℤ) → ¬ HasNumberAbove last row.now number)
-        (HasNumberAbove last row.now)) }
+/// Returns the number of a row, if it has one that is above the last.
+fn number_above(row: &Row, last: Option<i64>) -> Option<i64>
+    ensures { MatchOption result ((number : ℤ) → ¬ HasNumberAbove last row.now number) (HasNumberAbove last row.now) }
 {
-    let number: i64 = row.get(0)?;
-    Ok(if is_above(last, number) {
-        Some(number)
-    } else {
-        None
-    })
-}
-
-/// The bytes of a text or a blob in a row.
-fn content_at(row: &Row, at: usize) -> Result<&[u8], RecordsError>
-    ensures { IfOk result (λ bytes. bytes.now ≡ content (column row.now at)) }
-{
-    match row.get_ref(at)? {
-        ValueRef::Text(bytes) | ValueRef::Blob(bytes) => Ok(bytes),
-        _ => Ok(&[]),
+    match row.get_ref(0) {
+        Ok(ValueRef::Int(number)) if is_above(last, number) => Some(number),
+        _ => None,
     }
 }
 
-/// Whether the record of a row passes the test.
-fn is_good<T: RecordTest>(alloc: Global, test: &T, row: &Row) -> Result<bool, RecordsError>
+/// Returns the bytes of a text or a blob in a row.
+pub(crate) fn content_at(row: &Row, at: usize) -> &[u8]
+    ensures { result.now ≡ content (column row.now at) }
+{
+    match row.get_ref(at) {
+        Ok(ValueRef::Text(bytes) | ValueRef::Blob(bytes)) => bytes,
+        _ => &[],
+    }
+}
+
+/// Returns whether the record of a row passes the test.
+fn is_good<T: RecordTest>(alloc: Global, test: &T, row: &Row) -> Result<bool, AllocError>
     ensures passed { IfOk result (λ yes. IsTrue yes → T.passes test.now (record_of row.now)) }
     ensures failed { IfOk result (λ yes. yes ≡ false → ¬ T.passes test.now (record_of row.now)) }
 {
-    let tab = content_at(row, 1)?;
-    let key = content_at(row, 2)?;
-    let value = content_at(row, 3)?;
-    Ok(test.is_passed_by(alloc, tab, key, value)?)
+    let tab = content_at(row, 1);
+    let key = content_at(row, 2);
+    let value = content_at(row, 3);
+    test.is_passed_by(alloc, tab, key, value)
 }
 
 /// Whether each row of the table has a number, no two the same, and each record passes the test.
@@ -90,15 +88,17 @@ pub fn all_pass<S: Alter, T: RecordTest>(
         → OnOk result (IsUnchanged (state S.Store conn.old) (state S.Store conn.new)) }
     ensures rests { HasCleanDisk (state S.Store conn.new)
         → OnErr result (Rests (state S.Store conn.old) (state S.Store conn.new)) }
+    ensures caused { HasCleanDisk (state S.Store conn.new) → DeclaresRecords (state S.Store conn.old).now.schema
+        → IfErr result (IsFailure (CannotRead (state S.Store conn.old) (state S.Store conn.new))) }
     ensures keeps_crash { KeepsCrash (state S.Store conn.old) (state S.Store conn.new) }
 {
     let mut last: Option<i64> = None;
     let mut rows = conn.query(texts::SCAN, &[])?;
-    'rows: for _ in 0..u64::MAX {
+    'rows: loop {
         let Some(row) = rows.next()? else {
             return Ok(true);
         };
-        let Some(number) = number_above(row, last)? else {
+        let Some(number) = number_above(row, last) else {
             return Ok(false);
         };
         if !is_good(alloc, test, row)? {
@@ -106,5 +106,4 @@ pub fn all_pass<S: Alter, T: RecordTest>(
         }
         last = Some(number);
     }
-    Err(RecordsError::Database(Error::InvalidQuery))
 }

@@ -1,13 +1,15 @@
 -- `scan::all_pass`: the invariant of the loop, and each clause where the scan ends.
-use Rattle.std.proofs.Common.{rules, refl, [], ◌≡◌, ◌∙◌, w64, FitsSigned, to_z, of_z}
+use Rattle.std.proofs.Common.{rules, IfErr, refl, [], ◌≡◌, ◌∙◌, w64, FitsSigned, to_z, of_z}
 use Rattle.std.proofs.lemmas.Int.{to_z-of_z}
 use Rattle.sqlite.specs.State.{HasCleanDisk}
 use Rattle.sqlite.specs.Held.{state}
+use Rattle.cs_records.specs.Failing.{CannotRead, IsFailure}
 use Rattle.cs_records.specs.Records.{Rests, KeepsCrash}
 use Rattle.cs_records.specs.Statements.{scan_text}
+use Rattle.cs_records.proofs.FailureLemmas.{failure}
 use Rattle.cs_records.proofs.QueryLemmas.{keeps_crash, fails_rests, on_err}
 use Rattle.cs_records.proofs.QueryTexts.{scan_is_query}
-use Rattle.cs_records.proofs.ScanLemmas.{scan_begins, step_crash, step_rests, step_passed, step_on, step_unnumbered, step_failed}
+use Rattle.cs_records.proofs.ScanLemmas.{scan_begins, step_crash, step_rests, step_passed, step_on, step_unnumbered, step_failed, step_fails, scan_fails, room_falls}
 use Rattle.cs_records.proofs.scan.all_pass.Goals as goal
 
 pub rows-init : goal.rows-init
@@ -47,13 +49,13 @@ returns-in_default-clause-passed g c clean has passed =
     let late : HasCleanDisk (state g.S.Store now) = search rules in
     step_passed g.S.Store _ _ _ now _ c.rows.invariant.1 moved.survives late has (rw (c.in_ok-row.was, c.in_default.is) at (moved.ok late))
 
-pub returns-in_default-2-clause-failed : goal.returns-in_default-2-clause-failed
-returns-in_default-2-clause-failed g c clean has failed =
+pub returns-in_default-number_above-clause-failed : goal.returns-in_default-number_above-clause-failed
+returns-in_default-number_above-clause-failed g c clean has failed =
     let moved = c.next.follows.holds-at-none in
     let now = c.next.follows.lender-at-none.conn.now in
     let late : HasCleanDisk (state g.S.Store now) = search rules in
     step_unnumbered g.S.Store _ _ _ now _ c.rows.invariant.1 moved.survives late (rw c.in_ok-row.was at (moved.same late)) c.in-Some.row.now (rw (c.in_ok-row.was, c.in-Some.is) at (moved.ok late)) has
-    (rw c.in_default-2.is at c.in_ok-number.ensures)
+    (rw c.in_default-number_above.is at c.number_above.ensures)
 
 pub returns-then-not-branch-clause-failed : goal.returns-then-not-branch-clause-failed
 returns-then-not-branch-clause-failed g c clean has failed =
@@ -67,13 +69,34 @@ pub rows-preserved : goal.rows-preserved
 rows-preserved g c =
     let moved = c.next.follows.holds-at-none in
     let now = c.next.follows.lender-at-none.conn.now in
-    let number = c.in-Some-2.number in
+    let number = c.in-Some-number_above.number in
     let fits : FitsSigned w64 number = search rules in
     let same : to_z w64 (of_z w64 number) ≡ number = to_z-of_z w64 number fits in (
       moved.same_reference ∙ c.rows.invariant.0,
       (
         step_crash g.S.Store _ _ _ now _ c.rows.invariant.1 moved.survives,
         λ clean. rw same (step_on g.S.Store _ _ _ now _ c.rows.invariant.1 moved.survives clean (rw c.in_ok-row.was at (moved.same clean)) c.in-Some.row.now (rw (c.in_ok-row.was, c.in-Some.is) at (moved.ok clean)) number
-            (rw c.in-Some-2.is at c.in_ok-number.ensures) (c.in_ok-is_good.ensures.passed (search rules))),
+            (rw c.in-Some-number_above.is at c.number_above.ensures) (c.in_ok-is_good.ensures.passed (search rules))),
       ),
     )
+
+pub rows-smaller : goal.rows-smaller
+rows-smaller g c =
+    let number = c.in-Some-number_above.number in
+    let fits : FitsSigned w64 number = search rules in
+    let same : to_z w64 (of_z w64 number) ≡ number = to_z-of_z w64 number fits in
+    rw same (room_falls c.rows.last number (rw c.in-Some-number_above.is at c.number_above.ensures).1 fits)
+
+pub returns-in_err-row-clause-caused : goal.returns-in_err-row-clause-caused
+returns-in_err-row-clause-caused g c clean has =
+    let moved = c.next.follows.holds-at-none in
+    let now = c.next.follows.lender-at-none.conn.now in
+    let late : HasCleanDisk (state g.S.Store now) = search rules in
+    let fails : IfErr c.from_residual-in_err-row.result (IsFailure (CannotRead (state g.S.Store c.args.conn.now) (state g.S.Store now))) = failure c.from_residual-in_err-row.result _ c.in_err-row.field-0.0 c.from_residual-in_err-row.ensures.1
+    (λ other. step_fails g.S.Store _ _ _ now _ c.rows.invariant.1 moved.survives late has _ other (rw c.in_err-row.was at (moved.err late))) in
+    search rules
+
+pub returns-in_err-rows-clause-caused : goal.returns-in_err-rows-clause-caused
+returns-in_err-rows-clause-caused g c clean has =
+    let refused = rw c.in_err-rows.was at c.query.follows.holds-at-none in
+    failure c.from_residual.result _ c.in_err-rows.field-0.0 c.from_residual.ensures.1 (λ other. scan_fails (state g.S.Store c.args.conn.now) (state g.S.Store c.query.follows.lender-at-none) _ has other (refused.err clean))
