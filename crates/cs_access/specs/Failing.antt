@@ -1,5 +1,5 @@
 -- For which causes the database of a store fails.
-use Rattle.std.specs.Prelude.{◌≡◌, ◌≢◌, ◌⊎◌, ℕ, Bool, true, false, IsTrue, List, None}
+use Rattle.std.specs.Prelude.{◌≡◌, ◌≢◌, ◌⊎◌, ℕ, Bool, true, false, IsTrue, List, [], None}
 use Rattle.sqlite_trees.specs.declared.store.Store.{Ghosts}
 use Rattle.sqlite.specs.declared.error.Error.{Error}
 use Rattle.sqlite.specs.declared.error.Error.TheVariants.{SqliteFailure}
@@ -11,8 +11,9 @@ use Rattle.cs_value.specs.declared.value.OwnedValue.{OwnedValue}
 use Rattle.cs_value.specs.Spelling.{row_bytes}
 use Rattle.cs_rows.specs.declared.fault.Cause.{Cause}
 use Rattle.cs_rows.specs.declared.fault.Cause.TheVariants.{Other}
-use Rattle.cs_records.specs.Records.{records_in}
-use Rattle.cs_records.specs.Failing.{Statement, puts, removes, FailsAt, CannotRead, HasDiskFailed, IsMisplaced}
+use Rattle.cs_records.specs.Records.{records_in, record_rows, HoldsRecords, IsUnsupported, KeepsCrash, KeepsOthers, LacksRecords}
+use Rattle.cs_stored.specs.Stored.{version}
+use Rattle.cs_records.specs.Failing.{Statement, puts, removes, FailsAt, CannotMake, CannotRead, HasDiskFailed, IsMisplaced}
 use Rattle.cs_access.specs.Refusals.{cause_of}
 use Rattle.cs_access.specs.Store.{KeepsStore}
 
@@ -61,3 +62,43 @@ pub data HasFailed {S : Type 0} (g : Ghosts S) (now : Held S) : Cause → Type 0
       → WriteFails (state g was) (state g now) statement cause → HasFailed g now cause
   outside : (was : Held S) (cause : Cause) → KeepsStore (state g was) (state g now) → IsOutside (state g was) cause
       → HasFailed g now cause
+
+-- ---- adoption
+
+-- The database is the one that was found, with the table of records, which was made and is empty.
+pub record HasMade (found now : Database) : Type 0 where
+  pub lacked : LacksRecords found.schema
+  pub holds : HoldsRecords now
+  pub empty : record_rows now ≡ []
+  pub others : KeepsOthers found now
+
+-- Inside the transaction of an adoption, the connection shows a database of which this holds. No fault is forgotten, and
+-- the limit on the steps of a query is as it was.
+pub record IsInside (found was : State) (Shown : Database → Type 0) : Type 0 where
+  pub inside : IsTrue was.in_transaction
+  pub shows : Shown was.now
+  pub crash : KeepsCrash found was
+
+-- The version is not written.
+abbrev pub VersionFails : State → State → Cause → Type 0
+VersionFails old new = IsCauseOf (FailsAt old new (puts false [] [] version))
+
+-- A database is not set up as a store. A read fails; or the statements on records cannot be used under its schema; or
+-- it lacks the table of records, and that is not made; or it has that table, or gets it, and the version is not written.
+-- No fault that the statement counts is forgotten.
+pub data SetUpFails {S : Type 0} (g : Ghosts S) (found last : Held S) : Cause → Type 0 where
+  by_read : (cause : Cause) → ReadFails (state g found) (state g last) cause → SetUpFails g found last cause
+  unsupported : IsUnsupported (state g found).now.schema → SetUpFails g found last Other
+  by_making : (was now : Held S) (cause : Cause) → LacksRecords (state g found).now.schema
+      → IsInside (state g found) (state g was) (λ db. db ≡ (state g found).now)
+      → IsCauseOf (CannotMake (state g was) (state g now)) cause → KeepsCrash (state g now) (state g last)
+      → SetUpFails g found last cause
+  by_version : (was now : Held S) (cause : Cause)
+      → IsInside (state g found) (state g was) (λ db. HoldsRecords db × ((db ≡ (state g found).now) ⊎ HasMade (state g found).now db))
+      → VersionFails (state g was) (state g now) cause → KeepsCrash (state g now) (state g last)
+      → SetUpFails g found last cause
+
+-- A database is not adopted: a transaction is open, or the disk failed, also at the commit; or it is not set up as a
+-- store.
+abbrev pub AdoptFails : {S : Type 0} → Ghosts S → Held S → Held S → Cause → Type 0
+AdoptFails g old new cause = BeginFails (state g old) (state g new) cause ⊎ SetUpFails g old new cause

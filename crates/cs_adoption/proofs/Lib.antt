@@ -1,1 +1,2 @@
 pub mod AdoptionLemmas
+pub mod FailureLemmas

@@ -4,7 +4,8 @@ ghost use Rattle.sqlite.specs.State.{HasCleanDisk, KeepsCommit, Survives};
 ghost use Rattle.sqlite.specs.Effect.{IsDatabase};
 ghost use Rattle.sqlite.specs.Held.{state};
 ghost use Rattle.cs_rows.specs.declared.fault.StoreError.TheVariants.{DamagedStore as Damaged};
-ghost use Rattle.cs_rows.specs.Faults.{IsResource, IsReadRefusal};
+ghost use Rattle.cs_rows.specs.Faults.{IsCaused, IsResource, IsReadRefusal};
+ghost use Rattle.cs_access.specs.Failing.{AdoptFails, SetUpFails, VersionFails};
 ghost use Rattle.cs_records.specs.Records.{HoldsRecords, DeclaresRecords, LacksRecords, ListsTable, KeepsContent};
 ghost use Rattle.cs_records.specs.Records.{record_rows, records_in, KeepsCrash};
 ghost use Rattle.cs_stored.specs.Valid.{AreValid};
@@ -32,6 +33,8 @@ pub fn adopt<S: Alter>(conn: &mut Connection<S>, alloc: Global) -> Result<(), St
     ensures damaged { HasCleanDisk (state S.Store conn.new)
         → IfErr result (λ e. e ≡ Damaged → CanBegin (state S.Store conn.old)) }
     ensures named { IfErr result IsReadRefusal }
+    ensures caused { HasCleanDisk (state S.Store conn.new)
+        → IfErr result (IsCaused (AdoptFails S.Store conn.old conn.new)) }
     ensures kept { HasCleanDisk (state S.Store conn.new)
         → OnErr result (KeepsContent (state S.Store conn.old) (state S.Store conn.new)) }
     ensures survives { Survives (state S.Store conn.old) (state S.Store conn.new)
@@ -60,6 +63,8 @@ fn set_up<S: Alter>(conn: &mut Connection<S>, alloc: Global) -> Result<(), Store
     ensures refused { HasCleanDisk (state S.Store conn.new) → IfErr result (λ e. ((e ≡ Damaged)
         × IsDamaged (state S.Store conn.old).now) ⊎ IsResource e) }
     ensures named { IfErr result IsReadRefusal }
+    ensures caused { HasCleanDisk (state S.Store conn.new)
+        → IfErr result (IsCaused (SetUpFails S.Store conn.old conn.new)) }
     ensures commit { HasCleanDisk (state S.Store conn.new)
         → OnErr result (KeepsCommit (state S.Store conn.old) (state S.Store conn.new)) }
     ensures survives { KeepsCrash (state S.Store conn.old) (state S.Store conn.new) }
@@ -69,7 +74,7 @@ fn set_up<S: Alter>(conn: &mut Connection<S>, alloc: Global) -> Result<(), Store
         Ok(Declaration::Records) => check_store(conn, alloc),
         Ok(Declaration::Other) => Err(StoreError::DamagedStore),
         Ok(Declaration::Unsupported) => Err(StoreError::StoreFault(Cause::Other)),
-        Err(error) => Err(refused(error)),
+        Err(_) => Err(StoreError::NoMemory),
     }
 }
 
@@ -80,6 +85,8 @@ fn make_store<S: Alter>(conn: &mut Connection<S>, alloc: Global) -> Result<(), S
     ensures set_up { HasCleanDisk (state S.Store conn.new)
         → OnOk result (SetsUp (state S.Store conn.old) (state S.Store conn.new)) }
     ensures refused { IfErr result IsResource }
+    ensures caused { HasCleanDisk (state S.Store conn.new)
+        → IfErr result (IsCaused (SetUpFails S.Store conn.old conn.new)) }
     ensures commit { HasCleanDisk (state S.Store conn.new)
         → OnErr result (KeepsCommit (state S.Store conn.old) (state S.Store conn.new)) }
     ensures survives { KeepsCrash (state S.Store conn.old) (state S.Store conn.new) }
@@ -98,6 +105,8 @@ fn write_version<S: Alter>(conn: &mut Connection<S>) -> Result<(), StoreError>
     ensures set_up { HasCleanDisk (state S.Store conn.new)
         → OnOk result (SetsUp (state S.Store conn.old) (state S.Store conn.new)) }
     ensures refused { IfErr result IsResource }
+    ensures caused { HasCleanDisk (state S.Store conn.new) → IfErr result
+        (IsCaused (VersionFails (state S.Store conn.old) (state S.Store conn.new))) }
     ensures commit { HasCleanDisk (state S.Store conn.new)
         → OnErr result (KeepsCommit (state S.Store conn.old) (state S.Store conn.new)) }
     ensures survives { KeepsCrash (state S.Store conn.old) (state S.Store conn.new) }
@@ -118,6 +127,8 @@ fn check_store<S: Alter>(conn: &mut Connection<S>, alloc: Global) -> Result<(), 
     ensures refused { HasCleanDisk (state S.Store conn.new) → IfErr result (λ e. ((e ≡ Damaged)
         × HoldsNone (state S.Store conn.old).now) ⊎ IsResource e) }
     ensures named { IfErr result IsReadRefusal }
+    ensures caused { HasCleanDisk (state S.Store conn.new)
+        → IfErr result (IsCaused (SetUpFails S.Store conn.old conn.new)) }
     ensures commit { HasCleanDisk (state S.Store conn.new)
         → OnErr result (KeepsCommit (state S.Store conn.old) (state S.Store conn.new)) }
     ensures survives { KeepsCrash (state S.Store conn.old) (state S.Store conn.new) }
@@ -144,6 +155,8 @@ fn check_listed<S: Alter>(
     ensures refused { HasCleanDisk (state S.Store conn.new) → IfErr result (λ e. ((e ≡ Damaged)
         × HoldsNone (state S.Store conn.old).now) ⊎ IsResource e) }
     ensures named { IfErr result IsReadRefusal }
+    ensures caused { HasCleanDisk (state S.Store conn.new)
+        → IfErr result (IsCaused (SetUpFails S.Store conn.old conn.new)) }
     ensures commit { HasCleanDisk (state S.Store conn.new)
         → OnErr result (KeepsCommit (state S.Store conn.old) (state S.Store conn.new)) }
     ensures survives { KeepsCrash (state S.Store conn.old) (state S.Store conn.new) }
@@ -184,6 +197,8 @@ fn check_empty<S: Alter>(conn: &mut Connection<S>, alloc: Global) -> Result<(), 
     ensures refused { HasCleanDisk (state S.Store conn.new) → IfErr result (λ e. ((e ≡ Damaged)
         × HoldsNone (state S.Store conn.old).now) ⊎ IsResource e) }
     ensures named { IfErr result IsReadRefusal }
+    ensures caused { HasCleanDisk (state S.Store conn.new)
+        → IfErr result (IsCaused (SetUpFails S.Store conn.old conn.new)) }
     ensures commit { HasCleanDisk (state S.Store conn.new)
         → OnErr result (KeepsCommit (state S.Store conn.old) (state S.Store conn.new)) }
     ensures survives { KeepsCrash (state S.Store conn.old) (state S.Store conn.new) }
@@ -216,6 +231,8 @@ fn check_tables<S: Alter>(
     ensures refused { HasCleanDisk (state S.Store conn.new) → IfErr result (λ e. ((e ≡ Damaged)
         × HoldsNone (state S.Store conn.old).now) ⊎ IsResource e) }
     ensures named { IfErr result IsReadRefusal }
+    ensures caused { HasCleanDisk (state S.Store conn.new)
+        → IfErr result (IsCaused (SetUpFails S.Store conn.old conn.new)) }
     ensures commit { HasCleanDisk (state S.Store conn.new)
         → OnErr result (KeepsCommit (state S.Store conn.old) (state S.Store conn.new)) }
     ensures survives { KeepsCrash (state S.Store conn.old) (state S.Store conn.new) }
@@ -237,6 +254,8 @@ fn renew_version<S: Alter>(conn: &mut Connection<S>, version: Version) -> Result
     ensures set_up { HasCleanDisk (state S.Store conn.new)
         → OnOk result (SetsUp (state S.Store conn.old) (state S.Store conn.new)) }
     ensures refused { IfErr result IsResource }
+    ensures caused { HasCleanDisk (state S.Store conn.new) → IfErr result
+        (IsCaused (VersionFails (state S.Store conn.old) (state S.Store conn.new))) }
     ensures commit { HasCleanDisk (state S.Store conn.new)
         → OnErr result (KeepsCommit (state S.Store conn.old) (state S.Store conn.new)) }
     ensures survives { KeepsCrash (state S.Store conn.old) (state S.Store conn.new) }

@@ -10,9 +10,9 @@ use Rattle.sqlite_trees.specs.Tree.{Trees}
 use Rattle.sqlite_trees.specs.Objects.{catalog_tree}
 use Rattle.sqlite_wal.specs.Recovery.{Image}
 use Rattle.sqlite.specs.Effect.{Database}
-use Rattle.sqlite.specs.Files.{HoldsDatabase}
+use Rattle.sqlite.specs.Files.{HoldsDatabase, file_state}
 use Rattle.sqlite.specs.State.{State, HasCleanDisk}
-use Rattle.sqlite.specs.Held.{AreDatabases}
+use Rattle.sqlite.specs.Held.{AreDatabases, Held}
 use Rattle.sqlite.proofs.Theorems.{opens_again}
 use Rattle.sqlite_store.specs.declared.store.FileStore.{FileStore}
 use Rattle.sqlite_store.specs.FileStore.{state as files_state, view, recovers}
@@ -83,8 +83,8 @@ left_opens held image new left opens = ∥∥₁_elim left (Coded-set tables.sta
     holds_once opens.db (tables_in new.now) held opens.held (left_holds held opens.db (found_left held it.0 image opens.db it.1 it.2 opens.found)))
 
 -- or refused for memory or by the database
-pub left_refuses : (held : tables.State) (image : Image) (e : StoreError) (shown : State) → IsLeftIn held image → RefusesFound image e shown → IsResource e
-left_refuses held image e shown left refuses = elim refuses.why [
+pub left_refuses : {D : Type 0} {g : Ghosts D} (held : tables.State) (image : Image) (e : StoreError) (last : Held (FileStore D g)) → IsLeftIn held image → RefusesFound image e last → IsResource e
+left_refuses held image e last left refuses = elim refuses.why [
   | inl damaged ↦ absurd (∥∥₁_elim left (λ x y. absurd x) (λ it. damaged_none refuses.db damaged.1 held (left_holds held refuses.db (found_left held it.0 image refuses.db it.1 it.2 refuses.found))))
   | inr resource ↦ resource
 ]

@@ -1,15 +1,19 @@
 -- Files that are opened as a store, or refused.
-use Rattle.std.proofs.Common.{◌≡◌, ◌⊎◌, [], inl, inr, IsTrue, arith, ap, sym, subst, ◌∙◌}
+use Rattle.std.proofs.Common.{◌≡◌, ◌⊎◌, [], inl, inr, IsTrue, arith, refl, ap, sym, subst, ◌∙◌}
 use Rattle.std.specs.FinMap as map
 use Rattle.sqlite.specs.Effect.{Database}
 use Rattle.sqlite_trees.specs.Tree.{Trees}
 use Rattle.sqlite.specs.State.{State, HasCleanDisk, Opens, IsLive, Survives}
 use Rattle.sqlite.specs.Start.{FindsIn}
-use Rattle.sqlite.specs.Files.{AreFoundIn, IsEmpty}
+use Rattle.sqlite_disk.specs.declared.Disk.{Ghosts}
+use Rattle.sqlite_store.specs.declared.store.FileStore.{FileStore}
+use Rattle.sqlite.specs.Held.{Held, IsNew}
+use Rattle.sqlite.specs.Files.{AreFoundIn, IsEmpty, file_state, over_files}
 use Rattle.sqlite_wal.specs.Recovery.{Image}
 use Rattle.cs_rows.specs.declared.fault.StoreError.{StoreError}
 use Rattle.cs_rows.specs.declared.fault.StoreError.TheVariants.{DamagedStore}
-use Rattle.cs_rows.specs.Faults.{IsResource}
+use Rattle.cs_rows.specs.Faults.{IsCaused, IsResource}
+use Rattle.cs_access.specs.Failing.{AdoptFails}
 use Rattle.cs_records.specs.Records.{KeepsContent, LacksRecords}
 use Rattle.cs_access.specs.Store.{HoldsTables, IsDamaged, Adopts, tables_in}
 use Rattle.cs_access.specs.Crash.{MayLeave, LeavesTakenOver}
@@ -38,19 +42,26 @@ opens_files image found new finds opens live adopts = record {
 }
 
 -- and one that is refused shows what they held
-pub refuses_found : {May : Trees → Type 0} (image : Image) (found shown : State) (e : StoreError) → FindsIn image found → Opens found → IsLive found → ((e ≡ DamagedStore) × IsDamaged found.now) ⊎ IsResource e
-    → KeepsContent found shown → Survives found shown May → LeavesTakenOver found shown → HasCleanDisk shown → RefusesFound image e shown
-refuses_found image found shown e finds opens live why kept survives leaves clean = record {
-  db = found.now;
-  found = found_in image found finds opens live opens.is_open;
+pub refuses_found : {D : Type 0} {g : Ghosts D} (image : Image) (found last : Held (FileStore D g)) (e : StoreError) → IsNew found → FindsIn image (file_state found) → Opens (file_state found)
+    → IsLive (file_state found) → ((e ≡ DamagedStore) × IsDamaged (file_state found).now) ⊎ IsResource e → IsCaused (AdoptFails over_files found last) e
+    → KeepsContent (file_state found) (file_state last) → Survives (file_state found) (file_state last) (MayLeave (HoldsTables (file_state found).now)) → LeavesTakenOver (file_state found) (file_state last)
+    → HasCleanDisk (file_state last) → RefusesFound image e last
+refuses_found image found last e new finds opens live why caused kept survives leaves clean = record {
+  db = (file_state found).now;
+  found = found_in image (file_state found) finds opens live opens.is_open;
   why = why;
+  opened = found;
+  shows = refl;
+  fresh = (new, opens);
+  since = survives;
+  caused = caused;
   outside = kept.mode ∙ opens.autocommit;
   still = elim (survives.closes clean opens.is_open) [
     | inl is_open ↦ inl is_open
     | inr more ↦ inr (omega (arith, more))
   ];
   kept = λ is_open. (kept.now is_open, kept.committed is_open ∙ sym opens.clean);
-  leaves = λ trees may. subst (λ (d : Database). (trees ≡ d.trees) ⊎ MayLeave (HoldsTables found.now) trees) (sym opens.clean) (leaves.opened opens.is_open clean trees may);
+  leaves = λ trees may. subst (λ (d : Database). (trees ≡ d.trees) ⊎ MayLeave (HoldsTables (file_state found).now) trees) (sym opens.clean) (leaves.opened opens.is_open clean trees may);
 }
 
 -- ---- empty files
@@ -69,5 +80,5 @@ pub new_opens : (image : Image) (new : State) → image.db ≡ [] → OpensFiles
 new_opens image new none it = nothing_held it.db (tables_in new.now) (blank_lacks image it.db none it.found) it.held
 
 -- and are not refused for damage
-pub new_refuses : (image : Image) (e : StoreError) (shown : State) → image.db ≡ [] → RefusesFound image e shown → IsResource e
-new_refuses image e shown none it = nothing_damaged it.db e (blank_lacks image it.db none it.found) it.why
+pub new_refuses : {D : Type 0} {g : Ghosts D} (image : Image) (e : StoreError) (last : Held (FileStore D g)) → image.db ≡ [] → RefusesFound image e last → IsResource e
+new_refuses image e last none it = nothing_damaged it.db e (blank_lacks image it.db none it.found) it.why

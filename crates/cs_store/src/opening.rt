@@ -15,7 +15,7 @@ ghost use Rattle.sqlite_store.specs.FileStore.{state as files_state, files as st
 ghost use Rattle.cs_access.specs.Crash.{LeavesOnly};
 ghost use Rattle.cs_access.specs.Store.{tables_in};
 ghost use Rattle.cs_access.specs.Refusals.{refusal_for};
-ghost use Rattle.cs_store.specs.Opening.{IsLeftIn, OpensFiles, RefusesFiles, RefusesPath, IsHonestRest, IsHonestLeft};
+ghost use Rattle.cs_store.specs.Opening.{IsLeftIn, OpensFiles, RefusesDropped, RefusesFiles, RefusesPath, IsHonestRest, IsHonestLeft};
 
 use crate::store::Store;
 use cs_access::refused;
@@ -170,6 +170,8 @@ impl<S: Start> Store<FileStore<FileFrom<S>>> {
     ) -> Result<Store<FileStore<FileFrom<S>>>, StoreError>
         ensures opened { IfOk result (λ s. HasCleanDisk (file_state s)
             → OpensFiles (image_at S.Start) (file_state s)) }
+        ensures refused { RefusesDropped result (λ files. IsFresh true files.log × IsFresh false files.db)
+            (image_at S.Start) }
         ensures recovers { (held : tables.State) → IsLeftIn held (image_at S.Start) → IfOk result
             (λ s. HasCleanDisk (file_state s) → tables_in (file_state s).now ≡ held) }
         ensures new { (image_at S.Start).db ≡ [] → IfOk result

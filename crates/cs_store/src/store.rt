@@ -7,7 +7,7 @@ ghost use Rattle.cs_value.specs.State.{schema_at, row_at, rows_at};
 ghost use Rattle.cs_rows.specs.declared.fault.StoreError.TheVariants.{DamagedStore as Damaged, NoTable as NoSuchTable};
 ghost use Rattle.cs_rows.specs.declared.fault.StoreError.TheVariants.{BadSchema as NoSchema, TableExists as TakenName};
 ghost use Rattle.cs_rows.specs.Faults.{IsCaused, IsResource, IsReadRefusal, IsEditRefusal};
-ghost use Rattle.cs_access.specs.Failing.{BeginFails, ReadFails};
+ghost use Rattle.cs_access.specs.Failing.{AdoptFails, BeginFails, ReadFails};
 ghost use Rattle.cs_rows.specs.Editing.{Declares, EditsInto, schema_of, edited, written_of};
 ghost use Rattle.cs_access.specs.Crash.{CanBegin, IsAtomic, IsLeftOf, LeavesOnly, LeavesTakenOver, MayLeave};
 ghost use Rattle.cs_records.specs.Records.{KeepsContent, KeepsCrash, KeepsOthers};
@@ -98,6 +98,8 @@ impl<S: Alter> Store<S> {
             × IsDamaged (state S.Store conn).now) ⊎ IsResource e.0) }
         ensures damaged { IfErr result (λ e. HasCleanDisk (state S.Store e.1) → e.0 ≡ Damaged
             → CanBegin (state S.Store conn)) }
+        ensures caused { IfErr result (λ e. HasCleanDisk (state S.Store e.1)
+            → IsCaused (AdoptFails S.Store conn e.1) e.0) }
         ensures found { (held : tables.State) → HoldsTables (state S.Store conn).now held → MatchResult result
             (λ s. HasCleanDisk (state S.Store s) → tables_in (state S.Store s).now ≡ held)
             (λ e. HasCleanDisk (state S.Store e.1) → IsResource e.0) }

@@ -21,7 +21,7 @@ returns-in-Err-adopt-clause-refused g c clean =
     let found_clean = was_clean (file_state c.in-Ok.conn) (file_state c.in-Err-adopt.conn) c.in-Err-adopt.ensures.survives clean in
     let opened = c.in-Ok.ensures.opened found_clean in
     let finds = c.in-Ok.ensures.found found_clean in
-    refuses_found (image_at g.S.Start) _ _ _ finds opened.0 opened.1 (c.in-Err-adopt.ensures.refused clean) (c.in-Err-adopt.ensures.kept clean) c.in-Err-adopt.ensures.survives c.in-Err-adopt.ensures.leaves clean
+    refuses_found (image_at g.S.Start) _ _ _ c.in-Ok.ensures.fresh finds opened.0 opened.1 (c.in-Err-adopt.ensures.refused clean) (c.in-Err-adopt.ensures.caused clean) (c.in-Err-adopt.ensures.kept clean) c.in-Err-adopt.ensures.survives c.in-Err-adopt.ensures.leaves clean
 
 pub returns-in-Ok-adopt-clause-recovers : goal.returns-in-Ok-adopt-clause-recovers
 returns-in-Ok-adopt-clause-recovers g c held left clean = left_opens held _ _ left (returns-in-Ok-adopt-clause-opened g c clean)
