@@ -3,27 +3,32 @@
 ** changesets, the files of SQLite's session extension. No call needs SQLite or a
 ** database.
 **
-** For every input it is proved that a call returns, and what it answers
-** (docs/PROMISES.md, "Calls for C"), if the caller keeps to these rules:
+** For every input it is proved that a call returns, and what it answers, if the caller
+** keeps to the rules below. docs/PROMISES.md, "Calls for C", has the few exceptions.
 **
 **   * No pointer is NULL, not even with length 0. "" is fine there.
 **   * A pointer to bytes has as many bytes as its length, at most PTRDIFF_MAX.
 **     `written`, `fault`, `place`, `change` and `value` point to one object of their
-**     type. `lengths` has as many objects as `count` says.
+**     type. `lengths` has as many objects as `count` says. Each pointer is aligned for
+**     its type.
 **   * `out`, `written`, `fault`, `place`, `change` of vollikash_next and `value`
 **     overlap nothing else. Two files may be the same bytes.
-**   * While a call runs, no other thread writes to the files, or uses what the call
-**     writes to.
+**   * While a call runs, nothing else changes what it reads: the files, the names, the
+**     lengths and the change. Nothing else reads or changes what it writes to. This
+**     holds of other threads, signal handlers and processes that share the memory.
+**   * `out`, `written`, `fault` and `value` may be uninitialized: no call reads them. So
+**     may the `change` of vollikash_next while `place` is 0. All else is initialized.
 **   * No call is made in a signal handler, or in the child of a fork of a process
 **     with threads. The stack has 128 KiB left.
 **   * malloc, realloc and free belong to one allocator, whose blocks are aligned to
 **     16 bytes.
 **
 ** The caller owns every buffer and every struct. A call allocates at most some twenty
-** times the bytes of its files, and frees all of it before it returns. vollikash_next,
-** vollikash_value and vollikash_message allocate nothing. A text is made in memory
-** first, and grows with the length of a table's name times the number of its changes.
-** A call keeps no state, so several threads can call at once.
+** times the bytes of its files and three kilobytes, which bindings/c/memory.c measures,
+** and frees all of it before it returns. vollikash_next, vollikash_value and
+** vollikash_message allocate nothing. A text is made in memory first, and grows with the
+** length of a table's name times the number of its changes. A call keeps no state, so
+** several threads can call at once.
 */
 #ifndef VOLLIKASH_H
 #define VOLLIKASH_H
@@ -148,7 +153,7 @@ struct vollikash_change {
                            ** in SQLite's files its position in the PRIMARY KEY, from 1 */
     size_t columns;        /* the number of columns */
     size_t records;        /* the records of the change: their offset, */
-    size_t records_length; /* and their bytes */
+    size_t records_length; /* and their bytes, which end at the new `place` */
     int operation;         /* SQLITE_INSERT 18, SQLITE_DELETE 9 or SQLITE_UPDATE 23 */
     int indirect;          /* 1 if a trigger or a foreign key made the change, else 0 */
 };
@@ -167,15 +172,16 @@ enum { VOLLIKASH_INSERT = 18, VOLLIKASH_DELETE = 9, VOLLIKASH_UPDATE = 23 };
 **         ..
 **     }
 **
-** Returns OK, or DONE after the last change; for other bytes than a changeset's file
-** also 1 to 7 or 9 to 17, at the first place that cannot be read. Then `place` and
-** `change` are unchanged. It does not notice that a table or a key is in the file
-** twice: vollikash_check does. A call takes time in proportion to the change.
+** Returns OK, or DONE at the end of the file, or an error, 1 to 7 or 9 to 17, if no
+** further change can be read; then `place` and `change` are unchanged. The error and its
+** place are those of vollikash_check. But vollikash_next does not notice that a table or
+** a key is in the file twice, 8 and 18: it goes on, to the end or to another error. A
+** call takes time in proportion to the change.
 */
 int vollikash_next(const uint8_t *file, size_t length, size_t *place, struct vollikash_change *change,
                    struct vollikash_fault *fault) VOLLIKASH_NONNULL;
 
-/* The table's name, of `name_length` bytes. In the file a zero byte is after it. */
+/* The table's name, a string: `name_length` bytes, none of them zero, and a zero byte. */
 static inline const char *vollikash_table(const uint8_t *file, const struct vollikash_change *change)
 {
     return (const char *)(file + change->name);
@@ -211,10 +217,11 @@ enum { VOLLIKASH_OLD = 0, VOLLIKASH_NEW = 1 };
 ** Fills in what a change has in a zero-based column on one side. `change` is as
 ** vollikash_next left it for the same file. A column that an UPDATE does not modify,
 ** the key after an UPDATE, and the side that a change does not have are
-** VOLLIKASH_UNDEFINED. A text is UTF-8. Returns OK; RANGE if there is no such column or
-** side; for other bytes than a changeset's file also 1, 4 or 12 to 14. Unless it
-** returns OK, `value` is unchanged. A call takes time in proportion to the bytes of the
-** change up to the value.
+** VOLLIKASH_UNDEFINED. A text is UTF-8. Returns OK, or RANGE if there is no such column
+** or side. For a `change` that vollikash_next did not return for these bytes it may also
+** return 1, 4 or 12 to 14, and a value that means nothing. Unless it returns OK, `value`
+** is unchanged. A call takes time in proportion to the bytes of the change up to the
+** value.
 */
 int vollikash_value(const uint8_t *file, size_t length, const struct vollikash_change *change, int side,
                     size_t column, struct vollikash_field *value) VOLLIKASH_NONNULL;

@@ -1,12 +1,15 @@
 -- The changes of a small file, and what spans show of it.
-use Rattle.std.proofs.Common.{◌≡◌, [], ◌∷◌, pos, Some, None, true, false, refl, arith}
+use Rattle.std.proofs.Common.{◌≡◌, [], ◌∷◌, pos, Some, None, true, false, refl, arith, inl, inr}
 use Rattle.cs_value.specs.declared.value.OwnedValue.TheVariants.{Int, Text, Null}
 use Rattle.cs_value.specs.declared.value.OwnedField.TheVariants.{Undefined, Defined}
 use Rattle.cs_entries.specs.declared.entry.Change.{Change}
+use Rattle.cs_entries.specs.declared.entry.Entry.{Entry}
 use Rattle.cs_entries.specs.declared.entry.Change.TheVariants.{Insert, Delete, Update}
 use Rattle.cs_entries.specs.Changeset.{HeaderData}
 use Rattle.cs_iterator.specs.declared.value.Side.TheVariants.{Old, New}
-use Rattle.cs_iterator.specs.Changes.{changes_of}
+use Rattle.cs_iterator.specs.declared.change.ChangeSpan.{ChangeSpan}
+use Rattle.cs_iterator.specs.Changes.{EndsName, changes_of}
+use Rattle.cs_iterator.specs.Readable.{AddsChange}
 use Rattle.cs_iterator.specs.Values.{ShowsField, field_on}
 
 t : HeaderData
@@ -42,4 +45,46 @@ update_key = refl
 
 -- the text x lies at the second of three bytes
 text_is_shown : ShowsField (9 ∷ 120 ∷ 9 ∷ []) (record { kind = pos 3; integer = pos 0; offset = 1; length = 1 }) (Defined (Text (120 ∷ [])))
-text_is_shown = (refl, record { spelled = refl; within = omega arith })
+text_is_shown = record { kind_is = refl; no_integer = refl; content = record { spelled = refl; within = omega arith } }
+
+-- the name t lies at the first of two bytes, and a zero byte after it
+abbrev t_span : ChangeSpan
+t_span = record {
+  name = 0;
+  name_length = 1;
+  flags = 0;
+  columns = 0;
+  records = 0;
+  records_length = 0;
+  operation = pos 0;
+  indirect = pos 0;
+}
+
+name_ends : EndsName (116 ∷ 0 ∷ []) t_span
+name_ends = record { within = omega arith; zero = refl }
+
+-- at the end of the file no zero byte is after it
+abbrev end_span : ChangeSpan
+end_span = record {
+  name = 1;
+  name_length = 1;
+  flags = 0;
+  columns = 0;
+  records = 0;
+  records_length = 0;
+  operation = pos 0;
+  indirect = pos 0;
+}
+
+name_does_not_end : EndsName (0 ∷ 116 ∷ []) end_span → ⊥
+name_does_not_end ends = omega (arith, ends.within)
+
+-- the first change of a table, and one more of it, in which its key is twice
+insert : Entry
+insert = record { indirect = false; change = insert_is }
+
+first_is_added : AddsChange [] (record { header = t; entry = insert }) (record { header = t; entries = insert ∷ [] } ∷ [])
+first_is_added = inr refl
+
+second_is_added : AddsChange (record { header = t; entries = insert ∷ [] } ∷ []) (record { header = t; entry = insert }) (record { header = t; entries = insert ∷ insert ∷ [] } ∷ [])
+second_is_added = inl (record { closed = []; entries = insert ∷ []; before_is = refl; after_is = refl })

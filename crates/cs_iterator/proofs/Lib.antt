@@ -1,4 +1,6 @@
+pub mod CheckedLemmas
 pub mod Examples
 pub mod PartLemmas
+pub mod ReadableLemmas
 pub mod StepLemmas
 pub mod ValueLemmas

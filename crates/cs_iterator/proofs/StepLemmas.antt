@@ -12,7 +12,7 @@ use Rattle.cs_entries.specs.declared.entry.Entry.{Entry}
 use Rattle.cs_entries.specs.Entry.{IsEntry, entry_bytes, fields_of, operation}
 use Rattle.cs_entries.specs.Changeset.{HeaderData, GroupData, IsFileOf, IsGroup, IsHeader, entries_bytes, file_bytes, flags_bytes, group_bytes, header_bytes}
 use Rattle.cs_entries.specs.ReadFaults.{HasEntry, Stands}
-use Rattle.cs_entries.proofs.ReadingLemmas.{rest_is}
+use Rattle.cs_entries.proofs.ReadingLemmas.{first_byte, rest_is}
 use Rattle.cs_wire.proofs.GroupsLemmas.{group_bytes-append, same_group}
 use Rattle.cs_tables.specs.Tables.{TablesData, AreLeft as AreTablesLeft}
 use Rattle.cs_tables.proofs.TablesLemmas.{entry_left, no_entry_left, no_table_left, table_left}
@@ -46,7 +46,7 @@ passed_more closed header passed entry =
     ∙ sym (append_assoc (file_bytes closed) (header_bytes header ++ entries_bytes passed) (entry_bytes entry))
 
 -- the whole table is passed
-passed_group : (closed : List GroupData) (header : HeaderData) (passed : List Entry) → passed_bytes closed header passed ≡ file_bytes (closed ++ record { header = header; entries = passed } ∷ [])
+pub passed_group : (closed : List GroupData) (header : HeaderData) (passed : List Entry) → passed_bytes closed header passed ≡ file_bytes (closed ++ record { header = header; entries = passed } ∷ [])
 unfolding group_bytes
 passed_group closed header passed = sym (flat_map-append group_bytes closed (record { header = header; entries = passed } ∷ []) ∙ ap (λ (x : List ℕ). file_bytes closed ++ x) (append-nil (group_bytes (record { header = header; entries = passed }))))
 
@@ -134,12 +134,21 @@ ShowsTable-header file place end header span stands le name name_length flags co
     let as_name : 0x54 ∷ ((count ++ header.flags) ++ (header.name ++ 0 ∷ [])) ≡ (0x54 ∷ (count ++ header.flags)) ++ (header.name ++ 0 ∷ []) = refl in
     let as_flags : 0x54 ∷ ((count ++ header.flags) ++ (header.name ++ 0 ∷ [])) ≡ (0x54 ∷ count) ++ (header.flags ++ (header.name ++ 0 ∷ [])) =
     ap (λ (x : List ℕ). 0x54 ∷ x) (append_assoc count header.flags (header.name ++ 0 ∷ [])) in
+    let name_end : span.name + span.name_length ≡ end - 1 = omega (arith, name, name_length, ends, sizes) in
+    let zero = Stands-part file place end ((0x54 ∷ (count ++ header.flags)) ++ header.name) (0 ∷ []) [] (subst (λ (x : List ℕ). Stands file place x end) (as_zero count header.flags header.name) stands) le (span.name + span.name_length) end
+    (omega (arith, name_end, ends, sizes, length-append (count ++ header.flags) header.name, length-append count header.flags)) (omega (arith, name_end, ends, sizes)) in
+    let within : span.name + span.name_length < length file = omega (arith, name_end, ends, sizes, stands.within) in
     record {
       name = Stands-part file place end (0x54 ∷ (count ++ header.flags)) header.name (0 ∷ []) stands le span.name (span.name + span.name_length)
           (omega (arith, name, ends, sizes, length-append count header.flags)) (omega (arith, name_length));
+      name_ends = record { within = within; zero = first_byte file (span.name + span.name_length) 0 (drop end file) within zero.spelled };
       flags = Stands-part file place end (0x54 ∷ count) header.flags (header.name ++ 0 ∷ []) (subst (λ (x : List ℕ). Stands file place x end) as_flags stands) le span.flags (span.flags + span.columns)
           (omega (arith, name, flags, ends, sizes)) (omega (arith, columns));
     }
+  where
+    -- the last byte of a header by itself
+    as_zero : (c f n : List ℕ) → 0x54 ∷ ((c ++ f) ++ (n ++ 0 ∷ [])) ≡ ((0x54 ∷ (c ++ f)) ++ n) ++ (0 ∷ [] ++ [])
+    as_zero c f n = ap (λ (x : List ℕ). 0x54 ∷ x) (sym (append_assoc (c ++ f) n (0 ∷ [])))
 
 -- the bytes of a header before its last: so many at least
 pub header_length : (file : List ℕ) (place end : ℕ) (header : HeaderData) → Stands file place (header_bytes header) end → place ≤ length file → place + 2 + length header.flags + length header.name ≤ end
@@ -236,7 +245,7 @@ module _ (file : List ℕ) (all : List GroupData) (left : List TableChange) (pla
       let more_is : so.more ≡ entry ∷ others = next.2 ∙ ap (λ (e : Entry). e ∷ others) (sym same) in
       let le = in_table_within file all left place span is_file so in
       let ends = Stands-length file place end (entry_bytes entry) stands le in
-      let table : ShowsTable file (span_after span place end does indirect) so.header = record { name = so.table.name; flags = so.table.flags } in
+      let table : ShowsTable file (span_after span place end does indirect) so.header = record { name = so.table.name; name_ends = record { within = so.table.name_ends.within; zero = so.table.name_ends.zero }; flags = so.table.flags } in
       record {
         change = record { header = so.header; entry = entry };
         others = changes_with so.header others ++ changes_of so.others;

@@ -55,9 +55,9 @@ content_stands file place end kind content stands le =
 pub span_shows : (file : List ℕ) (place end : ℕ) (field : OwnedField) → Stands file place (field_bytes field) end → place ≤ length file → ShowsField file (span_at field end) field
 unfolding field_bytes value_bytes
 span_shows file place end Undefined stands le = refl
-span_shows file place end (Defined (Int z)) stands le = (refl, refl)
-span_shows file place end (Defined (Text t)) stands le = (refl, content_stands file place end 3 t stands le)
-span_shows file place end (Defined (Blob b)) stands le = (refl, content_stands file place end 4 b stands le)
+span_shows file place end (Defined (Int z)) stands le = refl
+span_shows file place end (Defined (Text t)) stands le = record { kind_is = refl; no_integer = refl; content = content_stands file place end 3 t stands le }
+span_shows file place end (Defined (Blob b)) stands le = record { kind_is = refl; no_integer = refl; content = content_stands file place end 4 b stands le }
 span_shows file place end (Defined Null) stands le = refl
 
 -- the span lies inside the file

@@ -1,5 +1,5 @@
 -- The changes of a file in order, and where each lies in it; this project's own.
-use Rattle.std.specs.Prelude.{◌≡◌, ◌⊎◌, ℕ, pos, ◌+◌, ◌≤◌, if◌then◌else◌, List, ◌∷◌, ◌++◌, length, map}
+use Rattle.std.specs.Prelude.{◌≡◌, ◌⊎◌, ℕ, pos, ◌+◌, ◌<◌, ◌≤◌, if◌then◌else◌, List, ◌∷◌, ◌++◌, length, map, slice_index}
 use Rattle.std.specs.List.{flat_map}
 use Rattle.cs_value.specs.Spelling.{record_bytes}
 use Rattle.cs_entries.specs.declared.entry.Entry.{Entry}
@@ -38,9 +38,15 @@ no_change = record {
   indirect = pos 0;
 }
 
+-- a zero byte is in the file, after the name: C reads the name as a string
+pub record EndsName (file : List ℕ) (span : ChangeSpan) : Type 0 where
+  pub within : span.name + span.name_length < length file
+  pub zero : slice_index file (span.name + span.name_length) ≡ 0
+
 -- the name and the flags of the table lie where the span says
 pub record ShowsTable (file : List ℕ) (span : ChangeSpan) (header : HeaderData) : Type 0 where
   pub name : Stands file span.name header.name (span.name + span.name_length)
+  pub name_ends : EndsName file span
   pub flags : Stands file span.flags header.flags (span.flags + span.columns)
 
 -- the span is that of this change
@@ -52,9 +58,9 @@ pub record Shows (file : List ℕ) (span : ChangeSpan) (change : TableChange) : 
   pub records :
       Stands file span.records (record_bytes (fields_of change.entry.change)) (span.records + span.records_length)
 
--- the parts of the span lie inside the file
+-- the parts of the span lie inside the file, and a zero byte after the name
 pub record LiesIn (file : List ℕ) (span : ChangeSpan) : Type 0 where
-  pub name : span.name + span.name_length ≤ length file
+  pub name : EndsName file span
   pub flags : span.flags + span.columns ≤ length file
   pub records : span.records + span.records_length ≤ length file
 

@@ -1,4 +1,5 @@
 pub mod Changes
+pub mod Readable
 pub mod Values
 pub mod Steps
 pub use Rattle.cs_wire.specs.Changeset

@@ -1,9 +1,12 @@
 //! From one change of a file to the next.
-ghost use Rattle.std.specs.Prelude.{◌≡◌, ◌↔◌, ◌<◌, ◌≤◌, ◌+◌, [], ℕ, IfErr, IfOk, IfSome, IsOkAnd, IsSomeAnd, IsTrue, List, None, Ok, length};
-ghost use Rattle.cs_entries.specs.Changeset.{GroupData, IsFileOf};
-ghost use Rattle.cs_entries.specs.ReadFaults.{HasEntry, Stands};
-ghost use Rattle.cs_iterator.specs.Changes.{AreLeft, IsInTable, IsStep, LiesIn, TableChange};
-ghost use Rattle.cs_iterator.specs.Steps.{IsBetween};
+ghost use Rattle.std.specs.Prelude.{◌≡◌, ◌≢◌, ◌↔◌, ◌<◌, ◌≤◌, ◌+◌, [], ℕ, IfErr, IfOk, IfSome, IsOkAnd, IsSomeAnd, IsTrue, List, None, Ok, length};
+ghost use Rattle.cs_entries.specs.declared.entry.Entry.{Entry};
+ghost use Rattle.cs_entries.specs.declared.fault.ReadFault.{ReadFault as ReadFaultData};
+ghost use Rattle.cs_entries.specs.Changeset.{GroupData, HeaderData, IsFileOf};
+ghost use Rattle.cs_entries.specs.ReadFaults.{EntryStart, HasEntry, Stands, TableStart};
+ghost use Rattle.cs_iterator.specs.Changes.{AreLeft, EndsName, IsInTable, IsStep, LiesIn, ShowsTable, TableChange};
+ghost use Rattle.cs_iterator.specs.Readable.{AreAll, IsUnreadable, ReadsOn, WereRead};
+ghost use Rattle.cs_iterator.specs.Steps.{IsBetween, NoEntry, NoTable, OpensTable, PassesEntry};
 
 use cs_entries::fault_at;
 use cs_wire::{ReadFault, ReadFaultKind, has_entry, read_entry, read_header};
@@ -57,8 +60,8 @@ impl ChangeSpan {
 ///
 /// # Errors
 ///
-/// The fault at which reading stops. A changeset's file has none. A file in which a table or a key is twice is no
-/// changeset, but that is not noticed.
+/// The fault at which reading stops: a changeset's file has none. It is the fault of the file, as `cs_wire::read`
+/// reports it, unless that is a table or a key that is there twice, which is not noticed.
 pub fn next_change(
     file: &[u8],
     place: usize,
@@ -70,8 +73,17 @@ pub fn next_change(
         → result ≡ Ok None → left ≡ [] }
     ensures no_fault { (all : List GroupData) (left : List TableChange) → IsFileOf file.now all → AreLeft file.now all left place last.now
         → IfErr result (λ _. ⊥) }
-    ensures ended { result ≡ Ok None → place ≡ length file.now }
+    ensures ended { (result ≡ Ok None) ↔ (place ≡ length file.now) }
+    ensures reads { (groups : List GroupData) → WereRead file.now groups place last.now
+        → IfOk result (λ found. IfSome found (λ step. ReadsOn file.now groups step.0 step.1)) }
+    ensures stops { (groups : List GroupData) → WereRead file.now groups place last.now
+        → IfErr result (λ _. AreAll file.now groups) }
+    ensures checked { (groups : List GroupData) (fault : ReadFaultData) → WereRead file.now groups place last.now
+        → IsUnreadable file.now fault → IfErr result (λ f. f ≡ fault) }
+    ensures unfinished { (groups : List GroupData) (fault : ReadFaultData) → WereRead file.now groups place last.now
+        → IsUnreadable file.now fault → result ≢ Ok None }
     ensures within { IfOk result (λ found. IfSome found (λ step. LiesIn file.now step.0)) }
+    ensures ends { IfOk result (λ found. IfSome found (λ step. step.0.records + step.0.records_length ≡ step.1)) }
     ensures forward { IfOk result (λ found. IfSome found (λ step. (place < step.1) × (step.1 ≤ length file.now))) }
 {
     if is_in_table(file, place) {
@@ -102,6 +114,10 @@ fn open_table(file: &[u8], place: usize) -> Result<(ChangeSpan, usize), ReadFaul
     ensures no_fault { (all : List GroupData) (left : List TableChange) → IsFileOf file.now all → IsBetween all left place
         → IfErr result (λ _. ⊥) }
     ensures entry { IfOk result (λ table. HasEntry file.now table.1) }
+    ensures reads { IfOk result (λ table. OpensTable file.now place table.0 table.1) }
+    ensures stops { IfErr result (λ _. NoTable file.now place) }
+    ensures checked { (groups : List GroupData) (fault : ReadFaultData) → TableStart file.now place groups
+        → (HasEntry file.now place → place ≡ 0) → IsUnreadable file.now fault → IfErr result (λ f. f ≡ fault) }
     ensures forward { IfOk result (λ table. place < table.1) }
 {
     let (header, end) = read_header(file, place)?;
@@ -130,7 +146,14 @@ fn pass_change(
         → IfOk result (λ step. IsStep file.now all left step.0 step.1) }
     ensures no_fault { (all : List GroupData) (left : List TableChange) → IsFileOf file.now all → IsInTable file.now all left place last.now
         → IfErr result (λ _. ⊥) }
+    ensures reads { (header : HeaderData) → ShowsTable file.now last.now header
+        → IfOk result (λ step. PassesEntry file.now header place step.0 step.1) }
+    ensures stops { (header : HeaderData) → ShowsTable file.now last.now header
+        → IfErr result (λ _. NoEntry file.now header place) }
+    ensures checked { (header : HeaderData) (entries : List Entry) (fault : ReadFaultData) → ShowsTable file.now last.now header
+        → EntryStart file.now place header entries → IsUnreadable file.now fault → IfErr result (λ f. f ≡ fault) }
     ensures within { IfOk result (λ step. LiesIn file.now step.0) }
+    ensures ends { IfOk result (λ step. step.0.records + step.0.records_length ≡ step.1) }
     ensures forward { IfOk result (λ step. (place < step.1) × (step.1 ≤ length file.now)) }
 {
     let flags = flags_of(file, place, last)?;
@@ -146,20 +169,29 @@ fn pass_change(
     Ok((change, end))
 }
 
-/// Returns the flags of the table of a span, whose name lies in the file too.
+/// Returns the flags of the table of a span, whose name is in the file too, with a zero byte after it.
 fn flags_of<'a>(file: &'a [u8], place: usize, span: &ChangeSpan) -> Result<&'a [u8], ReadFault>
     ensures flags { (flags : List ℕ) → Stands file.now span.now.flags flags (span.now.flags + span.now.columns)
-        → span.now.name + span.now.name_length ≤ length file.now → IsOkAnd result (λ r. r.now ≡ flags) }
-    ensures within { IfOk result (λ _. (span.now.name + span.now.name_length ≤ length file.now)
-        × (span.now.flags + span.now.columns ≤ length file.now)) }
+        → EndsName file.now span.now → IsOkAnd result (λ r. r.now ≡ flags) }
+    ensures name { IfOk result (λ _. EndsName file.now span.now) }
+    ensures within { IfOk result (λ _. span.now.flags + span.now.columns ≤ length file.now) }
 {
-    let Some(_) = part_of(file, span.name, span.name_length) else {
+    if !ends_name(file, span) {
         return Err(fault_at(ReadFaultKind::NotTable, place));
-    };
+    }
     let Some(flags) = part_of(file, span.flags, span.columns) else {
         return Err(fault_at(ReadFaultKind::NotTable, place));
     };
     Ok(flags)
+}
+
+/// Returns whether the name of a span is in the file, with a zero byte after it.
+fn ends_name(file: &[u8], span: &ChangeSpan) -> bool
+    ensures { IsTrue result ↔ EndsName file.now span.now }
+{
+    span.name < file.len()
+        && span.name_length < file.len() - span.name
+        && file[span.name + span.name_length] == 0
 }
 
 /// Returns a part of a file, or None if it is not inside.

@@ -1,7 +1,9 @@
 //! The number of changes of a file.
-ghost use Rattle.std.specs.Prelude.{◌≡◌, IsOkAnd, List, length};
+ghost use Rattle.std.specs.Prelude.{◌≡◌, Err, IfOk, IsOkAnd, List, length};
+ghost use Rattle.cs_entries.specs.declared.fault.ReadFault.{ReadFault as ReadFaultData};
 ghost use Rattle.cs_entries.specs.Changeset.{GroupData, IsFileOf};
 ghost use Rattle.cs_iterator.specs.Changes.{changes_of};
+ghost use Rattle.cs_iterator.specs.Readable.{AreCounted, IsUnreadable};
 
 use crate::change::{ChangeSpan, next_change};
 use cs_wire::ReadFault;
@@ -12,7 +14,9 @@ use cs_wire::ReadFault;
 ///
 /// The fault at which reading stops, as [`next_change`].
 pub fn count_changes(file: &[u8]) -> Result<usize, ReadFault>
-    ensures { (all : List GroupData) → IsFileOf file.now all → IsOkAnd result (λ count. count ≡ length (changes_of all)) }
+    ensures counted { (all : List GroupData) → IsFileOf file.now all → IsOkAnd result (λ count. count ≡ length (changes_of all)) }
+    ensures read { IfOk result (AreCounted file.now) }
+    ensures checked { (fault : ReadFaultData) → IsUnreadable file.now fault → result ≡ Err fault }
 {
     let mut count: usize = 0;
     let mut place = 0;

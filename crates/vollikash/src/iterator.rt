@@ -1,9 +1,13 @@
 //! The iterator over the changes of a file, and their values.
-ghost use Rattle.std.specs.Prelude.{◌≡◌, ◌≢◌, ◌+◌, ◌<◌, ◌≤◌, [], ℕ, IfSome, List, None, length};
+ghost use Rattle.std.specs.Prelude.{◌≡◌, ◌≢◌, ◌↔◌, ◌+◌, ◌<◌, ◌≤◌, [], ℕ, IfSome, List, None, length};
+ghost use Rattle.cs_value.specs.declared.refusal.OrNoMemory.TheVariants.{Fault as OfFile};
+ghost use Rattle.cs_entries.specs.declared.fault.ReadFault.{ReadFault as ReadFaultData};
 ghost use Rattle.cs_entries.specs.Changeset.{GroupData, IsFileOf};
+ghost use Rattle.cs_files.specs.declared.fault.FileFault.TheVariants.{First};
 ghost use Rattle.cs_iterator.specs.Changes.{AreLeft, IsStep, LiesIn, Shows, TableChange};
+ghost use Rattle.cs_iterator.specs.Readable.{AreAll, IsUnreadable, ReadsOn, WereRead};
 ghost use Rattle.cs_iterator.specs.Values.{ShowsValue};
-ghost use Rattle.vollikash.specs.Answers.{no_fault};
+ghost use Rattle.vollikash.specs.Answers.{no_fault, report_of};
 ghost use Rattle.vollikash.specs.Iterating.{IsStepCode, TellsFault, side_number};
 ghost use Rattle.cs_iterator.specs.declared.value.Side.{Side as SideData};
 ghost use Rattle.cs_iterator.specs.Values.{field_on};
@@ -17,8 +21,9 @@ use cs_value::Fault;
 /// Puts the next change of a file into `change`, and the offset after it into `place`.
 ///
 /// `place` is 0 before the first call. Each later call takes `place` and `change` as the previous one left them. It
-/// answers `OK`, or `DONE` after the last change, or the number of what is wrong with the file; then both are
-/// unchanged. It allocates nothing, and takes time in proportion to the change.
+/// answers `OK`, or `DONE` at the end of the file, or the number of what is wrong with the file, which is that of
+/// [`vollikash_check`](crate::vollikash_check) unless a table or a key is there twice; then both are unchanged. It
+/// allocates nothing, and takes time in proportion to the change.
 #[unsafe(no_mangle)]
 pub extern "C" fn vollikash_next(
     file: &[u8],
@@ -32,8 +37,17 @@ pub extern "C" fn vollikash_next(
         → result ≡ DONE → left ≡ [] }
     ensures no_fault { (all : List GroupData) (left : List TableChange) → IsFileOf file.now all → AreLeft file.now all left place.old change.old
         → IsStepCode result }
-    ensures ended { result ≡ DONE → place.old ≡ length file.now }
+    ensures ended { (result ≡ DONE) ↔ (place.old ≡ length file.now) }
+    ensures reads { (groups : List GroupData) → WereRead file.now groups place.old change.old
+        → result ≡ OK → ReadsOn file.now groups change.new place.new }
+    ensures stops { (groups : List GroupData) → WereRead file.now groups place.old change.old
+        → (IsStepCode result → ⊥) → AreAll file.now groups }
+    ensures checked { (groups : List GroupData) (found : ReadFaultData) → WereRead file.now groups place.old change.old
+        → IsUnreadable file.now found → (IsStepCode result → ⊥) → fault.new ≡ report_of (OfFile (First found)) }
+    ensures unfinished { (groups : List GroupData) (found : ReadFaultData) → WereRead file.now groups place.old change.old
+        → IsUnreadable file.now found → result ≢ DONE }
     ensures within { result ≡ OK → LiesIn file.now change.new }
+    ensures ends { result ≡ OK → change.new.records + change.new.records_length ≡ place.new }
     ensures forward { result ≡ OK → (place.old < place.new) × (place.new ≤ length file.now) }
     ensures same { result ≢ OK → (place.new ≡ place.old) × (change.new ≡ change.old) }
     ensures refused { (IsStepCode result → ⊥) → TellsFault fault.new }

@@ -1,7 +1,12 @@
 -- `change::open_table`: the next table, which has a change.
-use Rattle.std.proofs.Common.{refl, arith}
+use Rattle.std.proofs.Common.{◌++◌, ◌∙◌, refl, arith}
 use Rattle.std.proofs.lemmas.Bool.{iff_false}
+use Rattle.std.proofs.lemmas.Result.{err_from_is_err_and}
+use Rattle.cs_entries.specs.Entry.{entry_bytes}
+use Rattle.cs_entries.specs.declared.fault.ReadFaultKind.TheVariants.{EmptyGroup}
 use Rattle.cs_wire.specs.Headers.{header_of}
+use Rattle.cs_iterator.proofs.CheckedLemmas.{fault_is, opened}
+use Rattle.cs_iterator.proofs.ReadableLemmas.{bare_none}
 use Rattle.cs_iterator.proofs.StepLemmas.{ShowsTable-header, header_length, opened_has_entry, table_next, table_opened}
 use Rattle.cs_iterator.proofs.change.open_table.Goals as goal
 
@@ -32,3 +37,35 @@ returns-clause-next c = λ all left is_file so.
 
 pub returns-clause-forward : goal.returns-clause-forward
 returns-clause-forward c = omega (arith, header_length c.args.file.now c.args.place c.in_ok-header.end (header_of c.in_ok-header.header) c.in_ok-header.ensures.found (omega (arith, c.requires)))
+
+pub returns-in_err-header-clause-stops : goal.returns-in_err-header-clause-stops
+returns-in_err-header-clause-stops c =
+    let p = err_from_is_err_and c.from_residual.result c.from_residual.ensures.1 in
+    rw p.1 (λ header entry rest is_header is_entry spelled. absurd (c.in_err-header.ensures.only header (entry_bytes entry ++ rest) is_header spelled))
+
+pub returns-then-not-has_entry-clause-stops : goal.returns-then-not-has_entry-clause-stops
+returns-then-not-has_entry-clause-stops c =
+    bare_none c.args.file.now c.args.place c.in_ok-header.end (header_of c.in_ok-header.header) c.in_ok-header.ensures.found c.in_ok-header.ensures.only (iff_false c.has_entry.ensures c.if-not-has_entry.true)
+
+pub returns-in_err-header-clause-checked : goal.returns-in_err-header-clause-checked
+returns-in_err-header-clause-checked c = λ groups fault start none unreadable.
+    let p = err_from_is_err_and c.from_residual.result c.from_residual.ensures.1 in
+    rw (p.1, p.2) (fault_is c.args.file.now fault unreadable c.in_err-header.field-0.0 (c.in_err-header.ensures.fault groups start none))
+
+pub returns-then-not-has_entry-clause-checked : goal.returns-then-not-has_entry-clause-checked
+returns-then-not-has_entry-clause-checked c = λ groups fault start none unreadable.
+    c.fault_at.ensures
+    ∙ fault_is c.args.file.now fault unreadable (record { kind = EmptyGroup; place = c.in_ok-header.end }) (record {
+      header = header_of c.in_ok-header.header;
+      start = opened c.args.file.now fault unreadable c.args.place c.in_ok-header.end groups (header_of c.in_ok-header.header) start c.in_ok-header.ensures.well_formed c.in_ok-header.ensures.found;
+      no_entry = iff_false c.has_entry.ensures c.if-not-has_entry.true;
+    })
+
+pub returns-clause-reads : goal.returns-clause-reads
+returns-clause-reads c = record {
+  header = header_of c.in_ok-header.header;
+  is_header = c.in_ok-header.ensures.well_formed;
+  stands = c.in_ok-header.ensures.found;
+  only = c.in_ok-header.ensures.only;
+  table = ShowsTable-header c.args.file.now c.args.place c.in_ok-header.end (header_of c.in_ok-header.header) _ c.in_ok-header.ensures.found (omega (arith, c.requires)) refl refl refl refl;
+}

@@ -1,4 +1,4 @@
--- `iterator::vollikash_next`: the clauses `next`, `done` and `no_fault` are those of `next_change`.
+-- `iterator::vollikash_next`: its clauses are those of `next_change`.
 use Rattle.std.proofs.Common.{Ok, ap}
 use Rattle.vollikash.proofs.iterator.vollikash_next.Goals as goal
 
@@ -10,3 +10,12 @@ returns-in-Ok-None-clause-done c = λ all left is_file so done. c.in-Ok-None.ens
 
 pub returns-in-Err-clause-no_fault : goal.returns-in-Err-clause-no_fault
 returns-in-Err-clause-no_fault c = λ all left is_file so. absurd (c.in-Err.ensures.no_fault all left is_file so)
+
+pub returns-in-Ok-Some-clause-reads : goal.returns-in-Ok-Some-clause-reads
+returns-in-Ok-Some-clause-reads c = λ groups so ok. rw c.in-Ok-Some.field-0-is at (c.in-Ok-Some.ensures.reads groups so)
+
+pub returns-in-Err-clause-stops : goal.returns-in-Err-clause-stops
+returns-in-Err-clause-stops c = λ groups so no_step. c.in-Err.ensures.stops groups so
+
+pub returns-in-Ok-None-clause-unfinished : goal.returns-in-Ok-None-clause-unfinished
+returns-in-Ok-None-clause-unfinished c = λ groups found so unreadable done. c.in-Ok-None.ensures.unfinished groups found so unreadable (ap Ok c.in-Ok-None.field-0-is)
