@@ -10,7 +10,7 @@ use Rattle.cs_rows.specs.declared.fault.StoreError.TheVariants as store
 use Rattle.cs_store.specs.Faults as faults
 use Rattle.cs_store.specs.Faults.{refused_for}
 use Rattle.cs_store.specs.Laws.{was_clean}
-use Rattle.cs_store.specs.Records.{KeepsContent, KeepsCrash, IsUndone}
+use Rattle.cs_store.specs.Records.{KeepsContent, KeepsCrash, KeepsOthers, IsUndone}
 use Rattle.cs_store.specs.Store.{Begins, IsAtRest, KeepsStore, tables_in}
 use Rattle.cs_run.specs.declared.fault.ApplyFault.{ApplyFault}
 use Rattle.cs_run.specs.declared.fault.ApplyFault.TheVariants as apply
@@ -25,7 +25,7 @@ use Rattle.cs_replies.specs.ErrorLines.{of_store, of_apply, of_session}
 use Rattle.cs_replies.specs.Replies.{Reply, Refused}
 use Rattle.cs_machine.specs.Script.{IsResource, IsOfStore}
 use Rattle.cs_machine.specs.ShellState.{SlotMap, ShellState}
-use Rattle.cs_machine.specs.Stores.{Shows, TellsFailures}
+use Rattle.cs_machine.specs.Stores.{Shows, SparesOthers, SparesStore, TellsFailures, by_nothing, by_each}
 use Rattle.cs_machine.specs.Turns.{Stands, Known, TurnsBetween, AreSame, Turns, Reads, OrUnable, Gave, Works, IsHere, seen}
 
 -- what holds in any case holds at Err
@@ -76,6 +76,37 @@ known_kept : (settled : Bool) (old new : State) (t : tables.State) → KeepsCont
 known_kept true old new t kept stands = stands_kept old new t kept stands
 known_kept false old new t kept shows = λ is_open. ap (λ (db : Database). tables_in db) (kept.now is_open) ∙ shows (kept.was_open is_open)
 
+-- ---- all but the records
+
+-- these calls, and then those
+pub spares_then : (old mid new : Database) → SparesOthers old mid → SparesOthers mid new → SparesOthers old new
+spares_then old mid new one by_nothing = one
+spares_then old mid new one (by_each last end two keeps) = by_each last end (spares_then old mid last one two) keeps
+
+-- a call that keeps the content
+spares_kept : (old new : State) → (IsTrue new.is_open → IsTrue old.is_open) → (IsTrue new.is_open → new.now ≡ old.now) → SparesStore old new
+spares_kept old new was_open same = record {
+  was_open = was_open;
+  others = λ is_open. subst (SparesOthers old.now) (sym (same is_open)) by_nothing;
+}
+
+-- a call that reads
+spares_read : (old new : State) (t : tables.State) → KeepsStore old new → HasCleanDisk new → Stands old t → SparesStore old new
+spares_read old new t kept clean stands = spares_kept old new (kept.commit clean).was_open (λ is_open.
+    let rest = (stands ((kept.commit clean).was_open is_open)).0 in
+    (kept.outside clean rest.autocommit (λ k. sym rest.committed)).now is_open)
+
+-- a call that commits: a store that is shut does not
+spares_done : (old new : State) → (old.is_open ≡ false → ⊥) → KeepsOthers old.now new.now → SparesStore old new
+spares_done old new shut keeps = record {
+  was_open = λ is_open. at old.is_open refl;
+  others = λ is_open. by_each old.now new.now by_nothing keeps;
+}
+  where
+    at : (is_open : Bool) → old.is_open ≡ is_open → IsTrue old.is_open
+    at true is = is
+    at false is = absurd (shut is)
+
 -- ---- turns
 
 survives_tells : {P : Trees → Type 0} (old new : State) → Survives old new P → TellsFailures old new
@@ -101,19 +132,21 @@ pub between_still : (P : tables.State → Type 0) (Holds : tables.State → tabl
 between_still P Holds store holds = record {
   disk = record { clean = omega arith; counts = omega arith; closes = λ clean is_open. inl is_open };
   done = λ clean t known. (t, known, holds t);
+  others = λ clean t known. spares_kept store store (λ is_open. is_open) (λ is_open. refl);
 }
 
 module _ (Holds : tables.State → tables.State → Type 0) where
   -- a call that commits, and did: a store that is shut does not
   pub turns_done : {P : Trees → Type 0} (old new : State) → Survives old new P → (HasCleanDisk new → IsAtRest new) → (HasCleanDisk new → old.is_open ≡ false → ⊥)
-      → (HasCleanDisk new → IsAtRest old → Holds (tables_in old.now) (tables_in new.now)) → Turns old new Holds
-  turns_done old new survives rests shut holds = record {
+      → (HasCleanDisk new → KeepsOthers old.now new.now) → (HasCleanDisk new → IsAtRest old → Holds (tables_in old.now) (tables_in new.now)) → Turns old new Holds
+  turns_done old new survives rests shut others holds = record {
     disk = survives_tells old new survives;
     done = λ clean t stands. (
       tables_in new.now,
       (λ is_open. (rests clean, refl)),
       holds_of old (λ before. Holds before (tables_in new.now)) (holds clean) (λ is before. absurd (shut clean is)) t stands,
     );
+    others = λ clean t stands. spares_done old new (shut clean) (others clean);
   }
 
   -- a call that commits, and was refused
@@ -122,6 +155,7 @@ module _ (Holds : tables.State → tables.State → Type 0) where
   turns_refused old new survives kept shut holds = record {
     disk = survives_tells old new survives;
     done = λ clean t stands. (t, stands_kept old new t (kept clean) stands, holds_of old (λ t. Holds t t) (λ rest. holds clean) (shut clean) t stands);
+    others = λ clean t stands. spares_kept old new (kept clean).was_open (kept clean).now;
   }
 
   -- a call that reads
@@ -130,6 +164,7 @@ module _ (Holds : tables.State → tables.State → Type 0) where
   turns_read old new kept shut holds = record {
     disk = survives_tells old new kept.crash;
     done = λ clean t stands. (t, stands_read old new t kept clean stands, holds_of old (λ t. Holds t t) (holds clean) (shut clean) t stands);
+    others = λ clean t stands. spares_read old new t kept clean stands;
   }
 
   pub turns_still : (store : State) → ((t : tables.State) → Holds t t) → Turns store store Holds
@@ -144,6 +179,15 @@ between_then P Q R A B C a b c one two both = record {
       let first = one.done (omega (arith, two.disk.clean, clean)) t known in
       let second = two.done clean first.0 first.1 in
       (second.0, second.1, both t first.0 second.0 first.2 second.2);
+  others = λ clean t known.
+      let was : HasCleanDisk b = omega (arith, two.disk.clean, clean) in
+      let done = one.done was t known in
+      let first = one.others was t known in
+      let second = two.others clean done.0 done.1 in
+      record {
+        was_open = λ is_open. first.was_open (second.was_open is_open);
+        others = λ is_open. spares_then a.now b.now c.now (first.others (second.was_open is_open)) (second.others is_open);
+      };
 }
 
 pub turns_then : (A B C : tables.State → tables.State → Type 0) (a b c : State) → Turns a b A → Turns b c B
@@ -155,6 +199,7 @@ pub between_weaker : (P Q : tables.State → Type 0) (A B : tables.State → tab
 between_weaker P Q A B old new weaker turns = record {
   disk = turns.disk;
   done = λ clean t known. let done = turns.done clean t known in (done.0, done.1, weaker t done.0 done.2);
+  others = turns.others;
 }
 
 pub turns_weaker : (A B : tables.State → tables.State → Type 0) (old new : State) → ((t u : tables.State) → A t u → B t u) → Turns old new A → Turns old new B
@@ -167,6 +212,7 @@ pub batch_refused : (old new : State) → KeepsCrash old new → (HasCleanDisk n
 batch_refused old new survives kept settled = record {
   disk = survives_tells old new survives;
   done = λ clean t known. (t, known_kept settled old new t (kept clean) known, refl);
+  others = λ clean t known. spares_kept old new (kept clean).was_open (kept clean).now;
 }
 
 -- it is begun and taken back
@@ -184,6 +230,9 @@ batch_undone old begun new begins begun_as drops undone = record {
         )),
         refl,
       );
+  others = λ clean t shows.
+      let first = begun_as (was_clean begun new drops clean) in
+      spares_kept old new (λ is_open. first.shown.was_open) (λ is_open. (undone clean).now is_open ∙ first.shown.committed_is ∙ sym first.settled);
 }
 
 -- where it is settled, whatever else is known
@@ -197,6 +246,7 @@ pub between_settled : (rests is : Bool) (A : tables.State → tables.State → T
 between_settled rests is A old new settled turns = record {
   disk = turns.disk;
   done = λ clean t known. let done = turns.done clean t (known_stands rests is old t settled known) in (done.0, stands_known (rests || is) new done.0 done.1, done.2);
+  others = λ clean t known. turns.others clean t (known_stands rests is old t settled known);
 }
 
 -- more was known before, or less is after
@@ -205,6 +255,7 @@ pub between_known : (was is : Bool) (A : tables.State → tables.State → Type 
 between_known was is A old new turns = record {
   disk = turns.disk;
   done = λ clean t known. let done = turns.done clean t (known_shows was old t known) in (done.0, stands_known is new done.0 done.1, done.2);
+  others = λ clean t known. turns.others clean t (known_shows was old t known);
 }
 
 -- ---- what a script sees of them

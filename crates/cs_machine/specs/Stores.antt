@@ -4,7 +4,9 @@ use Rattle.sqlite_disk.specs.Disk.{MoreFaults}
 use Rattle.sqlite_trees.specs.View.{doubt}
 use Rattle.sqlite.specs.State as sqlite
 use Rattle.sqlite.specs.State.{HasCleanDisk}
+use Rattle.sqlite.specs.Effect.{Database}
 use Rattle.cs_value.specs.State.{State}
+use Rattle.cs_store.specs.Records.{KeepsOthers}
 use Rattle.cs_store.specs.Store.{IsAtRest, tables_in}
 
 -- a store shows these tables while its connection is open, whatever batch is; one whose connection a failure of the
@@ -21,3 +23,13 @@ pub record TellsFailures (old new : sqlite.State) : Type 0 where
   pub clean : doubt old.is_clean ≤ doubt new.is_clean
   pub counts : old.faults ≤ new.faults
   pub closes : HasCleanDisk new → IsTrue old.is_open → IsTrue new.is_open ⊎ MoreFaults old.faults new.faults
+
+-- All but the records of a database is kept: nothing was done, or one call after another was, each of which keeps it.
+pub data SparesOthers (old : Database) : Database → Type 0 where
+  by_nothing : SparesOthers old old
+  by_each : (mid new : Database) → SparesOthers old mid → KeepsOthers mid new → SparesOthers old new
+
+-- a store that is open was open before, and all but the records is kept in its database
+pub record SparesStore (old new : sqlite.State) : Type 0 where
+  pub was_open : IsTrue new.is_open → IsTrue old.is_open
+  pub others : IsTrue new.is_open → SparesOthers old.now new.now

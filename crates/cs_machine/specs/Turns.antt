@@ -13,7 +13,7 @@ use Rattle.cs_machine.specs.declared.statements.Place.{Place}
 use Rattle.cs_replies.specs.Replies.{Reply, Refused}
 use Rattle.cs_machine.specs.Script.{RowPlace, FindsRow, IsResource}
 use Rattle.cs_machine.specs.ShellState.{SlotMap, SessionTable, SessionTables, ShellState}
-use Rattle.cs_machine.specs.Stores.{Shows, TellsFailures}
+use Rattle.cs_machine.specs.Stores.{Shows, SparesStore, TellsFailures}
 
 -- ---- what a script sees
 
@@ -50,11 +50,12 @@ Known true store tables = Stands store tables
 Known false store tables = Shows store tables
 
 -- what is known of a store with some tables before is known of it with others after, and of both this holds, if the
--- disk has returned what was written
+-- disk has returned what was written; all but the records is kept in the database
 pub record TurnsBetween (old new : sqlite.State) (Before After : State → Type 0)
     (Holds : State → State → Type 0) : Type 0 where
   pub disk : TellsFailures old new
   pub done : HasCleanDisk new → (before : State) → Before before → (after : State) × After after × Holds before after
+  pub others : HasCleanDisk new → (before : State) → Before before → SparesStore old new
 
 -- a store that stood with some tables stands with others
 abbrev pub Turns : sqlite.State → sqlite.State → (State → State → Type 0) → Type 0

@@ -1,2 +1,3 @@
 pub mod HonestLemmas
 pub mod CloseLemmas
+pub mod FoundLemmas

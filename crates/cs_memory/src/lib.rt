@@ -14,4 +14,6 @@ mod file;
 mod store;
 
 pub use file::MemoryFile;
-pub use store::{MemoryStore, close_file, memory_files_law, open_file, open_memory};
+pub use store::{
+    MemoryStore, close_file, closed_file_law, memory_files_law, open_file, open_memory,
+};

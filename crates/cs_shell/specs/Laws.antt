@@ -5,6 +5,7 @@ use Rattle.cs_machine.specs.declared.workspace.Workspace.{Workspace}
 use Rattle.cs_replies.specs.declared.refusal.Refusal.TheVariants.{NoMemory}
 use Rattle.cs_replies.specs.Replies.{Refused}
 use Rattle.cs_machine.specs.Script.{unanswered}
+use Rattle.cs_machine.specs.Stores.{by_nothing}
 use Rattle.cs_shell.specs.Meant.{meant}
 use Rattle.cs_shell.specs.Shells.{Answers}
 
@@ -14,4 +15,5 @@ pub loses_line : (store : State) (is_settled : Bool) (work : Workspace) (line : 
 loses_line store is_settled work line rests = record {
   disk = record { clean = omega arith; counts = omega arith; closes = λ clean is_open. inl is_open };
   done = λ clean tables known. (tables, known, λ here. (here, inl (unanswered _ (meant line) NoMemory (inl refl))));
+  others = λ clean tables known. record { was_open = λ is_open. is_open; others = λ is_open. by_nothing };
 }

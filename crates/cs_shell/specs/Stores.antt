@@ -9,7 +9,7 @@ use Rattle.cs_replies.specs.Replies.{Reply}
 use Rattle.cs_shell.specs.Meant.{LineSays}
 use Rattle.cs_machine.specs.ShellState.{ShellState}
 use Rattle.cs_shell.specs.Runs.{Runs}
-pub use Rattle.cs_machine.specs.Stores.{Shows, IsSettled, TellsFailures}
+pub use Rattle.cs_machine.specs.Stores.{Shows, IsSettled, SparesOthers, SparesStore, TellsFailures}
 
 -- a script begins with the tables of the store: no slot is filled, and no session is open
 abbrev pub beginning : State → ShellState

@@ -3,7 +3,7 @@ ghost use Rattle.std.specs.Prelude.{◌≡◌, ◌||◌, Bool};
 ghost use Rattle.sqlite.specs.Held.{state};
 ghost use Rattle.sqlite.specs.State.{HasCleanDisk};
 ghost use Rattle.cs_value.specs.State.{State};
-ghost use Rattle.cs_machine.specs.Stores.{IsSettled, Shows, TellsFailures};
+ghost use Rattle.cs_machine.specs.Stores.{IsSettled, Shows, SparesStore, TellsFailures};
 ghost use Rattle.cs_machine.specs.Turns.{Known, TurnsBetween, WorksOn};
 ghost use Rattle.cs_replies.specs.Replies.{answer_of};
 ghost use Rattle.cs_shell.specs.Meant.{LineSays};
@@ -95,8 +95,8 @@ fn run_shell<S: Alter, R: Read, W: Write>(
 /// because a batch was left open in the store, the line is refused, and the next line tries again.
 ///
 /// After 16777216 bytes one byte more ends the script: the lines that end before it are run, and an error line is
-/// printed. The script also ends if a read or a write fails. The store keeps what the lines did. The slots and the
-/// session end with the script.
+/// printed. The script also ends if a read or a write fails. The store keeps what the lines did. While it is open, all
+/// else in its database is kept. The slots and the session end with the script.
 pub fn run_script<S: Alter, R: Read, W: Write>(
     alloc: Global,
     store: &mut Store<S>,
@@ -110,6 +110,8 @@ pub fn run_script<S: Alter, R: Read, W: Write>(
     ensures at_rest { HasCleanDisk (state S.Store store.new) → IsSettled (state S.Store store.old)
         → IsSettled (state S.Store store.new) }
     ensures disk { TellsFailures (state S.Store store.old) (state S.Store store.new) }
+    ensures others { HasCleanDisk (state S.Store store.new)
+        → SparesStore (state S.Store store.old) (state S.Store store.new) }
 {
     let mut work = Workspace::new(alloc);
     let mut shell = Shell {

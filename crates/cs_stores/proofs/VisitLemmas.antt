@@ -5,6 +5,10 @@ use Rattle.std.specs.FinMap as map
 use Rattle.std.specs.Cmp.Lexicographic.{nat_list_cmp_total}
 use Rattle.std.proofs.lemmas.Bool.{cond-true}
 use Rattle.cs_value.proofs.ByteMaps.{self_tied}
+use Rattle.sqlite.specs.Effect.{Database}
+use Rattle.cs_store.specs.Records.{KeepsOthers}
+use Rattle.cs_machine.specs.Stores.{SparesOthers, by_nothing, by_each}
+use Rattle.cs_machine.proofs.TurnLemmas.{spares_then}
 use Rattle.cs_folder.specs.Files.{Files}
 use Rattle.cs_stores.specs.Visits.{bytes_in}
 
@@ -13,3 +17,7 @@ pub put_bytes : (old new : Files) (name bytes : List ℕ) → Some new ≡ Some 
 put_bytes old new name bytes put =
     ap (λ o. bytes_in (unwrap_or o old) name) put
     ∙ ap (λ o. unwrap_or o []) (map.get-insert nat_list_cmp_total old name bytes name ∙ cond-true _ _ _ (self_tied name))
+
+-- what is kept by an open, and then by a visit
+pub opened_spares : (found opened left : Database) → KeepsOthers found opened → SparesOthers opened left → SparesOthers found left
+opened_spares found opened left keeps spares = spares_then found opened left (by_each found opened by_nothing keeps) spares

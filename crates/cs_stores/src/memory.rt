@@ -1,11 +1,13 @@
 //! The stores in files in memory.
-ghost use Rattle.std.specs.Prelude.{◌≡◌, IfOk, IfErr, OnOk, Some};
+ghost use Rattle.std.specs.Prelude.{◌≡◌, IfOk, IfErr, IsTrue, OnOk, Some};
+ghost use Rattle.sqlite.specs.Effect.{Database};
 ghost use Rattle.sqlite.specs.Files.{file_state};
 ghost use Rattle.cs_value.specs.State as tables;
 ghost use Rattle.cs_rows.specs.declared.fault.StoreError.TheVariants.{NoMemory as OutOfMemory};
+ghost use Rattle.cs_machine.specs.Stores.{SparesOthers};
 ghost use Rattle.cs_machine.specs.Turns.{Stands};
 ghost use Rattle.cs_memory.specs.Memory.{bytes_of};
-ghost use Rattle.cs_stores.specs.Visits.{HasStore, KeepsFile, bytes_in};
+ghost use Rattle.cs_stores.specs.Visits.{HasOthers, HasStore, KeepsFile, bytes_in};
 
 use crate::visiting::{StoreFolder, Visitor};
 use cs_folder::{Folder, MemoryFolder};
@@ -27,7 +29,8 @@ impl StoreFolder for MemoryFolder {
         };
         visitor.visit(alloc, &mut store);
         memory_files_law(&store);
-        Ok(keep_store(alloc, self, name, store))
+        let closed = keep_store(alloc, self, name, store);
+        Ok(closed)
     }
 }
 
@@ -55,6 +58,9 @@ fn keep_store(
     ensures file { KeepsFile folder.old name.now (Some folder.new) result }
     ensures kept { (held : tables.State) → Stands (file_state store) held
         → OnOk result (HasStore folder.new name.now held) }
+    ensures others { (found : Database) (held : tables.State) → Stands (file_state store) held
+        → (IsTrue (file_state store).is_open → SparesOthers found (file_state store).now)
+        → OnOk result (HasOthers folder.new name.now found) }
 {
     let file = close_file(store)?;
     match folder.replace(alloc, name, file.as_slice()) {

@@ -20,7 +20,7 @@ pub trait Visitor {
     ghost does: { Self → Self → Type 0 };
 
     /// Works on a store in which no batch is open. While the store is open, and its disk returns what was written, it
-    /// leaves none open.
+    /// leaves none open, and keeps all of the database but the records.
     fn visit<S: Alter>(&mut self, alloc: Global, store: &mut Store<S>)
         ensures visited { Turns (state S.Store store.old) (state S.Store store.new) (visits self.old self.new) }
         ensures done { does self.old self.new };
@@ -28,13 +28,14 @@ pub trait Visitor {
 
 /// A folder whose files can be stores.
 pub trait StoreFolder: Folder {
-    /// Opens the store in a file, has it visited, and closes it. A file that does not exist is created. Returns why it
-    /// was not closed: then a file in memory is as it was. One of the machine has what the visitor committed.
+    /// Opens the store in a file, has it visited, and closes it. A file that does not exist is created. Other tables of
+    /// the database are kept. Returns why it was not closed: then a file in memory is as it was. One of the machine has
+    /// what the visitor committed.
     ///
     /// # Errors
     ///
-    /// `DamagedStore` if the file is a database that is no store, `StoreFault` if it is no database or cannot be
-    /// opened, and `NoMemory` if memory runs out. Then the visitor is not called.
+    /// `DamagedStore` if the file is a database that is no store; for files in memory it comes only then. `StoreFault`
+    /// if it is no database or cannot be opened, and `NoMemory` if memory runs out. Then the visitor is not called.
     fn visit_store<V: Visitor>(
         &mut self,
         alloc: Global,

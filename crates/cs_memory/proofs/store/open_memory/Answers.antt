@@ -11,4 +11,4 @@ pub returns-clause-at_rest : goal.returns-clause-at_rest
 returns-clause-at_rest c = IfOk-weaker c.open_file.result _ _ (λ store opens. opens.at_rest) c.open_file.ensures.opened
 
 pub returns-clause-named : goal.returns-clause-named
-returns-clause-named c = c.open_file.ensures.refused map.empty (inr (c.new.ensures.empty, refl))
+returns-clause-named c = c.open_file.ensures.undamaged map.empty (inr (c.new.ensures.empty, refl))

@@ -1,6 +1,7 @@
--- `shell::run_script`: the clauses `ran`, `at_rest` and `disk`.
-use Rattle.std.proofs.Common.{◌≡◌, false, true, rules}
+-- `shell::run_script`: the clauses `ran`, `at_rest`, `disk` and `others`.
+use Rattle.std.proofs.Common.{◌≡◌, false, true, refl, rules}
 use Rattle.sqlite.specs.Held.{state}
+use Rattle.cs_store.specs.Store.{tables_in}
 use Rattle.cs_shell.proofs.LineLemmas.{begins, stays_at_rest}
 use Rattle.cs_shell.proofs.shell.run_script.Goals as goal
 
@@ -20,3 +21,8 @@ pub returns-clause-disk : goal.returns-clause-disk
 returns-clause-disk g c =
     let same : c.run_shell.new.shell.store.now ≡ c.store-1.given.0 = search rules in
     rw (← same) (c.run_shell.ensures.ran false).disk
+
+pub returns-clause-others : goal.returns-clause-others
+returns-clause-others g c =
+    let same : c.run_shell.new.shell.store.now ≡ c.store-1.given.0 = search rules in
+    rw (← same) (λ clean. (c.run_shell.ensures.ran false).others clean (tables_in (state g.S.Store c.args.store.now).now) (λ is_open. refl))

@@ -11,4 +11,5 @@ returns-clause-visited g c = record {
         λ is_open. (c.run_script-self.ensures.at_rest clean (λ was_open. (stands was_open).0) is_open, ran.shows is_open),
         record { final = ran.last; runs = ran.runs; tables = refl },
       );
+  others = λ clean before stands. c.run_script-self.ensures.others clean;
 }
