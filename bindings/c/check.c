@@ -114,7 +114,8 @@ static void add_side(struct text *text, struct bytes file, const struct vollikas
         require(code == VOLLIKASH_OK, "a change has no value in a column");
         require(value.offset <= file.count && value.length <= file.count - value.offset, "a value is outside the file");
         require(value.kind == VOLLIKASH_INTEGER || value.integer == 0, "a value has an integer that it does not use");
-        require(value.kind == VOLLIKASH_TEXT || value.kind == VOLLIKASH_BLOB || (value.offset == 0 && value.length == 0),
+        require(value.kind == VOLLIKASH_TEXT || value.kind == VOLLIKASH_BLOB ||
+                    (value.offset == 0 && value.length == 0),
                 "a value has bytes that it does not use");
         if (value.kind == VOLLIKASH_UNDEFINED) {
             add(text, " u", 2);
