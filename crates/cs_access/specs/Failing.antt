@@ -1,5 +1,5 @@
 -- For which causes the database of a store fails.
-use Rattle.std.specs.Prelude.{◌≡◌, ◌≢◌, ◌⊎◌, ℕ, Bool, true, false, IsTrue, List, [], None}
+use Rattle.std.specs.Prelude.{◌≡◌, ◌≢◌, ◌⊎◌, ℕ, Bool, true, false, IsTrue, Option, List, [], None}
 use Rattle.sqlite_trees.specs.declared.store.Store.{Ghosts}
 use Rattle.sqlite.specs.declared.error.Error.{Error}
 use Rattle.sqlite.specs.declared.error.Error.TheVariants.{SqliteFailure}
@@ -12,10 +12,14 @@ use Rattle.cs_value.specs.Spelling.{row_bytes}
 use Rattle.cs_rows.specs.declared.fault.Cause.{Cause}
 use Rattle.cs_rows.specs.declared.fault.Cause.TheVariants.{Other}
 use Rattle.cs_records.specs.Records.{records_in, record_rows, HoldsRecords, IsUnsupported, KeepsCrash, KeepsOthers, LacksRecords}
+use Rattle.cs_rows.specs.Rows.{Write}
+use Rattle.cs_rows.specs.Rows as rows
+use Rattle.cs_value.specs.State as tables
+use Rattle.cs_stored.specs.Declaration.{declaration_bytes}
 use Rattle.cs_stored.specs.Stored.{version}
-use Rattle.cs_records.specs.Failing.{Statement, puts, removes, FailsAt, CannotMake, CannotRead, HasDiskFailed, IsMisplaced}
+use Rattle.cs_records.specs.Failing.{Statement, puts, removes, FailsAt, CannotMake, CannotRead, CannotWrite, HasDiskFailed, IsMisplaced, LeadsTo, Refuses}
 use Rattle.cs_access.specs.Refusals.{cause_of}
-use Rattle.cs_access.specs.Store.{KeepsStore}
+use Rattle.cs_access.specs.Store.{tables_in}
 
 -- The cause is that of such an error, and not memory.
 abbrev pub IsCauseOf : (Error → Type 0) → Cause → Type 0
@@ -32,7 +36,7 @@ abbrev pub ReadFails : State → State → Cause → Type 0
 ReadFails old new = IsCauseOf (CannotRead old new)
 
 abbrev pub WriteFails : State → State → Statement → Cause → Type 0
-WriteFails old new statement cause = IsApt old.now statement × IsCauseOf (FailsAt old new statement) cause
+WriteFails old new statement cause = IsApt old.now statement × IsCauseOf (CannotWrite old new statement) cause
 
 -- No transaction is open to write in.
 abbrev pub IsOutside : State → Cause → Type 0
@@ -53,15 +57,43 @@ BeginFails old new = IsCauseOf (λ error. IsMisplaced (IsTrue old.in_transaction
 abbrev pub CommitFails : State → State → Cause → Type 0
 CommitFails old new = IsCauseOf (λ error. IsMisplaced (old.in_transaction ≡ false) error ⊎ HasDiskFailed old new error)
 
--- The database failed a read or a write for this cause, and this is the connection after it. Or no transaction was open
--- to write in.
-pub data HasFailed {S : Type 0} (g : Ghosts S) (now : Held S) : Cause → Type 0 where
-  by_read : (was : Held S) (cause : Cause) → KeepsStore (state g was) (state g now)
-      → ReadFails (state g was) (state g now) cause → HasFailed g now cause
-  by_write : (was : Held S) (statement : Statement) (cause : Cause) → KeepsStore (state g was) (state g now)
-      → WriteFails (state g was) (state g now) statement cause → HasFailed g now cause
-  outside : (was : Held S) (cause : Cause) → KeepsStore (state g was) (state g now) → IsOutside (state g was) cause
-      → HasFailed g now cause
+-- ---- calls that make several statements
+
+-- The statement writes the record of such a write to rows.
+abbrev pub IsStatementOf : Write → Statement → Type 0
+IsStatementOf (rows.puts name key row) (puts is_new tab k value) = (tab ≡ name) × (k ≡ key) × (value ≡ row_bytes row)
+IsStatementOf (rows.puts name key row) (removes tab k) = ⊥
+IsStatementOf (rows.removes name key) (puts is_new tab k value) = ⊥
+IsStatementOf (rows.removes name key) (removes tab k) = (tab ≡ name) × (k ≡ key)
+
+-- It writes the record of a write of which this holds, with the tables as they are then.
+abbrev pub Writes : (tables.State → Write → Type 0) → tables.State → Statement → Type 0
+Writes Is held statement = (write : Write) × IsStatementOf write statement × Is held write
+
+-- It declares a table.
+abbrev pub Declares : List ℕ → tables.SchemaData → tables.State → Statement → Type 0
+Declares name schema held statement = statement ≡ puts false [] name (declaration_bytes schema)
+
+-- Statements that write records lead from one database to another. That refuses a statement of which this holds.
+pub record IsRefused (Is : tables.State → Statement → Type 0) (limit : Option ℕ) (from : Database) (error : Error) : Type 0 where
+  pub at : Database
+  pub leads : LeadsTo limit from at
+  pub statement : Statement
+  pub is : Is (tables_in at) statement
+  pub apt : IsApt at statement
+  pub refused : Refuses limit at statement error
+
+-- Of a call, a read fails, or a statement of which this holds is refused.
+abbrev pub CallFails : (tables.State → Statement → Type 0) → State → State → Error → Type 0
+CallFails Is old new error = CannotRead old new error ⊎ IsRefused Is old.step_limit old.now error
+
+-- A call inside a transaction fails for this cause: it is outside of one, or so it is.
+abbrev pub BatchFails : (tables.State → Statement → Type 0) → State → State → Cause → Type 0
+BatchFails Is old new cause = IsOutside old cause ⊎ IsCauseOf (CallFails Is old new) cause
+
+-- A call that begins and ends its own transaction fails for this cause: one is open, or so it is.
+abbrev pub StoreFails : (tables.State → Statement → Type 0) → State → State → Cause → Type 0
+StoreFails Is old new = IsCauseOf (λ error. IsMisplaced (IsTrue old.in_transaction) error ⊎ CallFails Is old new error)
 
 -- ---- adoption
 

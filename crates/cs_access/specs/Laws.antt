@@ -1,13 +1,22 @@
 -- What calls on a store keep, one after another.
-use Rattle.std.proofs.Common.{◌≡◌, inl, inr, refl, sym, subst, IsTrue, ◌∙◌, arith}
+use Rattle.std.proofs.Common.{◌≡◌, ◌≤◌, inl, inr, true≢false, refl, sym, subst, IsTrue, Option, IsSome, ℕ, ◌∙◌, arith}
+use Rattle.std.proofs.lemmas.Bool.{cases_Bool}
+use Rattle.sqlite_trees.specs.declared.error.StoreError as disk
+use Rattle.sqlite_trees.specs.declared.error.StoreError.TheVariants as cause
+use Rattle.sqlite.specs.declared.error.Error.{Error}
+use Rattle.sqlite.specs.Effect.{Database}
+use Rattle.cs_rows.specs.declared.fault.Cause.{Cause}
 use Rattle.sqlite_trees.specs.Tree.{Trees}
 use Rattle.sqlite.specs.State.{State, HasCleanDisk, Survives}
 use Rattle.sqlite.proofs.StateLemmas.{survives_then}
 use Rattle.cs_value.specs.State as tables
-use Rattle.cs_records.specs.Records.{KeepsContent}
+use Rattle.cs_records.specs.Failing.{Statement, LeadsTo, itself, by_each, CannotRead, HasDiskFailed, IsHindered, Refuses}
+use Rattle.cs_records.specs.Records.{KeepsContent, KeepsCrash}
 use Rattle.cs_records.proofs.ContentLemmas.{crash_itself}
 use Rattle.cs_access.specs.Crash.{LeavesOnly}
-use Rattle.cs_access.specs.Store.{KeepsStore}
+use Rattle.cs_rows.specs.Rows.{Write}
+use Rattle.cs_access.specs.Failing.{BatchFails, CallFails, IsRefused, ReadFails, Writes}
+use Rattle.cs_access.specs.Store.{KeepsStore, LeadsOn, tables_in}
 
 -- an honest disk was honest before
 pub was_clean : {P : Trees → Type 0} (old new : State) → Survives old new P → HasCleanDisk new → HasCleanDisk old
@@ -67,3 +76,93 @@ leaves_then {a} {b} keeps leaves clean trees may =
       | inl was ↦ leaves (was_clean a b keeps.crash clean) trees was
       | inr none ↦ absurd none
     ]
+
+-- ---- accepted calls
+
+-- one way after another
+leads_to_then : {limit : Option ℕ} {a b c : Database} → LeadsTo limit a b → LeadsTo limit b c → LeadsTo limit a c
+leads_to_then one itself = one
+leads_to_then one (by_each mid new statement tally two ends) = by_each mid new statement tally (leads_to_then one two) ends
+
+pub leads_itself : {s : State} → LeadsOn s s
+leads_itself = record { inside = λ is. is; leads = itself }
+
+pub leads_on_then : {a b c : State} → KeepsCrash a b → LeadsOn a b → LeadsOn b c → LeadsOn a c
+leads_on_then {a} {b} {c} keeps one two = record {
+  inside = λ is. two.inside (one.inside is);
+  leads = leads_to_then one.leads (subst (λ limit. LeadsTo limit b.now c.now) keeps.limit two.leads);
+}
+
+-- ---- failures
+
+-- a hindrance after a call is one from before it, and stays one
+hindered_then : (a b c : State) (cause : disk.StoreError) → KeepsCrash a b → HasCleanDisk b → b.faults ≤ c.faults → IsHindered b c cause → IsHindered a c cause
+hindered_then a b c cause.Io one clean counts more = omega (arith, one.counts, more)
+hindered_then a b c cause.Corrupt one clean counts more = omega (arith, one.counts, more)
+hindered_then a b c cause.Full one clean counts more = omega (arith, one.counts, more)
+hindered_then a b c cause.Broken one clean counts (inl more) = inl (omega (arith, one.counts, more))
+hindered_then a b c cause.Broken one clean counts (inr shut) = elim (cases_Bool a.is_open) [
+  | inl is ↦ elim (one.closes clean is) [
+    | inl still ↦ absurd (let e = sym still ∙ shut in cc)
+    | inr more ↦ inl (omega (arith, counts, more))
+  ]
+  | inr was ↦ inr was
+]
+hindered_then a b c cause.OutOfMemory one clean counts none = absurd none
+hindered_then a b c cause.Unstorable one clean counts none = absurd none
+
+pub disk_then : (a b c : State) (e : Error) → KeepsCrash a b → HasCleanDisk b → b.faults ≤ c.faults → HasDiskFailed b c e → HasDiskFailed a c e
+disk_then a b c e one clean counts failed = (failed.0, failed.1, hindered_then a b c failed.0 one clean counts failed.2)
+
+cannot_then : (a b c : State) (e : Error) → KeepsCrash a b → HasCleanDisk b → KeepsCrash b c → CannotRead b c e → CannotRead a c e
+cannot_then a b c e one clean two (inl failed) = inl (disk_then a b c e one clean two.counts failed)
+cannot_then a b c e one clean two (inr limited) = inr (limited.0, subst (λ (o : Option ℕ). IsSome o) one.limit limited.1)
+
+pub read_then : (a b c : State) (why : Cause) → KeepsCrash a b → HasCleanDisk b → KeepsCrash b c → ReadFails b c why → ReadFails a c why
+read_then a b c why one clean two (e, other, fails, is) = (e, other, cannot_then a b c e one clean two fails, is)
+
+module _ (Is : tables.State → Statement → Type 0) (a b c : State) (one : KeepsCrash a b) (clean : HasCleanDisk b) (two : KeepsCrash b c) (leads : LeadsTo a.step_limit a.now b.now) where
+  refused_then : (e : Error) → IsRefused Is b.step_limit b.now e → IsRefused Is a.step_limit a.now e
+  refused_then e refused = record {
+    at = refused.at;
+    leads = leads_to_then leads (subst (λ limit. LeadsTo limit b.now refused.at) one.limit refused.leads);
+    statement = refused.statement;
+    is = refused.is;
+    apt = refused.apt;
+    refused = subst (λ limit. Refuses limit refused.at refused.statement e) one.limit refused.refused;
+  }
+
+  pub call_then : (e : Error) → CallFails Is b c e → CallFails Is a c e
+  call_then e (inl cannot) = inl (cannot_then a b c e one clean two cannot)
+  call_then e (inr refused) = inr (refused_then e refused)
+
+-- after an accepted call of a batch, a failure is one from before it
+pub batch_then : (Is : tables.State → Statement → Type 0) (a b c : State) (why : Cause) → KeepsCrash a b → HasCleanDisk b → KeepsCrash b c → LeadsOn a b → BatchFails Is b c why → BatchFails Is a c why
+batch_then Is a b c why one clean two leads (inl (outside, other)) = elim (cases_Bool a.in_transaction) [
+  | inl inside ↦ absurd (true≢false (sym (leads.inside inside) ∙ outside))
+  | inr out ↦ inl (out, other)
+]
+batch_then Is a b c why one clean two leads (inr (e, other, fails, is)) = inr (e, other, call_then Is a b c one clean two leads.leads e fails, is)
+
+-- and so of a batch's rows
+pub batch_fails_then : (Is : tables.State → Statement → Type 0) (a b c : State) (why : Cause) → KeepsStore a b → KeepsCrash b c → (HasCleanDisk b → LeadsOn a b) → HasCleanDisk c → BatchFails Is b c why
+    → BatchFails Is a c why
+batch_fails_then Is a b c why one two leads clean failed = let was = was_clean b c two clean in batch_then Is a b c why one.crash was two (leads was) failed
+
+-- and so for a weaker predicate
+batch_so : (Is Are : tables.State → Statement → Type 0) (a b : State) (why : Cause) → ((held : tables.State) (statement : Statement) → Is held statement → Are held statement)
+    → BatchFails Is a b why → BatchFails Are a b why
+batch_so Is Are a b why so (inl outside) = inl outside
+batch_so Is Are a b why so (inr (e, other, inl cannot, is)) = inr (e, other, inl cannot, is)
+batch_so Is Are a b why so (inr (e, other, inr refused, is)) = inr (e, other, inr (record {
+  at = refused.at;
+  leads = refused.leads;
+  statement = refused.statement;
+  is = so (tables_in refused.at) refused.statement refused.is;
+  apt = refused.apt;
+  refused = refused.refused;
+}), is)
+
+pub batch_fails_so : (Is Are : tables.State → Write → Type 0) (a b : State) (why : Cause) → ((held : tables.State) (write : Write) → Is held write → Are held write)
+    → BatchFails (Writes Is) a b why → BatchFails (Writes Are) a b why
+batch_fails_so Is Are a b why so = batch_so (Writes Is) (Writes Are) a b why (λ held statement made. (made.0, made.1, so held made.0 made.2))

@@ -8,8 +8,9 @@ ghost use Rattle.cs_value.specs.State.{schema_at, row_at, rows_at, with_row, wit
 ghost use Rattle.cs_rows.specs.declared.fault.StoreError.TheVariants.{TableExists as TakenName};
 ghost use Rattle.cs_rows.specs.Faults.{IsCaused, IsResource, IsReadRefusal};
 ghost use Rattle.cs_rows.specs.Rows.{IsDeclared, Fits};
-ghost use Rattle.cs_access.specs.Failing.{HasFailed, PutFails, ReadFails, RemoveFails};
-ghost use Rattle.cs_access.specs.Store.{AddsTable, IsSound, KeepsStore, Knows, IsFreeKey, RefusesShut, tables_in, without_free_key};
+ghost use Rattle.cs_access.specs.Failing.{BatchFails, Declares, PutFails, ReadFails, RemoveFails};
+ghost use Rattle.cs_access.specs.Store.{AddsTable, IsFreeKey, IsSound, KeepsStore, Knows, LeadsOn, RefusesShut};
+ghost use Rattle.cs_access.specs.Store.{tables_in, without_free_key};
 ghost use Rattle.sqlite.specs.State.{HasCleanDisk};
 ghost use Rattle.sqlite.specs.Held.{state};
 
@@ -58,6 +59,8 @@ pub fn find_schema<S: Alter>(
         → IfErr result (IsCaused (ReadFails (state S.Store conn.old) (state S.Store conn.new))) }
     ensures named { IfErr result IsReadRefusal }
     ensures knows { Knows (state S.Store conn.new) known.new }
+    ensures leads { HasCleanDisk (state S.Store conn.new)
+        → OnOk result (LeadsOn (state S.Store conn.old) (state S.Store conn.new)) }
     ensures kept { KeepsStore (state S.Store conn.old) (state S.Store conn.new) }
 {
     look_up(conn, known, alloc, name)?;
@@ -92,6 +95,8 @@ pub fn find_row<S: Alter>(
         → IfErr result (IsCaused (ReadFails (state S.Store conn.old) (state S.Store conn.new))) }
     ensures named { IfErr result IsReadRefusal }
     ensures knows { Knows (state S.Store conn.new) known.new }
+    ensures leads { HasCleanDisk (state S.Store conn.new)
+        → OnOk result (LeadsOn (state S.Store conn.old) (state S.Store conn.new)) }
     ensures kept { KeepsStore (state S.Store conn.old) (state S.Store conn.new) }
 {
     look_up(conn, known, alloc, name)?;
@@ -133,6 +138,8 @@ pub fn list_rows<S: Alter>(
         → IfErr result (IsCaused (ReadFails (state S.Store conn.old) (state S.Store conn.new))) }
     ensures named { IfErr result IsReadRefusal }
     ensures knows { Knows (state S.Store conn.new) known.new }
+    ensures leads { HasCleanDisk (state S.Store conn.new)
+        → OnOk result (LeadsOn (state S.Store conn.old) (state S.Store conn.new)) }
     ensures kept { KeepsStore (state S.Store conn.old) (state S.Store conn.new) }
 {
     look_up(conn, known, alloc, name)?;
@@ -167,6 +174,8 @@ pub fn put_row<S: Alter>(
     ensures caused { HasCleanDisk (state S.Store conn.new) → IfErr result
         (IsCaused (PutFails (state S.Store conn.old) (state S.Store conn.new) name.now key.now row.now)) }
     ensures knows { Knows (state S.Store conn.new) known.new }
+    ensures leads { HasCleanDisk (state S.Store conn.new)
+        → OnOk result (LeadsOn (state S.Store conn.old) (state S.Store conn.new)) }
     ensures kept { KeepsStore (state S.Store conn.old) (state S.Store conn.new) }
 {
     if conn.is_autocommit() {
@@ -202,6 +211,8 @@ pub fn remove_row<S: Alter>(
     ensures caused { HasCleanDisk (state S.Store conn.new) → IfErr result
         (IsCaused (RemoveFails (state S.Store conn.old) (state S.Store conn.new) name.now key.now)) }
     ensures knows { Knows (state S.Store conn.new) known.new }
+    ensures leads { HasCleanDisk (state S.Store conn.new)
+        → OnOk result (LeadsOn (state S.Store conn.old) (state S.Store conn.new)) }
     ensures kept { KeepsStore (state S.Store conn.old) (state S.Store conn.new) }
 {
     if conn.is_autocommit() {
@@ -235,9 +246,12 @@ pub fn add_table<S: Alter>(
         (tables_in (state S.Store conn.new).now)) }
     ensures refused { HasCleanDisk (state S.Store conn.new) → IfErr result (λ e. ((e ≡ TakenName)
         × IsDeclared (tables_in (state S.Store conn.old).now) name.now) ⊎ IsResource e) }
-    ensures caused { HasCleanDisk (state S.Store conn.new) → IfErr result (IsCaused (HasFailed S.Store conn.new)) }
+    ensures caused { HasCleanDisk (state S.Store conn.new) → IfErr result (IsCaused
+        (BatchFails (Declares name.now schema.now) (state S.Store conn.old) (state S.Store conn.new))) }
     ensures named { IfErr result (λ e. (e ≡ TakenName) ⊎ IsReadRefusal e) }
     ensures knows { Knows (state S.Store conn.new) known.new }
+    ensures leads { HasCleanDisk (state S.Store conn.new)
+        → OnOk result (LeadsOn (state S.Store conn.old) (state S.Store conn.new)) }
     ensures kept { KeepsStore (state S.Store conn.old) (state S.Store conn.new) }
 {
     match find_schema(conn, known, alloc, name) {
@@ -263,8 +277,11 @@ fn put_table<S: Alter>(
         → OnOk result (AddsTable (tables_in (state S.Store conn.old).now) name.now schema.now
         (tables_in (state S.Store conn.new).now)) }
     ensures refused { IfErr result IsResource }
-    ensures caused { HasCleanDisk (state S.Store conn.new) → IfErr result (IsCaused (HasFailed S.Store conn.new)) }
+    ensures caused { HasCleanDisk (state S.Store conn.new) → IfErr result (IsCaused
+        (BatchFails (Declares name.now schema.now) (state S.Store conn.old) (state S.Store conn.new))) }
     ensures knows { Knows (state S.Store conn.new) known.new }
+    ensures leads { HasCleanDisk (state S.Store conn.new)
+        → OnOk result (LeadsOn (state S.Store conn.old) (state S.Store conn.new)) }
     ensures kept { KeepsStore (state S.Store conn.old) (state S.Store conn.new) }
 {
     *known = None;
@@ -296,6 +313,8 @@ fn look_up<S: Alter>(
         → IfErr result (IsCaused (ReadFails (state S.Store conn.old) (state S.Store conn.new))) }
     ensures named { IfErr result IsReadRefusal }
     ensures knows { Knows (state S.Store conn.new) known.new }
+    ensures leads { HasCleanDisk (state S.Store conn.new)
+        → OnOk result (LeadsOn (state S.Store conn.old) (state S.Store conn.new)) }
     ensures kept { KeepsStore (state S.Store conn.old) (state S.Store conn.new) }
 {
     if !conn.is_autocommit() && has_name(known, name) {

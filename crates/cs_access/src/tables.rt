@@ -16,7 +16,7 @@ ghost use Rattle.cs_rows.specs.Faults.{IsCaused, IsResource, IsReadRefusal};
 ghost use Rattle.cs_records.specs.Failing.{puts, removes};
 ghost use Rattle.cs_access.specs.Failing.{ReadFails, WriteFails};
 ghost use Rattle.cs_rows.specs.Rows.{IsDeclared, Fits, IsRowIn};
-ghost use Rattle.cs_access.specs.Store.{IsSound, KeepsStore, Recovers, RecoversList, RefusesShut};
+ghost use Rattle.cs_access.specs.Store.{IsSound, KeepsStore, LeadsOn, Recovers, RecoversList, RefusesShut};
 ghost use Rattle.cs_access.specs.Store.{AddsTable, AreNamed, AreStored, HoldsState, tables_in};
 
 use crate::refusal::refused;
@@ -43,6 +43,8 @@ pub fn find_schema<S: Alter>(
     ensures caused { IsSound (state S.Store conn.old) → HasCleanDisk (state S.Store conn.new)
         → IfErr result (IsCaused (ReadFails (state S.Store conn.old) (state S.Store conn.new))) }
     ensures named { IfErr result IsReadRefusal }
+    ensures leads { HasCleanDisk (state S.Store conn.new)
+        → OnOk result (LeadsOn (state S.Store conn.old) (state S.Store conn.new)) }
     ensures kept { KeepsStore (state S.Store conn.old) (state S.Store conn.new) }
 {
     match find_record(conn, "", name.as_bytes()) {
@@ -91,6 +93,8 @@ pub fn find_row<S: Alter>(
     ensures caused { IsSound (state S.Store conn.old) → HasCleanDisk (state S.Store conn.new)
         → IfErr result (IsCaused (ReadFails (state S.Store conn.old) (state S.Store conn.new))) }
     ensures named { IfErr result IsReadRefusal }
+    ensures leads { HasCleanDisk (state S.Store conn.new)
+        → OnOk result (LeadsOn (state S.Store conn.old) (state S.Store conn.new)) }
     ensures kept { KeepsStore (state S.Store conn.old) (state S.Store conn.new) }
 {
     match find_record(conn, name, key.bytes()) {
@@ -131,6 +135,8 @@ pub fn list_rows<S: Alter>(
     ensures caused { IsSound (state S.Store conn.old) → HasCleanDisk (state S.Store conn.new)
         → IfErr result (IsCaused (ReadFails (state S.Store conn.old) (state S.Store conn.new))) }
     ensures named { IfErr result IsReadRefusal }
+    ensures leads { HasCleanDisk (state S.Store conn.new)
+        → OnOk result (LeadsOn (state S.Store conn.old) (state S.Store conn.new)) }
     ensures kept { KeepsStore (state S.Store conn.old) (state S.Store conn.new) }
 {
     match list_records(conn, alloc, name) {
@@ -175,8 +181,12 @@ pub fn put_row<S: Alter>(
         → OnOk result (tables_in (state S.Store conn.new).now
         ≡ with_row (tables_in (state S.Store conn.old).now) name.now key.now row.now) }
     ensures refused { IfErr result IsResource }
-    ensures caused { HasCleanDisk (state S.Store conn.new) → IfErr result
+    ensures caused { IsSound (state S.Store conn.old) → IsTrue (state S.Store conn.old).in_transaction
+        → HasCleanDisk (state S.Store conn.new) → IfErr result
         (IsCaused (WriteFails (state S.Store conn.old) (state S.Store conn.new) (puts is_new name.now key.now (row_bytes row.now)))) }
+    ensures leads { IsSound (state S.Store conn.old) → IsTrue (state S.Store conn.old).in_transaction
+        → HasCleanDisk (state S.Store conn.new)
+        → OnOk result (LeadsOn (state S.Store conn.old) (state S.Store conn.new)) }
     ensures kept { IsSound (state S.Store conn.old) → IsTrue (state S.Store conn.old).in_transaction
         → KeepsStore (state S.Store conn.old) (state S.Store conn.new) }
 {
@@ -197,8 +207,12 @@ pub fn remove_row<S: Alter>(
         → OnOk result (tables_in (state S.Store conn.new).now
         ≡ without_row (tables_in (state S.Store conn.old).now) name.now key.now) }
     ensures refused { IfErr result IsResource }
-    ensures caused { HasCleanDisk (state S.Store conn.new) → IfErr result
+    ensures caused { IsSound (state S.Store conn.old) → IsTrue (state S.Store conn.old).in_transaction
+        → HasCleanDisk (state S.Store conn.new) → IfErr result
         (IsCaused (WriteFails (state S.Store conn.old) (state S.Store conn.new) (removes name.now key.now))) }
+    ensures leads { IsSound (state S.Store conn.old) → IsTrue (state S.Store conn.old).in_transaction
+        → HasCleanDisk (state S.Store conn.new)
+        → OnOk result (LeadsOn (state S.Store conn.old) (state S.Store conn.new)) }
     ensures kept { IsSound (state S.Store conn.old) → IsTrue (state S.Store conn.old).in_transaction
         → KeepsStore (state S.Store conn.old) (state S.Store conn.new) }
 {
@@ -273,8 +287,12 @@ pub fn put_table<S: Alter>(
         → OnOk result (AddsTable (tables_in (state S.Store conn.old).now) name.now schema.now
         (tables_in (state S.Store conn.new).now)) }
     ensures refused { IfErr result IsResource }
-    ensures caused { HasCleanDisk (state S.Store conn.new) → IfErr result
+    ensures caused { IsSound (state S.Store conn.old) → IsTrue (state S.Store conn.old).in_transaction
+        → HasCleanDisk (state S.Store conn.new) → IfErr result
         (IsCaused (WriteFails (state S.Store conn.old) (state S.Store conn.new) (puts false [] name.now (declaration_bytes schema.now)))) }
+    ensures leads { IsSound (state S.Store conn.old) → IsTrue (state S.Store conn.old).in_transaction
+        → HasCleanDisk (state S.Store conn.new)
+        → OnOk result (LeadsOn (state S.Store conn.old) (state S.Store conn.new)) }
     ensures kept { IsSound (state S.Store conn.old) → IsTrue (state S.Store conn.old).in_transaction
         → KeepsStore (state S.Store conn.old) (state S.Store conn.new) }
 {

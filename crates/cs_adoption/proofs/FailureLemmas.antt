@@ -15,7 +15,8 @@ use Rattle.cs_access.specs.Failing.{HasMade, IsInside, ReadFails, SetUpFails, Ve
 use Rattle.cs_records.specs.Failing.{CannotMake, CannotRead, IsFailure}
 use Rattle.cs_records.specs.declared.fault.RecordsError.{RecordsError}
 use Rattle.cs_access.specs.Refusals.{refusal_of}
-use Rattle.cs_access.proofs.FailureLemmas.{caused, caused_so, read_then, so_caused}
+use Rattle.cs_access.specs.Laws.{read_then}
+use Rattle.cs_access.proofs.FailureLemmas.{caused, caused_so, so_caused}
 
 -- a refusal for damage or memory has no cause
 pub uncaused : (Fails : Cause → Type 0) (e : StoreError) → (e ≡ DamagedStore) ⊎ (e ≡ NoMemory) → IsCaused Fails e

@@ -5,6 +5,7 @@ ghost use Rattle.sqlite.specs.State.{HasCleanDisk};
 ghost use Rattle.sqlite.specs.Held.{state};
 ghost use Rattle.cs_value.specs.State.{State};
 ghost use Rattle.cs_store.specs.Crash.{CanBegin, IsAtomic, LeavesOnly};
+ghost use Rattle.cs_store.specs.Failing.{StoreFails, Writes};
 ghost use Rattle.cs_store.specs.Records.{KeepsContent, KeepsOthers};
 ghost use Rattle.cs_store.specs.Store.{IsAtRest, RefusesShut, tables_in};
 ghost use Rattle.cs_group.specs.declared.conflict.Choice.TheVariants.{Abort as AbortChoice};
@@ -12,7 +13,9 @@ ghost use Rattle.cs_group.specs.declared.conflict.Noop.TheVariants.{Report as Re
 ghost use Rattle.cs_run.specs.declared.running.Direction.TheVariants.{Forward as ForwardRun, Inverse as InverseRun};
 ghost use Rattle.cs_apply.specs.Crash.{AppliesInto};
 ghost use Rattle.cs_run.specs.Tally.{Tells, is_listed};
-ghost use Rattle.cs_run.specs.Running.{Applies, AppliesCounted, AppliesTold, Refuses, AlwaysAborts, Leads, IsNamed, IsResource};
+ghost use Rattle.cs_run.specs.Running.{Applies, AppliesCounted, AppliesTold, Refuses, AlwaysAborts, Leads};
+ghost use Rattle.cs_run.specs.Running.{IsCaused, IsNamed, IsResource};
+ghost use Rattle.cs_run.specs.Writes.{IsFileWrite};
 
 use cs_group::{Choice, Noop};
 use cs_run::{ApplyFault, Conflict, Direction, Report, Summary, Tally, Writings, tally_in};
@@ -46,6 +49,8 @@ pub fn apply<S: Alter, H: Fn(&Conflict) -> Choice>(
     ensures refused { HasCleanDisk (state S.Store store.new) → IfErr result
         (Refuses (FnReturnsAt H.Fn handler.now) noop file.now ForwardRun (tables_in (state S.Store store.old).now)) }
     ensures shut { HasCleanDisk (state S.Store store.new) → RefusesShut (state S.Store store.old) IsResource result }
+    ensures caused { HasCleanDisk (state S.Store store.new) → IfErr result (IsCaused (StoreFails
+        (Writes (IsFileWrite ForwardRun file.now)) (state S.Store store.old) (state S.Store store.new))) }
     ensures named { IfErr result IsNamed }
     ensures at_rest { HasCleanDisk (state S.Store store.new) → OnOk result (IsAtRest (state S.Store store.new)) }
     ensures others { HasCleanDisk (state S.Store store.new)
@@ -95,6 +100,8 @@ pub fn apply_counted<S: Alter, H: Fn(&Conflict) -> Choice>(
     ensures refused { HasCleanDisk (state S.Store store.new) → IfErr result
         (Refuses (FnReturnsAt H.Fn handler.now) noop file.now ForwardRun (tables_in (state S.Store store.old).now)) }
     ensures shut { HasCleanDisk (state S.Store store.new) → RefusesShut (state S.Store store.old) IsResource result }
+    ensures caused { HasCleanDisk (state S.Store store.new) → IfErr result (IsCaused (StoreFails
+        (Writes (IsFileWrite ForwardRun file.now)) (state S.Store store.old) (state S.Store store.new))) }
     ensures named { IfErr result IsNamed }
     ensures at_rest { HasCleanDisk (state S.Store store.new) → OnOk result (IsAtRest (state S.Store store.new)) }
     ensures others { HasCleanDisk (state S.Store store.new)
@@ -145,6 +152,8 @@ pub fn revert<S: Alter>(
         → MatchResult result (λ report. (report.conflicts.items ≡ [])
         × (tables_in (state S.Store store.new).now ≡ before)) IsResource }
     ensures shut { HasCleanDisk (state S.Store store.new) → RefusesShut (state S.Store store.old) IsResource result }
+    ensures caused { HasCleanDisk (state S.Store store.new) → IfErr result (IsCaused (StoreFails
+        (Writes (IsFileWrite InverseRun file.now)) (state S.Store store.old) (state S.Store store.new))) }
     ensures named { IfErr result IsNamed }
     ensures at_rest { HasCleanDisk (state S.Store store.new) → OnOk result (IsAtRest (state S.Store store.new)) }
     ensures others { HasCleanDisk (state S.Store store.new)
@@ -191,6 +200,8 @@ fn run<S: Alter, H: Fn(&Conflict) -> Choice>(
     ensures refused { HasCleanDisk (state S.Store store.new) → IfErr result
         (Refuses (FnReturnsAt H.Fn handler.now) noop file.now direction (tables_in (state S.Store store.old).now)) }
     ensures shut { HasCleanDisk (state S.Store store.new) → RefusesShut (state S.Store store.old) IsResource result }
+    ensures caused { HasCleanDisk (state S.Store store.new) → IfErr result (IsCaused (StoreFails
+        (Writes (IsFileWrite direction file.now)) (state S.Store store.old) (state S.Store store.new))) }
     ensures named { IfErr result IsNamed }
     ensures at_rest { HasCleanDisk (state S.Store store.new) → OnOk result (IsAtRest (state S.Store store.new)) }
     ensures others { HasCleanDisk (state S.Store store.new)

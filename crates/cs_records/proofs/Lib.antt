@@ -21,3 +21,4 @@ pub mod SetLemmas
 pub mod StatementLemmas
 pub mod TableLemmas
 pub mod TransactionLemmas
+pub mod WriteFailures

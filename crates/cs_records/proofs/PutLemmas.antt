@@ -12,7 +12,7 @@ use Rattle.cs_records.proofs.QueryTexts.{command_is, command_plain}
 use Rattle.cs_records.proofs.StatementLemmas.{inside_keeps_crash, write_goes_on}
 
 -- each of the two is its command
-puts_as : (schema : Schema) (declares : DeclaresRecords schema) (is_new : Bool) → IsCommand schema (put_text is_new) 3 (put_command declares.place (records_tree schema) is_new)
+pub puts_as : (schema : Schema) (declares : DeclaresRecords schema) (is_new : Bool) → IsCommand schema (put_text is_new) 3 (put_command declares.place (records_tree schema) is_new)
 puts_as schema declares true = declares.statements.writes.inserts
 puts_as schema declares false = declares.statements.writes.puts
 

@@ -108,7 +108,7 @@ fails_so old new e one other so (cause.Broken, is, why, back, tells) = (cause.Br
 fails_so old new e one other so (cause.Unstorable, is, why, back, tells) = (cause.Unstorable, is, so why, back, tells)
 
 -- a command that shows no rows shows none without RETURNING
-quiet_is : (a b : Bool) → a || b ≡ false → a || (b || false) ≡ false
+pub quiet_is : (a b : Bool) → a || b ≡ false → a || (b || false) ≡ false
 quiet_is true b e = e
 quiet_is false true e = e
 quiet_is false false e = e

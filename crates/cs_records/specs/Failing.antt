@@ -1,33 +1,69 @@
 -- Why a call on records fails: out of memory, or the database failed. The kit's `sqlite` defines how.
-use Rattle.std.specs.Prelude.{◌≡◌, ◌≢◌, ◌⊎◌, ℕ, Bool, false, List, [], ◌∷◌, Err, IsSome}
+use Rattle.std.specs.Prelude.{◌≡◌, ◌≢◌, ◌⊎◌, ℕ, Bool, false, List, [], ◌∷◌, Option, Some, None, Result, Ok, Err, IsSome}
 use Rattle.sqlite_disk.specs.Disk.{MoreFaults}
 use Rattle.sqlite_value.specs.declared.value.Value.TheVariants.{Text, Blob}
+use Rattle.sqlite_value.specs.Order.{Row}
+use Rattle.sqlite_schema.specs.declared.schema.Keys.TheVariants.{Enforced}
+use Rattle.sqlite_resolve.specs.declared.compiled.Compiled.{Compiled}
 use Rattle.sqlite_trees.specs.declared.error.StoreError.{StoreError}
 use Rattle.sqlite_trees.specs.declared.error.StoreError.TheVariants as store
 use Rattle.sqlite.specs.declared.error.Error.{Error}
 use Rattle.sqlite.specs.declared.error.Error.TheVariants.{SqliteFailure, InvalidQuery}
-use Rattle.sqlite.specs.declared.error.ErrorCode.TheVariants.{OutOfMemory, OperationInterrupted, TransactionState}
-use Rattle.sqlite.specs.State.{State, Executes, store_error}
+use Rattle.sqlite.specs.declared.error.ErrorCode.TheVariants.{OutOfMemory, OperationInterrupted, TooBig, TransactionState}
+use Rattle.sqlite.specs.Clock.{timed}
+use Rattle.sqlite.specs.Does.{Tally, Does}
+use Rattle.sqlite.specs.Effect.{Database}
+use Rattle.sqlite.specs.Listing.{understood}
+use Rattle.sqlite.specs.State.{State, Executes, store_error, text_of}
 use Rattle.cs_records.specs.declared.fault.RecordsError.{RecordsError}
-use Rattle.cs_records.specs.declared.fault.RecordsError.TheVariants.{NoMemory, Database}
+use Rattle.cs_records.specs.declared.fault.RecordsError.TheVariants as records
 use Rattle.cs_records.specs.Records.{IsUnsupported, Makes}
 use Rattle.cs_records.specs.Statements.{create_text, put_text, remove_text, Creates}
 
 -- Out of memory, or the database failed with another error, and `Fails` holds of it.
 abbrev pub IsFailure : (Error → Type 0) → RecordsError → Type 0
-IsFailure Fails NoMemory = Unit {0}
-IsFailure Fails (Database error) = (error ≢ SqliteFailure OutOfMemory) × Fails error
+IsFailure Fails records.NoMemory = Unit {0}
+IsFailure Fails (records.Database error) = (error ≢ SqliteFailure OutOfMemory) × Fails error
 
 -- A statement that writes a record, with its parameters.
 pub data Statement : Type 0 where
   puts : (is_new : Bool) (tab key value : List ℕ) → Statement
   removes : (tab key : List ℕ) → Statement
 
+abbrev pub text_in : Statement → List ℕ
+text_in (puts is_new tab key value) = put_text is_new
+text_in (removes tab key) = remove_text
+
+abbrev pub params_in : Statement → Row
+params_in (puts is_new tab key value) = Text tab ∷ Blob key ∷ Blob value ∷ []
+params_in (removes tab key) = Text tab ∷ Blob key ∷ []
+
 -- The database failed at the statement with this error.
 abbrev pub FailsAt : State → State → Statement → Error → Type 0
-FailsAt old new (puts is_new tab key value) error =
-    Executes (put_text is_new) (Text tab ∷ Blob key ∷ Blob value ∷ []) old new (Err error)
-FailsAt old new (removes tab key) error = Executes remove_text (Text tab ∷ Blob key ∷ []) old new (Err error)
+FailsAt old new statement error = Executes (text_in statement) (params_in statement) old new (Err error)
+
+-- Run on the database, with this limit on its steps, the statement ends so: with the database that it makes, with an
+-- error, or at a row that is too big to be stored, which is told as no error here.
+abbrev pub Ends : Option ℕ → Database → Statement → Result (Tally × Database) (Option Error) → Type 0
+Ends limit db statement end =
+    (it : Compiled) × (understood db.schema (text_in statement) ≡ Ok it) × (now : ℕ)
+    × Does limit (record { keys = Enforced; in_doubt = false; may_wait = false }) (timed (params_in statement) it.formats now) db
+    (text_of (text_in statement) it) it.returning it.command end
+
+-- So it ended, and this is what it made.
+abbrev pub EndsAs : State → Statement → State → Type 0
+EndsAs old statement new = (tally : Tally) × Ends old.step_limit old.now statement (Ok (tally, new.now))
+
+-- The database refuses the statement with this error, whatever the disk does.
+abbrev pub Refuses : Option ℕ → Database → Statement → Error → Type 0
+Refuses limit db statement error =
+    Ends limit db statement (Err (Some error)) ⊎ ((error ≡ SqliteFailure TooBig) × Ends limit db statement (Err None))
+
+-- Statements that write records make one database of the other, one after another.
+pub data LeadsTo (limit : Option ℕ) (old : Database) : Database → Type 0 where
+  itself : LeadsTo limit old old
+  by_each : (mid new : Database) (statement : Statement) (tally : Tally) → LeadsTo limit old mid
+      → Ends limit mid statement (Ok (tally, new)) → LeadsTo limit old new
 
 -- The count of disk failures rose, or the connection was already shut.
 abbrev pub IsHindered : State → State → StoreError → Type 0
@@ -41,6 +77,10 @@ IsHindered old new store.Unstorable = ⊥
 -- So it is, and the error tells it.
 abbrev pub HasDiskFailed : State → State → Error → Type 0
 HasDiskFailed old new error = (cause : StoreError) × (error ≡ store_error cause) × IsHindered old new cause
+
+-- A write fails only so, or where the database refuses it.
+abbrev pub CannotWrite : State → State → Statement → Error → Type 0
+CannotWrite old new statement error = HasDiskFailed old new error ⊎ Refuses old.step_limit old.now statement error
 
 -- A read fails only so, or where the connection limits the steps of a query.
 abbrev pub CannotRead : State → State → Error → Type 0

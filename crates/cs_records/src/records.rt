@@ -4,7 +4,7 @@ ghost use Rattle.std.specs.Prelude.{◌≡◌, [], Some, None, option_map, map, 
 ghost use Rattle.sqlite.specs.State.{FailsToQuery, HasCleanDisk, IsUnchanged, KeepsCommit, Shown, Survives};
 ghost use Rattle.sqlite.specs.Held.{state};
 ghost use Rattle.sqlite.specs.Values.{bound};
-ghost use Rattle.cs_records.specs.Failing.{CannotCreate, CannotMake, CannotRead, FailsAt, IsFailure, puts, removes};
+ghost use Rattle.cs_records.specs.Failing.{CannotCreate, CannotMake, CannotRead, EndsAs, FailsAt, IsFailure, puts, removes};
 ghost use Rattle.cs_records.specs.Records.{DeclaresRecords, HoldsRecords, Sets, ListsTable};
 ghost use Rattle.cs_records.specs.Records.{records_in, Makes, Rests, GoesOn, KeepsCrash};
 ghost use Rattle.cs_records.specs.Records.{IsQuery, shown_keyed};
@@ -102,6 +102,8 @@ pub fn put_record<S: Alter>(
     ensures set { HasCleanDisk (state S.Store conn.new) → HoldsRecords (state S.Store conn.old).now
         → OnOk result (Sets (state S.Store conn.old).now (state S.Store conn.new).now
         tab.now key.now (Some value.now)) }
+    ensures ends { HasCleanDisk (state S.Store conn.new) → HoldsRecords (state S.Store conn.old).now
+        → OnOk result (EndsAs (state S.Store conn.old) (puts is_new tab.now key.now value.now) (state S.Store conn.new)) }
     ensures goes_on { HasCleanDisk (state S.Store conn.new) → HoldsRecords (state S.Store conn.old).now
         → IsTrue (state S.Store conn.old).in_transaction
         → OnOk result (GoesOn (state S.Store conn.old) (state S.Store conn.new)) }
@@ -126,6 +128,8 @@ pub fn remove_record<S: Alter>(
 ) -> Result<(), RecordsError>
     ensures removed { HasCleanDisk (state S.Store conn.new) → HoldsRecords (state S.Store conn.old).now
         → OnOk result (Sets (state S.Store conn.old).now (state S.Store conn.new).now tab.now key.now None) }
+    ensures ends { HasCleanDisk (state S.Store conn.new) → HoldsRecords (state S.Store conn.old).now
+        → OnOk result (EndsAs (state S.Store conn.old) (removes tab.now key.now) (state S.Store conn.new)) }
     ensures goes_on { HasCleanDisk (state S.Store conn.new) → HoldsRecords (state S.Store conn.old).now
         → IsTrue (state S.Store conn.old).in_transaction
         → OnOk result (GoesOn (state S.Store conn.old) (state S.Store conn.new)) }

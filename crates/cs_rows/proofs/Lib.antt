@@ -1,3 +1,4 @@
+pub mod CauseLemmas
 pub mod EditExamples
 pub mod EditingLemmas
 pub mod Examples

@@ -1,5 +1,5 @@
 -- What declaring a table and editing a row make of a state, or the first reason why they are refused.
-use Rattle.std.specs.Prelude.{bytes_eq, ◌≡◌, ℕ, suc, Bool, true, false, not, ◌||◌, ◌==◌, if◌then◌else◌, List, []}
+use Rattle.std.specs.Prelude.{bytes_eq, ◌≡◌, ◌⊎◌, ℕ, suc, Bool, true, false, not, ◌||◌, ◌==◌, if◌then◌else◌, List, []}
 use Rattle.std.specs.Prelude.{◌∷◌, length, map, Option, Some, None, is_some, Result, Ok, Err, IsSome, string_bytes}
 use Rattle.std.specs.declared.string.String.{String}
 use Rattle.std.specs.declared.alloc.Global.{Global}
@@ -18,6 +18,7 @@ use Rattle.cs_rows.specs.declared.fault.StoreError.TheVariants.{KeyTaken, NoRow,
 use Rattle.cs_rows.specs.declared.edit.Edit.{Edit}
 use Rattle.cs_rows.specs.declared.edit.Edit.TheVariants.{Insert, Update, Delete}
 use Rattle.cs_rows.specs.declared.edit.Written.{Written}
+use Rattle.cs_rows.specs.Rows.{Fits, Write, puts, removes}
 
 -- ---- declaring
 
@@ -138,3 +139,30 @@ edited state (Delete name key) = deleted state (string_bytes name) key
 -- the edit makes this state
 abbrev pub EditsInto : State → Edit → State → Type 0
 EditsInto state edit next = (written : List WrittenData) × (edited state edit ≡ Ok (record { state = next; written = written }))
+
+-- ---- the writes of an edit
+
+-- the row is put into this table, which held nothing else than before
+abbrev pub IsPutOf : State → List ℕ → List OwnedValue → State → Write → Type 0
+IsPutOf old table row held (puts name key it) = (held ≡ old) × (name ≡ table) × (it ≡ row) × Fits held name key it
+IsPutOf old table row held (removes name key) = ⊥
+
+-- the row under this key is removed
+abbrev pub IsRemovalOf : State → List ℕ → List ℕ → State → Write → Type 0
+IsRemovalOf old table from held (puts name key row) = ⊥
+IsRemovalOf old table from held (removes name key) = (held ≡ old) × (name ≡ table) × (key ≡ from)
+
+-- it is removed after the row that takes its place was put under another key
+abbrev pub IsClearingOf : State → List ℕ → List ℕ → List OwnedValue → State → Write → Type 0
+IsClearingOf old table from row held (puts name key it) = ⊥
+IsClearingOf old table from row held (removes name key) =
+    (name ≡ table) × (key ≡ from) × (next : List ℕ) × (held ≡ with_row old table next row)
+
+abbrev pub IsUpdateOf : State → List ℕ → List ℕ → List OwnedValue → State → Write → Type 0
+IsUpdateOf old table from row held write = IsPutOf old table row held write ⊎ IsClearingOf old table from row held write
+
+-- an edit of these tables makes the write when they are as `held`
+abbrev pub IsWriteOf : State → Edit → State → Write → Type 0
+IsWriteOf old (Insert table row) = IsPutOf old (string_bytes table) row
+IsWriteOf old (Update table key row) = IsUpdateOf old (string_bytes table) key row
+IsWriteOf old (Delete table key) = IsRemovalOf old (string_bytes table) key

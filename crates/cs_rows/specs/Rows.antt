@@ -1,4 +1,4 @@
--- The conditions on the calls of rows.
+-- The conditions on the calls of rows, and the writes.
 use Rattle.std.specs.Prelude.{◌≡◌, ℕ, List, Some, IsSome}
 use Rattle.std.specs.FinMap as map
 use Rattle.cs_value.specs.declared.value.OwnedValue.{OwnedValue}
@@ -20,3 +20,8 @@ pub record Fits (state : State) (name key : List ℕ) (row : List OwnedValue) : 
   pub table : TableData
   pub found : map.get state name ≡ Some table
   pub fit : IsRowAt table.schema key row
+
+-- a row is put under a key of a table, or the row there is removed
+pub data Write : Type 0 where
+  puts : (name key : List ℕ) (row : List OwnedValue) → Write
+  removes : (name key : List ℕ) → Write

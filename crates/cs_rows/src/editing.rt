@@ -1,6 +1,6 @@
 //! Edits of rows, through whatever holds them.
 ghost use Rattle.std.specs.Prelude.{◌≡◌, ◌≢◌, ◌⊎◌, [], ◌∷◌, Some, None, Ok};
-ghost use Rattle.std.specs.Prelude.{Err, map, string_bytes, IfOk, IfErr, IsSome, OnOk};
+ghost use Rattle.std.specs.Prelude.{Err, map, string_bytes, IfOk, IfErr, IsSome, OnOk, is_ok};
 ghost use Rattle.std.specs.Rc.{rc_str_bytes};
 ghost use Rattle.cs_value.specs.Value.{IsRow};
 ghost use Rattle.cs_value.specs.Table.{IsKeyedRow};
@@ -8,6 +8,7 @@ ghost use Rattle.cs_value.specs.State.{State, IsRowAt, schema_at, row_at, with_r
 ghost use Rattle.cs_rows.specs.Rows.{IsDeclared, Fits};
 ghost use Rattle.cs_rows.specs.Faults.{IsCaused, IsResource, IsEditRefusal};
 ghost use Rattle.cs_rows.specs.Editing.{edited, written_of, row_fault, in_table, inserted, updated, deleted};
+ghost use Rattle.cs_rows.specs.Editing.{IsWriteOf, IsPutOf, IsUpdateOf, IsRemovalOf};
 ghost use Rattle.cs_rows.specs.declared.fault.StoreError.TheVariants.{NoTable as NoSuchTable};
 ghost use Rattle.cs_rows.specs.declared.fault.StoreError.TheVariants.{NoRow as NoSuchRow, KeyTaken as TakenKey, NoMemory as OutOfMemory};
 
@@ -36,9 +37,10 @@ pub fn edit_in<B: Rows>(
     ensures refused { B.is_honest rows.new → IfErr result (λ e. (edited (B.state rows.old) edit.now ≡ Err e)
         ⊎ IsResource e) }
     ensures named { IfErr result IsEditRefusal }
-    ensures caused { B.is_honest rows.new → IfErr result (IsCaused (B.fails_for rows.new)) }
+    ensures caused { B.is_honest rows.new → IfErr result (IsCaused
+        (B.fails (IsWriteOf (B.state rows.old) edit.now) rows.old rows.new)) }
     ensures was_honest { B.is_honest rows.new → B.is_honest rows.old }
-    ensures kept { B.keeps rows.old rows.new }
+    ensures kept { B.keeps (is_ok result) rows.old rows.new }
     ensures leaves { (held : State) → B.leaves_only rows.old held → B.leaves_only rows.new held }
 {
     match edit {
@@ -55,9 +57,10 @@ fn find_schema<B: Rows>(alloc: Global, rows: &mut B, table: &str) -> Result<Sche
     ensures refused { B.is_honest rows.new → IfErr result (λ e. ((e ≡ NoSuchTable)
         × (schema_at (B.state rows.old) table.now ≡ None)) ⊎ IsResource e) }
     ensures named { IfErr result IsEditRefusal }
-    ensures caused { B.is_honest rows.new → IfErr result (IsCaused (B.fails_for rows.new)) }
+    ensures caused { B.is_honest rows.new → IfErr result (IsCaused
+        (B.fails (λ _ _. ⊥) rows.old rows.new)) }
     ensures was_honest { B.is_honest rows.new → B.is_honest rows.old }
-    ensures kept { B.keeps rows.old rows.new }
+    ensures kept { B.keeps (is_ok result) rows.old rows.new }
 {
     match rows.schema(alloc, table)? {
         Some(schema) => Ok(schema),
@@ -73,9 +76,10 @@ fn find_row<B: Rows>(alloc: Global, rows: &mut B, table: &str, key: &Key) -> Res
     ensures refused { B.is_honest rows.new → IfErr result (λ e. ((e ≡ NoSuchRow)
         × (row_at (B.state rows.old) table.now key.now ≡ None)) ⊎ IsResource e) }
     ensures named { IfErr result IsEditRefusal }
-    ensures caused { B.is_honest rows.new → IfErr result (IsCaused (B.fails_for rows.new)) }
+    ensures caused { B.is_honest rows.new → IfErr result (IsCaused
+        (B.fails (λ _ _. ⊥) rows.old rows.new)) }
     ensures was_honest { B.is_honest rows.new → B.is_honest rows.old }
-    ensures kept { B.keeps rows.old rows.new }
+    ensures kept { B.keeps (is_ok result) rows.old rows.new }
 {
     match rows.get(alloc, table, key)? {
         Some(row) => Ok(row),
@@ -96,9 +100,10 @@ fn check_vacant<B: Rows>(
     ensures refused { B.is_honest rows.new → IfErr result (λ e. ((e ≡ TakenKey)
         × IsSome (row_at (B.state rows.old) table.now key.now)) ⊎ IsResource e) }
     ensures named { IfErr result IsEditRefusal }
-    ensures caused { B.is_honest rows.new → IfErr result (IsCaused (B.fails_for rows.new)) }
+    ensures caused { B.is_honest rows.new → IfErr result (IsCaused
+        (B.fails (λ _ _. ⊥) rows.old rows.new)) }
     ensures was_honest { B.is_honest rows.new → B.is_honest rows.old }
-    ensures kept { B.keeps rows.old rows.new }
+    ensures kept { B.keeps (is_ok result) rows.old rows.new }
 {
     match rows.get(alloc, table, key)? {
         Some(_) => Err(StoreError::KeyTaken),
@@ -188,9 +193,10 @@ fn insert_row<B: Rows>(
     ensures refused { B.is_honest rows.new
         → IfErr result (λ e. (inserted (B.state rows.old) table.now row.now ≡ Err e) ⊎ IsResource e) }
     ensures named { IfErr result IsEditRefusal }
-    ensures caused { B.is_honest rows.new → IfErr result (IsCaused (B.fails_for rows.new)) }
+    ensures caused { B.is_honest rows.new → IfErr result (IsCaused
+        (B.fails (IsPutOf (B.state rows.old) table.now row.now) rows.old rows.new)) }
     ensures was_honest { B.is_honest rows.new → B.is_honest rows.old }
-    ensures kept { B.keeps rows.old rows.new }
+    ensures kept { B.keeps (is_ok result) rows.old rows.new }
 {
     let schema = find_schema(alloc, rows, table)?;
     let key = key_for(alloc, &schema, row)?;
@@ -215,9 +221,10 @@ fn replace_row<B: Rows>(
     ensures told { IfOk result (λ w. map written_of w.items
         ≡ record { table = table.now; key = key.now; former = Some former } ∷ []) }
     ensures refused { IfErr result IsResource }
-    ensures caused { B.is_honest rows.new → IfErr result (IsCaused (B.fails_for rows.new)) }
+    ensures caused { B.is_honest rows.new → IfErr result (IsCaused
+        (B.fails (IsPutOf (B.state rows.old) table.now row.now) rows.old rows.new)) }
     ensures was_honest { B.is_honest rows.new → B.is_honest rows.old }
-    ensures kept { B.keeps rows.old rows.new }
+    ensures kept { B.keeps (is_ok result) rows.old rows.new }
 {
     let written = note_one(alloc, table, key, Some(former))?;
     rows.put(alloc, table, key, row)?;
@@ -245,9 +252,10 @@ fn move_row<B: Rows>(
     ensures refused { B.is_honest rows.new → IfErr result (λ e. ((e ≡ TakenKey)
         × IsSome (row_at (B.state rows.old) table.now next.now)) ⊎ IsResource e) }
     ensures named { IfErr result IsEditRefusal }
-    ensures caused { B.is_honest rows.new → IfErr result (IsCaused (B.fails_for rows.new)) }
+    ensures caused { B.is_honest rows.new → IfErr result (IsCaused
+        (B.fails (IsUpdateOf (B.state rows.old) table.now key.now row.now) rows.old rows.new)) }
     ensures was_honest { B.is_honest rows.new → B.is_honest rows.old }
-    ensures kept { B.keeps rows.old rows.new }
+    ensures kept { B.keeps (is_ok result) rows.old rows.new }
 {
     check_vacant(alloc, rows, table, next)?;
     let written = note_move(alloc, table, key, former, next)?;
@@ -269,9 +277,10 @@ fn update_row<B: Rows>(
     ensures refused { B.is_honest rows.new
         → IfErr result (λ e. (updated (B.state rows.old) table.now key.now row.now ≡ Err e) ⊎ IsResource e) }
     ensures named { IfErr result IsEditRefusal }
-    ensures caused { B.is_honest rows.new → IfErr result (IsCaused (B.fails_for rows.new)) }
+    ensures caused { B.is_honest rows.new → IfErr result (IsCaused
+        (B.fails (IsUpdateOf (B.state rows.old) table.now key.now row.now) rows.old rows.new)) }
     ensures was_honest { B.is_honest rows.new → B.is_honest rows.old }
-    ensures kept { B.keeps rows.old rows.new }
+    ensures kept { B.keeps (is_ok result) rows.old rows.new }
 {
     let schema = find_schema(alloc, rows, table)?;
     let next = key_for(alloc, &schema, row)?;
@@ -295,9 +304,10 @@ fn delete_row<B: Rows>(
     ensures refused { B.is_honest rows.new
         → IfErr result (λ e. (deleted (B.state rows.old) table.now key.now ≡ Err e) ⊎ IsResource e) }
     ensures named { IfErr result IsEditRefusal }
-    ensures caused { B.is_honest rows.new → IfErr result (IsCaused (B.fails_for rows.new)) }
+    ensures caused { B.is_honest rows.new → IfErr result (IsCaused
+        (B.fails (IsRemovalOf (B.state rows.old) table.now key.now) rows.old rows.new)) }
     ensures was_honest { B.is_honest rows.new → B.is_honest rows.old }
-    ensures kept { B.keeps rows.old rows.new }
+    ensures kept { B.keeps (is_ok result) rows.old rows.new }
 {
     let _schema = find_schema(alloc, rows, table)?;
     let former = find_row(alloc, rows, table, key)?;

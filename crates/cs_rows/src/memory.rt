@@ -218,17 +218,23 @@ impl Rows for MemRows {
 
     ghost is_honest = { λ _. ⊤ };
 
-    ghost keeps = { λ _ _. ⊤ };
+    ghost keeps = { λ _ _ _. ⊤ };
 
     ghost keeps_itself = { λ _. tt };
 
-    ghost keeps_then = { λ _ _ _ _ _. tt };
+    ghost keeps_then = { λ _ _ _ _ _ _. tt };
+
+    ghost keeps_either = { λ _ _ _ _. tt };
 
     ghost leaves_only = { λ _ _. ⊤ };
 
-    ghost leaves_still = { λ _ _ _ _ _. tt };
+    ghost leaves_still = { λ _ _ _ _ _ _. tt };
 
-    ghost fails_for = { λ _ _. ⊥ };
+    ghost fails = { λ _ _ _ _. ⊥ };
+
+    ghost fails_then = { λ _ _ _ _ _ _ _ _ _ none. none };
+
+    ghost fails_so = { λ _ _ _ _ _ _ none. none };
 
     fn schema(&mut self, alloc: Global, table: &str) -> Result<Option<Schema>, StoreError>
         ensures found { IfOk result (λ o. o ≡ schema_at self.old table.now) }

@@ -1,9 +1,9 @@
 //! What rows of tables are read and written through: exactly a finite map.
-ghost use Rattle.std.specs.Prelude.{◌≡◌, IfOk, IfErr, OnOk, IfSome};
+ghost use Rattle.std.specs.Prelude.{◌≡◌, IfOk, IfErr, OnOk, IfSome, is_ok};
 ghost use Rattle.std.specs.FinMap as map;
 ghost use Rattle.cs_value.specs.State.{State, schema_at, row_at, rows_at, with_row, without_row};
 ghost use Rattle.cs_rows.specs.Faults.{IsCaused, IsResource, IsReadRefusal};
-ghost use Rattle.cs_rows.specs.Rows.{IsDeclared, Fits};
+ghost use Rattle.cs_rows.specs.Rows.{IsDeclared, Fits, puts, removes};
 
 use crate::fault::StoreError;
 use crate::schema::Schema;
@@ -15,7 +15,9 @@ use std::alloc::Global;
 /// After a refusal nothing is said of what is held, unless the type says it: a batch is then
 /// dropped, which takes its store back to where it began. What a crash leaves is kept by each call.
 pub trait Rows {
+    ghost use Rattle.std.specs.Prelude.{Bool, true};
     ghost use Rattle.cs_rows.specs.declared.fault.Cause.{Cause};
+    ghost use Rattle.cs_rows.specs.Rows.{Write};
 
     // What is held.
     ghost state: { Self → State };
@@ -23,20 +25,32 @@ pub trait Rows {
     // What is read is what was written. The clauses speak where it still holds as a call returns.
     ghost is_honest: { Self → Type 0 };
 
-    // What every call keeps, refusals too: what the rows are borrowed from, and what lasts of it.
-    ghost keeps: { Self → Self → Type 0 };
+    // What a call keeps, whether it is accepted or refused: what the rows are borrowed from, and what lasts of it. Only
+    // after accepted calls is more said.
+    ghost keeps: { Bool → Self → Self → Type 0 };
 
-    ghost keeps_itself: { (b : Self) → keeps b b };
+    ghost keeps_itself: { (b : Self) → keeps true b b };
 
-    ghost keeps_then: { (a b c : Self) → keeps a b → keeps b c → keeps a c };
+    ghost keeps_then: { (accepted : Bool) (a b c : Self) → keeps true a b → keeps accepted b c → keeps accepted a c };
+
+    ghost keeps_either: { (accepted : Bool) (a b : Self) → keeps true a b → keeps accepted a b };
 
     // A crash leaves these tables and no others.
     ghost leaves_only: { Self → State → Type 0 };
 
-    ghost leaves_still: { (a b : Self) (held : State) → keeps a b → leaves_only a held → leaves_only b held };
+    ghost leaves_still: { (accepted : Bool) (a b : Self) (held : State) → keeps accepted a b → leaves_only a held
+        → leaves_only b held };
 
-    // A call failed for this cause in what holds the rows. These are the rows after it.
-    ghost fails_for: { Self → Cause → Type 0 };
+    // Between the first rows and the second, what holds them failed a call for this cause: a read, or a write of which
+    // `Is` holds, with the tables as they were then.
+    ghost fails: { (State → Write → Type 0) → Self → Self → Cause → Type 0 };
+
+    ghost fails_then: { (Is : State → Write → Type 0) (accepted : Bool) (a b c : Self) (cause : Cause) → keeps true a b
+        → keeps accepted b c → is_honest c → fails Is b c cause → fails Is a c cause };
+
+    ghost fails_so: { (Is Are : State → Write → Type 0) (a b : Self) (cause : Cause)
+        → ((held : State) (write : Write) → Is held write → Are held write) → fails Is a b cause
+        → fails Are a b cause };
 
     /// The schema of a table, and none where no table has the name.
     fn schema(&mut self, alloc: Global, table: &str) -> Result<Option<Schema>, StoreError>
@@ -44,9 +58,10 @@ pub trait Rows {
         ensures same { is_honest self.new → OnOk result (state self.new ≡ state self.old) }
         ensures refused { is_honest self.new → IfErr result IsResource }
         ensures named { IfErr result IsReadRefusal }
-        ensures caused { is_honest self.new → IfErr result (IsCaused (fails_for self.new)) }
+        ensures caused { is_honest self.new
+            → IfErr result (IsCaused (fails (λ _ _. ⊥) self.old self.new)) }
         ensures was_honest { is_honest self.new → is_honest self.old }
-        ensures kept { keeps self.old self.new };
+        ensures kept { keeps (is_ok result) self.old self.new };
 
     /// The row of a declared table under a key, and none where no row has the key.
     fn get(&mut self, alloc: Global, table: &str, key: &Key) -> Result<Option<Row>, StoreError>
@@ -56,9 +71,10 @@ pub trait Rows {
         ensures same { is_honest self.new → OnOk result (state self.new ≡ state self.old) }
         ensures refused { is_honest self.new → IfErr result IsResource }
         ensures named { IfErr result IsReadRefusal }
-        ensures caused { is_honest self.new → IfErr result (IsCaused (fails_for self.new)) }
+        ensures caused { is_honest self.new
+            → IfErr result (IsCaused (fails (λ _ _. ⊥) self.old self.new)) }
         ensures was_honest { is_honest self.new → is_honest self.old }
-        ensures kept { keeps self.old self.new };
+        ensures kept { keeps (is_ok result) self.old self.new };
 
     /// Puts the row at its key in a declared table that it fits, in place of the row there.
     fn put(&mut self, alloc: Global, table: &str, key: &Key, row: &Row) -> Result<(), StoreError>
@@ -66,9 +82,10 @@ pub trait Rows {
         ensures set { is_honest self.new → OnOk result (state self.new
             ≡ with_row (state self.old) table.now key.now row.now) }
         ensures named { IfErr result IsResource }
-        ensures caused { is_honest self.new → IfErr result (IsCaused (fails_for self.new)) }
+        ensures caused { is_honest self.new → IfErr result (IsCaused (fails
+            (λ held write. (held ≡ state self.old) × (write ≡ puts table.now key.now row.now)) self.old self.new)) }
         ensures was_honest { is_honest self.new → is_honest self.old }
-        ensures kept { keeps self.old self.new };
+        ensures kept { keeps (is_ok result) self.old self.new };
 
     /// Removes the row under a key of a declared table, if there is one.
     fn remove(&mut self, alloc: Global, table: &str, key: &Key) -> Result<(), StoreError>
@@ -76,9 +93,10 @@ pub trait Rows {
         ensures removed { is_honest self.new → OnOk result (state self.new
             ≡ without_row (state self.old) table.now key.now) }
         ensures named { IfErr result IsResource }
-        ensures caused { is_honest self.new → IfErr result (IsCaused (fails_for self.new)) }
+        ensures caused { is_honest self.new → IfErr result (IsCaused (fails
+            (λ held write. (held ≡ state self.old) × (write ≡ removes table.now key.now)) self.old self.new)) }
         ensures was_honest { is_honest self.new → is_honest self.old }
-        ensures kept { keeps self.old self.new };
+        ensures kept { keeps (is_ok result) self.old self.new };
 
     /// All rows of a declared table by the bytes of their keys, the smallest first.
     fn list(&mut self, alloc: Global, table: &str) -> Result<Vec<Row>, StoreError>
@@ -88,7 +106,8 @@ pub trait Rows {
         ensures same { is_honest self.new → OnOk result (state self.new ≡ state self.old) }
         ensures refused { is_honest self.new → IfErr result IsResource }
         ensures named { IfErr result IsReadRefusal }
-        ensures caused { is_honest self.new → IfErr result (IsCaused (fails_for self.new)) }
+        ensures caused { is_honest self.new
+            → IfErr result (IsCaused (fails (λ _ _. ⊥) self.old self.new)) }
         ensures was_honest { is_honest self.new → is_honest self.old }
-        ensures kept { keeps self.old self.new };
+        ensures kept { keeps (is_ok result) self.old self.new };
 }

@@ -22,8 +22,8 @@ use Rattle.cs_run.specs.declared.tally.Tally.{Tally}
 use Rattle.cs_run.specs.declared.run.Run.{Run}
 use Rattle.cs_run.specs.declared.running.Direction.{Direction}
 use Rattle.cs_run.specs.declared.running.Direction.TheVariants.{Forward, Inverse}
-use Rattle.cs_run.specs.Running.{AppliesTold, Handler, IsCaused, IsNamed, IsReadAs, Refuses}
-use Rattle.cs_run.specs.Run.{IsBehind, IsNewEntry, answer_of, directed, directed_entry, directed_group, group_of, outcome_of}
+use Rattle.cs_run.specs.Running.{AppliesTold, Handler, IsCaused, IsNamed, IsReadAs, Refuses, directed}
+use Rattle.cs_run.specs.Run.{IsBehind, IsNewEntry, answer_of, directed_entry, directed_group, group_of, outcome_of}
 use Rattle.cs_run.proofs.StepLemmas.{each_both}
 use Rattle.cs_run.proofs.BehindLemmas.{none_wider, some_wider}
 use Rattle.cs_run.proofs.OutcomeLemmas.{applies_from, refuses_from}

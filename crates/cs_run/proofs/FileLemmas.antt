@@ -12,8 +12,8 @@ use Rattle.cs_tables.specs.Tables.{AreLeft, IsNextEntry, IsNextTable, TablesData
 use Rattle.cs_tables.proofs.TablesLemmas.{PassedEntries, PassedEntries-all, PassedEntries-next}
 use Rattle.cs_run.specs.declared.run.Run.{Run}
 use Rattle.cs_run.specs.declared.running.Direction.{Direction}
-use Rattle.cs_run.specs.Running.{Handler}
-use Rattle.cs_run.specs.Run.{IsBehind, IsNewEntry, directed, directed_entry, directed_group, group_of}
+use Rattle.cs_run.specs.Running.{Handler, directed}
+use Rattle.cs_run.specs.Run.{IsBehind, IsNewEntry, directed_entry, directed_group, group_of}
 use Rattle.cs_run.proofs.DirectedLemmas.{directed_entries, directed_more, directed_one, entry_behind, group_whole, table_new}
 
 -- ---- the entries of a table

@@ -4,6 +4,7 @@ pub mod HeededLemmas
 pub mod RunLemmas
 pub mod EntryLemmas
 pub mod CarryLemmas
+pub mod CauseLemmas
 pub mod BehindLemmas
 pub mod OutcomeLemmas
 pub mod DirectedLemmas

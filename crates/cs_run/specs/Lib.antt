@@ -4,3 +4,4 @@ pub mod Run
 pub mod Running
 pub mod Steps
 pub mod Tally
+pub mod Writes

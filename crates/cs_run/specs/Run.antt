@@ -25,11 +25,7 @@ use Rattle.cs_run.specs.declared.running.Direction.TheVariants.{Forward, Inverse
 use Rattle.cs_run.specs.Running.{Handler}
 use Rattle.cs_run.specs.Steps.{Carries, Stops, last_of, refusal_of}
 
--- a changeset as it is run: as it is, or what undoes each of its entries
-abbrev pub directed : Direction → List GroupData → List GroupData
-directed Forward changeset = changeset
-directed Inverse changeset = map inverse_group changeset
-
+-- a group as it is run, and an entry
 abbrev pub directed_group : Direction → GroupData → GroupData
 directed_group Forward group = group
 directed_group Inverse group = inverse_group group

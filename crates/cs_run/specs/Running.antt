@@ -13,7 +13,7 @@ use Rattle.cs_rows.specs.Editing.{written_of}
 use Rattle.cs_group.specs.declared.conflict.Choice.{Choice}
 use Rattle.cs_group.specs.declared.conflict.Choice.TheVariants as choice
 use Rattle.cs_group.specs.declared.conflict.Noop.{Noop}
-use Rattle.cs_group.specs.Inverse.{IsInverse}
+use Rattle.cs_group.specs.Inverse.{IsInverse, inverse_group}
 use Rattle.cs_group.specs.Conflicts.{ends}
 use Rattle.cs_group.specs.Applying.{MetData, Choices, FirstWider, NoneWider, IsClean, IsApplied}
 use Rattle.cs_group.specs.Applying.{IsAppliedUnder, met_under, skipped, written_under, ignored}
@@ -45,6 +45,11 @@ abbrev pub IsReadAs : List ℕ → Direction → List GroupData → Type 0
 IsReadAs file Forward changeset = IsChangeset changeset × (file ≡ file_bytes changeset)
 IsReadAs file Inverse changeset = (read : List GroupData)
     × IsChangeset read × (file ≡ file_bytes read) × IsInverse read changeset × IsChangeset changeset
+
+-- a changeset as it is run: as it is, or what undoes each of its entries
+abbrev pub directed : Direction → List GroupData → List GroupData
+directed Forward changeset = changeset
+directed Inverse changeset = map inverse_group changeset
 
 -- the handler chose so, and the run goes on
 pub record GoesOn (chooses : Handler) (m : Met) : Type 0 where

@@ -1,5 +1,5 @@
 //! One entry of a changeset, carried out.
-ghost use Rattle.std.specs.Prelude.{◌≡◌, ◌≢◌, ◌↔◌, ◌<◌, ◌≤◌, ◌+◌, [], ◌∷◌, ◌++◌, List, false, Some, IfOk, IfErr, IfSome, IsTrue, OnOk, option_map};
+ghost use Rattle.std.specs.Prelude.{◌≡◌, ◌≢◌, ◌↔◌, ◌<◌, ◌≤◌, ◌+◌, [], ◌∷◌, ◌++◌, List, false, Some, IfOk, IfErr, IfSome, IsTrue, OnOk, option_map, is_ok};
 ghost use Rattle.std.specs.Fn.{FnReturnsAt};
 ghost use Rattle.std.specs.Rc.{rc_str_bytes};
 ghost use Rattle.cs_wire.specs.Entry.{key_of, before_image};
@@ -13,6 +13,8 @@ ghost use Rattle.cs_value.specs.State.{WrittenData};
 ghost use Rattle.cs_run.specs.Tally.{Tells, is_listed};
 ghost use Rattle.cs_run.specs.Running.{IsCaused, IsResource};
 ghost use Rattle.cs_run.specs.Steps.{HasTable, ComesTo, IsStoreRefusal, SettlesAs, AnswersAs, is_ignored, is_left_out, header_in, placed_in_table, settled_as, with_result};
+ghost use Rattle.cs_run.specs.Steps.{IsResultWrite};
+ghost use Rattle.cs_run.specs.Writes.{IsEntryWrite};
 
 use crate::conflict::{Conflict, Met};
 use crate::ending::Ending;
@@ -73,9 +75,10 @@ pub(crate) fn apply_entry<B: Rows, H: Fn(&Conflict) -> Choice>(
     ensures listed { is_listed tally.new.written ≡ is_listed tally.old.written }
     ensures refused { B.is_honest rows.new → IfErr result IsResource }
     ensures named { IfErr result IsStoreRefusal }
-    ensures caused { B.is_honest rows.new → IfErr result (IsCaused (B.fails_for rows.new)) }
+    ensures caused { B.is_honest rows.new → IfErr result (IsCaused (B.fails
+        (IsEntryWrite (header_in (rc_str_bytes table.now) entry.now) entry.now.entry) rows.old rows.new)) }
     ensures was_honest { B.is_honest rows.new → B.is_honest rows.old }
-    ensures kept { B.keeps rows.old rows.new }
+    ensures kept { B.keeps (is_ok result) rows.old rows.new }
 {
     let name = table.as_str();
     let key = entry.key(alloc)?;
@@ -211,9 +214,11 @@ fn carry_out<B: Rows>(
         → Tells written.new (told ++ record { table = rc_str_bytes table.now; key = key; former = current } ∷ [])) }
     ensures listed { is_listed written.new ≡ is_listed written.old }
     ensures refused { IfErr result IsResource }
-    ensures caused { B.is_honest rows.new → IfErr result (IsCaused (B.fails_for rows.new)) }
+    ensures caused { B.is_honest rows.new → IfErr result (IsCaused (B.fails
+        (IsResultWrite (B.state rows.old) (rc_str_bytes table.now) key
+        (row_of_change entry.now.flags entry.now.entry.change current)) rows.old rows.new)) }
     ensures was_honest { B.is_honest rows.new → B.is_honest rows.old }
-    ensures kept { B.keeps rows.old rows.new }
+    ensures kept { B.keeps (is_ok result) rows.old rows.new }
 {
     write(alloc, rows, table.as_str(), entry, &key, current.as_ref())?;
     written.note(table, key, current)?;
@@ -239,9 +244,12 @@ fn write<B: Rows>(
         ≡ with_result (B.state rows.old) table.now key.now
         (row_of_change entry.now.flags entry.now.entry.change (option_map (λ r. r.now) current.entry))) }
     ensures refused { IfErr result IsResource }
-    ensures caused { B.is_honest rows.new → IfErr result (IsCaused (B.fails_for rows.new)) }
+    ensures caused { B.is_honest rows.new → IfErr result (IsCaused (B.fails
+        (IsResultWrite (B.state rows.old) table.now key.now
+        (row_of_change entry.now.flags entry.now.entry.change (option_map (λ r. r.now) current.entry)))
+        rows.old rows.new)) }
     ensures was_honest { B.is_honest rows.new → B.is_honest rows.old }
-    ensures kept { B.keeps rows.old rows.new }
+    ensures kept { B.keeps (is_ok result) rows.old rows.new }
 {
     match row_after(alloc, entry, current)? {
         Some(row) => rows.put(alloc, table, key, &row)?,

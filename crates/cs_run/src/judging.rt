@@ -1,5 +1,5 @@
 //! Whether the tables of a changeset fit the tables of the rows.
-ghost use Rattle.std.specs.Prelude.{◌≡◌, IfOk, IfErr, OnOk, option_map};
+ghost use Rattle.std.specs.Prelude.{◌≡◌, IfOk, IfErr, OnOk, option_map, is_ok};
 ghost use Rattle.cs_value.specs.State.{schema_at};
 ghost use Rattle.cs_group.specs.Judging.{judgement};
 ghost use Rattle.cs_group.specs.Applying.{refuses_at};
@@ -26,9 +26,9 @@ pub(crate) fn judge_table<B: Rows>(
     ensures same { B.is_honest rows.new → OnOk result (B.state rows.new ≡ B.state rows.old) }
     ensures refused { B.is_honest rows.new → IfErr result IsResource }
     ensures named { IfErr result IsStoreRefusal }
-    ensures caused { B.is_honest rows.new → IfErr result (IsCaused (B.fails_for rows.new)) }
+    ensures caused { B.is_honest rows.new → IfErr result (IsCaused (B.fails (λ _ _. ⊥) rows.old rows.new)) }
     ensures was_honest { B.is_honest rows.new → B.is_honest rows.old }
-    ensures kept { B.keeps rows.old rows.new }
+    ensures kept { B.keeps (is_ok result) rows.old rows.new }
 {
     match rows.schema(alloc, header.name)? {
         None => Ok((judge(header.flags, None), Vec::new(alloc))),

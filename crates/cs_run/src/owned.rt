@@ -1,14 +1,15 @@
 //! An owned changeset, applied to rows.
-ghost use Rattle.std.specs.Prelude.{◌≡◌, ◌≢◌, ◌<◌, ◌+◌, [], ◌∷◌, ◌++◌, List, IfOk, IfErr, OnOk};
+ghost use Rattle.std.specs.Prelude.{◌≡◌, ◌≢◌, ◌<◌, ◌+◌, [], ◌∷◌, ◌++◌, List, IfOk, IfErr, OnOk, is_ok};
 ghost use Rattle.std.specs.List.{AllByRecursion};
 ghost use Rattle.std.specs.Fn.{FnReturnsAt};
 ghost use Rattle.cs_value.specs.State.{State};
 ghost use Rattle.cs_wire.specs.Changeset.{GroupData, file_bytes};
 ghost use Rattle.cs_group.specs.declared.conflict.Noop.TheVariants.{Report as Reported};
-ghost use Rattle.cs_run.specs.Running.{Applies, Refuses, IsCaused, IsNamed, IsNoReadFault, IsResource};
+ghost use Rattle.cs_run.specs.Running.{Applies, Refuses, IsCaused, IsNamed, IsNoReadFault, IsResource, directed as directed_groups};
 ghost use Rattle.cs_run.specs.Steps.{IsStoreRefusal};
 ghost use Rattle.cs_run.specs.Tally.{is_listed};
 ghost use Rattle.cs_run.specs.Run.{IsBehind, directed_group};
+ghost use Rattle.cs_run.specs.Writes.{IsGroupWrite, IsRunWrite};
 
 use crate::conflict::Conflict;
 use crate::fault::ApplyFault;
@@ -41,9 +42,10 @@ pub fn run_changeset_in<B: Rows, H: Fn(&Conflict) -> Choice>(
         (Refuses (FnReturnsAt H.Fn handler.now) Reported (file_bytes changeset.now) direction (B.state rows.old)) }
     ensures named { IfErr result IsNamed }
     ensures read { IfErr result IsNoReadFault }
-    ensures caused { B.is_honest rows.new → IfErr result (IsCaused (B.fails_for rows.new)) }
+    ensures caused { B.is_honest rows.new → IfErr result (IsCaused
+        (B.fails (IsRunWrite (directed_groups direction changeset.now)) rows.old rows.new)) }
     ensures was_honest { B.is_honest rows.new → B.is_honest rows.old }
-    ensures kept { B.keeps rows.old rows.new }
+    ensures kept { B.keeps (is_ok result) rows.old rows.new }
 {
     let written = Writings::Listed(Vec::new(alloc));
     let mut run = Run::new(alloc, Noop::Report, written)?;
@@ -76,9 +78,10 @@ fn take_group<B: Rows, H: Fn(&Conflict) -> Choice>(
     ensures listed { is_listed run.new.tally.written ≡ is_listed run.old.tally.written }
     ensures refused { B.is_honest rows.new → IfErr result IsResource }
     ensures named { IfErr result IsStoreRefusal }
-    ensures caused { B.is_honest rows.new → IfErr result (IsCaused (B.fails_for rows.new)) }
+    ensures caused { B.is_honest rows.new → IfErr result (IsCaused
+        (B.fails (IsGroupWrite (directed_group direction group.now)) rows.old rows.new)) }
     ensures was_honest { B.is_honest rows.new → B.is_honest rows.old }
-    ensures kept { B.keeps rows.old rows.new }
+    ensures kept { B.keeps (is_ok result) rows.old rows.new }
 {
     let header = HeaderRef {
         name: group.header().name(),

@@ -1,5 +1,5 @@
 //! The state of a run between two items of a changeset.
-ghost use Rattle.std.specs.Prelude.{◌≡◌, ◌↔◌, ◌<◌, ◌≤◌, ◌+◌, ◌∷◌, ◌++◌, [], ℕ, List, IfOk, IfErr, IsTrue, OnOk};
+ghost use Rattle.std.specs.Prelude.{◌≡◌, ◌↔◌, ◌<◌, ◌≤◌, ◌+◌, ◌∷◌, ◌++◌, [], ℕ, List, IfOk, IfErr, IsTrue, OnOk, is_ok};
 ghost use Rattle.std.specs.Fn.{FnReturnsAt};
 ghost use Rattle.std.specs.Rc.{rc_str_bytes};
 ghost use Rattle.cs_value.specs.State.{State, schema_at};
@@ -13,6 +13,7 @@ ghost use Rattle.cs_run.specs.Running.{IsCaused, IsResource};
 ghost use Rattle.cs_run.specs.Steps.{HasTable, IsStoreRefusal, header_in};
 ghost use Rattle.cs_run.specs.Tally.{Tells, is_listed};
 ghost use Rattle.cs_run.specs.Run.{IsAtStart, IsBehind, IsNewEntry, TakesEntries, TakesTable, answer_of, group_of};
+ghost use Rattle.cs_run.specs.Writes.{IsEntryWrite};
 
 use crate::conflict::Conflict;
 use crate::ending::Ending;
@@ -83,9 +84,9 @@ impl Run {
         ensures listed { is_listed self.new.tally.written ≡ is_listed self.old.tally.written }
         ensures refused { B.is_honest rows.new → IfErr result IsResource }
         ensures named { IfErr result IsStoreRefusal }
-        ensures caused { B.is_honest rows.new → IfErr result (IsCaused (B.fails_for rows.new)) }
+        ensures caused { B.is_honest rows.new → IfErr result (IsCaused (B.fails (λ _ _. ⊥) rows.old rows.new)) }
         ensures was_honest { B.is_honest rows.new → B.is_honest rows.old }
-        ensures kept { B.keeps rows.old rows.new }
+        ensures kept { B.keeps (is_ok result) rows.old rows.new }
     {
         (self.judgement, self.refuses) = judge_table(alloc, rows, &header)?;
         self.table = RcStr::from_str(alloc, header.name)?;
@@ -141,9 +142,10 @@ impl Run {
         ensures listed { is_listed self.new.tally.written ≡ is_listed self.old.tally.written }
         ensures refused { B.is_honest rows.new → IfErr result IsResource }
         ensures named { IfErr result IsStoreRefusal }
-        ensures caused { B.is_honest rows.new → IfErr result (IsCaused (B.fails_for rows.new)) }
+        ensures caused { B.is_honest rows.new → IfErr result (IsCaused (B.fails
+            (IsEntryWrite (header_in (rc_str_bytes self.old.table) entry.entry) entry.entry.entry) rows.old rows.new)) }
         ensures was_honest { B.is_honest rows.new → B.is_honest rows.old }
-        ensures kept { B.keeps rows.old rows.new }
+        ensures kept { B.keeps (is_ok result) rows.old rows.new }
     {
         if !self.takes_entries() {
             return Ok(());

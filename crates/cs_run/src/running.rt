@@ -1,5 +1,5 @@
 //! The changeset of a file, applied to rows.
-ghost use Rattle.std.specs.Prelude.{◌≡◌, ◌≢◌, ◌<◌, ◌≤◌, ◌+◌, ◌∷◌, ◌++◌, [], List, IfOk, IfErr, OnOk, length};
+ghost use Rattle.std.specs.Prelude.{◌≡◌, ◌≢◌, ◌<◌, ◌≤◌, ◌+◌, ◌∷◌, ◌++◌, [], List, IfOk, IfErr, OnOk, length, is_ok};
 ghost use Rattle.std.specs.List.{AllByRecursion};
 ghost use Rattle.std.specs.Fn.{FnReturnsAt};
 ghost use Rattle.cs_value.specs.State.{State};
@@ -12,6 +12,7 @@ ghost use Rattle.cs_run.specs.Running.{Applies, AppliesTold, Refuses, IsCaused, 
 ghost use Rattle.cs_run.specs.Steps.{IsStoreRefusal};
 ghost use Rattle.cs_run.specs.Tally.{Tells, is_listed};
 ghost use Rattle.cs_run.specs.Run.{IsBehind, directed_entry, directed_group, group_of};
+ghost use Rattle.cs_run.specs.Writes.{IsFileWrite, IsGroupWrite};
 
 use crate::conflict::Conflict;
 use crate::fault::ApplyFault;
@@ -68,9 +69,10 @@ pub fn run_in<B: Rows, H: Fn(&Conflict) -> Choice>(
     ensures refused { B.is_honest rows.new → IfErr result
         (Refuses (FnReturnsAt H.Fn handler.now) noop file.now direction (B.state rows.old)) }
     ensures named { IfErr result IsNamed }
-    ensures caused { B.is_honest rows.new → IfErr result (IsCaused (B.fails_for rows.new)) }
+    ensures caused { B.is_honest rows.new → IfErr result (IsCaused
+        (B.fails (IsFileWrite direction file.now) rows.old rows.new)) }
     ensures was_honest { B.is_honest rows.new → B.is_honest rows.old }
-    ensures kept { B.keeps rows.old rows.new }
+    ensures kept { B.keeps (is_ok result) rows.old rows.new }
     ensures leaves { (held : State) → B.leaves_only rows.old held → B.leaves_only rows.new held }
 {
     let written = Writings::Listed(Vec::new(alloc));
@@ -102,9 +104,10 @@ pub fn tally_in<B: Rows, H: Fn(&Conflict) -> Choice>(
     ensures refused { B.is_honest rows.new → IfErr result
         (Refuses (FnReturnsAt H.Fn handler.now) noop file.now direction (B.state rows.old)) }
     ensures named { IfErr result IsNamed }
-    ensures caused { B.is_honest rows.new → IfErr result (IsCaused (B.fails_for rows.new)) }
+    ensures caused { B.is_honest rows.new → IfErr result (IsCaused
+        (B.fails (IsFileWrite direction file.now) rows.old rows.new)) }
     ensures was_honest { B.is_honest rows.new → B.is_honest rows.old }
-    ensures kept { B.keeps rows.old rows.new }
+    ensures kept { B.keeps (is_ok result) rows.old rows.new }
     ensures leaves { (held : State) → B.leaves_only rows.old held → B.leaves_only rows.new held }
 {
     let mut tables = Tables::read(alloc, file)?;
@@ -157,9 +160,11 @@ fn take_table<B: Rows, H: Fn(&Conflict) -> Choice>(
     ensures listed { is_listed run.new.tally.written ≡ is_listed run.old.tally.written }
     ensures refused { B.is_honest rows.new → IfErr result IsResource }
     ensures named { IfErr result IsStoreRefusal }
-    ensures caused { B.is_honest rows.new → IfErr result (IsCaused (B.fails_for rows.new)) }
+    ensures caused { B.is_honest rows.new → (entries : List EntryData) (others : List GroupData)
+        → AreLeft tables.old entries others → IfErr result (IsCaused (B.fails
+        (IsGroupWrite (directed_group direction (group_of (header_of header.entry) entries))) rows.old rows.new)) }
     ensures was_honest { B.is_honest rows.new → B.is_honest rows.old }
-    ensures kept { B.keeps rows.old rows.new }
+    ensures kept { B.keeps (is_ok result) rows.old rows.new }
 {
     run.take_table(alloc, rows, header)?;
     'entries: while let Some(entry) = tables.next_entry() {

@@ -1,4 +1,5 @@
 pub mod CrashLemmas
 pub mod DeclareLemmas
+pub mod FailureLemmas
 pub mod LeftLemmas
 pub mod OpeningLemmas

@@ -2,6 +2,7 @@ pub mod Opening
 pub use Rattle.cs_access.specs.Refusals
 pub use Rattle.cs_access.specs.Store
 pub use Rattle.cs_access.specs.Crash
+pub use Rattle.cs_access.specs.Failing
 pub use Rattle.cs_access.specs.Laws
 pub use Rattle.cs_stored.specs.Declaration
 pub use Rattle.cs_stored.specs.Stored

@@ -5,11 +5,11 @@ ghost use Rattle.sqlite.specs.Held.{state};
 ghost use Rattle.cs_value.specs.Table.{IsName};
 ghost use Rattle.cs_rows.specs.declared.fault.StoreError.TheVariants.{TableExists as TakenName};
 ghost use Rattle.cs_rows.specs.Faults.{IsCaused, IsResource, IsReadRefusal};
-ghost use Rattle.cs_access.specs.Failing.{CommitFails, HasFailed};
+ghost use Rattle.cs_access.specs.Failing.{BatchFails, CommitFails, Declares};
 ghost use Rattle.cs_rows.specs.Rows.{IsDeclared};
 ghost use Rattle.cs_records.specs.Records.{IsUndone, KeepsCrash, KeepsOthers};
 ghost use Rattle.cs_access.specs.Crash.{IsAtomic, LeavesOnly};
-ghost use Rattle.cs_access.specs.Store.{AddsTable, Ends, IsInside, KeepsStore, tables_in};
+ghost use Rattle.cs_access.specs.Store.{AddsTable, Ends, IsInside, KeepsStore, LeadsOn, tables_in};
 
 use crate::store::Store;
 use cs_access::{commit, refused};
@@ -39,9 +39,12 @@ impl<S: Alter> SqlBatch<'_, S> {
         ensures refused { HasCleanDisk (state S.Store self.new.store.now) → IfErr result (λ e. ((e ≡ TakenName)
             × IsDeclared (tables_in (state S.Store self.old.store.now).now) name.now) ⊎ IsResource e) }
         ensures caused { HasCleanDisk (state S.Store self.new.store.now)
-            → IfErr result (IsCaused (HasFailed S.Store self.new.store.now)) }
+            → IfErr result (IsCaused (BatchFails (Declares name.now schema.now) (state S.Store self.old.store.now)
+            (state S.Store self.new.store.now))) }
         ensures named { IfErr result (λ e. (e ≡ TakenName) ⊎ IsReadRefusal e) }
         ensures same_reference { self.new.store.ghost_name ≡ self.old.store.ghost_name }
+        ensures leads { HasCleanDisk (state S.Store self.new.store.now)
+            → OnOk result (LeadsOn (state S.Store self.old.store.now) (state S.Store self.new.store.now)) }
         ensures kept { KeepsStore (state S.Store self.old.store.now) (state S.Store self.new.store.now) }
     {
         let store = &mut *self.store;
@@ -93,33 +96,47 @@ impl<S: Alter> Drop for SqlBatch<'_, S> {
 }
 
 impl<S: Alter> Rows for SqlBatch<'_, S> {
-    ghost use Rattle.std.proofs.Common.{◌≡◌, refl, ◌∙◌};
+    ghost use Rattle.std.proofs.Common.{◌≡◌, true, refl, ◌∙◌};
     ghost use Rattle.sqlite.specs.State.{HasCleanDisk};
     ghost use Rattle.sqlite.specs.Held.{state as shown};
     ghost use Rattle.cs_access.specs.Crash.{LeavesOnly};
-    ghost use Rattle.cs_access.specs.Failing.{HasFailed};
-    ghost use Rattle.cs_access.specs.Store.{KeepsStore, tables_in};
+    ghost use Rattle.cs_access.specs.Failing.{BatchFails, Writes};
+    ghost use Rattle.cs_access.specs.Store.{KeepsStore, LeadsOn, tables_in};
     ghost use Rattle.cs_access.specs.Laws as laws;
 
     ghost state = { λ b. tables_in (shown S.Store b.store.now).now };
 
     ghost is_honest = { λ b. HasCleanDisk (shown S.Store b.store.now) };
 
-    ghost keeps = { λ a b. (b.store.ghost_name ≡ a.store.ghost_name)
-        × KeepsStore (shown S.Store a.store.now) (shown S.Store b.store.now) };
+    ghost keeps = { λ accepted a b. (b.store.ghost_name ≡ a.store.ghost_name)
+        × KeepsStore (shown S.Store a.store.now) (shown S.Store b.store.now)
+        × (accepted ≡ true → HasCleanDisk (shown S.Store b.store.now)
+        → LeadsOn (shown S.Store a.store.now) (shown S.Store b.store.now)) };
 
-    ghost keeps_itself = { λ b. (refl, laws.keeps_itself) };
+    ghost keeps_itself = { λ b. (refl, laws.keeps_itself, λ accepted clean. laws.leads_itself) };
 
-    ghost keeps_then = { λ a b c one two. (two.0 ∙ one.0, laws.keeps_then one.1 two.1) };
+    ghost keeps_then = { λ accepted a b c one two. (two.0 ∙ one.0, laws.keeps_then one.1 two.1,
+        λ is clean. laws.leads_on_then one.1.crash (one.2 refl (laws.was_clean (shown S.Store b.store.now)
+        (shown S.Store c.store.now) two.1.crash clean)) (two.2 is clean)) };
+
+    ghost keeps_either = { λ accepted a b one. (one.0, one.1, λ is clean. one.2 refl clean) };
 
     ghost leaves_only = { λ b held. LeavesOnly (λ left. left ≡ held) (shown S.Store b.store.now) };
 
-    ghost leaves_still = { λ a b held kept leaves. laws.leaves_then kept.1 leaves };
+    ghost leaves_still = { λ accepted a b held kept leaves. laws.leaves_then kept.1 leaves };
 
-    ghost fails_for = { λ b cause. HasFailed S.Store b.store.now cause };
+    ghost fails = { λ Is a b. BatchFails (Writes Is) (shown S.Store a.store.now) (shown S.Store b.store.now) };
+
+    ghost fails_then = { λ Is accepted a b c cause one two clean failed. laws.batch_fails_then (Writes Is)
+        (shown S.Store a.store.now) (shown S.Store b.store.now) (shown S.Store c.store.now) cause one.1 two.1.crash
+        (one.2 refl) clean failed };
+
+    ghost fails_so = { λ Is Are a b cause so failed. laws.batch_fails_so Is Are (shown S.Store a.store.now)
+        (shown S.Store b.store.now) cause so failed };
 
     fn schema(&mut self, alloc: Global, table: &str) -> Result<Option<Schema>, StoreError> {
-        self.store.schema(alloc, table)
+        let store = &mut *self.store;
+        cs_access::find_schema(&mut store.conn, &mut store.known, alloc, table)
     }
 
     fn get(&mut self, alloc: Global, table: &str, key: &Key) -> Result<Option<Row>, StoreError> {

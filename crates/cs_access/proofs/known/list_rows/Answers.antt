@@ -4,8 +4,8 @@ use Rattle.std.specs.FinMap as map
 use Rattle.std.specs.Option.{option_map}
 use Rattle.cs_value.specs.State.{RowMap}
 use Rattle.sqlite.specs.Held.{state}
-use Rattle.cs_access.specs.Laws.{keeps_then, was_clean}
-use Rattle.cs_access.proofs.FailureLemmas.{so_caused, read_then}
+use Rattle.cs_access.specs.Laws.{keeps_then, leads_on_then, read_then, was_clean}
+use Rattle.cs_access.proofs.FailureLemmas.{so_caused}
 use Rattle.cs_rows.proofs.MemoryLemmas.{no_values}
 use Rattle.cs_access.proofs.ReadLemmas.{no_rows_at}
 use Rattle.cs_access.proofs.known.list_rows.Goals as goal
@@ -23,3 +23,8 @@ returns-in-Err-clause-caused g c clean =
     let then = c.list_rows.ensures.kept in
     so_caused _ _ c.in-Err.error (λ why fails. read_then (state g.S.Store c.args.conn.now) (state g.S.Store c.look_up.new.conn) (state g.S.Store c.list_rows.new.conn) why kept.crash
     (was_clean (state g.S.Store c.look_up.new.conn) (state g.S.Store c.list_rows.new.conn) then.crash clean) then.crash fails) (c.in-Err.ensures.caused (kept.sound c.requires.sound) clean)
+
+pub returns-in-Ok-clause-leads : goal.returns-in-Ok-clause-leads
+returns-in-Ok-clause-leads g c clean =
+    let was = was_clean (state g.S.Store c.look_up.new.conn) (state g.S.Store c.list_rows.new.conn) c.list_rows.ensures.kept.crash clean in
+    leads_on_then c.look_up.ensures.kept.crash (c.in_ok-look_up.ensures.leads was) (c.in-Ok.ensures.leads clean)

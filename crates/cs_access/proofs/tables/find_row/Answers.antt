@@ -7,6 +7,7 @@ use Rattle.cs_access.specs.Store.{tables_in}
 use Rattle.cs_stored.proofs.StoredLemmas.{row_stored}
 use Rattle.cs_access.proofs.StoreLemmas.{rests_keeps}
 use Rattle.cs_access.proofs.ReadLemmas.{shows_read, row_is, declared_named, read_fits}
+use Rattle.cs_access.proofs.FailureLemmas.{on_ok, read_leads}
 use Rattle.cs_access.proofs.tables.find_row.Goals as goal
 
 pub returns-in-Err-clause-kept : goal.returns-in-Err-clause-kept
@@ -31,3 +32,6 @@ returns-in-Ok-clause-fits g c sound clean has =
 
 pub returns-in-Ok-clause-kept : goal.returns-in-Ok-clause-kept
 returns-in-Ok-clause-kept g c = rests_keeps _ _ c.find_record.ensures.keeps_crash (λ clean. inl (c.in-Ok.ensures.reads clean))
+
+pub returns-in-Ok-clause-leads : goal.returns-in-Ok-clause-leads
+returns-in-Ok-clause-leads g c clean = on_ok c.row_in.result _ (read_leads _ _ (c.in-Ok.ensures.reads clean))

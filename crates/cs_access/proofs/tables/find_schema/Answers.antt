@@ -7,6 +7,7 @@ use Rattle.cs_records.specs.Records.{records_in}
 use Rattle.cs_access.specs.Store.{IsSound, Recovers, tables_in}
 use Rattle.cs_access.proofs.ReadLemmas.{shows_read, recovers_ok, recovers_err, unnamed, no_elements, some_elements, schema_is, schema_stored}
 use Rattle.cs_access.proofs.StoreLemmas.{rests_keeps}
+use Rattle.cs_access.proofs.FailureLemmas.{on_ok, read_leads}
 use Rattle.cs_access.proofs.tables.find_schema.Goals as goal
 use Rattle.cs_access.proofs.tables.find_schema.Goals.{After-schema_in}
 
@@ -33,3 +34,9 @@ returns-else-is_empty-clause-refused g c sound clean = recovers_err c.schema_in.
 
 pub returns-in-Err-clause-kept : goal.returns-in-Err-clause-kept
 returns-in-Err-clause-kept g c = rests_keeps (state g.S.Store c.args.conn.now) (state g.S.Store c.find_record.new.conn) c.find_record.ensures.keeps_crash c.in-Err.ensures.rests
+
+pub returns-then-is_empty-clause-leads : goal.returns-then-is_empty-clause-leads
+returns-then-is_empty-clause-leads g c clean = read_leads _ _ (c.in-Ok.ensures.reads clean)
+
+pub returns-else-is_empty-clause-leads : goal.returns-else-is_empty-clause-leads
+returns-else-is_empty-clause-leads g c clean = on_ok c.schema_in.result _ (read_leads _ _ (c.in-Ok.ensures.reads clean))

@@ -6,6 +6,7 @@ use Rattle.cs_access.specs.Store.{tables_in}
 use Rattle.cs_access.proofs.StoreLemmas.{rests_keeps}
 use Rattle.cs_access.proofs.StoredLists.{refused_named, rows_recovered, rows_are_stored}
 use Rattle.cs_access.proofs.ReadLemmas.{shows_read, declared_named}
+use Rattle.cs_access.proofs.FailureLemmas.{on_ok, read_leads}
 use Rattle.cs_access.proofs.tables.list_rows.Goals as goal
 
 pub returns-in-Err-clause-kept : goal.returns-in-Err-clause-kept
@@ -26,3 +27,6 @@ returns-in-Ok-clause-named g c = refused_named _ c.rows_in.result c.rows_in.ensu
 
 pub returns-in-Ok-clause-kept : goal.returns-in-Ok-clause-kept
 returns-in-Ok-clause-kept g c = rests_keeps _ _ c.list_records.ensures.keeps_crash (λ clean. inl (c.in-Ok.ensures.reads clean))
+
+pub returns-in-Ok-clause-leads : goal.returns-in-Ok-clause-leads
+returns-in-Ok-clause-leads g c clean = on_ok c.rows_in.result _ (read_leads _ _ (c.in-Ok.ensures.reads clean))

@@ -1,11 +1,11 @@
--- `tables::put_row`: the clauses `put`, `caused` and `kept`.
+-- `tables::put_row`: the clauses `put`, `caused`, `leads` and `kept`.
 use Rattle.std.proofs.Common.{◌≡◌, Some, rules}
-use Rattle.cs_access.proofs.FailureLemmas.{caused_write, apt}
+use Rattle.cs_access.proofs.FailureLemmas.{caused_write, apt, declared, write_leads}
 use Rattle.cs_records.specs.Failing.{puts}
 use Rattle.sqlite.specs.Held.{state}
 use Rattle.cs_value.specs.Spelling.{row_bytes}
 use Rattle.cs_access.proofs.ReadLemmas.{no_record}
-use Rattle.cs_access.proofs.WriteLemmas.{row_put, mapped, written_is, written_keeps}
+use Rattle.cs_access.proofs.WriteLemmas.{row_put, mapped, on_ok_both, shows_state, written_is, written_keeps}
 use Rattle.cs_access.proofs.tables.put_row.Goals as goal
 
 pub returns-clause-put : goal.returns-clause-put
@@ -32,12 +32,20 @@ put_record-requires g c = λ new clean records.
     rw c.bytes.ensures (no_record (state g.S.Store c.args.conn.now).now c.args.name.now c.args.key.now c.args.row.now it.0 (c.requires.fits clean) it.1)
 
 pub returns-clause-caused : goal.returns-clause-caused
-returns-clause-caused g c clean =
+returns-clause-caused g c sound inside clean =
     let old = state g.S.Store c.args.conn.now in
     let new = state g.S.Store c.put_record.new.conn in
     let spelled : c.deref.result.now ≡ row_bytes c.args.row.now = search rules in
     let was = c.put_record.ensures.was_clean clean in
-    caused_write _ old new (puts c.args.is_new c.args.name.now c.args.key.now (row_bytes c.args.row.now)) c.put_record.result c.map_err.result c.map_err.ensures.cases (λ f e it. it.0)
+    caused_write _ old new (puts c.args.is_new c.args.name.now c.args.key.now (row_bytes c.args.row.now)) c.put_record.result c.map_err.result c.map_err.ensures.cases (λ f e it. it.0) (declared old sound was)
     (apt old.now c.args.is_new c.args.name.now c.args.key.now (row_bytes c.args.row.now) (λ is.
     let it = c.requires.new is was in no_record old.now c.args.name.now c.args.key.now c.args.row.now it.0 (c.requires.fits was) it.1))
     (rw (c.bytes.ensures, spelled) at (c.put_record.ensures.failed clean))
+
+pub returns-clause-leads : goal.returns-clause-leads
+returns-clause-leads g c sound inside clean =
+    let old = state g.S.Store c.args.conn.now in
+    let new = state g.S.Store c.put_record.new.conn in
+    let h = c.put_record.ensures in
+    let holds = (shows_state old sound inside (h.was_clean clean)).records in
+    mapped _ c.put_record.result c.map_err.result _ c.map_err.ensures.cases (on_ok_both c.put_record.result _ _ _ (write_leads old new (puts c.args.is_new c.args.name.now c.bytes.result.now c.deref.result.now)) (h.ends clean holds) (h.goes_on clean holds inside))

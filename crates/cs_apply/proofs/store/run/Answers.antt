@@ -1,5 +1,5 @@
--- `store::run`: the clauses `others`, `atomic`, `left` and `stands`.
-use Rattle.std.proofs.Common.{◌≡◌, ℕ, List, OnErr, rules}
+-- `store::run`: the clauses `caused`, `others`, `atomic`, `left` and `stands`.
+use Rattle.std.proofs.Common.{◌≡◌, ℕ, List, IfErr, OnErr, refl, rules}
 use Rattle.std.specs.Fn.{FnReturnsAt}
 use Rattle.sqlite.specs.Held.{state}
 use Rattle.sqlite.specs.State.{HasCleanDisk}
@@ -13,6 +13,11 @@ use Rattle.cs_run.specs.declared.running.Direction.{Direction}
 use Rattle.cs_run.specs.declared.tally.Tally.{Tally}
 use Rattle.cs_run.specs.Running.{Handler, AppliesTold}
 use Rattle.cs_apply.specs.Crash.{AppliesInto}
+use Rattle.cs_store.proofs.FailureLemmas.{begin_fails, commit_fails, work_fails}
+use Rattle.cs_store.specs.Failing.{BeginFails}
+use Rattle.cs_store.specs.Faults as stores
+use Rattle.cs_store.specs.Laws.{was_clean}
+use Rattle.cs_run.proofs.CauseLemmas.{caused_on, rows_caused_on}
 use Rattle.cs_apply.proofs.store.run.Goals as goal
 
 -- what a tally has is what the state was made with
@@ -90,3 +95,37 @@ returns-in_err-tally-clause-refused g c clean =
     let refused = c.in_err-tally.ensures.refused was in
     let began = c.in_ok-batch.ensures.begun (c.tally_in.ensures.was_honest was) in
     search rules
+
+pub returns-in_err-batch-clause-caused : goal.returns-in_err-batch-clause-caused
+returns-in_err-batch-clause-caused g c clean =
+    let old = state g.S.Store c.args.store.now in
+    let new = state g.S.Store c.begin.follows.lender-at-none in
+    let fails : HasCleanDisk new → IfErr c.begin.result (stores.IsCaused (BeginFails old new)) = search rules in
+    let failed : stores.IsCaused (BeginFails old new) c.in_err-batch.field-0.0 = rw c.in_err-batch.was at (fails clean) in
+    rows_caused_on c.from_residual.result _ _ c.in_err-batch.field-0.0 c.from_residual.ensures.1 (begin_fails _ old new) failed
+
+pub returns-in_err-tally-clause-caused : goal.returns-in_err-tally-clause-caused
+returns-in_err-tally-clause-caused g c clean =
+    let old = state g.S.Store c.args.store.now in
+    let begun = state g.S.Store c.in_ok-batch.batch.store.now in
+    let mid = state g.S.Store c.tally_in.new.rows.store.now in
+    let last = state g.S.Store c.drop-batch.new.self.0 in
+    let same : c.drop-batch.new.self.0 ≡ c.store-in_err-tally-1.given.0 = search rules in
+    let last_clean : HasCleanDisk last = rw same clean in
+    let mid_clean = was_clean mid last c.drop-batch.ensures.survives last_clean in
+    rw (← same) (caused_on c.from_residual-in_err-tally.result _ _ c.in_err-tally.field-0.0 c.from_residual-in_err-tally.ensures.1
+    (work_fails _ old begun mid last c.in_ok-batch.ensures.begun c.in_ok-batch.ensures.survives c.tally_in.ensures.kept.1 mid_clean c.drop-batch.ensures.survives) (c.in_err-tally.ensures.caused mid_clean))
+
+pub returns-in_err-commit-clause-caused : goal.returns-in_err-commit-clause-caused
+returns-in_err-commit-clause-caused g c clean =
+    let old = state g.S.Store c.args.store.now in
+    let begun = state g.S.Store c.in_ok-batch.batch.store.now in
+    let mid = state g.S.Store c.tally_in.new.rows.store.now in
+    let last = state g.S.Store c.commit.new.self.0 in
+    let same : c.commit.new.self.0 ≡ c.store-2-1.given.0 = search rules in
+    let last_clean : HasCleanDisk last = rw same clean in
+    let kept = c.in_ok-tally.ensures.kept in
+    let survives = c.commit.ensures.atomic.survives in
+    let mid_clean = was_clean mid last survives last_clean in
+    rw (← same) (rows_caused_on c.from_residual-in_err-commit.result _ _ c.in_err-commit.field-0.0 c.from_residual-in_err-commit.ensures.1
+    (commit_fails _ old begun mid last c.in_ok-batch.ensures.begun c.in_ok-batch.ensures.survives kept.1 mid_clean survives.counts (kept.2 refl mid_clean)) (c.in_err-commit.ensures.caused last_clean))

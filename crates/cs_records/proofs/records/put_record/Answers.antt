@@ -1,8 +1,10 @@
--- `records::put_record`: the clauses `rests`, `survives`, `set` and `goes_on`.
+-- `records::put_record`: the clauses `rests`, `survives`, `set`, `ends` and `goes_on`.
 use Rattle.cs_records.proofs.QueryLemmas.{on_err}
 use Rattle.cs_records.proofs.StatementLemmas.{refusal_rests}
 use Rattle.cs_records.proofs.PutLemmas.{put_goes_on, put_keeps_crash}
-use Rattle.cs_records.proofs.AddLemmas.{puts}
+use Rattle.cs_records.specs.Failing.{puts}
+use Rattle.cs_records.proofs.AddLemmas as add
+use Rattle.cs_records.proofs.WriteFailures.{write_ends}
 use Rattle.cs_records.proofs.records.put_record.Goals as goal
 
 pub returns-in_err-execute-clause-rests : goal.returns-in_err-execute-clause-rests
@@ -13,10 +15,14 @@ returns-in_err-execute-clause-survives g c has inside = put_keeps_crash c.args.i
 
 pub returns-clause-set : goal.returns-clause-set
 returns-clause-set g c clean has =
-    puts c.args.is_new _ _ _ _ _ _ has (rw (c.put_text.ensures, c.params-to_sql.ensures, c.params-to_sql-2.ensures, c.params-to_sql-3.ensures) at (c.in_ok-execute.ensures.runs clean))
+    add.puts c.args.is_new _ _ _ _ _ _ has (rw (c.put_text.ensures, c.params-to_sql.ensures, c.params-to_sql-2.ensures, c.params-to_sql-3.ensures) at (c.in_ok-execute.ensures.runs clean))
 
 pub returns-clause-goes_on : goal.returns-clause-goes_on
 returns-clause-goes_on g c clean has inside = put_goes_on c.args.is_new _ _ _ _ has.declares inside (rw c.put_text.ensures at (c.in_ok-execute.ensures.runs clean))
 
 pub returns-clause-survives : goal.returns-clause-survives
 returns-clause-survives g c has inside = put_keeps_crash c.args.is_new _ _ _ (λ clean. (has clean).declares) inside (rw c.put_text.ensures at c.execute.ensures.survives)
+
+pub returns-clause-ends : goal.returns-clause-ends
+returns-clause-ends g c clean has =
+    write_ends (puts c.args.is_new c.args.tab.now c.args.key.now c.args.value.now) _ _ _ has.declares (rw (c.put_text.ensures, c.params-to_sql.ensures, c.params-to_sql-2.ensures, c.params-to_sql-3.ensures) at (c.in_ok-execute.ensures.runs clean))

@@ -1,10 +1,35 @@
--- `editing::delete_row`: the clause `kept`.
+-- `editing::delete_row`: the clauses `caused` and `kept`.
+use Rattle.std.proofs.Common.{◌∙◌}
+use Rattle.std.proofs.lemmas.Result.{err_from_is_err_and}
+use Rattle.cs_rows.proofs.CauseLemmas.{caused_on, removal_of}
 use Rattle.cs_rows.proofs.editing.delete_row.Goals as goal
+
+pub returns-in_err-_schema-clause-caused : goal.returns-in_err-_schema-clause-caused
+returns-in_err-_schema-clause-caused g c = λ honest.
+    caused_on c.from_residual.result _ _ c.in_err-_schema.field-0.0 c.from_residual.ensures.1
+    (λ why by. g.B.Rows.fails_so _ _ _ _ why (λ held write none. absurd none) by) (c.in_err-_schema.ensures.caused honest)
+
+pub returns-in_err-former-clause-caused : goal.returns-in_err-former-clause-caused
+returns-in_err-former-clause-caused g c = λ honest.
+    caused_on c.from_residual-in_err-former.result _ _ c.in_err-former.field-0.0 c.from_residual-in_err-former.ensures.1
+    (λ why by. g.B.Rows.fails_then _ _ _ _ _ why c.in_ok-_schema.ensures.kept c.in_err-former.ensures.kept honest
+    (g.B.Rows.fails_so _ _ _ _ why (λ held write none. absurd none) by)) (c.in_err-former.ensures.caused honest)
+
+pub returns-in_err-remove-clause-caused : goal.returns-in_err-remove-clause-caused
+returns-in_err-remove-clause-caused g c = λ honest.
+    let at = c.remove.ensures.was_honest honest in
+    let same = c.in_ok-former.ensures.same at ∙ c.in_ok-_schema.ensures.same (c.in_ok-former.ensures.was_honest at) in
+    let kept = g.B.Rows.keeps_then _ _ _ _ c.in_ok-_schema.ensures.kept c.in_ok-former.ensures.kept in
+    caused_on c.from_residual-in_err-remove.result _ _ c.in_err-remove.field-0.0 c.from_residual-in_err-remove.ensures.1
+    (λ why by. g.B.Rows.fails_then _ _ _ _ _ why kept c.in_err-remove.ensures.kept honest
+    (g.B.Rows.fails_so _ _ _ _ why (λ held write is. removal_of _ _ c.args.table.now c.args.key.now held write same is) by)) (c.in_err-remove.ensures.caused honest)
 
 pub returns-in_err-remove-clause-kept : goal.returns-in_err-remove-clause-kept
 returns-in_err-remove-clause-kept g c =
-    g.B.Rows.keeps_then _ _ _ (g.B.Rows.keeps_then _ _ _ c.find_schema.ensures.kept c.find_row.ensures.kept) c.remove.ensures.kept
+    let kept = g.B.Rows.keeps_then _ _ _ _ c.in_ok-_schema.ensures.kept c.in_ok-former.ensures.kept in
+    let p = err_from_is_err_and c.from_residual-in_err-remove.result c.from_residual-in_err-remove.ensures.1 in
+    rw p.1 (g.B.Rows.keeps_then _ _ _ _ kept c.in_err-remove.ensures.kept)
 
 pub returns-clause-kept : goal.returns-clause-kept
 returns-clause-kept g c =
-    g.B.Rows.keeps_then _ _ _ (g.B.Rows.keeps_then _ _ _ c.find_schema.ensures.kept c.find_row.ensures.kept) c.remove.ensures.kept
+    g.B.Rows.keeps_then _ _ _ _ (g.B.Rows.keeps_then _ _ _ _ c.in_ok-_schema.ensures.kept c.in_ok-former.ensures.kept) c.in_ok-remove.ensures.kept

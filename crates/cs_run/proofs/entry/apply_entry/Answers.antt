@@ -1,13 +1,15 @@
--- `entry::apply_entry`: the clause `comes_to`.
+-- `entry::apply_entry`: the clauses `comes_to`, `caused` and `kept`.
 use Rattle.std.proofs.Common.{◌≡◌, ℕ, Bool, List, refl, sym, ap, ◌∙◌, arith}
 use Rattle.std.specs.Fn.{FnReturnsAt}
+use Rattle.std.proofs.lemmas.Result.{err_from_is_err_and}
 use Rattle.std.specs.Rc.{rc_str_bytes}
 use Rattle.std.specs.FinMap.{get}
 use Rattle.cs_value.specs.State.{State}
 use Rattle.cs_value.proofs.StateLemmas.{table_of_schema}
 use Rattle.cs_group.specs.Conflicts.{is_refused, row_after}
 use Rattle.cs_group.specs.Applying.{current, refused_at}
-use Rattle.cs_run.specs.Steps.{placed_in_table, with_result}
+use Rattle.cs_run.specs.Steps.{header_in, placed_in_table, with_result}
+use Rattle.cs_run.proofs.CauseLemmas.{caused_on, entry_write, rows_caused_on}
 use Rattle.cs_run.proofs.CarryLemmas.{carries_written, carries_passed, carries_ignored, stops_here}
 use Rattle.cs_run.proofs.EntryLemmas.{carried_out}
 use Rattle.cs_run.proofs.HeededLemmas.{left_in, left_out}
@@ -77,3 +79,27 @@ returns-in-Ignored-clause-comes_to g c = λ honest.
     let same = rw (c.as_str-name.ensures.value, c.as_ref.ensures.value, c.in-Ignored.is) at c.in_ok-settle.ensures.settles in
     let ignored = left_out state p c.args.noop (sym (rw (c.as_ref.ensures.value, c.in-Ignored.is, is, rule) at c.in_ok-settle.ensures.ignored)) in
     (rw ignored.0 (carries_ignored (FnReturnsAt g.H.Fn c.args.handler.now) state p c.in_ok-current.current _ _ is _ (c.in_ok-current.ensures.same honest) same refl), rw ignored.1 refl)
+
+pub returns-in_err-current-clause-caused : goal.returns-in_err-current-clause-caused
+returns-in_err-current-clause-caused g c = λ honest.
+    rows_caused_on c.from_residual-in_err-current.result _ _ c.in_err-current.field-0.0 c.from_residual-in_err-current.ensures.1
+    (λ why by. g.B.Rows.fails_so _ _ _ _ why (λ held write none. absurd none) by) (c.in_err-current.ensures.caused honest)
+
+pub returns-in_err-carry_out-in-Carried-clause-caused : goal.returns-in_err-carry_out-in-Carried-clause-caused
+returns-in_err-carry_out-in-Carried-clause-caused g c = λ after.
+    let honest = c.carry_out.ensures.was_honest after in
+    let header = header_in (rc_str_bytes c.args.table.now) c.args.entry.now in
+    let found = rw c.as_str-name.ensures.value at c.in_ok-current.ensures.found honest in
+    caused_on c.from_residual-in_err-carry_out-in-Carried.result _ _ c.in_err-carry_out-in-Carried.field-0.0 c.from_residual-in_err-carry_out-in-Carried.ensures.1
+    (λ why by. g.B.Rows.fails_then _ _ _ _ _ why c.in_ok-current.ensures.kept c.in_err-carry_out-in-Carried.ensures.kept after
+    (g.B.Rows.fails_so _ _ _ _ why
+    (λ held write is. entry_write header c.args.entry.now.entry _ _ held write c.in_ok-key.key c.in_ok-current.current (c.in_ok-current.ensures.same honest) c.in_ok-key.ensures (sym found) is) by))
+    (c.in_err-carry_out-in-Carried.ensures.caused after)
+
+pub returns-in_err-carry_out-in-Carried-clause-kept : goal.returns-in_err-carry_out-in-Carried-clause-kept
+returns-in_err-carry_out-in-Carried-clause-kept g c =
+    let p = err_from_is_err_and c.from_residual-in_err-carry_out-in-Carried.result c.from_residual-in_err-carry_out-in-Carried.ensures.1 in
+    rw p.1 (g.B.Rows.keeps_then _ _ _ _ c.in_ok-current.ensures.kept c.in_err-carry_out-in-Carried.ensures.kept)
+
+pub returns-in_ok-carry_out-in-Carried-clause-kept : goal.returns-in_ok-carry_out-in-Carried-clause-kept
+returns-in_ok-carry_out-in-Carried-clause-kept g c = g.B.Rows.keeps_then _ _ _ _ c.in_ok-current.ensures.kept c.in_ok-carry_out-in-Carried.ensures.kept

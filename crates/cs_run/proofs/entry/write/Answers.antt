@@ -1,8 +1,9 @@
--- `entry::write`: what `put` asks for.
-use Rattle.std.proofs.Common.{sym, ◌∙◌, rules}
+-- `entry::write`: what `put` asks for, the clause `caused`.
+use Rattle.std.proofs.Common.{sym, ap, ◌∙◌, rules}
 use Rattle.cs_value.specs.Value.{IsRow}
 use Rattle.cs_group.specs.Applying.{refuses_at}
-use Rattle.cs_run.specs.Steps.{header_in}
+use Rattle.cs_run.specs.Steps.{header_in, write_of}
+use Rattle.cs_run.proofs.CauseLemmas.{rows_caused_on}
 use Rattle.cs_run.proofs.EntryLemmas.{keyed_here, kept_here, fits_here}
 use Rattle.cs_run.proofs.entry.write.Goals as goal
 
@@ -18,3 +19,15 @@ put-requires g c = λ honest.
     let obeys = rw c.in-Some.is at c.in_ok-row.ensures.obeys in
     let kept = obeys (refuses_at state c.args.table.now) (kept_here state header c.args.key.now c.args.current has (c.requires.row honest)) c.requires.found (c.requires.obeys honest) in
     fits_here state header c.args.key.now c.in-Some.row has values fits.0 (c.requires.key ∙ sym fits.1) kept
+
+pub returns-in_err-put-in-Some-clause-caused : goal.returns-in_err-put-in-Some-clause-caused
+returns-in_err-put-in-Some-clause-caused g c = λ honest.
+    let left = rw c.in-Some.is at c.in_ok-row.ensures.same in
+    rows_caused_on c.from_residual-in_err-put-in-Some.result _ _ c.in_err-put-in-Some.field-0.0 c.from_residual-in_err-put-in-Some.ensures.1
+    (λ why by. g.B.Rows.fails_so _ _ _ _ why (λ held write is. (is.0, is.1 ∙ ap (write_of c.args.table.now c.args.key.now) left)) by) (c.in_err-put-in-Some.ensures.caused honest)
+
+pub returns-in_err-remove-in-None-clause-caused : goal.returns-in_err-remove-in-None-clause-caused
+returns-in_err-remove-in-None-clause-caused g c = λ honest.
+    let left = rw c.in-None.is at c.in_ok-row.ensures.same in
+    rows_caused_on c.from_residual-in_err-remove-in-None.result _ _ c.in_err-remove-in-None.field-0.0 c.from_residual-in_err-remove-in-None.ensures.1
+    (λ why by. g.B.Rows.fails_so _ _ _ _ why (λ held write is. (is.0, is.1 ∙ ap (write_of c.args.table.now c.args.key.now) left)) by) (c.in_err-remove-in-None.ensures.caused honest)

@@ -1,11 +1,13 @@
--- `owned::run_changeset_in`: the invariant of the loop at `group`, the clauses `applied` and `refused`.
+-- `owned::run_changeset_in`: the invariant of the loop at `group`, the clauses `caused`, `kept`,
+-- `applied` and `refused`.
 use Rattle.std.proofs.Common.{◌≡◌, ◌<◌, ◌+◌, ℕ, List, length, get_or, refl, ap, ◌∙◌}
 use Rattle.std.specs.Fn.{FnReturnsAt}
 use Rattle.std.proofs.lemmas.List.{take_all}
 use Rattle.std.proofs.lemmas.Result.{err_from_is_err_and}
 use Rattle.cs_wire.specs.Changeset.{GroupData, file_bytes}
-use Rattle.cs_run.specs.Run.{directed}
+use Rattle.cs_run.specs.Running.{directed}
 use Rattle.cs_run.proofs.BehindLemmas.{behind_start}
+use Rattle.cs_run.proofs.CauseLemmas.{caused_on, run_write}
 use Rattle.cs_run.proofs.DirectedLemmas.{directed_none, group_names, groups_more, read_as, run_outcome}
 use Rattle.cs_group.specs.declared.conflict.Noop.TheVariants.{Report as Reported}
 use Rattle.cs_run.proofs.OutcomeLemmas.{told_reports}
@@ -31,7 +33,7 @@ loop-group-preserved g c =
     let within : i < length all = rw groups.same at c.loop-group-test.true in
     let is : group ≡ get_or all i group = c.group-item.is ∙ ap (λ (l : List GroupData). get_or l i group) groups.same in (
       so.0,
-      g.B.Rows.keeps_then _ _ _ so.1 c.take_group.ensures.kept,
+      g.B.Rows.keeps_then _ _ _ _ so.1 c.in_ok-take_group.ensures.kept,
       c.in_ok-take_group.ensures.tables ∙ ap (λ (n : ℕ). n + 1) so.2,
       c.in_ok-take_group.ensures.reported,
       c.take_group.ensures.listed ∙ so.4,
@@ -42,6 +44,24 @@ loop-group-preserved g c =
                 (c.in_ok-take_group.ensures.behind honest (g.B.Rows.state c.args.rows.now) _ (group_names c.args.direction all i group groups.well_formed within is) was.1),
           ),
     )
+
+pub returns-in_err-take_group-clause-caused : goal.returns-in_err-take_group-clause-caused
+returns-in_err-take_group-clause-caused g c = λ honest.
+    let all = c.args.changeset.now in
+    let groups = c.groups-group-items.ensures in
+    let i = c.loop-group.group-index in
+    let group = c.group-item.result in
+    let within : i < length all = rw groups.same at c.loop-group-test.true in
+    let is : group ≡ get_or all i group = c.group-item.is ∙ ap (λ (l : List GroupData). get_or l i group) groups.same in
+    caused_on c.from_residual-in_err-take_group.result _ _ c.in_err-take_group.field-0.0 c.from_residual-in_err-take_group.ensures.1
+    (λ why by. g.B.Rows.fails_then _ _ _ _ _ why c.loop-group.invariant.1 c.in_err-take_group.ensures.kept honest
+    (g.B.Rows.fails_so _ _ _ _ why (λ held write wrote. run_write c.args.direction all i group held write within is wrote) by))
+    (c.in_err-take_group.ensures.caused honest)
+
+pub returns-in_err-take_group-clause-kept : goal.returns-in_err-take_group-clause-kept
+returns-in_err-take_group-clause-kept g c =
+    let p = err_from_is_err_and c.from_residual-in_err-take_group.result c.from_residual-in_err-take_group.ensures.1 in
+    rw p.1 (g.B.Rows.keeps_then _ _ _ _ c.loop-group.invariant.1 c.in_err-take_group.ensures.kept)
 
 pub returns-clause-applied : goal.returns-clause-applied
 returns-clause-applied g c = λ honest.

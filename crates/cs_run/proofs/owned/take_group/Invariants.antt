@@ -1,5 +1,5 @@
 -- The entries so far are behind the run.
-use Rattle.std.proofs.Common.{◌≡◌, ◌≢◌, ◌+◌, ◌++◌, ◌∷◌, [], List, take}
+use Rattle.std.proofs.Common.{◌≡◌, ◌≢◌, ◌+◌, ◌++◌, ◌∷◌, [], List, take, true}
 use Rattle.std.specs.List.{AllByRecursion}
 use Rattle.std.specs.Fn.{FnReturnsAt}
 use Rattle.std.specs.Rc.{rc_str_bytes}
@@ -16,7 +16,7 @@ use Rattle.cs_run.proofs.owned.take_group.Given as goal
 abbrev pub invariant-loop-entry : goal.invariant-loop-entry
 invariant-loop-entry g l =
     let rows = g.B.Rows in
-    goal.H-IsAlwaysCallable g l.handler × rows.keeps l.fn.rows l.rows × (l.run.tables ≡ l.fn.run.tables + 1) × ((l.run.noop ≡ Reported) × (l.run.tally.ignored ≡ 0)) × (is_listed l.run.tally.written ≡ is_listed l.fn.run.tally.written)
+    goal.H-IsAlwaysCallable g l.handler × rows.keeps true l.fn.rows l.rows × (l.run.tables ≡ l.fn.run.tables + 1) × ((l.run.noop ≡ Reported) × (l.run.tally.ignored ≡ 0)) × (is_listed l.run.tally.written ≡ is_listed l.fn.run.tally.written)
     × (rows.is_honest l.rows → rows.is_honest l.fn.rows × (rc_str_bytes l.run.table ≡ l.group.header.name) × (l.run.judgement ≡ judged (rows.state l.rows) (group_of l.group.header []))
     × (l.run.refuses.items ≡ refuses_at (rows.state l.rows) l.group.header.name)
     × ((before : State) (closed : List GroupData) → AllByRecursion (λ k. k.header.name ≢ l.group.header.name) closed → IsBehind (FnReturnsAt g.H.Fn l.handler) before closed l.fn.run (rows.state l.fn.rows)

@@ -1,5 +1,5 @@
 -- The entries so far are behind the run.
-use Rattle.std.proofs.Common.{◌≡◌, ◌≤◌, ◌+◌, ◌-◌, List, [], length}
+use Rattle.std.proofs.Common.{◌≡◌, ◌≤◌, ◌+◌, ◌-◌, List, [], length, true}
 use Rattle.std.specs.Fn.{FnReturnsAt}
 use Rattle.std.specs.Rc.{rc_str_bytes}
 use Rattle.cs_entries.specs.declared.entry.Entry.{Entry}
@@ -17,7 +17,7 @@ abbrev pub invariant-entries : goal.invariant-entries
 invariant-entries g l =
     let rows = g.B.Rows in
     let h = header_of l.header in
-    goal.H-IsAlwaysCallable g l.handler × rows.keeps l.fn.rows l.rows × (l.tables.file ≡ l.fn.tables.file) × (l.tables.flags ≡ h.flags) × (l.fn.tables.place ≤ l.tables.place) × (l.tables.place ≤ length l.tables.file)
+    goal.H-IsAlwaysCallable g l.handler × rows.keeps true l.fn.rows l.rows × (l.tables.file ≡ l.fn.tables.file) × (l.tables.flags ≡ h.flags) × (l.fn.tables.place ≤ l.tables.place) × (l.tables.place ≤ length l.tables.file)
     × (l.run.tally.ignored ≤ l.tables.place) × (l.run.tables ≡ l.fn.run.tables + 1) × (l.run.noop ≡ l.fn.run.noop) × (is_listed l.run.tally.written ≡ is_listed l.fn.run.tally.written)
     × (rows.is_honest l.rows → rows.is_honest l.fn.rows × (rc_str_bytes l.run.table ≡ h.name) × (l.run.judgement ≡ judged (rows.state l.rows) (group_of h [])) × (l.run.refuses.items ≡ refuses_at (rows.state l.rows) h.name))
     × ((entries : List Entry) (others : List GroupData) → AreLeft l.fn.tables entries others

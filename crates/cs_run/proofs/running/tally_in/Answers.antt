@@ -1,9 +1,15 @@
--- `running::tally_in`: the invariant of the loop, what `take_table` asks for, the clauses `applied`, `refused`, `named` and `caused`.
-use Rattle.std.proofs.Common.{[], length, refl, sym, ap, ◌∙◌, arith}
+-- `running::tally_in`: the invariant of the loop, what `take_table` asks for, the clauses `caused`,
+-- `kept`, `leaves`, `applied`, `refused` and `named`.
+use Rattle.std.proofs.Common.{◌≡◌, List, [], ◌∷◌, ◌++◌, length, refl, sym, ap, subst, ◌∙◌, arith}
+use Rattle.std.proofs.lemmas.Result.{err_from_is_err_and}
 use Rattle.std.specs.Fn.{FnReturnsAt}
-use Rattle.cs_wire.specs.Changeset.{HeaderData}
-use Rattle.cs_run.specs.Run.{directed}
+use Rattle.cs_wire.specs.Changeset.{GroupData, HeaderData}
+use Rattle.cs_wire.specs.Headers.{header_of}
+use Rattle.cs_run.specs.Running.{directed}
 use Rattle.cs_run.proofs.BehindLemmas.{behind_start}
+use Rattle.cs_run.specs.Run.{directed_group, group_of}
+use Rattle.cs_run.specs.Writes.{IsFileWrite, IsGroupWrite}
+use Rattle.cs_run.proofs.CauseLemmas.{caused_on, next_table_write}
 use Rattle.cs_run.proofs.DirectedLemmas.{directed_none, outcome_caused, outcome_named, read_as, run_outcome}
 use Rattle.cs_run.proofs.FileLemmas.{tables_all, tables_next}
 use Rattle.cs_run.proofs.running.tally_in.Goals as goal
@@ -44,13 +50,34 @@ take_table-requires-clause-flags g c =
     let is = c.in-Some.ensures.next [] so.8.others so.8.are_left in
     is.flags_are ∙ sym (ap (λ (h : HeaderData). h.flags) is.header_is)
 
+pub returns-in_err-take_table-clause-caused : goal.returns-in_err-take_table-clause-caused
+returns-in_err-take_table-clause-caused g c = λ honest.
+    let so = c.tables.invariant in
+    let is = c.in-Some.ensures.next [] so.8.others so.8.are_left in
+    let group : group_of (header_of c.in-Some.header) is.group.entries ≡ is.group = ap (λ (h : HeaderData). group_of h is.group.entries) is.header_is in
+    let whole : so.8.groups ≡ so.8.closed ++ is.group ∷ is.others = so.8.whole ∙ ap (λ (gs : List GroupData). so.8.closed ++ gs) is.is in
+    caused_on c.from_residual-in_err-take_table.result _ _ c.in_err-take_table.field-0.0 c.from_residual-in_err-take_table.ensures.1
+    (λ why by. g.B.Rows.fails_then _ _ _ _ _ why so.1 c.in_err-take_table.ensures.kept honest
+    (g.B.Rows.fails_so _ _ _ _ why
+    (λ held write wrote. next_table_write c.args.direction c.args.file.now so.8.groups so.8.closed is.others is.group held write so.8.is_file whole
+    (subst (λ (k : GroupData). IsGroupWrite (directed_group c.args.direction k) held write) group wrote)) by))
+    (c.in_err-take_table.ensures.caused honest is.group.entries is.others is.are_left)
+
+pub returns-in_err-take_table-clause-kept : goal.returns-in_err-take_table-clause-kept
+returns-in_err-take_table-clause-kept g c =
+    let p = err_from_is_err_and c.from_residual-in_err-take_table.result c.from_residual-in_err-take_table.ensures.1 in
+    rw p.1 (g.B.Rows.keeps_then _ _ _ _ c.tables.invariant.1 c.in_err-take_table.ensures.kept)
+
+pub returns-in_err-take_table-clause-leaves : goal.returns-in_err-take_table-clause-leaves
+returns-in_err-take_table-clause-leaves g c = λ held. g.B.Rows.leaves_still _ _ _ held (g.B.Rows.keeps_then _ _ _ _ c.tables.invariant.1 c.in_err-take_table.ensures.kept)
+
 pub tables-preserved : goal.tables-preserved
 tables-preserved g c =
     let so = c.tables.invariant in
     let is = c.in-Some.ensures.next [] so.8.others so.8.are_left in
     let forward = c.in-Some.ensures.forward in (
       so.0,
-      g.B.Rows.keeps_then _ _ _ so.1 c.take_table.ensures.kept,
+      g.B.Rows.keeps_then _ _ _ _ so.1 c.in_ok-take_table.ensures.kept,
       c.take_table.ensures.file ∙ c.in-Some.ensures.file ∙ so.2,
       omega (arith, so.3, forward.0, c.in_ok-take_table.ensures.tables, c.take_table.ensures.place.0),
       c.take_table.ensures.place.1,
@@ -81,4 +108,7 @@ pub returns-clause-named : goal.returns-clause-named
 returns-clause-named g c = outcome_named c.tables.run c.finish.result c.finish.ensures
 
 pub returns-clause-caused : goal.returns-clause-caused
-returns-clause-caused g c = λ honest. outcome_caused (g.B.Rows.fails_for c.tables.rows) c.tables.run c.finish.result c.finish.ensures
+returns-clause-caused g c = λ honest. outcome_caused (g.B.Rows.fails (IsFileWrite c.args.direction c.args.file.now) c.args.rows.now c.tables.rows) c.tables.run c.finish.result c.finish.ensures
+
+pub returns-clause-kept : goal.returns-clause-kept
+returns-clause-kept g c = g.B.Rows.keeps_either _ _ _ c.tables.invariant.1

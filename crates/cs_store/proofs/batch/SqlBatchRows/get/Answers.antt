@@ -1,7 +1,14 @@
--- `batch::SqlBatchRows::get`: the clause `caused`.
-use Rattle.cs_access.specs.Failing.{by_read}
-use Rattle.cs_access.proofs.FailureLemmas.{caused_so}
+-- `batch::SqlBatchRows::get`: the clauses `caused` and `kept`.
+use Rattle.std.proofs.Common.{refl}
+use Rattle.sqlite.specs.Held.{state}
+use Rattle.cs_access.specs.Failing.{Writes}
+use Rattle.cs_access.proofs.FailureLemmas.{caused_so, read_fails}
+use Rattle.cs_store.proofs.FailureLemmas.{accepted}
 use Rattle.cs_store.proofs.batch.SqlBatchRows.get.Goals as goal
 
 pub returns-clause-caused : goal.returns-clause-caused
-returns-clause-caused g c clean = caused_so c.find_row.result _ _ (λ why cannot. by_read c.store.inside.conn why c.find_row.ensures.kept cannot) (c.find_row.ensures.caused clean)
+returns-clause-caused g c clean =
+    rw c.store.view_is at (caused_so c.find_row.result _ _ (read_fails (Writes (λ held write. ⊥)) (state g.S.Store c.store.inside.conn) (state g.S.Store c.find_row.new.conn)) (c.find_row.ensures.caused clean))
+
+pub returns-clause-kept : goal.returns-clause-kept
+returns-clause-kept g c = (refl, rw c.store.view_is at c.find_row.ensures.kept, λ is clean. rw c.store.view_is at (accepted c.find_row.result _ (c.find_row.ensures.leads clean) is))

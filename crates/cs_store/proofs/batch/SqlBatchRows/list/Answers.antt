@@ -1,7 +1,14 @@
--- `batch::SqlBatchRows::list`: the clause `caused`.
-use Rattle.cs_access.specs.Failing.{by_read}
-use Rattle.cs_access.proofs.FailureLemmas.{caused_so}
+-- `batch::SqlBatchRows::list`: the clauses `caused` and `kept`.
+use Rattle.std.proofs.Common.{refl}
+use Rattle.sqlite.specs.Held.{state}
+use Rattle.cs_access.specs.Failing.{Writes}
+use Rattle.cs_access.proofs.FailureLemmas.{caused_so, read_fails}
+use Rattle.cs_store.proofs.FailureLemmas.{accepted}
 use Rattle.cs_store.proofs.batch.SqlBatchRows.list.Goals as goal
 
 pub returns-clause-caused : goal.returns-clause-caused
-returns-clause-caused g c clean = caused_so c.list_rows.result _ _ (λ why cannot. by_read c.store.inside.conn why c.list_rows.ensures.kept cannot) (c.list_rows.ensures.caused clean)
+returns-clause-caused g c clean =
+    rw c.store.view_is at (caused_so c.list_rows.result _ _ (read_fails (Writes (λ held write. ⊥)) (state g.S.Store c.store.inside.conn) (state g.S.Store c.list_rows.new.conn)) (c.list_rows.ensures.caused clean))
+
+pub returns-clause-kept : goal.returns-clause-kept
+returns-clause-kept g c = (refl, rw c.store.view_is at c.list_rows.ensures.kept, λ is clean. rw c.store.view_is at (accepted c.list_rows.result _ (c.list_rows.ensures.leads clean) is))

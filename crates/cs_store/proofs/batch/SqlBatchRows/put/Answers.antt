@@ -1,16 +1,16 @@
--- `batch::SqlBatchRows::put`: what `put_row` asks for, the clause `caused`.
-use Rattle.std.proofs.Common.{inl, inr}
-use Rattle.cs_value.specs.Spelling.{row_bytes}
-use Rattle.cs_records.specs.Failing.{puts}
-use Rattle.cs_access.specs.Failing.{by_write, outside}
-use Rattle.cs_access.proofs.FailureLemmas.{caused_so}
+-- `batch::SqlBatchRows::put`: what `put_row` asks for, the clauses `caused` and `kept`.
+use Rattle.std.proofs.Common.{refl}
+use Rattle.sqlite.specs.Held.{state}
+use Rattle.cs_access.proofs.FailureLemmas.{caused_so, put_fails}
+use Rattle.cs_store.proofs.FailureLemmas.{accepted}
 use Rattle.cs_store.proofs.batch.SqlBatchRows.put.Goals as goal
 
 pub put_row-requires-clause-fits : goal.put_row-requires-clause-fits
 put_row-requires-clause-fits g c = rw c.store.view_is c.requires
 
 pub returns-clause-caused : goal.returns-clause-caused
-returns-clause-caused g c clean = caused_so c.put_row.result _ _ (λ why failed. elim failed [
-  | inl out ↦ outside c.store.inside.conn why c.put_row.ensures.kept out
-  | inr fails ↦ by_write c.store.inside.conn (puts fails.0 c.args.table.now c.args.key.now (row_bytes c.args.row.now)) why c.put_row.ensures.kept fails.1
-]) (c.put_row.ensures.caused clean)
+returns-clause-caused g c clean =
+    rw c.store.view_is at (caused_so c.put_row.result _ _ (put_fails (state g.S.Store c.store.inside.conn) (state g.S.Store c.put_row.new.conn) c.args.table.now c.args.key.now c.args.row.now) (c.put_row.ensures.caused clean))
+
+pub returns-clause-kept : goal.returns-clause-kept
+returns-clause-kept g c = (refl, rw c.store.view_is at c.put_row.ensures.kept, λ is clean. rw c.store.view_is at (accepted c.put_row.result _ (c.put_row.ensures.leads clean) is))

@@ -1,12 +1,13 @@
--- `batch::SqlBatchRows::remove`: the clause `caused`.
-use Rattle.std.proofs.Common.{inl, inr}
-use Rattle.cs_records.specs.Failing.{removes}
-use Rattle.cs_access.specs.Failing.{by_write, outside}
-use Rattle.cs_access.proofs.FailureLemmas.{caused_so}
+-- `batch::SqlBatchRows::remove`: the clauses `caused` and `kept`.
+use Rattle.std.proofs.Common.{refl}
+use Rattle.sqlite.specs.Held.{state}
+use Rattle.cs_access.proofs.FailureLemmas.{caused_so, remove_fails}
+use Rattle.cs_store.proofs.FailureLemmas.{accepted}
 use Rattle.cs_store.proofs.batch.SqlBatchRows.remove.Goals as goal
 
 pub returns-clause-caused : goal.returns-clause-caused
-returns-clause-caused g c clean = caused_so c.remove_row.result _ _ (λ why failed. elim failed [
-  | inl out ↦ outside c.store.inside.conn why c.remove_row.ensures.kept out
-  | inr fails ↦ by_write c.store.inside.conn (removes c.args.table.now c.args.key.now) why c.remove_row.ensures.kept fails
-]) (c.remove_row.ensures.caused clean)
+returns-clause-caused g c clean =
+    rw c.store.view_is at (caused_so c.remove_row.result _ _ (remove_fails (state g.S.Store c.store.inside.conn) (state g.S.Store c.remove_row.new.conn) c.args.table.now c.args.key.now) (c.remove_row.ensures.caused clean))
+
+pub returns-clause-kept : goal.returns-clause-kept
+returns-clause-kept g c = (refl, rw c.store.view_is at c.remove_row.ensures.kept, λ is clean. rw c.store.view_is at (accepted c.remove_row.result _ (c.remove_row.ensures.leads clean) is))

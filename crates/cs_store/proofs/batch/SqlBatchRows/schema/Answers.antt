@@ -1,7 +1,14 @@
--- `batch::SqlBatchRows::schema`: the clause `caused`.
-use Rattle.cs_access.specs.Failing.{by_read}
-use Rattle.cs_access.proofs.FailureLemmas.{caused_so}
+-- `batch::SqlBatchRows::schema`: the clauses `caused` and `kept`.
+use Rattle.std.proofs.Common.{refl}
+use Rattle.sqlite.specs.Held.{state}
+use Rattle.cs_access.specs.Failing.{Writes}
+use Rattle.cs_access.proofs.FailureLemmas.{caused_so, read_fails}
+use Rattle.cs_store.proofs.FailureLemmas.{accepted}
 use Rattle.cs_store.proofs.batch.SqlBatchRows.schema.Goals as goal
 
 pub returns-clause-caused : goal.returns-clause-caused
-returns-clause-caused g c clean = caused_so c.schema.result _ _ (λ why cannot. by_read c.args.self.now.store.now why c.schema.ensures.kept cannot) (c.schema.ensures.caused clean)
+returns-clause-caused g c clean =
+    rw c.store.view_is at (caused_so c.find_schema.result _ _ (read_fails (Writes (λ held write. ⊥)) (state g.S.Store c.store.inside.conn) (state g.S.Store c.find_schema.new.conn)) (c.find_schema.ensures.caused clean))
+
+pub returns-clause-kept : goal.returns-clause-kept
+returns-clause-kept g c = (refl, rw c.store.view_is at c.find_schema.ensures.kept, λ is clean. rw c.store.view_is at (accepted c.find_schema.result _ (c.find_schema.ensures.leads clean) is))

@@ -1,5 +1,5 @@
--- `store::Store::declare`: the clauses `refused`, `kept`, `declared`, `others`, `atomic`, `left` and `stands`.
-use Rattle.std.proofs.Common.{◌≡◌, Ok, OnErr, subst, ◌∙◌, rules}
+-- `store::Store::declare`: the clauses `refused`, `caused`, `kept`, `declared`, `others`, `atomic`, `left` and `stands`.
+use Rattle.std.proofs.Common.{◌≡◌, Ok, IfErr, OnErr, subst, ◌∙◌, rules}
 use Rattle.std.proofs.lemmas.Result.{err_from_is_err_and}
 use Rattle.cs_value.specs.Table.{IsName}
 use Rattle.cs_value.specs.State.{SchemaData, IsSchema}
@@ -15,6 +15,10 @@ use Rattle.cs_records.specs.Records.{KeepsContent, KeepsCrash}
 use Rattle.cs_access.specs.Crash.{CanBegin}
 use Rattle.cs_access.proofs.StoreLemmas.{undone_batch}
 use Rattle.cs_records.proofs.QueryLemmas.{on_err}
+use Rattle.cs_rows.specs.Faults.{IsCaused}
+use Rattle.cs_access.specs.Failing.{BatchFails, BeginFails, Declares as DeclaresTable}
+use Rattle.cs_access.proofs.FailureLemmas.{caused_so, so_caused}
+use Rattle.cs_store.proofs.FailureLemmas.{begin_fails, commit_fails, work_fails}
 use Rattle.cs_store.proofs.store.Store.declare.Goals as goal
 
 pub returns-in_err-declare-clause-refused : goal.returns-in_err-declare-clause-refused
@@ -144,3 +148,38 @@ returns-in_err-declare-clause-stands g c =
 pub returns-clause-stands : goal.returns-clause-stands
 returns-clause-stands g c =
     refused_stands g.S.Store g.met.S.Store.settled g.met.S.Store.stays c.args.self.now c.self-2-1.given.0 c.crash_law.ensures c.commit.result _ _ (returns-clause-atomic g c) (returns-clause-kept g c)
+
+pub returns-in_err-batch-clause-caused : goal.returns-in_err-batch-clause-caused
+returns-in_err-batch-clause-caused g c clean =
+    let old = state g.S.Store c.args.self.now in
+    let new = state g.S.Store c.begin.follows.lender-at-none in
+    let fails : HasCleanDisk new → IfErr c.begin.result (IsCaused (BeginFails old new)) = search rules in
+    let failed : IsCaused (BeginFails old new) c.in_err-batch.field-0.0 = rw c.in_err-batch.was at (fails clean) in
+    let p = err_from_is_err_and c.from_residual-in_err-batch.result c.from_residual-in_err-batch.ensures.1 in
+    rw (p.1, p.2) (so_caused _ _ c.in_err-batch.field-0.0 (begin_fails _ old new) failed)
+
+pub returns-in_err-declare-clause-caused : goal.returns-in_err-declare-clause-caused
+returns-in_err-declare-clause-caused g c clean =
+    let old = state g.S.Store c.args.self.now in
+    let begun = state g.S.Store c.in_ok-batch.batch.store.now in
+    let mid = state g.S.Store c.declare.new.self.store.now in
+    let last = state g.S.Store c.drop-batch.new.self.0 in
+    let same : c.drop-batch.new.self.0 ≡ c.self-in_err-declare-1.given.0 = search rules in
+    let last_clean : HasCleanDisk last = rw same clean in
+    let mid_clean = was_clean mid last c.drop-batch.ensures.survives last_clean in
+    let failed = subst (λ (s : SchemaData). IsCaused (BatchFails (DeclaresTable c.args.name.now s) begun mid) c.in_err-declare.field-0.0) c.in_ok-schema.ensures.made (c.in_err-declare.ensures.caused mid_clean) in
+    let p = err_from_is_err_and c.from_residual-in_err-declare.result c.from_residual-in_err-declare.ensures.1 in
+    rw (p.1, p.2, ← same) (so_caused _ _ c.in_err-declare.field-0.0 (work_fails _ old begun mid last c.in_ok-batch.ensures.begun c.in_ok-batch.ensures.survives c.declare.ensures.kept mid_clean c.drop-batch.ensures.survives) failed)
+
+pub returns-clause-caused : goal.returns-clause-caused
+returns-clause-caused g c clean =
+    let old = state g.S.Store c.args.self.now in
+    let begun = state g.S.Store c.in_ok-batch.batch.store.now in
+    let mid = state g.S.Store c.declare.new.self.store.now in
+    let last = state g.S.Store c.commit.new.self.0 in
+    let same : c.commit.new.self.0 ≡ c.self-2-1.given.0 = search rules in
+    let last_clean : HasCleanDisk last = rw same clean in
+    let survives = c.commit.ensures.atomic.survives in
+    let mid_clean = was_clean mid last survives last_clean in
+    rw (← same) (caused_so c.commit.result _ _ (commit_fails _ old begun mid last c.in_ok-batch.ensures.begun c.in_ok-batch.ensures.survives c.declare.ensures.kept mid_clean survives.counts
+    (c.in_ok-declare.ensures.leads mid_clean)) (c.commit.ensures.caused last_clean))

@@ -1,6 +1,6 @@
--- `store::Store::edit`: the clauses `kept`, `others`, `atomic`, `left` and `stands`.
+-- `store::Store::edit`: the clauses `caused`, `kept`, `others`, `atomic`, `left` and `stands`.
 use Rattle.std.proofs.Common.{◌≡◌, rules}
-use Rattle.std.specs.Prelude.{map, OnErr}
+use Rattle.std.specs.Prelude.{map, IfErr, OnErr}
 use Rattle.sqlite.specs.Held.{state}
 use Rattle.cs_rows.specs.Editing.{EditsInto, written_of}
 use Rattle.sqlite.specs.State.{HasCleanDisk}
@@ -11,6 +11,15 @@ use Rattle.cs_access.specs.Store.{tables_in}
 use Rattle.cs_store.proofs.CrashLemmas.{idle_atomic, dropped_atomic, made_atomic, made_others, left_new, refused_stands}
 use Rattle.cs_access.proofs.StoreLemmas.{undone_batch}
 use Rattle.cs_records.proofs.QueryLemmas.{on_err}
+use Rattle.std.proofs.Common.{refl, subst}
+use Rattle.std.proofs.lemmas.Result.{err_from_is_err_and}
+use Rattle.cs_value.specs.State.{State}
+use Rattle.cs_rows.specs.Editing.{IsWriteOf}
+use Rattle.cs_rows.specs.Faults.{IsCaused}
+use Rattle.cs_access.specs.Failing.{BatchFails, BeginFails, Writes}
+use Rattle.cs_access.proofs.FailureLemmas.{so_caused}
+use Rattle.cs_store.proofs.CrashLemmas.{begun_tables}
+use Rattle.cs_store.proofs.FailureLemmas.{begin_fails, commit_fails, work_fails}
 use Rattle.cs_store.proofs.store.Store.edit.Goals as goal
 
 pub returns-in_err-written-clause-kept : goal.returns-in_err-written-clause-kept
@@ -96,3 +105,42 @@ returns-in_err-written-clause-stands g c =
 pub returns-in_err-commit-clause-stands : goal.returns-in_err-commit-clause-stands
 returns-in_err-commit-clause-stands g c =
     refused_stands g.S.Store g.met.S.Store.settled g.met.S.Store.stays c.args.self.now c.self-2-1.given.0 c.crash_law.ensures c.from_residual-in_err-commit.result _ _ (returns-in_err-commit-clause-atomic g c) (returns-in_err-commit-clause-kept g c)
+
+pub returns-in_err-batch-clause-caused : goal.returns-in_err-batch-clause-caused
+returns-in_err-batch-clause-caused g c clean =
+    let old = state g.S.Store c.args.self.now in
+    let new = state g.S.Store c.begin.follows.lender-at-none in
+    let fails : HasCleanDisk new → IfErr c.begin.result (IsCaused (BeginFails old new)) = search rules in
+    let failed : IsCaused (BeginFails old new) c.in_err-batch.field-0.0 = rw c.in_err-batch.was at (fails clean) in
+    let p = err_from_is_err_and c.from_residual.result c.from_residual.ensures.1 in
+    rw (p.1, p.2) (so_caused _ _ c.in_err-batch.field-0.0 (begin_fails _ old new) failed)
+
+pub returns-in_err-written-clause-caused : goal.returns-in_err-written-clause-caused
+returns-in_err-written-clause-caused g c clean =
+    let old = state g.S.Store c.args.self.now in
+    let begun = state g.S.Store c.in_ok-batch.batch.store.now in
+    let mid = state g.S.Store c.edit_in.new.rows.store.now in
+    let last = state g.S.Store c.drop-batch.new.self.0 in
+    let same : c.drop-batch.new.self.0 ≡ c.self-in_err-written-1.given.0 = search rules in
+    let last_clean : HasCleanDisk last = rw same clean in
+    let keeps = c.edit_in.ensures.kept.1 in
+    let mid_clean = was_clean mid last c.drop-batch.ensures.survives last_clean in
+    let tables = begun_tables old begun mid c.in_ok-batch.ensures.begun keeps mid_clean in
+    let failed = subst (λ (s : State). IsCaused (BatchFails (Writes (IsWriteOf s c.args.edit.now)) begun mid) c.in_err-written.field-0.0) tables (c.in_err-written.ensures.caused mid_clean) in
+    let p = err_from_is_err_and c.from_residual-in_err-written.result c.from_residual-in_err-written.ensures.1 in
+    rw (p.1, p.2, ← same) (so_caused _ _ c.in_err-written.field-0.0 (work_fails _ old begun mid last c.in_ok-batch.ensures.begun c.in_ok-batch.ensures.survives keeps mid_clean c.drop-batch.ensures.survives) failed)
+
+pub returns-in_err-commit-clause-caused : goal.returns-in_err-commit-clause-caused
+returns-in_err-commit-clause-caused g c clean =
+    let old = state g.S.Store c.args.self.now in
+    let begun = state g.S.Store c.in_ok-batch.batch.store.now in
+    let mid = state g.S.Store c.edit_in.new.rows.store.now in
+    let last = state g.S.Store c.commit.new.self.0 in
+    let same : c.commit.new.self.0 ≡ c.self-2-1.given.0 = search rules in
+    let last_clean : HasCleanDisk last = rw same clean in
+    let kept = c.in_ok-written.ensures.kept in
+    let survives = c.commit.ensures.atomic.survives in
+    let mid_clean = was_clean mid last survives last_clean in
+    let p = err_from_is_err_and c.from_residual-in_err-commit.result c.from_residual-in_err-commit.ensures.1 in
+    rw (p.1, p.2, ← same) (so_caused _ _ c.in_err-commit.field-0.0 (commit_fails _ old begun mid last c.in_ok-batch.ensures.begun c.in_ok-batch.ensures.survives kept.1 mid_clean survives.counts (kept.2 refl mid_clean))
+    (c.in_err-commit.ensures.caused last_clean))
