@@ -4,3 +4,4 @@ pub mod PartLemmas
 pub mod ReadableLemmas
 pub mod StepLemmas
 pub mod ValueLemmas
+pub mod WholeLemmas

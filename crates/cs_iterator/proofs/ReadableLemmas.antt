@@ -1,7 +1,7 @@
 -- The changes that can be read of any bytes.
-use Rattle.std.proofs.Common.{◌≡◌, ℕ, ◌+◌, ◌<◌, List, [], ◌∷◌, ◌++◌, length, length-append, drop, refl, sym, ap, subst, ◌∙◌, append_assoc, append-nil, arith, inl, inr}
+use Rattle.std.proofs.Common.{◌≡◌, ℕ, ◌+◌, ◌<◌, ◌≤◌, List, [], ◌∷◌, ◌++◌, length, length-append, drop, refl, sym, ap, subst, ◌∙◌, append_assoc, append-nil, arith, inl, inr}
 use Rattle.std.specs.Prelude.{◌⊎◌, All}
-use Rattle.std.proofs.lemmas.List.{length-map, same_from_push}
+use Rattle.std.proofs.lemmas.List.{length-drop, length-map, same_from_push}
 use Rattle.std.proofs.lemmas.List.Concat.{flat_map-append}
 use Rattle.std.proofs.lemmas.List.Elements.{All-from_recursion, All-nil, All-push, recursion_from_All}
 use Rattle.cs_value.proofs.ListLemmas.{AllByRecursion-append_left, AllByRecursion-append_right}
@@ -22,7 +22,7 @@ use Rattle.cs_iterator.proofs.StepLemmas.{passed_group, passed_more}
 abbrev pub group_of : HeaderData → List Entry → GroupData
 group_of header entries = record { header = header; entries = entries }
 
-abbrev change_of : HeaderData → Entry → TableChange
+abbrev pub change_of : HeaderData → Entry → TableChange
 change_of header entry = record { header = header; entry = entry }
 
 -- ---- lists
@@ -56,7 +56,7 @@ rest_after file groups place to all more begins there is =
 
 -- ---- one more change is read
 
-one_entry : (header : HeaderData) (entry : Entry) → IsHeader header → IsEntry header.flags entry → IsReadable (group_of header (entry ∷ []))
+pub one_entry : (header : HeaderData) (entry : Entry) → IsHeader header → IsEntry header.flags entry → IsReadable (group_of header (entry ∷ []))
 one_entry header entry h e = record {
   header = h;
   some = omega arith;
@@ -181,6 +181,27 @@ bare_none file place start header stands only none other entry rest is_header is
     let same = only other (entry_bytes entry ++ rest) is_header spelled in
     none (HasEntry-entry file start entry rest stands.within
     (rest_is file place start (header_bytes header) (entry_bytes entry ++ rest) stands (spelled ∙ ap (λ (h : HeaderData). header_bytes h ++ (entry_bytes entry ++ rest)) (sym same))))
+
+-- ---- a header
+
+-- one header alone is at a place, and ends at one place
+pub same_end : (file : List ℕ) (place a b : ℕ) (found header : HeaderData) → place ≤ length file → Stands file place (header_bytes found) a
+    → ((other : HeaderData) (rest : List ℕ) → IsHeader other → drop place file ≡ header_bytes other ++ rest → found ≡ other) → IsHeader header → Stands file place (header_bytes header) b → a ≡ b
+same_end file place a b found header within one only is two =
+    omega (
+      arith,
+      ap (λ (h : HeaderData). length (header_bytes h)) (only header (drop b file) is two.spelled),
+      Stands-length file place a (header_bytes found) one within,
+      Stands-length file place b (header_bytes header) two within,
+    )
+
+-- a header begins before the end of the file
+pub header_before : (file : List ℕ) (place end : ℕ) (header : HeaderData) → Stands file place (header_bytes header) end → place < length file
+header_before file place end header stands = omega (arith, ap length (stands.spelled ∙ header_bytes-append header (drop end file)), length-drop place file)
+
+-- where an entry may begin is no header
+pub no_header_here : (file : List ℕ) (place end : ℕ) (header : HeaderData) → HasEntry file place → Stands file place (header_bytes header) end → ⊥
+no_header_here file place end header here stands = here.no_table (first_byte file place 0x54 _ here.within (stands.spelled ∙ header_bytes-append header (drop end file)))
 
 -- ---- how many there are
 

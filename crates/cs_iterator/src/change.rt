@@ -1,8 +1,9 @@
 //! From one change of a file to the next.
-ghost use Rattle.std.specs.Prelude.{◌≡◌, ◌≢◌, ◌↔◌, ◌<◌, ◌≤◌, ◌+◌, [], ℕ, IfErr, IfOk, IfSome, IsOkAnd, IsSomeAnd, IsTrue, List, None, Ok, length};
+ghost use Rattle.std.specs.Prelude.{◌≡◌, ◌≢◌, ◌↔◌, ◌<◌, ◌≤◌, ◌+◌, [], ℕ, IfErr, IfOk, IfSome, IsErrAnd, IsOkAnd, IsSomeAnd, IsTrue, List, None, Ok, length};
 ghost use Rattle.cs_entries.specs.declared.entry.Entry.{Entry};
 ghost use Rattle.cs_entries.specs.declared.fault.ReadFault.{ReadFault as ReadFaultData};
-ghost use Rattle.cs_entries.specs.Changeset.{GroupData, HeaderData, IsFileOf};
+ghost use Rattle.cs_entries.specs.declared.fault.ReadFaultKind.TheVariants.{EmptyGroup};
+ghost use Rattle.cs_entries.specs.Changeset.{GroupData, HeaderData, IsFileOf, IsHeader, header_bytes};
 ghost use Rattle.cs_entries.specs.ReadFaults.{EntryStart, HasEntry, Stands, TableStart};
 ghost use Rattle.cs_iterator.specs.Changes.{AreLeft, EndsName, IsInTable, IsStep, LiesIn, ShowsTable, TableChange};
 ghost use Rattle.cs_iterator.specs.Readable.{AreAll, IsUnreadable, ReadsOn, WereRead};
@@ -82,6 +83,8 @@ pub fn next_change(
         → IsUnreadable file.now fault → IfErr result (λ f. f ≡ fault) }
     ensures unfinished { (groups : List GroupData) (fault : ReadFaultData) → WereRead file.now groups place last.now
         → IsUnreadable file.now fault → result ≢ Ok None }
+    ensures empty { (header : HeaderData) (end : ℕ) → IsHeader header → Stands file.now place (header_bytes header) end
+        → (HasEntry file.now end → ⊥) → IsErrAnd result (λ f. f ≡ record { kind = EmptyGroup; place = end }) }
     ensures within { IfOk result (λ found. IfSome found (λ step. LiesIn file.now step.0)) }
     ensures ends { IfOk result (λ found. IfSome found (λ step. step.0.records + step.0.records_length ≡ step.1)) }
     ensures forward { IfOk result (λ found. IfSome found (λ step. (place < step.1) × (step.1 ≤ length file.now))) }
@@ -118,6 +121,8 @@ fn open_table(file: &[u8], place: usize) -> Result<(ChangeSpan, usize), ReadFaul
     ensures stops { IfErr result (λ _. NoTable file.now place) }
     ensures checked { (groups : List GroupData) (fault : ReadFaultData) → TableStart file.now place groups
         → (HasEntry file.now place → place ≡ 0) → IsUnreadable file.now fault → IfErr result (λ f. f ≡ fault) }
+    ensures empty { (header : HeaderData) (end : ℕ) → IsHeader header → Stands file.now place (header_bytes header) end
+        → (HasEntry file.now end → ⊥) → IsErrAnd result (λ f. f ≡ record { kind = EmptyGroup; place = end }) }
     ensures forward { IfOk result (λ table. place < table.1) }
 {
     let (header, end) = read_header(file, place)?;

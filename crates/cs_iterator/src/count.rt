@@ -1,5 +1,5 @@
 //! The number of changes of a file.
-ghost use Rattle.std.specs.Prelude.{◌≡◌, Err, IfOk, IsOkAnd, List, length};
+ghost use Rattle.std.specs.Prelude.{◌≡◌, ℕ, Err, IfErr, IfOk, IsOkAnd, List, length};
 ghost use Rattle.cs_entries.specs.declared.fault.ReadFault.{ReadFault as ReadFaultData};
 ghost use Rattle.cs_entries.specs.Changeset.{GroupData, IsFileOf};
 ghost use Rattle.cs_iterator.specs.Changes.{changes_of};
@@ -16,6 +16,7 @@ use cs_wire::ReadFault;
 pub fn count_changes(file: &[u8]) -> Result<usize, ReadFault>
     ensures counted { (all : List GroupData) → IsFileOf file.now all → IsOkAnd result (λ count. count ≡ length (changes_of all)) }
     ensures read { IfOk result (AreCounted file.now) }
+    ensures stopped { IfErr result (λ _. (count : ℕ) → AreCounted file.now count → ⊥) }
     ensures checked { (fault : ReadFaultData) → IsUnreadable file.now fault → result ≡ Err fault }
 {
     let mut count: usize = 0;

@@ -2,7 +2,9 @@
 ghost use Rattle.std.specs.Prelude.{◌≡◌, ◌≢◌, ◌↔◌, ◌+◌, ◌<◌, ◌≤◌, [], ℕ, IfSome, List, None, length};
 ghost use Rattle.cs_value.specs.declared.refusal.OrNoMemory.TheVariants.{Fault as OfFile};
 ghost use Rattle.cs_entries.specs.declared.fault.ReadFault.{ReadFault as ReadFaultData};
-ghost use Rattle.cs_entries.specs.Changeset.{GroupData, IsFileOf};
+ghost use Rattle.cs_entries.specs.declared.fault.ReadFaultKind.TheVariants.{EmptyGroup};
+ghost use Rattle.cs_entries.specs.Changeset.{GroupData, HeaderData, IsFileOf, IsHeader, header_bytes};
+ghost use Rattle.cs_entries.specs.ReadFaults.{HasEntry, Stands};
 ghost use Rattle.cs_files.specs.declared.fault.FileFault.TheVariants.{First};
 ghost use Rattle.cs_iterator.specs.Changes.{AreLeft, IsStep, LiesIn, Shows, TableChange};
 ghost use Rattle.cs_iterator.specs.Readable.{AreAll, IsUnreadable, ReadsOn, WereRead};
@@ -46,6 +48,8 @@ pub extern "C" fn vollikash_next(
         → IsUnreadable file.now found → (IsStepCode result → ⊥) → fault.new ≡ report_of (OfFile (First found)) }
     ensures unfinished { (groups : List GroupData) (found : ReadFaultData) → WereRead file.now groups place.old change.old
         → IsUnreadable file.now found → result ≢ DONE }
+    ensures empty { (header : HeaderData) (end : ℕ) → IsHeader header → Stands file.now place.old (header_bytes header) end
+        → (HasEntry file.now end → ⊥) → fault.new ≡ report_of (OfFile (First (record { kind = EmptyGroup; place = end }))) }
     ensures within { result ≡ OK → LiesIn file.now change.new }
     ensures ends { result ≡ OK → change.new.records + change.new.records_length ≡ place.new }
     ensures forward { result ≡ OK → (place.old < place.new) × (place.new ≤ length file.now) }

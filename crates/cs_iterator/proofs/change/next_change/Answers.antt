@@ -3,7 +3,7 @@ use Rattle.std.proofs.Common.{[], arith}
 use Rattle.std.proofs.lemmas.Bool.{iff_false}
 use Rattle.std.proofs.lemmas.Result.{err_from_is_err_and}
 use Rattle.cs_iterator.proofs.CheckedLemmas.{entry_start, none_here, not_all, opened, table_start}
-use Rattle.cs_iterator.proofs.ReadableLemmas.{last_of, no_entry_read, no_table_read, opened_none, reads_entry, reads_table}
+use Rattle.cs_iterator.proofs.ReadableLemmas.{header_before, last_of, no_entry_read, no_header_here, no_table_read, opened_none, reads_entry, reads_table}
 use Rattle.cs_iterator.proofs.StepLemmas.{between_end, between_of, between_within, in_table_of}
 use Rattle.cs_iterator.proofs.change.next_change.Goals as goal
 
@@ -97,3 +97,28 @@ pub returns-clause-reads : goal.returns-clause-reads
 returns-clause-reads c = λ groups so.
     let opens = c.in_ok-table.ensures.reads in
     reads_table c.args.file.now groups c.args.place c.args.last.now so c.in_ok-table.table _ c.in_ok-table.start _ opens (c.in_ok-pass_change-2.ensures.reads opens.header opens.table)
+
+-- ---- a header without an entry
+
+pub returns-in_err-pass_change-clause-empty : goal.returns-in_err-pass_change-clause-empty
+returns-in_err-pass_change-clause-empty c = λ header end is stands none. absurd (no_header_here c.args.file.now c.args.place end header (c.is_in_table.ensures.0 c.if-is_in_table.true).1 stands)
+
+pub returns-then-is_in_table-clause-empty : goal.returns-then-is_in_table-clause-empty
+returns-then-is_in_table-clause-empty c = λ header end is stands none. absurd (no_header_here c.args.file.now c.args.place end header (c.is_in_table.ensures.0 c.if-is_in_table.true).1 stands)
+
+pub returns-then-place-file-clause-empty : goal.returns-then-place-file-clause-empty
+returns-then-place-file-clause-empty c = λ header end is stands none. absurd (omega (arith, header_before c.args.file.now c.args.place end header stands, c.if-place-file.true))
+
+pub returns-then-place-file-2-clause-empty : goal.returns-then-place-file-2-clause-empty
+returns-then-place-file-2-clause-empty c = λ header end is stands none. absurd (omega (arith, header_before c.args.file.now c.args.place end header stands, c.if-place-file-2.true))
+
+pub returns-in_err-table-clause-empty : goal.returns-in_err-table-clause-empty
+returns-in_err-table-clause-empty c = λ header end is stands none.
+    let p = err_from_is_err_and c.from_residual-in_err-table.result c.from_residual-in_err-table.ensures.1 in
+    rw (p.1, p.2) (c.in_err-table.ensures.empty header end is stands none)
+
+pub returns-in_err-pass_change-2-clause-empty : goal.returns-in_err-pass_change-2-clause-empty
+returns-in_err-pass_change-2-clause-empty c = λ header end is stands none. absurd (c.in_ok-table.ensures.empty header end is stands none)
+
+pub returns-clause-empty : goal.returns-clause-empty
+returns-clause-empty c = λ header end is stands none. absurd (c.in_ok-table.ensures.empty header end is stands none)

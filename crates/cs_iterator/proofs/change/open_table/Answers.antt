@@ -1,14 +1,19 @@
 -- `change::open_table`: the next table, which has a change.
-use Rattle.std.proofs.Common.{◌++◌, ◌∙◌, refl, arith}
+use Rattle.std.proofs.Common.{ℕ, ◌++◌, ◌∙◌, ap, refl, subst, arith}
 use Rattle.std.proofs.lemmas.Bool.{iff_false}
 use Rattle.std.proofs.lemmas.Result.{err_from_is_err_and}
 use Rattle.cs_entries.specs.Entry.{entry_bytes}
+use Rattle.cs_entries.specs.declared.fault.ReadFault.{ReadFault}
 use Rattle.cs_entries.specs.declared.fault.ReadFaultKind.TheVariants.{EmptyGroup}
+use Rattle.cs_entries.specs.ReadFaults.{HasEntry}
 use Rattle.cs_wire.specs.Headers.{header_of}
 use Rattle.cs_iterator.proofs.CheckedLemmas.{fault_is, opened}
-use Rattle.cs_iterator.proofs.ReadableLemmas.{bare_none}
+use Rattle.cs_iterator.proofs.ReadableLemmas.{bare_none, same_end}
 use Rattle.cs_iterator.proofs.StepLemmas.{ShowsTable-header, header_length, opened_has_entry, table_next, table_opened}
 use Rattle.cs_iterator.proofs.change.open_table.Goals as goal
+
+abbrev the_fault : ℕ → ReadFault
+the_fault place = record { kind = EmptyGroup; place = place }
 
 pub returns-in_err-header-clause-no_fault : goal.returns-in_err-header-clause-no_fault
 returns-in_err-header-clause-no_fault c = λ all left is_file so.
@@ -69,3 +74,15 @@ returns-clause-reads c = record {
   only = c.in_ok-header.ensures.only;
   table = ShowsTable-header c.args.file.now c.args.place c.in_ok-header.end (header_of c.in_ok-header.header) _ c.in_ok-header.ensures.found (omega (arith, c.requires)) refl refl refl refl;
 }
+
+pub returns-in_err-header-clause-empty : goal.returns-in_err-header-clause-empty
+returns-in_err-header-clause-empty c = λ header end is stands none. absurd (c.in_err-header.ensures.only header _ is stands.spelled)
+
+pub returns-then-not-has_entry-clause-empty : goal.returns-then-not-has_entry-clause-empty
+returns-then-not-has_entry-clause-empty c = λ header end is stands none.
+    c.fault_at.ensures
+    ∙ ap (λ (n : ℕ). the_fault n) (same_end c.args.file.now c.args.place c.in_ok-header.end end (header_of c.in_ok-header.header) header (omega (arith, c.requires)) c.in_ok-header.ensures.found c.in_ok-header.ensures.only is stands)
+
+pub returns-clause-empty : goal.returns-clause-empty
+returns-clause-empty c = λ header end is stands none.
+    absurd (none (subst (HasEntry c.args.file.now) (same_end c.args.file.now c.args.place c.in_ok-header.end end (header_of c.in_ok-header.header) header (omega (arith, c.requires)) c.in_ok-header.ensures.found c.in_ok-header.ensures.only is stands) (c.has_entry.ensures.0 c.if-not-has_entry.false)))

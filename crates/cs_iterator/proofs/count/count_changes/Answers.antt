@@ -1,11 +1,26 @@
--- `count::count_changes`: each step leaves one change less, and reads one more.
-use Rattle.std.proofs.Common.{[], Ok, Err, length, refl, ap, subst, arith, inl}
+-- `count::count_changes`: each step leaves one change less, and reads one more. A fault comes before the end.
+use Rattle.std.proofs.Common.{◌≡◌, ℕ, ◌<◌, ◌≤◌, [], Option, None, Result, Ok, Err, length, refl, ap, subst, arith, inl, inr}
+use Rattle.std.specs.Prelude.{◌↔◌}
+use Rattle.std.proofs.lemmas.Bool.{cases_lt}
 use Rattle.std.proofs.lemmas.List.Elements.{All-nil}
 use Rattle.std.proofs.lemmas.Result.{err_from_is_err_and}
+use Rattle.cs_entries.specs.declared.fault.ReadFault.{ReadFault}
 use Rattle.cs_iterator.specs.Changes.{TableChange, changes_of}
 use Rattle.cs_iterator.specs.Readable.{ReadsAs, IsReadable}
 use Rattle.cs_iterator.proofs.ReadableLemmas.{counted_more}
+use Rattle.cs_iterator.proofs.WholeLemmas.{goes_on}
 use Rattle.cs_iterator.proofs.count.count_changes.Goals as goal
+
+-- a fault comes only before the end
+before_end : {X : Type 0} (place end : ℕ) (fault : ReadFault) → place ≤ end → (◌≡◌ {A = Result (Option X) ReadFault} (Err fault) (Ok None) ↔ (place ≡ end)) → place < end
+before_end {X = X} place end fault within ended =
+    elim (cases_lt place end) [
+      | inl before ↦ before
+      | inr over ↦ absurd (no_end (ended.1 (omega arith)))
+    ]
+  where
+    no_end : ◌≡◌ {A = Result (Option X) ReadFault} (Err fault) (Ok None) → ⊥
+    no_end e = cc
 
 pub changes-init : goal.changes-init
 changes-init c = record {
@@ -25,6 +40,13 @@ returns-in_err-change-clause-checked c = λ fault unreadable.
     let p = err_from_is_err_and c.from_residual.result c.from_residual.ensures.1 in
     let so = c.changes.invariant.read in
     rw (p.1, p.2) (ap Err (c.in_err-change.ensures.checked so.0 fault so.1 unreadable))
+
+pub returns-in_err-change-clause-stopped : goal.returns-in_err-change-clause-stopped
+returns-in_err-change-clause-stopped c =
+    let p = err_from_is_err_and c.from_residual.result c.from_residual.ensures.1 in
+    let so = c.changes.invariant.read in
+    let more = before_end c.changes.place (length c.args.file.now) c.in_err-change.field-0.0 c.changes.invariant.within c.in_err-change.ensures.ended in
+    rw p.1 (λ count counted. goes_on c.args.file.now so.0 counted.groups c.changes.place so.1.begins counted.begins more (c.in_err-change.ensures.stops so.0 so.1))
 
 pub changes-preserved : goal.changes-preserved
 changes-preserved c =

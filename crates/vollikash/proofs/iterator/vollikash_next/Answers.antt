@@ -19,3 +19,9 @@ returns-in-Err-clause-stops c = λ groups so no_step. c.in-Err.ensures.stops gro
 
 pub returns-in-Ok-None-clause-unfinished : goal.returns-in-Ok-None-clause-unfinished
 returns-in-Ok-None-clause-unfinished c = λ groups found so unreadable done. c.in-Ok-None.ensures.unfinished groups found so unreadable (ap Ok c.in-Ok-None.field-0-is)
+
+pub returns-in-Ok-Some-clause-empty : goal.returns-in-Ok-Some-clause-empty
+returns-in-Ok-Some-clause-empty c = λ header end is stands none. absurd (c.in-Ok-Some.ensures.empty header end is stands none)
+
+pub returns-in-Ok-None-clause-empty : goal.returns-in-Ok-None-clause-empty
+returns-in-Ok-None-clause-empty c = λ header end is stands none. absurd (c.in-Ok-None.ensures.empty header end is stands none)
