@@ -16,11 +16,11 @@ use Rattle.cs_entries.specs.ReadFaults.{Stands}
 use Rattle.cs_entries.proofs.ReadingLemmas.{flags_bytes-append, header_bytes-append, same_header}
 use Rattle.cs_entries.proofs.EntryLemmas.{entry_bytes-append, entry_bytes_some, same_entry}
 use Rattle.cs_wire.proofs.EntriesLemmas.{operation_no_header}
-use Rattle.cs_wire.proofs.GroupsLemmas.{group_bytes-append, group_bytes_some, same_group}
+use Rattle.cs_wire.proofs.GroupsLemmas.{group_bytes-append, same_group}
 use Rattle.cs_laws.proofs.WantsOnce.{same_width, same_change, fields_are}
 use Rattle.cs_laws.proofs.HeaderOnce.{split_zero}
 use Rattle.cs_iterator.specs.Changes.{TableChange}
-use Rattle.cs_iterator.specs.Readable.{AddsChange, AddsToLast, AreAll, IsReadable, ReadsAs}
+use Rattle.cs_iterator.specs.Readable.{AddsChange, AreAll, IsReadable, ReadsAs}
 use Rattle.cs_iterator.proofs.ReadableLemmas.{group_of, change_of, one_entry}
 
 -- ---- one entry, one header

@@ -62,7 +62,8 @@ impl ChangeSpan {
 /// # Errors
 ///
 /// The fault at which reading stops: a changeset's file has none. It is the fault of the file, as `cs_wire::read`
-/// reports it, unless that is a table or a key that is there twice, which is not noticed.
+/// reports it, unless that is a table or a key that is there twice, which is not noticed. For a header without a change
+/// after it, it is `EmptyGroup` at the end of the header.
 pub fn next_change(
     file: &[u8],
     place: usize,

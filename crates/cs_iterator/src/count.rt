@@ -12,7 +12,8 @@ use cs_wire::ReadFault;
 ///
 /// # Errors
 ///
-/// The fault at which reading stops, as [`next_change`].
+/// The fault at which reading stops, as [`next_change`]. Bytes that are changes to their end have none, also if a table
+/// or a key is there twice.
 pub fn count_changes(file: &[u8]) -> Result<usize, ReadFault>
     ensures counted { (all : List GroupData) → IsFileOf file.now all → IsOkAnd result (λ count. count ≡ length (changes_of all)) }
     ensures read { IfOk result (AreCounted file.now) }

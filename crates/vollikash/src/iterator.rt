@@ -24,8 +24,9 @@ use cs_value::Fault;
 ///
 /// `place` is 0 before the first call. Each later call takes `place` and `change` as the previous one left them. It
 /// answers `OK`, or `DONE` at the end of the file, or the number of what is wrong with the file, which is that of
-/// [`vollikash_check`](crate::vollikash_check) unless a table or a key is there twice; then both are unchanged. It
-/// allocates nothing, and takes time in proportion to the change.
+/// [`vollikash_check`](crate::vollikash_check) unless a table or a key is there twice; then both are unchanged. For a
+/// header without a change after it, it is that of `EmptyGroup`, also then. It allocates nothing, and takes time in
+/// proportion to the change.
 #[unsafe(no_mangle)]
 pub extern "C" fn vollikash_next(
     file: &[u8],
