@@ -1,5 +1,5 @@
 -- What applies, as commands of a script.
-use Rattle.std.proofs.Common.{◌≡◌, inl, ℕ, false, List, map, Option, Some, None, sym, subst}
+use Rattle.std.proofs.Common.{◌≡◌, inl, ℕ, false, List, map, Option, Some, None, IsTrue, sym, subst}
 use Rattle.sqlite.specs.State as sqlite
 use Rattle.sqlite.specs.State.{HasCleanDisk, Survives}
 use Rattle.cs_value.specs.State.{State}
@@ -8,6 +8,7 @@ use Rattle.cs_value.specs.declared.refusal.OrNoMemory.TheVariants as tool
 use Rattle.cs_value.specs.Refusals.{Refuses as RefusesTool}
 use Rattle.cs_entries.specs.declared.fault.ReadFault.{ReadFault}
 use Rattle.cs_wire.specs.ReadFaults.{ReadFails}
+use Rattle.sqlite.specs.Effect.{IsDatabase}
 use Rattle.cs_store.specs.Records.{KeepsContent, KeepsOthers}
 use Rattle.cs_store.specs.Store.{IsAtRest, tables_in}
 use Rattle.cs_group.specs.declared.conflict.Choice.{Choice}
@@ -69,11 +70,11 @@ module _ (P Q : Handler) (weaker : (k : Conflict) (c : Choice) → P k c → Q k
 
   -- a file is applied, and noted
   pub works_recorded : (noop : Noop) (file : List ℕ) (old new : sqlite.State) (notes after : Notes) (report : Report) (summary : Summary) → Summarizes summary report → Survives old new (MayLeave (AppliesInto P noop file Forward (tables_in old.now)))
-      → (HasCleanDisk new → IsAtRest new) → (HasCleanDisk new → old.is_open ≡ false → ⊥) → (HasCleanDisk new → KeepsOthers old.now new.now) → (HasCleanDisk new → RecordsApply P noop file (tables_in old.now) notes report (tables_in new.now) after)
+      → (HasCleanDisk new → IsAtRest new) → (HasCleanDisk new → old.is_open ≡ false → ⊥) → (HasCleanDisk old → IsTrue old.is_open → IsDatabase old.now) → (HasCleanDisk new → KeepsOthers old.now new.now) → (HasCleanDisk new → RecordsApply P noop file (tables_in old.now) notes report (tables_in new.now) after)
       → (HasCleanDisk new → rewound after (tables_in new.now) ≡ rewound notes (tables_in old.now))
       → Works old new (Some notes) (Some after) (λ s. ApplyGives s Q noop file Forward) (Reported (told_of summary))
-  works_recorded noop file old new notes after report summary sums survives rests shut others done same =
-      turns_done (Gave (Some notes) (Some after) (λ s. ApplyGives s Q noop file Forward) (Reported (told_of summary))) old new survives rests shut others (λ clean rest.
+  works_recorded noop file old new notes after report summary sums survives rests shut sound others done same =
+      turns_done (Gave (Some notes) (Some after) (λ s. ApplyGives s Q noop file Forward) (Reported (told_of summary))) old new survives rests shut sound others (λ clean rest.
       session_applies Q noop file (tables_in old.now) (tables_in new.now) notes after report summary sums (records_weaker noop file (tables_in old.now) (tables_in new.now) notes after report (done clean)) (same clean))
 
   -- it is refused
@@ -88,10 +89,10 @@ module _ (P Q : Handler) (weaker : (k : Conflict) (c : Choice) → P k c → Q k
 
   -- where no session is open
   pub works_applied : (noop : Noop) (file : List ℕ) (direction : Direction) (old new : sqlite.State) (summary : Summary) → Survives old new (MayLeave (AppliesInto P noop file direction (tables_in old.now)))
-      → (HasCleanDisk new → IsAtRest new) → (HasCleanDisk new → old.is_open ≡ false → ⊥) → (HasCleanDisk new → KeepsOthers old.now new.now) → (HasCleanDisk new → AppliesCounted P noop file direction (tables_in old.now) summary (tables_in new.now))
+      → (HasCleanDisk new → IsAtRest new) → (HasCleanDisk new → old.is_open ≡ false → ⊥) → (HasCleanDisk old → IsTrue old.is_open → IsDatabase old.now) → (HasCleanDisk new → KeepsOthers old.now new.now) → (HasCleanDisk new → AppliesCounted P noop file direction (tables_in old.now) summary (tables_in new.now))
       → Works old new None None (λ s. ApplyGives s Q noop file direction) (Reported (told_of summary))
-  works_applied noop file direction old new summary survives rests shut others done =
-      turns_done (Gave None None (λ s. ApplyGives s Q noop file direction) (Reported (told_of summary))) old new survives rests shut others (λ clean rest.
+  works_applied noop file direction old new summary survives rests shut sound others done =
+      turns_done (Gave None None (λ s. ApplyGives s Q noop file direction) (Reported (told_of summary))) old new survives rests shut sound others (λ clean rest.
       store_applies Q noop file direction (tables_in old.now) (tables_in new.now) summary (counts_weaker P Q weaker noop file direction (tables_in old.now) summary (tables_in new.now) (done clean)))
 
   pub works_unapplied : (noop : Noop) (file : List ℕ) (direction : Direction) (old new : sqlite.State) (e : ApplyFault) → Survives old new (MayLeave (AppliesInto P noop file direction (tables_in old.now)))

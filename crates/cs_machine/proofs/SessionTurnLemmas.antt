@@ -9,6 +9,7 @@ use Rattle.sqlite.specs.State.{HasCleanDisk, Survives}
 use Rattle.cs_value.specs.State.{State, IsState}
 use Rattle.cs_wire.specs.Changeset.{GroupData, file_bytes}
 use Rattle.cs_wire.specs.Laws.{ChangesetFiles}
+use Rattle.sqlite.specs.Effect.{IsDatabase}
 use Rattle.cs_store.specs.Records.{KeepsContent, KeepsCrash, KeepsOthers}
 use Rattle.cs_store.specs.Store.{IsAtRest, KeepsStore, tables_in}
 use Rattle.cs_run.specs.declared.report.Report.{Report}
@@ -149,10 +150,10 @@ module _ (slot : List ℕ) where
 
 pub works_undone : (old new : sqlite.State) (notes : Notes) (report : Report) (summary : Summary) → Summarizes summary report → ChangesetFiles → IsNotes notes → Survives old new (MayLeave (UndoesInto notes (tables_in old.now)))
     → (HasCleanDisk old → IsTrue old.is_open → IsState (tables_in old.now)) → (HasCleanDisk new → IsAtRest new) → (HasCleanDisk new → old.is_open ≡ false → ⊥)
-    → (HasCleanDisk new → KeepsOthers old.now new.now) → (HasCleanDisk new → Undoes notes (tables_in old.now) report (tables_in new.now))
+    → (HasCleanDisk old → IsTrue old.is_open → IsDatabase old.now) → (HasCleanDisk new → KeepsOthers old.now new.now) → (HasCleanDisk new → Undoes notes (tables_in old.now) report (tables_in new.now))
     → Works old new (Some notes) (Some notes) (λ s. WithSession s (UndoGives s)) (Reported (told_of summary))
-works_undone old new notes report summary sums files are survives law rests shut others done =
-    turns_done (Gave (Some notes) (Some notes) (λ s. WithSession s (UndoGives s)) (Reported (told_of summary))) old new survives rests shut others (λ clean rest here.
+works_undone old new notes report summary sums files are survives law rests shut sound others done =
+    turns_done (Gave (Some notes) (Some notes) (λ s. WithSession s (UndoGives s)) (Reported (told_of summary))) old new survives rests shut sound others (λ clean rest here.
     let gives = session_undoes files (tables_in old.now) (tables_in new.now) notes report summary sums (law (clean_before old new survives.clean clean) rest.is_open) are (done clean) here in
     (gives.0, λ slots. inl (with_notes UndoGives (tables_in old.now) slots notes (Reported (told_of summary)) _ (gives.1 slots))))
 

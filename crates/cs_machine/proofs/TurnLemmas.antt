@@ -2,7 +2,7 @@
 use Rattle.std.proofs.Common.{◌≡◌, ◌⊎◌, inl, inr, Bool, true, false, ◌||◌, Option, Result, Ok, Err, OnErr, IsTrue, refl, sym, ap, subst, ◌∙◌, arith}
 use Rattle.sqlite_disk.specs.Disk.{MoreFaults}
 use Rattle.sqlite_trees.specs.Tree.{Trees}
-use Rattle.sqlite.specs.Effect.{Database}
+use Rattle.sqlite.specs.Effect.{Database, IsDatabase}
 use Rattle.sqlite.specs.State.{State, HasCleanDisk, Survives}
 use Rattle.cs_value.specs.State as tables
 use Rattle.cs_rows.specs.declared.fault.StoreError.{StoreError}
@@ -81,7 +81,7 @@ known_kept false old new t kept shows = λ is_open. ap (λ (db : Database). tabl
 -- these calls, and then those
 pub spares_then : (old mid new : Database) → SparesOthers old mid → SparesOthers mid new → SparesOthers old new
 spares_then old mid new one by_nothing = one
-spares_then old mid new one (by_each last end two keeps) = by_each last end (spares_then old mid last one two) keeps
+spares_then old mid new one (by_each last end two sound keeps) = by_each last end (spares_then old mid last one two) sound keeps
 
 -- a call that keeps the content
 spares_kept : (old new : State) → (IsTrue new.is_open → IsTrue old.is_open) → (IsTrue new.is_open → new.now ≡ old.now) → SparesStore old new
@@ -97,10 +97,10 @@ spares_read old new t kept clean stands = spares_kept old new (kept.commit clean
     (kept.outside clean rest.autocommit (λ k. sym rest.committed)).now is_open)
 
 -- a call that commits: a store that is shut does not
-spares_done : (old new : State) → (old.is_open ≡ false → ⊥) → KeepsOthers old.now new.now → SparesStore old new
-spares_done old new shut keeps = record {
+spares_done : (old new : State) → (old.is_open ≡ false → ⊥) → (IsTrue old.is_open → IsDatabase old.now) → KeepsOthers old.now new.now → SparesStore old new
+spares_done old new shut sound keeps = record {
   was_open = λ is_open. at old.is_open refl;
-  others = λ is_open. by_each old.now new.now by_nothing keeps;
+  others = λ is_open. by_each old.now new.now by_nothing (sound (at old.is_open refl)) keeps;
 }
   where
     at : (is_open : Bool) → old.is_open ≡ is_open → IsTrue old.is_open
@@ -138,15 +138,15 @@ between_still P Holds store holds = record {
 module _ (Holds : tables.State → tables.State → Type 0) where
   -- a call that commits, and did: a store that is shut does not
   pub turns_done : {P : Trees → Type 0} (old new : State) → Survives old new P → (HasCleanDisk new → IsAtRest new) → (HasCleanDisk new → old.is_open ≡ false → ⊥)
-      → (HasCleanDisk new → KeepsOthers old.now new.now) → (HasCleanDisk new → IsAtRest old → Holds (tables_in old.now) (tables_in new.now)) → Turns old new Holds
-  turns_done old new survives rests shut others holds = record {
+      → (HasCleanDisk old → IsTrue old.is_open → IsDatabase old.now) → (HasCleanDisk new → KeepsOthers old.now new.now) → (HasCleanDisk new → IsAtRest old → Holds (tables_in old.now) (tables_in new.now)) → Turns old new Holds
+  turns_done old new survives rests shut sound others holds = record {
     disk = survives_tells old new survives;
     done = λ clean t stands. (
       tables_in new.now,
       (λ is_open. (rests clean, refl)),
       holds_of old (λ before. Holds before (tables_in new.now)) (holds clean) (λ is before. absurd (shut clean is)) t stands,
     );
-    others = λ clean t stands. spares_done old new (shut clean) (others clean);
+    others = λ clean t stands. spares_done old new (shut clean) (sound (omega (arith, survives.clean, clean))) (others clean);
   }
 
   -- a call that commits, and was refused

@@ -4,7 +4,7 @@ use Rattle.sqlite_disk.specs.Disk.{MoreFaults}
 use Rattle.sqlite_trees.specs.View.{doubt}
 use Rattle.sqlite.specs.State as sqlite
 use Rattle.sqlite.specs.State.{HasCleanDisk}
-use Rattle.sqlite.specs.Effect.{Database}
+use Rattle.sqlite.specs.Effect.{Database, IsDatabase}
 use Rattle.cs_value.specs.State.{State}
 use Rattle.cs_store.specs.Records.{KeepsOthers}
 use Rattle.cs_store.specs.Store.{IsAtRest, tables_in}
@@ -24,10 +24,11 @@ pub record TellsFailures (old new : sqlite.State) : Type 0 where
   pub counts : old.faults ≤ new.faults
   pub closes : HasCleanDisk new → IsTrue old.is_open → IsTrue new.is_open ⊎ MoreFaults old.faults new.faults
 
--- All but the records of a database is kept: nothing was done, or one call after another was, each of which keeps it.
+-- All but the records of a database is kept: nothing was done, or one call after another was. Each of them found a
+-- database, and keeps it.
 pub data SparesOthers (old : Database) : Database → Type 0 where
   by_nothing : SparesOthers old old
-  by_each : (mid new : Database) → SparesOthers old mid → KeepsOthers mid new → SparesOthers old new
+  by_each : (mid new : Database) → SparesOthers old mid → IsDatabase mid → KeepsOthers mid new → SparesOthers old new
 
 -- a store that is open was open before, and all but the records is kept in its database
 pub record SparesStore (old new : sqlite.State) : Type 0 where

@@ -27,6 +27,7 @@ fn apply_noted<S: Alter>(
         (λ old. ApplyGives old (ByKind policy.now.on_data policy.now.on_notfound policy.now.on_conflict
         policy.now.on_constraint) noop file.now Forward) (answer_of result) }
 {
+    store.database_law();
     let handler = |conflict: &Conflict| policy.choose(conflict);
     let report = session.apply_recorded(alloc, store, file, noop, &handler)?;
     Ok(Reply::Report(report.into_summary()))
@@ -45,6 +46,7 @@ pub fn apply_unnoted<S: Alter>(
         policy.now.on_constraint) noop file.now Forward) (answer_of result) }
     ensures named { AnswersApply (answer_of result) }
 {
+    store.database_law();
     let handler = |conflict: &Conflict| policy.choose(conflict);
     let summary = apply_counted(alloc, store, file, noop, &handler)?;
     Ok(Reply::Report(summary))
@@ -79,6 +81,7 @@ fn revert_noted<S: Alter>(
     ensures { Works (state S.Store store.old) (state S.Store store.new) (Some session.old) (Some session.new)
         (λ old. RevertGives old file.now old.session) (answer_of result) }
 {
+    store.database_law();
     let inverse = invert_bytes(alloc, file)?;
     let report = session.apply_recorded(alloc, store, &inverse, Noop::Report, &|_| Choice::Abort)?;
     Ok(Reply::Report(report.into_summary()))
@@ -93,6 +96,7 @@ fn revert_unnoted<S: Alter>(
     ensures { Works (state S.Store store.old) (state S.Store store.new) None None
         (λ old. RevertGives old file.now old.session) (answer_of result) }
 {
+    store.database_law();
     let report = revert(alloc, store, file)?;
     Ok(Reply::Report(report.into_summary()))
 }

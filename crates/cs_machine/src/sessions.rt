@@ -89,6 +89,7 @@ pub(crate) fn undo<S: Alter>(
         (λ old. WithSession old (UndoGives old)) (answer_of result) }
 {
     store.tables_law();
+    store.database_law();
     changeset_files_law();
     let Some(session) = session else {
         return Err(Refusal::NoSession);

@@ -37,6 +37,7 @@ pub(crate) fn create<S: Alter>(
         (λ old. CreateGives old name.now (map string_bytes columns.now) refuses.now (map string_bytes keys.now))
         (answer_of result) }
 {
+    store.database_law();
     let marks = key_marks(alloc, columns, keys)?;
     store.declare(alloc, name, columns, &marks, refuses)?;
     Ok(Reply::Silent)
@@ -52,6 +53,7 @@ fn edit_noted<S: Alter>(
     ensures { Works (state S.Store store.old) (state S.Store store.new) (Some session.old) (Some session.new)
         (λ old. EditGives old (edited old.tables edit.now)) (answer_of result) }
 {
+    store.database_law();
     session.edit(alloc, store, edit)?;
     Ok(Reply::Silent)
 }
@@ -65,6 +67,7 @@ fn edit_unnoted<S: Alter>(
     ensures { Works (state S.Store store.old) (state S.Store store.new) None None
         (λ old. EditGives old (edited old.tables edit.now)) (answer_of result) }
 {
+    store.database_law();
     store.edit(alloc, edit)?;
     Ok(Reply::Silent)
 }

@@ -130,6 +130,14 @@ impl<S: Alter> Store<S> {
         let _ = &self.conn;
     }
 
+    /// Has no effect. Its contract says that an open store shows a database: its trees list its schema, and obey it.
+    pub fn database_law(&self)
+        ensures { HasCleanDisk (state S.Store self.now) → IsTrue (state S.Store self.now).is_open
+            → IsDatabase (state S.Store self.now).now }
+    {
+        let _ = &self.conn;
+    }
+
     /// Has no effect. Its contract says that a crash of an open store leaves its last commit, and nothing else.
     pub fn crash_law(&self)
         ensures { IsTrue (state S.Store self.now).is_open → LeavesOnly

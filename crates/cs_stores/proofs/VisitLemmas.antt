@@ -5,7 +5,7 @@ use Rattle.std.specs.FinMap as map
 use Rattle.std.specs.Cmp.Lexicographic.{nat_list_cmp_total}
 use Rattle.std.proofs.lemmas.Bool.{cond-true}
 use Rattle.cs_value.proofs.ByteMaps.{self_tied}
-use Rattle.sqlite.specs.Effect.{Database}
+use Rattle.sqlite.specs.Effect.{Database, IsDatabase}
 use Rattle.cs_store.specs.Records.{KeepsOthers}
 use Rattle.cs_machine.specs.Stores.{SparesOthers, by_nothing, by_each}
 use Rattle.cs_machine.proofs.TurnLemmas.{spares_then}
@@ -19,5 +19,5 @@ put_bytes old new name bytes put =
     ∙ ap (λ o. unwrap_or o []) (map.get-insert nat_list_cmp_total old name bytes name ∙ cond-true _ _ _ (self_tied name))
 
 -- what is kept by an open, and then by a visit
-pub opened_spares : (found opened left : Database) → KeepsOthers found opened → SparesOthers opened left → SparesOthers found left
-opened_spares found opened left keeps spares = spares_then found opened left (by_each found opened by_nothing keeps) spares
+pub opened_spares : (found opened left : Database) → IsDatabase found → KeepsOthers found opened → SparesOthers opened left → SparesOthers found left
+opened_spares found opened left sound keeps spares = spares_then found opened left (by_each found opened by_nothing sound keeps) spares

@@ -12,4 +12,4 @@ returns-in_err-report g c =
 
 pub returns : goal.returns
 returns g c =
-    works_recorded _ _ (λ k chosen given. search rules) _ _ _ _ _ _ _ c.into_summary.result c.into_summary.ensures c.in_ok-report.ensures.atomic.survives c.in_ok-report.ensures.at_rest c.in_ok-report.ensures.shut c.in_ok-report.ensures.others c.in_ok-report.ensures.recorded c.in_ok-report.ensures.rewound
+    works_recorded _ _ (λ k chosen given. search rules) _ _ _ _ _ _ _ c.into_summary.result c.into_summary.ensures c.in_ok-report.ensures.atomic.survives c.in_ok-report.ensures.at_rest c.in_ok-report.ensures.shut c.database_law.ensures c.in_ok-report.ensures.others c.in_ok-report.ensures.recorded c.in_ok-report.ensures.rewound

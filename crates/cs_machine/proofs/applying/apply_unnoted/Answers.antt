@@ -17,4 +17,4 @@ returns-in_err-summary-clause-named g c =
 
 pub returns-clause-works : goal.returns-clause-works
 returns-clause-works g c =
-    works_applied _ _ (λ k chosen given. search rules) _ _ _ _ _ _ c.in_ok-summary.ensures.atomic.survives c.in_ok-summary.ensures.at_rest c.in_ok-summary.ensures.shut c.in_ok-summary.ensures.others c.in_ok-summary.ensures.applied
+    works_applied _ _ (λ k chosen given. search rules) _ _ _ _ _ _ c.in_ok-summary.ensures.atomic.survives c.in_ok-summary.ensures.at_rest c.in_ok-summary.ensures.shut c.database_law.ensures c.in_ok-summary.ensures.others c.in_ok-summary.ensures.applied

@@ -14,5 +14,5 @@ returns-in_err-report g c =
 pub returns : goal.returns
 returns g c =
     works_reverted _ _ _ _
-    (works_applied AlwaysAborts AlwaysAborts (λ k chosen given. given) _ _ _ _ _ c.into_summary.result c.in_ok-report.ensures.atomic.survives c.in_ok-report.ensures.at_rest c.in_ok-report.ensures.shut c.in_ok-report.ensures.others
+    (works_applied AlwaysAborts AlwaysAborts (λ k chosen given. given) _ _ _ _ _ c.into_summary.result c.in_ok-report.ensures.atomic.survives c.in_ok-report.ensures.at_rest c.in_ok-report.ensures.shut c.database_law.ensures c.in_ok-report.ensures.others
     (λ clean. report_counts _ _ _ _ _ c.in_ok-report.report _ c.into_summary.result (c.in_ok-report.ensures.applied clean) c.into_summary.ensures))

@@ -15,4 +15,4 @@ returns-in_err-report g c =
 pub returns : goal.returns
 returns g c =
     rw c.in-Some.is
-    (works_undone _ _ _ _ c.into_summary.result c.into_summary.ensures c.changeset_files_law.ensures c.notes_law.ensures c.in_ok-report.ensures.atomic.survives c.tables_law.ensures c.in_ok-report.ensures.at_rest c.in_ok-report.ensures.shut c.in_ok-report.ensures.others c.in_ok-report.ensures.undone)
+    (works_undone _ _ _ _ c.into_summary.result c.into_summary.ensures c.changeset_files_law.ensures c.notes_law.ensures c.in_ok-report.ensures.atomic.survives c.tables_law.ensures c.in_ok-report.ensures.at_rest c.in_ok-report.ensures.shut c.database_law.ensures c.in_ok-report.ensures.others c.in_ok-report.ensures.undone)

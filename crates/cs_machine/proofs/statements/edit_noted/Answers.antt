@@ -24,6 +24,6 @@ returns-in_err-edit g c =
 pub returns : goal.returns
 returns g c =
     turns_done (Gave (Some c.args.session.now) (Some c.edit.new.self) (λ old. EditGives old (edited old.tables c.args.edit.now)) Silent)
-    (state g.S.Store c.args.store.now) (state g.S.Store c.edit.new.store) c.edit.ensures.atomic.survives (λ clean. c.in_ok-edit.ensures.at_rest clean) (λ clean shut. c.in_ok-edit.ensures.shut clean shut) (λ clean. c.in_ok-edit.ensures.others clean)
+    (state g.S.Store c.args.store.now) (state g.S.Store c.edit.new.store) c.edit.ensures.atomic.survives (λ clean. c.in_ok-edit.ensures.at_rest clean) (λ clean shut. c.in_ok-edit.ensures.shut clean shut) c.database_law.ensures (λ clean. c.in_ok-edit.ensures.others clean)
     (λ clean rest. session_edits (tables_in (state g.S.Store c.args.store.now).now) (tables_in (state g.S.Store c.edit.new.store).now) c.args.edit.now c.args.session.now c.edit.new.self
     (c.in_ok-edit.ensures.recorded clean) (c.in_ok-edit.ensures.rewound clean))

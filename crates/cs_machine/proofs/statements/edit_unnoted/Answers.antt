@@ -24,6 +24,6 @@ returns-in_err-edit g c =
 pub returns : goal.returns
 returns g c =
     turns_done (Gave None None (λ old. EditGives old (edited old.tables c.args.edit.now)) Silent)
-    (state g.S.Store c.args.store.now) (state g.S.Store c.edit.new.self) c.edit.ensures.atomic.survives (λ clean. c.in_ok-edit.ensures.at_rest clean) (λ clean shut. c.in_ok-edit.ensures.shut clean shut) (λ clean. c.in_ok-edit.ensures.others clean)
+    (state g.S.Store c.args.store.now) (state g.S.Store c.edit.new.self) c.edit.ensures.atomic.survives (λ clean. c.in_ok-edit.ensures.at_rest clean) (λ clean shut. c.in_ok-edit.ensures.shut clean shut) c.database_law.ensures (λ clean. c.in_ok-edit.ensures.others clean)
     (λ clean rest. store_edits (tables_in (state g.S.Store c.args.store.now).now) (tables_in (state g.S.Store c.edit.new.self).now) c.args.edit.now (map written_of c.in_ok-edit.field-0.items)
     (c.in_ok-edit.ensures.edited clean))

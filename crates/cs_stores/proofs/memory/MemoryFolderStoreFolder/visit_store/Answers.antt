@@ -31,6 +31,6 @@ returns-clause-visited g c =
         visited = turned.2;
         kept = c.keep_store-closed.ensures.kept turned.0 turned.1;
       };
-      others = c.keep_store-closed.ensures.others opens.db turned.0 turned.1 (λ is_open. opened_spares opens.db (file_state c.in-Ok.store).now _ opens.others (spared.others is_open));
+      others = c.keep_store-closed.ensures.others opens.db turned.0 turned.1 (λ is_open. opened_spares opens.db (file_state c.in-Ok.store).now _ opens.found.sound opens.others (spared.others is_open));
       known = λ before finds. sym (c.in-Ok.ensures.found before (subst (FindsTables before) (sym copied) finds));
     }
