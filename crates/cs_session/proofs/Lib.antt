@@ -1,6 +1,7 @@
 pub mod FirstLemmas
 pub mod EditLemmas
 pub mod RewoundLemmas
+pub mod CauseLemmas
 pub mod ChangesLemmas
 pub mod NotesLemmas
 pub mod Examples

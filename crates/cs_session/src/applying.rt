@@ -1,5 +1,5 @@
 //! Applies whose keys are noted.
-ghost use Rattle.std.specs.Prelude.{◌≡◌, map, IsTrue, IfOk, IfErr, OnOk, OnErr};
+ghost use Rattle.std.specs.Prelude.{◌≡◌, map, IsTrue, IfOk, IfErr, OnOk, OnErr, is_ok};
 ghost use Rattle.std.specs.Fn.{FnReturnsAt};
 ghost use Rattle.std.specs.List.{AllByRecursion};
 ghost use Rattle.sqlite.specs.State.{HasCleanDisk};
@@ -9,6 +9,7 @@ ghost use Rattle.cs_store.specs.Crash.{CanBegin, IsAtomic, LeavesOnly};
 ghost use Rattle.cs_store.specs.Records.{KeepsContent, KeepsOthers};
 ghost use Rattle.cs_store.specs.Store.{IsAtRest, RefusesShut, tables_in};
 ghost use Rattle.cs_run.specs.declared.running.Direction.TheVariants.{Forward as ForwardRun};
+ghost use Rattle.cs_run.specs.Writes.{IsFileWrite};
 ghost use Rattle.cs_apply.specs.Crash.{AppliesInto};
 ghost use Rattle.cs_session.specs.Changes.{IsCaused, IsResource};
 ghost use Rattle.cs_session.specs.FirstImages.{IsNotes};
@@ -130,9 +131,10 @@ fn apply_rows<B: Rows, H: Fn(&Conflict) -> Choice>(
     ensures refused { B.is_honest rows.new → IfErr result (RefusesApply (FnReturnsAt H.Fn handler.now)
         noop file.now (B.state rows.old) (map attached_of tables.old)) }
     ensures named { IfErr result IsApplyRefusal }
-    ensures caused { B.is_honest rows.new → IfErr result (IsCaused (B.fails_for rows.new)) }
+    ensures caused { B.is_honest rows.new → IfErr result (IsCaused
+        (B.fails (IsFileWrite ForwardRun file.now) rows.old rows.new)) }
     ensures was_honest { B.is_honest rows.new → B.is_honest rows.old }
-    ensures kept { B.keeps rows.old rows.new }
+    ensures kept { B.keeps (is_ok result) rows.old rows.new }
 {
     check_tables(alloc, rows, tables.as_slice())?;
     let report = run_in(alloc, rows, file, Direction::Forward, noop, handler)?;

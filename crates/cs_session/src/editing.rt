@@ -1,9 +1,10 @@
 //! Edits whose keys are noted.
-ghost use Rattle.std.specs.Prelude.{◌≡◌, map, IsTrue, OnOk, OnErr, IfErr};
+ghost use Rattle.std.specs.Prelude.{◌≡◌, map, IsTrue, OnOk, OnErr, IfErr, is_ok};
 ghost use Rattle.std.specs.List.{AllByRecursion};
 ghost use Rattle.sqlite.specs.State.{HasCleanDisk};
 ghost use Rattle.sqlite.specs.Held.{state};
 ghost use Rattle.cs_value.specs.State.{IsState};
+ghost use Rattle.cs_rows.specs.Editing.{IsWriteOf};
 ghost use Rattle.cs_store.specs.Crash.{CanBegin, IsAtomic, LeavesOnly};
 ghost use Rattle.cs_store.specs.Editing.{EditsInto};
 ghost use Rattle.cs_store.specs.Records.{KeepsContent, KeepsOthers};
@@ -117,9 +118,10 @@ fn edit_rows<B: Rows>(
     ensures refused { B.is_honest rows.new
         → IfErr result (RefusesEdit (B.state rows.old) edit.now (map attached_of tables.old)) }
     ensures named { IfErr result IsEditRefusal }
-    ensures caused { B.is_honest rows.new → IfErr result (IsCaused (B.fails_for rows.new)) }
+    ensures caused { B.is_honest rows.new → IfErr result (IsCaused
+        (B.fails (IsWriteOf (B.state rows.old) edit.now) rows.old rows.new)) }
     ensures was_honest { B.is_honest rows.new → B.is_honest rows.old }
-    ensures kept { B.keeps rows.old rows.new }
+    ensures kept { B.keeps (is_ok result) rows.old rows.new }
 {
     check_named(alloc, rows, tables, edited_table(edit))?;
     let written = edit_in(alloc, rows, edit)?;

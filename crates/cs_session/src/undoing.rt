@@ -1,7 +1,10 @@
 //! The rows from before, given back.
-ghost use Rattle.std.specs.Prelude.{◌≡◌, map, IfOk, IfErr};
+ghost use Rattle.std.specs.Prelude.{◌≡◌, map, IfOk, IfErr, is_ok};
 ghost use Rattle.cs_value.specs.State.{IsState};
-ghost use Rattle.cs_session.specs.FirstImages.{IsNotes};
+ghost use Rattle.cs_run.specs.declared.running.Direction.TheVariants.{Inverse as InverseRun};
+ghost use Rattle.cs_run.specs.Running.{directed};
+ghost use Rattle.cs_run.specs.Writes.{IsRunWrite};
+ghost use Rattle.cs_session.specs.FirstImages.{IsNotes, recorded_changes};
 ghost use Rattle.cs_session.specs.Changes.{RefusesChanges, IsCaused};
 ghost use Rattle.cs_session.specs.Undoing.{Undoes, IsUndoRefusal};
 ghost use Rattle.cs_session.specs.Views.{attached_of};
@@ -27,9 +30,11 @@ pub(crate) fn undo_rows<B: Rows>(
     ensures refused { B.is_honest rows.new
         → IfErr result (RefusesChanges (B.state rows.old) (map attached_of tables.now)) }
     ensures named { IfErr result IsUndoRefusal }
-    ensures caused { B.is_honest rows.new → IfErr result (IsCaused (B.fails_for rows.new)) }
+    ensures caused { B.is_honest rows.new → IfErr result (IsCaused (B.fails (IsRunWrite
+        (directed InverseRun (recorded_changes (map attached_of tables.now) (B.state rows.old))))
+        rows.old rows.new)) }
     ensures was_honest { B.is_honest rows.new → B.is_honest rows.old }
-    ensures kept { B.keeps rows.old rows.new }
+    ensures kept { B.keeps (is_ok result) rows.old rows.new }
 {
     changeset_files_law();
     let changeset = net_changeset(alloc, rows, tables)?;

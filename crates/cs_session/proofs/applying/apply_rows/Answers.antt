@@ -1,8 +1,9 @@
--- `applying::apply_rows`: the clauses `refused` and `well_formed`.
+-- `applying::apply_rows`: the clauses `refused`, `well_formed`, `caused` and `kept`.
 use Rattle.std.proofs.Common.{map}
 use Rattle.std.specs.Fn.{FnReturnsAt}
 use Rattle.std.proofs.lemmas.Result.{err_from_is_err_and}
 use Rattle.cs_session.specs.Views.{attached_of}
+use Rattle.cs_session.proofs.CauseLemmas.{caused_on, run_caused_on}
 use Rattle.cs_session.proofs.NotesLemmas.{recorded_are}
 use Rattle.cs_session.proofs.RecordLemmas.{refuses_applying, refuses_noting, applies_formers}
 use Rattle.cs_session.proofs.applying.apply_rows.Goals as goal
@@ -31,3 +32,24 @@ returns-in_err-note_all-clause-refused g c = λ honest.
 pub returns-clause-well_formed : goal.returns-clause-well_formed
 returns-clause-well_formed g c =
     rw (c.in_ok-note_all.ensures.noted) (recorded_are _ (map attached_of c.args.tables.now) c.requires.notes c.in_ok-note_all.ensures.formers)
+
+pub returns-in_err-check_tables-clause-caused : goal.returns-in_err-check_tables-clause-caused
+returns-in_err-check_tables-clause-caused g c = λ honest.
+    caused_on c.from_residual.result _ _ c.in_err-check_tables.field-0.0 c.from_residual.ensures.1
+    (λ why by. g.B.Rows.fails_so _ _ _ _ why (λ held write none. absurd none) by) (c.in_err-check_tables.ensures.caused honest)
+
+pub returns-in_err-report-clause-caused : goal.returns-in_err-report-clause-caused
+returns-in_err-report-clause-caused g c = λ honest.
+    run_caused_on c.from_residual-in_err-report.result _ _ c.in_err-report.field-0.0 c.from_residual-in_err-report.ensures.1
+    (λ why by. g.B.Rows.fails_then _ _ _ _ _ why c.in_ok-check_tables.ensures.kept c.in_err-report.ensures.kept honest by) (c.in_err-report.ensures.caused honest)
+
+pub returns-in_err-report-clause-kept : goal.returns-in_err-report-clause-kept
+returns-in_err-report-clause-kept g c =
+    let p = err_from_is_err_and c.from_residual-in_err-report.result c.from_residual-in_err-report.ensures.1 in
+    rw p.1 (g.B.Rows.keeps_then _ _ _ _ c.in_ok-check_tables.ensures.kept c.in_err-report.ensures.kept)
+
+pub returns-in_err-note_all-clause-kept : goal.returns-in_err-note_all-clause-kept
+returns-in_err-note_all-clause-kept g c = g.B.Rows.keeps_either _ _ _ (g.B.Rows.keeps_then _ _ _ _ c.in_ok-check_tables.ensures.kept c.in_ok-report.ensures.kept)
+
+pub returns-clause-kept : goal.returns-clause-kept
+returns-clause-kept g c = g.B.Rows.keeps_then _ _ _ _ c.in_ok-check_tables.ensures.kept c.in_ok-report.ensures.kept

@@ -1,11 +1,13 @@
--- `changes::net_changeset`: what `table_changes` and `push` ask for, the invariant of the loop at `table`, the clause
--- `kept`.
+-- `changes::net_changeset`: what `table_changes` and `push` ask for, the invariant of the loop at `table`, the clauses
+-- `kept` and `caused`.
 use Rattle.std.proofs.Common.{◌≡◌, ◌≢◌, ◌++◌, option_to_list, sym, ◌∙◌}
 use Rattle.std.proofs.lemmas.List.{append-nil}
+use Rattle.std.proofs.lemmas.Result.{err_from_is_err_and}
 use Rattle.cs_wire.specs.Changeset.{GroupData}
 use Rattle.cs_session.specs.FirstImages.{AttachedTable, IsAttachedTable, HasAttached, net_group}
 use Rattle.cs_session.specs.Views.{attached_of}
 use Rattle.cs_value.proofs.ListLemmas.{All-map_at, AllPairs-map_before, filter_map-map_more, map_more_at}
+use Rattle.cs_session.proofs.CauseLemmas.{caused_on}
 use Rattle.cs_session.proofs.EntriesLemmas.{no_other_more}
 use Rattle.cs_session.proofs.changes.net_changeset.Goals.{in-Some+in_ok-push, in_default}
 use Rattle.cs_session.proofs.changes.net_changeset.Goals as goal
@@ -28,7 +30,7 @@ push-requires g c =
     rw named (c.loop-table.invariant.1 _ apart)
 
 pub returns-in_err-push-clause-kept : goal.returns-in_err-push-clause-kept
-returns-in_err-push-clause-kept g c = g.B.Rows.keeps_then _ _ _ c.loop-table.invariant.0 c.table_changes.ensures.kept
+returns-in_err-push-clause-kept g c = g.B.Rows.keeps_either _ _ _ (g.B.Rows.keeps_then _ _ _ _ c.loop-table.invariant.0 c.in_ok-group.ensures.kept)
 
 pub loop-table-preserved : goal.loop-table-preserved
 loop-table-preserved g c =
@@ -44,7 +46,7 @@ loop-table-preserved g c =
       | in-Some+in_ok-push w ↦ rw (w.changeset-is, w.in-Some.is) w.in_ok-push.ensures.ok
       | in_default w ↦ rw (w.changeset-is, w.in_default.is) (sym (append-nil before))
     ] in (
-      g.B.Rows.keeps_then _ _ _ c.loop-table.invariant.0 c.table_changes.ensures.kept,
+      g.B.Rows.keeps_then _ _ _ _ c.loop-table.invariant.0 c.in_ok-group.ensures.kept,
       rw (grown, map_more_at tables i table lt is attached_of)
           (no_other_more (λ (t : AttachedTable). t.name) (λ (g : GroupData). g.header.name) _ before c.loop-table.invariant.1 (attached_of table) group c.in_ok-group.ensures.of_table),
       λ honest.
@@ -57,3 +59,13 @@ loop-table-preserved g c =
             so.3,
           ),
     )
+
+pub returns-in_err-group-clause-caused : goal.returns-in_err-group-clause-caused
+returns-in_err-group-clause-caused g c = λ honest.
+    caused_on c.from_residual-in_err-group.result _ _ c.in_err-group.field-0.0 c.from_residual-in_err-group.ensures.1
+    (λ why by. g.B.Rows.fails_then _ _ _ _ _ why c.loop-table.invariant.0 c.in_err-group.ensures.kept honest by) (c.in_err-group.ensures.caused honest)
+
+pub returns-in_err-group-clause-kept : goal.returns-in_err-group-clause-kept
+returns-in_err-group-clause-kept g c =
+    let p = err_from_is_err_and c.from_residual-in_err-group.result c.from_residual-in_err-group.ensures.1 in
+    rw p.1 (g.B.Rows.keeps_then _ _ _ _ c.loop-table.invariant.0 c.in_err-group.ensures.kept)

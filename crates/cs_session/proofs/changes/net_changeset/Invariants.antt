@@ -1,5 +1,5 @@
 -- Each table is there as it was attached, and the groups of those so far are made.
-use Rattle.std.proofs.Common.{◌≡◌, take, map}
+use Rattle.std.proofs.Common.{◌≡◌, take, map, true}
 use Rattle.cs_wire.specs.Changeset.{GroupData}
 use Rattle.cs_session.specs.FirstImages.{AttachedTable, recorded_changes}
 use Rattle.cs_session.specs.Changes.{HasTables}
@@ -11,6 +11,6 @@ abbrev pub invariant-loop-table : goal.invariant-loop-table
 invariant-loop-table g l =
     let rows = g.B.Rows in
     let notes = map attached_of (take l.table-index l.tables) in
-    rows.keeps l.fn.rows l.rows × HasNoOther (λ (t : AttachedTable). t.name) (λ (g : GroupData). g.header.name) notes l.changeset
+    rows.keeps true l.fn.rows l.rows × HasNoOther (λ (t : AttachedTable). t.name) (λ (g : GroupData). g.header.name) notes l.changeset
     × (rows.is_honest l.rows → rows.is_honest l.fn.rows × (rows.state l.rows ≡ rows.state l.fn.rows)
     × (l.changeset ≡ recorded_changes notes (rows.state l.fn.rows)) × HasTables (rows.state l.fn.rows) (map attached_of l.tables))

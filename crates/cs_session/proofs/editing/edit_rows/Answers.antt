@@ -1,7 +1,10 @@
--- `editing::edit_rows`: the clauses `well_formed` and `refused`.
-use Rattle.std.proofs.Common.{map}
+-- `editing::edit_rows`: the clauses `well_formed`, `refused`, `caused` and `kept`.
+use Rattle.std.proofs.Common.{map, subst}
 use Rattle.std.proofs.lemmas.Result.{IfErr-weaker, err_from_is_err_and}
+use Rattle.cs_value.specs.State.{State}
+use Rattle.cs_rows.specs.Editing.{IsWriteOf}
 use Rattle.cs_session.specs.Views.{attached_of}
+use Rattle.cs_session.proofs.CauseLemmas.{caused_on, rows_caused_on}
 use Rattle.cs_session.proofs.EditLemmas.{edited_formers, refuses_edit, refuses_noting, noted_are}
 use Rattle.cs_session.proofs.editing.edit_rows.Goals as goal
 
@@ -30,3 +33,23 @@ returns-clause-refused g c = λ honest.
     let done = rw same at (c.in_ok-written.ensures.edited honest) in
     let formers = edited_formers state edit _ done (c.requires.state was) notes has in
     IfErr-weaker c.note_all.result _ _ (λ e refused. refuses_noting state edit notes _ e formers refused) (rw c.deref.ensures.value at c.note_all.ensures.refused)
+
+pub returns-in_err-check_named-clause-caused : goal.returns-in_err-check_named-clause-caused
+returns-in_err-check_named-clause-caused g c = λ honest.
+    caused_on c.from_residual.result _ _ c.in_err-check_named.field-0.0 c.from_residual.ensures.1
+    (λ why by. g.B.Rows.fails_so _ _ _ _ why (λ held write none. absurd none) by) (c.in_err-check_named.ensures.caused honest)
+
+pub returns-in_err-written-clause-caused : goal.returns-in_err-written-clause-caused
+returns-in_err-written-clause-caused g c = λ honest.
+    let same = c.in_ok-check_named.ensures.same (c.edit_in.ensures.was_honest honest) in
+    rows_caused_on c.from_residual-in_err-written.result _ _ c.in_err-written.field-0.0 c.from_residual-in_err-written.ensures.1
+    (λ why by. g.B.Rows.fails_then _ _ _ _ _ why c.in_ok-check_named.ensures.kept c.in_err-written.ensures.kept honest
+    (g.B.Rows.fails_so _ _ _ _ why (λ held write is. subst (λ (s : State). IsWriteOf s c.args.edit.now held write) same is) by)) (c.in_err-written.ensures.caused honest)
+
+pub returns-in_err-written-clause-kept : goal.returns-in_err-written-clause-kept
+returns-in_err-written-clause-kept g c =
+    let p = err_from_is_err_and c.from_residual-in_err-written.result c.from_residual-in_err-written.ensures.1 in
+    rw p.1 (g.B.Rows.keeps_then _ _ _ _ c.in_ok-check_named.ensures.kept c.in_err-written.ensures.kept)
+
+pub returns-clause-kept : goal.returns-clause-kept
+returns-clause-kept g c = g.B.Rows.keeps_either _ _ _ (g.B.Rows.keeps_then _ _ _ _ c.in_ok-check_named.ensures.kept c.in_ok-written.ensures.kept)

@@ -1,8 +1,12 @@
--- `undoing::undo_rows`: the clauses `refused` and `undone`.
-use Rattle.std.proofs.Common.{map, rules, ap}
+-- `undoing::undo_rows`: the clauses `refused`, `undone`, `caused` and `kept`.
+use Rattle.std.proofs.Common.{List, map, rules, ap, subst}
 use Rattle.std.proofs.lemmas.Result.{err_from_is_err_and}
-use Rattle.cs_wire.specs.Changeset.{file_bytes}
+use Rattle.cs_wire.specs.Changeset.{GroupData, file_bytes}
+use Rattle.cs_run.specs.declared.running.Direction.TheVariants.{Inverse}
+use Rattle.cs_run.specs.Running.{directed}
+use Rattle.cs_run.specs.Writes.{IsRunWrite}
 use Rattle.cs_session.specs.Views.{attached_of}
+use Rattle.cs_session.proofs.CauseLemmas.{caused_on, run_caused_on}
 use Rattle.cs_session.proofs.OutcomeLemmas.{undoes, refuses_undo}
 use Rattle.cs_session.proofs.undoing.undo_rows.Goals as goal
 
@@ -25,3 +29,23 @@ returns-clause-undone g c = λ honest.
     let notes = map attached_of c.args.tables.now in
     undoes c.changeset_files_law.ensures state notes (c.requires.state was) c.requires.notes (c.in_ok-changeset.ensures.attached before) _ (λ k chosen given. search rules) (file_bytes c.in_ok-changeset.changeset) (ap file_bytes (c.in_ok-changeset.ensures.made before)) _ (c.in_ok-changeset.ensures.same before) _ _
     (c.in_ok-run_changeset_in.ensures.applied honest)
+
+pub returns-in_err-changeset-clause-caused : goal.returns-in_err-changeset-clause-caused
+returns-in_err-changeset-clause-caused g c = λ honest.
+    caused_on c.from_residual.result _ _ c.in_err-changeset.field-0.0 c.from_residual.ensures.1
+    (λ why by. g.B.Rows.fails_so _ _ _ _ why (λ held write none. absurd none) by) (c.in_err-changeset.ensures.caused honest)
+
+pub returns-in_err-run_changeset_in-clause-caused : goal.returns-in_err-run_changeset_in-clause-caused
+returns-in_err-run_changeset_in-clause-caused g c = λ honest.
+    let made = c.in_ok-changeset.ensures.made (c.run_changeset_in.ensures.was_honest honest) in
+    run_caused_on c.from_residual-in_err-run_changeset_in.result _ _ c.in_err-run_changeset_in.field-0.0 c.from_residual-in_err-run_changeset_in.ensures.1
+    (λ why by. g.B.Rows.fails_then _ _ _ _ _ why c.in_ok-changeset.ensures.kept c.in_err-run_changeset_in.ensures.kept honest
+    (g.B.Rows.fails_so _ _ _ _ why (λ held write is. subst (λ (groups : List GroupData). IsRunWrite (directed Inverse groups) held write) made is) by)) (c.in_err-run_changeset_in.ensures.caused honest)
+
+pub returns-in_err-run_changeset_in-clause-kept : goal.returns-in_err-run_changeset_in-clause-kept
+returns-in_err-run_changeset_in-clause-kept g c =
+    let p = err_from_is_err_and c.from_residual-in_err-run_changeset_in.result c.from_residual-in_err-run_changeset_in.ensures.1 in
+    rw p.1 (g.B.Rows.keeps_then _ _ _ _ c.in_ok-changeset.ensures.kept c.in_err-run_changeset_in.ensures.kept)
+
+pub returns-clause-kept : goal.returns-clause-kept
+returns-clause-kept g c = g.B.Rows.keeps_then _ _ _ _ c.in_ok-changeset.ensures.kept c.in_ok-run_changeset_in.ensures.kept
