@@ -6,6 +6,7 @@ ghost use Rattle.sqlite.specs.State.{HasCleanDisk};
 ghost use Rattle.sqlite.specs.Held.{state};
 ghost use Rattle.cs_value.specs.State.{IsState};
 ghost use Rattle.cs_store.specs.Crash.{CanBegin, IsAtomic, LeavesOnly};
+ghost use Rattle.cs_store.specs.Failing.{StoreFails, Writes};
 ghost use Rattle.cs_store.specs.Records.{KeepsContent, KeepsOthers};
 ghost use Rattle.cs_store.specs.Store.{IsAtRest, RefusesShut, tables_in};
 ghost use Rattle.cs_run.specs.declared.running.Direction.TheVariants.{Forward as ForwardRun};
@@ -45,6 +46,8 @@ pub(crate) fn apply_noted<S: Alter, H: Fn(&Conflict) -> Choice>(
     ensures refused { HasCleanDisk (state S.Store store.new) → IfErr result (RefusesApply (FnReturnsAt H.Fn handler.now)
         noop file.now (tables_in (state S.Store store.old).now) (map attached_of tables.old)) }
     ensures shut { HasCleanDisk (state S.Store store.new) → RefusesShut (state S.Store store.old) IsResource result }
+    ensures caused { HasCleanDisk (state S.Store store.new) → IfErr result (IsCaused
+        (StoreFails (Writes (IsFileWrite ForwardRun file.now)) (state S.Store store.old) (state S.Store store.new))) }
     ensures named { IfErr result IsApplyRefusal }
     ensures at_rest { HasCleanDisk (state S.Store store.new) → OnOk result (IsAtRest (state S.Store store.new)) }
     ensures others { HasCleanDisk (state S.Store store.new)
@@ -90,6 +93,8 @@ fn apply_batch<S: Alter, H: Fn(&Conflict) -> Choice>(
     ensures refused { HasCleanDisk (state S.Store store.new) → IfErr result (RefusesApply (FnReturnsAt H.Fn handler.now)
         noop file.now (tables_in (state S.Store store.old).now) (map attached_of tables.old)) }
     ensures shut { HasCleanDisk (state S.Store store.new) → RefusesShut (state S.Store store.old) IsResource result }
+    ensures caused { HasCleanDisk (state S.Store store.new) → IfErr result (IsCaused
+        (StoreFails (Writes (IsFileWrite ForwardRun file.now)) (state S.Store store.old) (state S.Store store.new))) }
     ensures named { IfErr result IsApplyRefusal }
     ensures at_rest { HasCleanDisk (state S.Store store.new) → OnOk result (IsAtRest (state S.Store store.new)) }
     ensures others { HasCleanDisk (state S.Store store.new)

@@ -6,6 +6,7 @@ ghost use Rattle.sqlite.specs.Held.{state};
 ghost use Rattle.cs_value.specs.State.{IsState};
 ghost use Rattle.cs_rows.specs.Editing.{IsWriteOf};
 ghost use Rattle.cs_store.specs.Crash.{CanBegin, IsAtomic, LeavesOnly};
+ghost use Rattle.cs_store.specs.Failing.{StoreFails, Writes};
 ghost use Rattle.cs_store.specs.Editing.{EditsInto};
 ghost use Rattle.cs_store.specs.Records.{KeepsContent, KeepsOthers};
 ghost use Rattle.cs_store.specs.Store.{IsAtRest, RefusesShut, tables_in};
@@ -39,6 +40,8 @@ pub(crate) fn edit_noted<S: Alter>(
     ensures refused { HasCleanDisk (state S.Store store.new)
         → IfErr result (RefusesEdit (tables_in (state S.Store store.old).now) edit.now (map attached_of tables.old)) }
     ensures shut { HasCleanDisk (state S.Store store.new) → RefusesShut (state S.Store store.old) IsResource result }
+    ensures caused { HasCleanDisk (state S.Store store.new) → IfErr result (IsCaused
+        (StoreFails (Writes (IsWriteOf (tables_in (state S.Store store.old).now) edit.now)) (state S.Store store.old) (state S.Store store.new))) }
     ensures named { IfErr result IsEditRefusal }
     ensures at_rest { HasCleanDisk (state S.Store store.new) → OnOk result (IsAtRest (state S.Store store.new)) }
     ensures others { HasCleanDisk (state S.Store store.new)
@@ -81,6 +84,8 @@ fn edit_batch<S: Alter>(
     ensures refused { HasCleanDisk (state S.Store store.new)
         → IfErr result (RefusesEdit (tables_in (state S.Store store.old).now) edit.now (map attached_of tables.old)) }
     ensures shut { HasCleanDisk (state S.Store store.new) → RefusesShut (state S.Store store.old) IsResource result }
+    ensures caused { HasCleanDisk (state S.Store store.new) → IfErr result (IsCaused
+        (StoreFails (Writes (IsWriteOf (tables_in (state S.Store store.old).now) edit.now)) (state S.Store store.old) (state S.Store store.new))) }
     ensures named { IfErr result IsEditRefusal }
     ensures at_rest { HasCleanDisk (state S.Store store.new) → OnOk result (IsAtRest (state S.Store store.new)) }
     ensures others { HasCleanDisk (state S.Store store.new)

@@ -4,7 +4,8 @@ ghost use Rattle.std.specs.Fn.{FnReturnsAt};
 ghost use Rattle.sqlite.specs.State.{HasCleanDisk};
 ghost use Rattle.sqlite.specs.Held.{state};
 ghost use Rattle.cs_store.specs.Crash.{CanBegin, IsAtomic, LeavesOnly};
-ghost use Rattle.cs_store.specs.Editing.{EditsInto};
+ghost use Rattle.cs_store.specs.Editing.{EditsInto, IsWriteOf};
+ghost use Rattle.cs_store.specs.Failing.{ReadFails, StoreFails, Writes};
 ghost use Rattle.cs_store.specs.Records.{KeepsContent, KeepsCrash, KeepsOthers};
 ghost use Rattle.cs_store.specs.Store.{IsAtRest, KeepsStore, RefusesShut, tables_in};
 ghost use Rattle.cs_value.specs.Table.{IsName};
@@ -12,11 +13,12 @@ ghost use Rattle.cs_value.specs.State.{rows_at};
 ghost use Rattle.cs_session.specs.declared.fault.SessionFault.TheVariants.{AlreadyAttached as IsThere, NoMemory as OutOfMemory};
 ghost use Rattle.cs_session.specs.FirstImages.{AttachedTable, IsNotes, rewound, recorded_changes};
 ghost use Rattle.cs_session.specs.Attaching.{Attaches, RefusesAttach, IsAttachRefusal, IsNewTable};
-ghost use Rattle.cs_session.specs.Changes.{HasTables, IsChangesRefusal, IsResource, RefusesChanges};
+ghost use Rattle.cs_session.specs.Changes.{HasTables, IsCaused, IsChangesRefusal, IsResource, RefusesChanges};
 ghost use Rattle.cs_session.specs.Recording.{Records, RefusesEdit, IsEditRefusal, RecordsApply, RefusesApply, IsApplyRefusal};
-ghost use Rattle.cs_run.specs.declared.running.Direction.TheVariants.{Forward as ForwardRun};
+ghost use Rattle.cs_run.specs.declared.running.Direction.TheVariants.{Forward as ForwardRun, Inverse as InverseRun};
 ghost use Rattle.cs_apply.specs.Crash.{AppliesInto};
-ghost use Rattle.cs_run.specs.Running.{Leads};
+ghost use Rattle.cs_run.specs.Running.{Leads, directed};
+ghost use Rattle.cs_run.specs.Writes.{IsFileWrite, IsRunWrite};
 ghost use Rattle.cs_session.specs.Undoing.{LeadsBackTo, Undoes, UndoesInto, IsUndoRefusal};
 
 use crate::applying::apply_noted;
@@ -100,6 +102,8 @@ impl Session {
             → IfErr result (RefusesAttach (tables_in (state S.Store store.old).now) name.now self.old) }
         ensures shut { HasCleanDisk (state S.Store store.new) → RefusesShut (state S.Store store.old)
             (λ e. ((e ≡ IsThere) × Any (λ t. t.name ≡ name.now) self.old) ⊎ IsResource e) result }
+        ensures caused { HasCleanDisk (state S.Store store.new) → IfErr result (IsCaused
+            (ReadFails (state S.Store store.old) (state S.Store store.new))) }
         ensures named { IfErr result IsAttachRefusal }
         ensures same { OnErr result (self.new ≡ self.old) }
         ensures read { HasCleanDisk (state S.Store store.new)
@@ -141,6 +145,8 @@ impl Session {
             → IfErr result (RefusesEdit (tables_in (state S.Store store.old).now) edit.now self.old) }
         ensures shut { HasCleanDisk (state S.Store store.new)
             → RefusesShut (state S.Store store.old) IsResource result }
+        ensures caused { HasCleanDisk (state S.Store store.new) → IfErr result (IsCaused
+            (StoreFails (Writes (IsWriteOf (tables_in (state S.Store store.old).now) edit.now)) (state S.Store store.old) (state S.Store store.new))) }
         ensures named { IfErr result IsEditRefusal }
         ensures same { OnErr result (self.new ≡ self.old) }
         ensures at_rest { HasCleanDisk (state S.Store store.new) → OnOk result (IsAtRest (state S.Store store.new)) }
@@ -187,6 +193,8 @@ impl Session {
             (FnReturnsAt H.Fn handler.now) noop file.now (tables_in (state S.Store store.old).now) self.old) }
         ensures shut { HasCleanDisk (state S.Store store.new)
             → RefusesShut (state S.Store store.old) IsResource result }
+        ensures caused { HasCleanDisk (state S.Store store.new) → IfErr result (IsCaused
+            (StoreFails (Writes (IsFileWrite ForwardRun file.now)) (state S.Store store.old) (state S.Store store.new))) }
         ensures named { IfErr result IsApplyRefusal }
         ensures same { OnErr result (self.new ≡ self.old) }
         ensures at_rest { HasCleanDisk (state S.Store store.new) → OnOk result (IsAtRest (state S.Store store.new)) }
@@ -226,6 +234,8 @@ impl Session {
             → IfErr result (RefusesChanges (tables_in (state S.Store store.old).now) self.now) }
         ensures shut { HasCleanDisk (state S.Store store.new)
             → RefusesShut (state S.Store store.old) IsResource result }
+        ensures caused { HasCleanDisk (state S.Store store.new) → IfErr result (IsCaused
+            (StoreFails (Writes (λ _ _. ⊥)) (state S.Store store.old) (state S.Store store.new))) }
         ensures named { IfErr result IsChangesRefusal }
         ensures kept { HasCleanDisk (state S.Store store.new)
             → KeepsContent (state S.Store store.old) (state S.Store store.new) }
@@ -254,6 +264,9 @@ impl Session {
             → IfErr result (RefusesChanges (tables_in (state S.Store store.old).now) self.now) }
         ensures shut { HasCleanDisk (state S.Store store.new)
             → RefusesShut (state S.Store store.old) IsResource result }
+        ensures caused { HasCleanDisk (state S.Store store.new) → IfErr result (IsCaused
+            (StoreFails (Writes (IsRunWrite (directed InverseRun (recorded_changes self.now
+            (tables_in (state S.Store store.old).now))))) (state S.Store store.old) (state S.Store store.new))) }
         ensures named { IfErr result IsUndoRefusal }
         ensures at_rest { HasCleanDisk (state S.Store store.new) → OnOk result (IsAtRest (state S.Store store.new)) }
         ensures others { HasCleanDisk (state S.Store store.new)

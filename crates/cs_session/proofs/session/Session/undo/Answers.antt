@@ -1,15 +1,25 @@
--- `session::Session::undo`: what `undo_rows` asks for, the clauses `others`, `atomic`, `left` and `stands`.
-use Rattle.std.proofs.Common.{◌≡◌, map, OnErr, rules}
+-- `session::Session::undo`: what `undo_rows` asks for, the clauses `caused`, `others`, `atomic`, `left` and `stands`.
+use Rattle.std.proofs.Common.{◌≡◌, map, OnErr, rules, IfErr, refl, subst}
 use Rattle.sqlite.specs.Held.{state}
 use Rattle.sqlite.specs.State.{HasCleanDisk}
 use Rattle.cs_store.specs.Laws.{was_clean}
 use Rattle.cs_store.specs.Crash.{CanBegin}
 use Rattle.cs_store.specs.Records.{KeepsContent, KeepsCrash}
 use Rattle.cs_store.specs.Store.{tables_in}
-use Rattle.cs_store.proofs.CrashLemmas.{idle_atomic, dropped_atomic, made_atomic, made_others, left_new, refused_stands}
+use Rattle.cs_store.proofs.CrashLemmas.{idle_atomic, dropped_atomic, begun_tables, made_atomic, made_others, left_new, refused_stands}
 use Rattle.cs_session.specs.Undoing.{UndoesInto}
 use Rattle.cs_session.specs.Views.{attached_of}
 use Rattle.cs_session.proofs.OutcomeLemmas.{begun_state}
+use Rattle.cs_store.specs.Failing.{BatchFails, BeginFails, Writes}
+use Rattle.cs_store.specs.Faults as stores
+use Rattle.cs_store.proofs.FailureLemmas.{begin_fails, commit_fails, work_fails}
+use Rattle.cs_session.proofs.CauseLemmas.{caused_on, rows_caused_on}
+use Rattle.cs_value.specs.State.{State}
+use Rattle.cs_run.specs.declared.running.Direction.TheVariants.{Inverse}
+use Rattle.cs_run.specs.Running.{directed}
+use Rattle.cs_run.specs.Writes.{IsRunWrite}
+use Rattle.cs_session.specs.Changes.{IsCaused}
+use Rattle.cs_session.specs.FirstImages.{recorded_changes}
 use Rattle.cs_session.proofs.session.Session.undo.Goals as goal
 
 pub undo_rows-requires-clause-state : goal.undo_rows-requires-clause-state
@@ -81,3 +91,42 @@ pub returns-in_err-commit-clause-stands : goal.returns-in_err-commit-clause-stan
 returns-in_err-commit-clause-stands g c =
     let kept : HasCleanDisk (state g.S.Store c.store-2-1.given.0) → OnErr c.from_residual-in_err-commit.result (KeepsContent (state g.S.Store c.args.store.now) (state g.S.Store c.store-2-1.given.0)) = search rules in
     refused_stands g.S.Store g.met.S.Store.settled g.met.S.Store.stays c.args.store.now c.store-2-1.given.0 c.crash_law.ensures c.from_residual-in_err-commit.result _ _ (returns-in_err-commit-clause-atomic g c) (kept)
+
+pub returns-in_err-batch-clause-caused : goal.returns-in_err-batch-clause-caused
+returns-in_err-batch-clause-caused g c clean =
+    let old = state g.S.Store c.args.store.now in
+    let new = state g.S.Store c.begin.follows.lender-at-none in
+    let fails : HasCleanDisk new → IfErr c.begin.result (stores.IsCaused (BeginFails old new)) = search rules in
+    let failed : stores.IsCaused (BeginFails old new) c.in_err-batch.field-0.0 = rw c.in_err-batch.was at (fails clean) in
+    rows_caused_on c.from_residual.result _ _ c.in_err-batch.field-0.0 c.from_residual.ensures.1 (begin_fails _ old new) failed
+
+pub returns-in_err-report-clause-caused : goal.returns-in_err-report-clause-caused
+returns-in_err-report-clause-caused g c clean =
+    let old = state g.S.Store c.args.store.now in
+    let begun = state g.S.Store c.in_ok-batch.batch.store.now in
+    let mid = state g.S.Store c.undo_rows.new.rows.store.now in
+    let last = state g.S.Store c.drop-batch.new.self.0 in
+    let same : c.drop-batch.new.self.0 ≡ c.store-in_err-report-1.given.0 = search rules in
+    let last_clean : HasCleanDisk last = rw same clean in
+    let keeps = c.undo_rows.ensures.kept.1 in
+    let mid_clean = was_clean mid last c.drop-batch.ensures.survives last_clean in
+    let tables = begun_tables old begun mid c.in_ok-batch.ensures.begun keeps mid_clean in
+    let notes : map attached_of c.as_slice.result.now ≡ c.args.self.now = search rules in
+    let failed = subst (λ (s : State). IsCaused (BatchFails (Writes (IsRunWrite (directed Inverse (recorded_changes (map attached_of c.as_slice.result.now) s)))) begun mid) c.in_err-report.field-0.0) tables
+        (c.in_err-report.ensures.caused mid_clean) in
+    rw (← same) (caused_on c.from_residual-in_err-report.result _ _ c.in_err-report.field-0.0 c.from_residual-in_err-report.ensures.1
+    (work_fails _ old begun mid last c.in_ok-batch.ensures.begun c.in_ok-batch.ensures.survives keeps mid_clean c.drop-batch.ensures.survives) (rw notes at failed))
+
+pub returns-in_err-commit-clause-caused : goal.returns-in_err-commit-clause-caused
+returns-in_err-commit-clause-caused g c clean =
+    let old = state g.S.Store c.args.store.now in
+    let begun = state g.S.Store c.in_ok-batch.batch.store.now in
+    let mid = state g.S.Store c.undo_rows.new.rows.store.now in
+    let last = state g.S.Store c.commit.new.self.0 in
+    let same : c.commit.new.self.0 ≡ c.store-2-1.given.0 = search rules in
+    let last_clean : HasCleanDisk last = rw same clean in
+    let kept = c.in_ok-report.ensures.kept in
+    let survives = c.commit.ensures.atomic.survives in
+    let mid_clean = was_clean mid last survives last_clean in
+    rw (← same) (rows_caused_on c.from_residual-in_err-commit.result _ _ c.in_err-commit.field-0.0 c.from_residual-in_err-commit.ensures.1
+    (commit_fails _ old begun mid last c.in_ok-batch.ensures.begun c.in_ok-batch.ensures.survives kept.1 mid_clean survives.counts (kept.2 refl mid_clean)) (c.in_err-commit.ensures.caused last_clean))
