@@ -1,6 +1,6 @@
 -- For which causes a call on a store fails.
 use Rattle.std.proofs.Common.{◌≡◌, inl, inr, ℕ, [], false, Result, Ok, Err, IfErr, OnOk, sym, subst, MatchResult, IsErrAnd, IsTrue, refl, List, None, true, Bool}
-use Rattle.cs_access.specs.Failing.{WriteFails, BatchFails, Declares, IsCauseOf, ReadFails, IsApt, PutFails, RemoveFails, Writes}
+use Rattle.cs_access.specs.Failing.{WriteFails, BatchFails, IsDeclarationOf, IsCauseOf, ReadFails, IsApt, PutFails, RemoveFails, Writes}
 use Rattle.cs_records.specs.Failing.{Statement, CannotWrite, FailsAt, IsFailure, CannotRead, puts, EndsAs, LeadsTo, itself, by_each, removes}
 use Rattle.cs_records.proofs.WriteFailures.{write_fails}
 use Rattle.sqlite.specs.Effect.{Database as Shown}
@@ -94,7 +94,7 @@ remove_fails old new name key why (inr (apt, (e, other, inr refused, is))) = inr
 
 -- a declaration
 pub declare_fails : (old new : State) (name : List ℕ) (schema : tables.SchemaData) (why : Cause) → WriteFails old new (puts false [] name (declaration_bytes schema)) why
-    → BatchFails (Declares name schema) old new why
+    → BatchFails (IsDeclarationOf name schema) old new why
 declare_fails old new name schema why (apt, (e, other, inl failed, is)) = inr (e, other, inl (inl failed), is)
 declare_fails old new name schema why (apt, (e, other, inr refused, is)) = inr (e, other, inr (record {
   at = old.now;

@@ -17,7 +17,8 @@ use Rattle.cs_rows.specs.Rows as rows
 use Rattle.cs_value.specs.State as tables
 use Rattle.cs_stored.specs.Declaration.{declaration_bytes}
 use Rattle.cs_stored.specs.Stored.{version}
-use Rattle.cs_records.specs.Failing.{Statement, puts, removes, FailsAt, CannotMake, CannotRead, CannotWrite, HasDiskFailed, IsMisplaced, LeadsTo, Refuses}
+use Rattle.cs_records.specs.Failing.{Statement, puts, removes, FailsAt, CannotMake, CannotRead, CannotWrite}
+use Rattle.cs_records.specs.Failing.{HasDiskFailed, IsMisplaced, LeadsTo, Refuses}
 use Rattle.cs_access.specs.Refusals.{cause_of}
 use Rattle.cs_access.specs.Store.{tables_in}
 
@@ -66,16 +67,17 @@ IsStatementOf (rows.puts name key row) (removes tab k) = ⊥
 IsStatementOf (rows.removes name key) (puts is_new tab k value) = ⊥
 IsStatementOf (rows.removes name key) (removes tab k) = (tab ≡ name) × (k ≡ key)
 
--- It writes the record of a write of which this holds, with the tables as they are then.
+-- The statement writes the record of a write to rows of which `Is` holds, with the tables as they are then.
 abbrev pub Writes : (tables.State → Write → Type 0) → tables.State → Statement → Type 0
 Writes Is held statement = (write : Write) × IsStatementOf write statement × Is held write
 
--- It declares a table.
-abbrev pub Declares : List ℕ → tables.SchemaData → tables.State → Statement → Type 0
-Declares name schema held statement = statement ≡ puts false [] name (declaration_bytes schema)
+-- The statement declares this table, whatever tables there are.
+abbrev pub IsDeclarationOf : List ℕ → tables.SchemaData → tables.State → Statement → Type 0
+IsDeclarationOf name schema held statement = statement ≡ puts false [] name (declaration_bytes schema)
 
--- Statements that write records lead from one database to another. That refuses a statement of which this holds.
-pub record IsRefused (Is : tables.State → Statement → Type 0) (limit : Option ℕ) (from : Database) (error : Error) : Type 0 where
+-- The database `at`, to which statements that write records lead, refuses a statement of which `Is` holds.
+pub record IsRefused (Is : tables.State → Statement → Type 0) (limit : Option ℕ) (from : Database) (error : Error) :
+    Type 0 where
   pub at : Database
   pub leads : LeadsTo limit from at
   pub statement : Statement
@@ -83,15 +85,16 @@ pub record IsRefused (Is : tables.State → Statement → Type 0) (limit : Optio
   pub apt : IsApt at statement
   pub refused : Refuses limit at statement error
 
--- Of a call, a read fails, or a statement of which this holds is refused.
+-- The disk failed between the ends of a call, or the connection limits the steps of a query, or a statement of which
+-- `Is` holds is refused.
 abbrev pub CallFails : (tables.State → Statement → Type 0) → State → State → Error → Type 0
 CallFails Is old new error = CannotRead old new error ⊎ IsRefused Is old.step_limit old.now error
 
--- A call inside a transaction fails for this cause: it is outside of one, or so it is.
+-- A call inside a transaction fails for this cause: no transaction is open, or `CallFails` holds of the error.
 abbrev pub BatchFails : (tables.State → Statement → Type 0) → State → State → Cause → Type 0
 BatchFails Is old new cause = IsOutside old cause ⊎ IsCauseOf (CallFails Is old new) cause
 
--- A call that begins and ends its own transaction fails for this cause: one is open, or so it is.
+-- A call that begins and ends its own transaction fails for this cause: one is open, or `CallFails` holds of the error.
 abbrev pub StoreFails : (tables.State → Statement → Type 0) → State → State → Cause → Type 0
 StoreFails Is old new = IsCauseOf (λ error. IsMisplaced (IsTrue old.in_transaction) error ⊎ CallFails Is old new error)
 

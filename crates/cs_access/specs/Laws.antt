@@ -79,7 +79,7 @@ leaves_then {a} {b} keeps leaves clean trees may =
 
 -- ---- accepted calls
 
--- one way after another
+-- the statements of one call, and then those of another
 leads_to_then : {limit : Option ℕ} {a b c : Database} → LeadsTo limit a b → LeadsTo limit b c → LeadsTo limit a c
 leads_to_then one itself = one
 leads_to_then one (by_each mid new statement tally two ends) = by_each mid new statement tally (leads_to_then one two) ends
@@ -95,7 +95,7 @@ leads_on_then {a} {b} {c} keeps one two = record {
 
 -- ---- failures
 
--- a hindrance after a call is one from before it, and stays one
+-- if the disk failed after a call, it failed between the ends of both
 hindered_then : (a b c : State) (cause : disk.StoreError) → KeepsCrash a b → HasCleanDisk b → b.faults ≤ c.faults → IsHindered b c cause → IsHindered a c cause
 hindered_then a b c cause.Io one clean counts more = omega (arith, one.counts, more)
 hindered_then a b c cause.Corrupt one clean counts more = omega (arith, one.counts, more)
@@ -136,7 +136,7 @@ module _ (Is : tables.State → Statement → Type 0) (a b c : State) (one : Kee
   call_then e (inl cannot) = inl (cannot_then a b c e one clean two cannot)
   call_then e (inr refused) = inr (refused_then e refused)
 
--- after an accepted call of a batch, a failure is one from before it
+-- a failure after an accepted call of a batch is one between the ends of both
 pub batch_then : (Is : tables.State → Statement → Type 0) (a b c : State) (why : Cause) → KeepsCrash a b → HasCleanDisk b → KeepsCrash b c → LeadsOn a b → BatchFails Is b c why → BatchFails Is a c why
 batch_then Is a b c why one clean two leads (inl (outside, other)) = elim (cases_Bool a.in_transaction) [
   | inl inside ↦ absurd (true≢false (sym (leads.inside inside) ∙ outside))
@@ -144,12 +144,12 @@ batch_then Is a b c why one clean two leads (inl (outside, other)) = elim (cases
 ]
 batch_then Is a b c why one clean two leads (inr (e, other, fails, is)) = inr (e, other, call_then Is a b c one clean two leads.leads e fails, is)
 
--- and so of a batch's rows
+-- the same, with what calls of a batch's rows keep
 pub batch_fails_then : (Is : tables.State → Statement → Type 0) (a b c : State) (why : Cause) → KeepsStore a b → KeepsCrash b c → (HasCleanDisk b → LeadsOn a b) → HasCleanDisk c → BatchFails Is b c why
     → BatchFails Is a c why
 batch_fails_then Is a b c why one two leads clean failed = let was = was_clean b c two clean in batch_then Is a b c why one.crash was two (leads was) failed
 
--- and so for a weaker predicate
+-- a weaker predicate holds, too
 batch_so : (Is Are : tables.State → Statement → Type 0) (a b : State) (why : Cause) → ((held : tables.State) (statement : Statement) → Is held statement → Are held statement)
     → BatchFails Is a b why → BatchFails Are a b why
 batch_so Is Are a b why so (inl outside) = inl outside

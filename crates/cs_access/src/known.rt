@@ -8,7 +8,7 @@ ghost use Rattle.cs_value.specs.State.{schema_at, row_at, rows_at, with_row, wit
 ghost use Rattle.cs_rows.specs.declared.fault.StoreError.TheVariants.{TableExists as TakenName};
 ghost use Rattle.cs_rows.specs.Faults.{IsCaused, IsResource, IsReadRefusal};
 ghost use Rattle.cs_rows.specs.Rows.{IsDeclared, Fits};
-ghost use Rattle.cs_access.specs.Failing.{BatchFails, Declares, PutFails, ReadFails, RemoveFails};
+ghost use Rattle.cs_access.specs.Failing.{BatchFails, IsDeclarationOf, PutFails, ReadFails, RemoveFails};
 ghost use Rattle.cs_access.specs.Store.{AddsTable, IsFreeKey, IsSound, KeepsStore, Knows, LeadsOn, RefusesShut};
 ghost use Rattle.cs_access.specs.Store.{tables_in, without_free_key};
 ghost use Rattle.sqlite.specs.State.{HasCleanDisk};
@@ -247,7 +247,7 @@ pub fn add_table<S: Alter>(
     ensures refused { HasCleanDisk (state S.Store conn.new) → IfErr result (λ e. ((e ≡ TakenName)
         × IsDeclared (tables_in (state S.Store conn.old).now) name.now) ⊎ IsResource e) }
     ensures caused { HasCleanDisk (state S.Store conn.new) → IfErr result (IsCaused
-        (BatchFails (Declares name.now schema.now) (state S.Store conn.old) (state S.Store conn.new))) }
+        (BatchFails (IsDeclarationOf name.now schema.now) (state S.Store conn.old) (state S.Store conn.new))) }
     ensures named { IfErr result (λ e. (e ≡ TakenName) ⊎ IsReadRefusal e) }
     ensures knows { Knows (state S.Store conn.new) known.new }
     ensures leads { HasCleanDisk (state S.Store conn.new)
@@ -278,7 +278,7 @@ fn put_table<S: Alter>(
         (tables_in (state S.Store conn.new).now)) }
     ensures refused { IfErr result IsResource }
     ensures caused { HasCleanDisk (state S.Store conn.new) → IfErr result (IsCaused
-        (BatchFails (Declares name.now schema.now) (state S.Store conn.old) (state S.Store conn.new))) }
+        (BatchFails (IsDeclarationOf name.now schema.now) (state S.Store conn.old) (state S.Store conn.new))) }
     ensures knows { Knows (state S.Store conn.new) known.new }
     ensures leads { HasCleanDisk (state S.Store conn.new)
         → OnOk result (LeadsOn (state S.Store conn.old) (state S.Store conn.new)) }

@@ -32,7 +32,7 @@ use std::alloc::Global;
 ///
 /// # Errors
 ///
-/// Those of [`run_in`](crate::run_in). An error changes nothing.
+/// Those of [`run_in`](crate::run_in), and `StoreFault` if a transaction is open. An error changes nothing.
 pub fn apply<S: Alter, H: Fn(&Conflict) -> Choice>(
     alloc: Global,
     store: &mut Store<S>,
@@ -82,7 +82,7 @@ pub fn apply<S: Alter, H: Fn(&Conflict) -> Choice>(
 ///
 /// # Errors
 ///
-/// Those of [`run_in`](crate::run_in). An error changes nothing.
+/// Those of [`run_in`](crate::run_in), and `StoreFault` if a transaction is open. An error changes nothing.
 pub fn apply_counted<S: Alter, H: Fn(&Conflict) -> Choice>(
     alloc: Global,
     store: &mut Store<S>,
@@ -136,7 +136,7 @@ pub fn apply_counted<S: Alter, H: Fn(&Conflict) -> Choice>(
 ///
 /// # Errors
 ///
-/// Those of [`run_in`](crate::run_in). An error changes nothing.
+/// Those of [`run_in`](crate::run_in), and `StoreFault` if a transaction is open. An error changes nothing.
 pub fn revert<S: Alter>(
     alloc: Global,
     store: &mut Store<S>,

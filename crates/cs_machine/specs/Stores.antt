@@ -25,7 +25,7 @@ pub record TellsFailures (old new : sqlite.State) : Type 0 where
   pub closes : HasCleanDisk new → IsTrue old.is_open → IsTrue new.is_open ⊎ MoreFaults old.faults new.faults
 
 -- All but the records of a database is kept: nothing was done, or one call after another was. Each of them found a
--- database, and keeps it.
+-- database, and keeps all of it but the records.
 pub data SparesOthers (old : Database) : Database → Type 0 where
   by_nothing : SparesOthers old old
   by_each : (mid new : Database) → SparesOthers old mid → IsDatabase mid → KeepsOthers mid new → SparesOthers old new

@@ -30,6 +30,7 @@ pub data Statement : Type 0 where
   puts : (is_new : Bool) (tab key value : List ℕ) → Statement
   removes : (tab key : List ℕ) → Statement
 
+-- its text, and its parameters
 abbrev pub text_in : Statement → List ℕ
 text_in (puts is_new tab key value) = put_text is_new
 text_in (removes tab key) = remove_text
@@ -42,24 +43,25 @@ params_in (removes tab key) = Text tab ∷ Blob key ∷ []
 abbrev pub FailsAt : State → State → Statement → Error → Type 0
 FailsAt old new statement error = Executes (text_in statement) (params_in statement) old new (Err error)
 
--- Run on the database, with this limit on its steps, the statement ends so: with the database that it makes, with an
--- error, or at a row that is too big to be stored, which is told as no error here.
+-- Run on the database, with this limit on its steps, the statement may end so: with the database that it makes, with an
+-- error, or without one at a row that is too big to be stored.
 abbrev pub Ends : Option ℕ → Database → Statement → Result (Tally × Database) (Option Error) → Type 0
 Ends limit db statement end =
     (it : Compiled) × (understood db.schema (text_in statement) ≡ Ok it) × (now : ℕ)
-    × Does limit (record { keys = Enforced; in_doubt = false; may_wait = false }) (timed (params_in statement) it.formats now) db
-    (text_of (text_in statement) it) it.returning it.command end
+    × Does limit (record { keys = Enforced; in_doubt = false; may_wait = false })
+    (timed (params_in statement) it.formats now) db (text_of (text_in statement) it) it.returning it.command end
 
--- So it ended, and this is what it made.
+-- The statement, run on what the first connection shows, makes what the second one shows.
 abbrev pub EndsAs : State → Statement → State → Type 0
 EndsAs old statement new = (tally : Tally) × Ends old.step_limit old.now statement (Ok (tally, new.now))
 
--- The database refuses the statement with this error, whatever the disk does.
+-- The database may refuse the statement with this error, without a failure of the disk.
 abbrev pub Refuses : Option ℕ → Database → Statement → Error → Type 0
 Refuses limit db statement error =
     Ends limit db statement (Err (Some error)) ⊎ ((error ≡ SqliteFailure TooBig) × Ends limit db statement (Err None))
 
--- Statements that write records make one database of the other, one after another.
+-- Any number of statements that write records make the second database of the first, one after another. They may be any
+-- such statements.
 pub data LeadsTo (limit : Option ℕ) (old : Database) : Database → Type 0 where
   itself : LeadsTo limit old old
   by_each : (mid new : Database) (statement : Statement) (tally : Tally) → LeadsTo limit old mid
@@ -78,7 +80,7 @@ IsHindered old new store.Unstorable = ⊥
 abbrev pub HasDiskFailed : State → State → Error → Type 0
 HasDiskFailed old new error = (cause : StoreError) × (error ≡ store_error cause) × IsHindered old new cause
 
--- A write fails only so, or where the database refuses it.
+-- A write fails only because the disk failed, or because the database refuses it.
 abbrev pub CannotWrite : State → State → Statement → Error → Type 0
 CannotWrite old new statement error = HasDiskFailed old new error ⊎ Refuses old.step_limit old.now statement error
 

@@ -103,7 +103,8 @@ pub fn put_record<S: Alter>(
         → OnOk result (Sets (state S.Store conn.old).now (state S.Store conn.new).now
         tab.now key.now (Some value.now)) }
     ensures ends { HasCleanDisk (state S.Store conn.new) → HoldsRecords (state S.Store conn.old).now
-        → OnOk result (EndsAs (state S.Store conn.old) (puts is_new tab.now key.now value.now) (state S.Store conn.new)) }
+        → OnOk result (EndsAs (state S.Store conn.old) (puts is_new tab.now key.now value.now)
+        (state S.Store conn.new)) }
     ensures goes_on { HasCleanDisk (state S.Store conn.new) → HoldsRecords (state S.Store conn.old).now
         → IsTrue (state S.Store conn.old).in_transaction
         → OnOk result (GoesOn (state S.Store conn.old) (state S.Store conn.new)) }

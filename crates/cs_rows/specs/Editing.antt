@@ -142,7 +142,7 @@ EditsInto state edit next = (written : List WrittenData) × (edited state edit �
 
 -- ---- the writes of an edit
 
--- the row is put into this table, which held nothing else than before
+-- the row is put into this table, under a key that it has, with all tables as before the edit
 abbrev pub IsPutOf : State → List ℕ → List OwnedValue → State → Write → Type 0
 IsPutOf old table row held (puts name key it) = (held ≡ old) × (name ≡ table) × (it ≡ row) × Fits held name key it
 IsPutOf old table row held (removes name key) = ⊥
@@ -161,7 +161,7 @@ IsClearingOf old table from row held (removes name key) =
 abbrev pub IsUpdateOf : State → List ℕ → List ℕ → List OwnedValue → State → Write → Type 0
 IsUpdateOf old table from row held write = IsPutOf old table row held write ⊎ IsClearingOf old table from row held write
 
--- an edit of these tables makes the write when they are as `held`
+-- the edit would make this write, of tables that are as `held` then
 abbrev pub IsWriteOf : State → Edit → State → Write → Type 0
 IsWriteOf old (Insert table row) = IsPutOf old (string_bytes table) row
 IsWriteOf old (Update table key row) = IsUpdateOf old (string_bytes table) key row

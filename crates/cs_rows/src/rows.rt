@@ -26,7 +26,7 @@ pub trait Rows {
     ghost is_honest: { Self → Type 0 };
 
     // What a call keeps, whether it is accepted or refused: what the rows are borrowed from, and what lasts of it. Only
-    // after accepted calls is more said.
+    // after accepted calls is it said that more of them can follow.
     ghost keeps: { Bool → Self → Self → Type 0 };
 
     ghost keeps_itself: { (b : Self) → keeps true b b };

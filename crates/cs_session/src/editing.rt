@@ -41,7 +41,8 @@ pub(crate) fn edit_noted<S: Alter>(
         → IfErr result (RefusesEdit (tables_in (state S.Store store.old).now) edit.now (map attached_of tables.old)) }
     ensures shut { HasCleanDisk (state S.Store store.new) → RefusesShut (state S.Store store.old) IsResource result }
     ensures caused { HasCleanDisk (state S.Store store.new) → IfErr result (IsCaused
-        (StoreFails (Writes (IsWriteOf (tables_in (state S.Store store.old).now) edit.now)) (state S.Store store.old) (state S.Store store.new))) }
+        (StoreFails (Writes (IsWriteOf (tables_in (state S.Store store.old).now) edit.now))
+        (state S.Store store.old) (state S.Store store.new))) }
     ensures named { IfErr result IsEditRefusal }
     ensures at_rest { HasCleanDisk (state S.Store store.new) → OnOk result (IsAtRest (state S.Store store.new)) }
     ensures others { HasCleanDisk (state S.Store store.new)
@@ -85,7 +86,8 @@ fn edit_batch<S: Alter>(
         → IfErr result (RefusesEdit (tables_in (state S.Store store.old).now) edit.now (map attached_of tables.old)) }
     ensures shut { HasCleanDisk (state S.Store store.new) → RefusesShut (state S.Store store.old) IsResource result }
     ensures caused { HasCleanDisk (state S.Store store.new) → IfErr result (IsCaused
-        (StoreFails (Writes (IsWriteOf (tables_in (state S.Store store.old).now) edit.now)) (state S.Store store.old) (state S.Store store.new))) }
+        (StoreFails (Writes (IsWriteOf (tables_in (state S.Store store.old).now) edit.now))
+        (state S.Store store.old) (state S.Store store.new))) }
     ensures named { IfErr result IsEditRefusal }
     ensures at_rest { HasCleanDisk (state S.Store store.new) → OnOk result (IsAtRest (state S.Store store.new)) }
     ensures others { HasCleanDisk (state S.Store store.new)

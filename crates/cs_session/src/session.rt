@@ -85,7 +85,7 @@ impl Session {
     /// Attaches a table of a store, of which nothing is noted yet.
     ///
     /// Refuses with [`AlreadyAttached`](SessionFault::AlreadyAttached), and then with
-    /// [`NoTable`](StoreError::NoTable). A refusal changes nothing.
+    /// [`NoTable`](StoreError::NoTable), and with `StoreFault` if the database refuses. A refusal changes nothing.
     pub fn attach<S: Alter>(
         &mut self,
         alloc: Global,
@@ -146,7 +146,8 @@ impl Session {
         ensures shut { HasCleanDisk (state S.Store store.new)
             → RefusesShut (state S.Store store.old) IsResource result }
         ensures caused { HasCleanDisk (state S.Store store.new) → IfErr result (IsCaused
-            (StoreFails (Writes (IsWriteOf (tables_in (state S.Store store.old).now) edit.now)) (state S.Store store.old) (state S.Store store.new))) }
+            (StoreFails (Writes (IsWriteOf (tables_in (state S.Store store.old).now) edit.now))
+            (state S.Store store.old) (state S.Store store.new))) }
         ensures named { IfErr result IsEditRefusal }
         ensures same { OnErr result (self.new ≡ self.old) }
         ensures at_rest { HasCleanDisk (state S.Store store.new) → OnOk result (IsAtRest (state S.Store store.new)) }
@@ -194,7 +195,8 @@ impl Session {
         ensures shut { HasCleanDisk (state S.Store store.new)
             → RefusesShut (state S.Store store.old) IsResource result }
         ensures caused { HasCleanDisk (state S.Store store.new) → IfErr result (IsCaused
-            (StoreFails (Writes (IsFileWrite ForwardRun file.now)) (state S.Store store.old) (state S.Store store.new))) }
+            (StoreFails (Writes (IsFileWrite ForwardRun file.now)) (state S.Store store.old)
+            (state S.Store store.new))) }
         ensures named { IfErr result IsApplyRefusal }
         ensures same { OnErr result (self.new ≡ self.old) }
         ensures at_rest { HasCleanDisk (state S.Store store.new) → OnOk result (IsAtRest (state S.Store store.new)) }
@@ -218,7 +220,7 @@ impl Session {
     /// attached, the keys of a table in that of their first write.
     ///
     /// Refuses with [`WrongStore`](SessionFault::WrongStore) where the store has not one of the tables as
-    /// it was attached. Nothing changes.
+    /// it was attached, and with `StoreFault` if a transaction is open or the database refuses. Nothing changes.
     pub fn changeset<S: Alter>(
         &self,
         alloc: Global,
@@ -250,7 +252,8 @@ impl Session {
     /// transaction. What is noted stays.
     ///
     /// Refuses with [`WrongStore`](SessionFault::WrongStore) where the store has not one of the tables as
-    /// it was attached. A refusal changes nothing. A crash leaves the tables as before, or as undone; once
+    /// it was attached, and with `StoreFault` if a transaction is open or the database refuses. A refusal
+    /// changes nothing. A crash leaves the tables as before, or as undone; once
     /// this is done, these alone, and once it is refused and the store is open still, those alone.
     pub fn undo<S: Alter>(
         &self,

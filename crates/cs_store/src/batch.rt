@@ -5,7 +5,7 @@ ghost use Rattle.sqlite.specs.Held.{state};
 ghost use Rattle.cs_value.specs.Table.{IsName};
 ghost use Rattle.cs_rows.specs.declared.fault.StoreError.TheVariants.{TableExists as TakenName};
 ghost use Rattle.cs_rows.specs.Faults.{IsCaused, IsResource, IsReadRefusal};
-ghost use Rattle.cs_access.specs.Failing.{BatchFails, CommitFails, Declares};
+ghost use Rattle.cs_access.specs.Failing.{BatchFails, CommitFails, IsDeclarationOf};
 ghost use Rattle.cs_rows.specs.Rows.{IsDeclared};
 ghost use Rattle.cs_records.specs.Records.{IsUndone, KeepsCrash, KeepsOthers};
 ghost use Rattle.cs_access.specs.Crash.{IsAtomic, LeavesOnly};
@@ -39,7 +39,7 @@ impl<S: Alter> SqlBatch<'_, S> {
         ensures refused { HasCleanDisk (state S.Store self.new.store.now) → IfErr result (λ e. ((e ≡ TakenName)
             × IsDeclared (tables_in (state S.Store self.old.store.now).now) name.now) ⊎ IsResource e) }
         ensures caused { HasCleanDisk (state S.Store self.new.store.now)
-            → IfErr result (IsCaused (BatchFails (Declares name.now schema.now) (state S.Store self.old.store.now)
+            → IfErr result (IsCaused (BatchFails (IsDeclarationOf name.now schema.now) (state S.Store self.old.store.now)
             (state S.Store self.new.store.now))) }
         ensures named { IfErr result (λ e. (e ≡ TakenName) ⊎ IsReadRefusal e) }
         ensures same_reference { self.new.store.ghost_name ≡ self.old.store.ghost_name }

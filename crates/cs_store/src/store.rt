@@ -7,7 +7,8 @@ ghost use Rattle.cs_value.specs.State.{schema_at, row_at, rows_at};
 ghost use Rattle.cs_rows.specs.declared.fault.StoreError.TheVariants.{DamagedStore as Damaged, NoTable as NoSuchTable};
 ghost use Rattle.cs_rows.specs.declared.fault.StoreError.TheVariants.{BadSchema as NoSchema, TableExists as TakenName};
 ghost use Rattle.cs_rows.specs.Faults.{IsCaused, IsResource, IsReadRefusal, IsEditRefusal};
-ghost use Rattle.cs_access.specs.Failing.{AdoptFails, BeginFails, Declares as DeclaresTable, ReadFails, StoreFails, Writes};
+ghost use Rattle.cs_access.specs.Failing.{AdoptFails, BeginFails, IsDeclarationOf, ReadFails};
+ghost use Rattle.cs_access.specs.Failing.{StoreFails, Writes};
 ghost use Rattle.cs_rows.specs.Editing.{Declares, EditsInto, IsWriteOf, schema_of, edited, written_of};
 ghost use Rattle.cs_access.specs.Crash.{CanBegin, IsAtomic, IsLeftOf, LeavesOnly, LeavesTakenOver, MayLeave};
 ghost use Rattle.cs_records.specs.Records.{KeepsContent, KeepsCrash, KeepsOthers};
@@ -222,7 +223,8 @@ impl<S: Alter> Store<S> {
     /// # Errors
     ///
     /// A refusal changes nothing. `BadSchema` if the name or the columns make no table, and then `TableExists`.
-    /// `DamagedStore`, `StoreFault` and `NoMemory` as of [`tables`](Store::tables).
+    /// `DamagedStore` and `NoMemory` as of [`tables`](Store::tables). `StoreFault` if a transaction is open or the database
+    /// refuses.
     pub fn declare(
         &mut self,
         alloc: Global,
@@ -241,7 +243,8 @@ impl<S: Alter> Store<S> {
             (λ e. (held : tables.State) → Declares held name.now (schema_of columns.now keys.now refuses.now) (Err e)
             ⊎ IsResource e) result }
         ensures caused { HasCleanDisk (state S.Store self.new) → IfErr result (IsCaused (StoreFails
-            (DeclaresTable name.now (schema_of columns.now keys.now refuses.now)) (state S.Store self.old) (state S.Store self.new))) }
+            (IsDeclarationOf name.now (schema_of columns.now keys.now refuses.now)) (state S.Store self.old)
+            (state S.Store self.new))) }
         ensures named { IfErr result (λ e. (e ≡ NoSchema) ⊎ (e ≡ TakenName) ⊎ IsReadRefusal e) }
         ensures at_rest { HasCleanDisk (state S.Store self.new) → OnOk result (IsAtRest (state S.Store self.new)) }
         ensures others { HasCleanDisk (state S.Store self.new)
@@ -375,7 +378,7 @@ impl<S: Alter> Store<S> {
     ///
     /// # Errors
     ///
-    /// Those of [`edit_in`]. A refusal changes nothing.
+    /// Those of [`edit_in`], and `StoreFault` if a transaction is open. A refusal changes nothing.
     pub fn edit(&mut self, alloc: Global, edit: &Edit) -> Result<Vec<Written>, StoreError>
         ensures edited { HasCleanDisk (state S.Store self.new)
             → IfOk result (λ w. edited (tables_in (state S.Store self.old).now) edit.now
@@ -385,7 +388,8 @@ impl<S: Alter> Store<S> {
         ensures shut { HasCleanDisk (state S.Store self.new)
             → RefusesShut (state S.Store self.old) IsResource result }
         ensures caused { HasCleanDisk (state S.Store self.new) → IfErr result (IsCaused (StoreFails
-            (Writes (IsWriteOf (tables_in (state S.Store self.old).now) edit.now)) (state S.Store self.old) (state S.Store self.new))) }
+            (Writes (IsWriteOf (tables_in (state S.Store self.old).now) edit.now)) (state S.Store self.old)
+            (state S.Store self.new))) }
         ensures named { IfErr result IsEditRefusal }
         ensures at_rest { HasCleanDisk (state S.Store self.new) → OnOk result (IsAtRest (state S.Store self.new)) }
         ensures others { HasCleanDisk (state S.Store self.new)

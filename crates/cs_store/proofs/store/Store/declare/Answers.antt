@@ -16,7 +16,7 @@ use Rattle.cs_access.specs.Crash.{CanBegin}
 use Rattle.cs_access.proofs.StoreLemmas.{undone_batch}
 use Rattle.cs_records.proofs.QueryLemmas.{on_err}
 use Rattle.cs_rows.specs.Faults.{IsCaused}
-use Rattle.cs_access.specs.Failing.{BatchFails, BeginFails, Declares as DeclaresTable}
+use Rattle.cs_access.specs.Failing.{BatchFails, BeginFails, IsDeclarationOf}
 use Rattle.cs_access.proofs.FailureLemmas.{caused_so, so_caused}
 use Rattle.cs_store.proofs.FailureLemmas.{begin_fails, commit_fails, work_fails}
 use Rattle.cs_store.proofs.store.Store.declare.Goals as goal
@@ -167,7 +167,7 @@ returns-in_err-declare-clause-caused g c clean =
     let same : c.drop-batch.new.self.0 ≡ c.self-in_err-declare-1.given.0 = search rules in
     let last_clean : HasCleanDisk last = rw same clean in
     let mid_clean = was_clean mid last c.drop-batch.ensures.survives last_clean in
-    let failed = subst (λ (s : SchemaData). IsCaused (BatchFails (DeclaresTable c.args.name.now s) begun mid) c.in_err-declare.field-0.0) c.in_ok-schema.ensures.made (c.in_err-declare.ensures.caused mid_clean) in
+    let failed = subst (λ (s : SchemaData). IsCaused (BatchFails (IsDeclarationOf c.args.name.now s) begun mid) c.in_err-declare.field-0.0) c.in_ok-schema.ensures.made (c.in_err-declare.ensures.caused mid_clean) in
     let p = err_from_is_err_and c.from_residual-in_err-declare.result c.from_residual-in_err-declare.ensures.1 in
     rw (p.1, p.2, ← same) (so_caused _ _ c.in_err-declare.field-0.0 (work_fails _ old begun mid last c.in_ok-batch.ensures.begun c.in_ok-batch.ensures.survives c.declare.ensures.kept mid_clean c.drop-batch.ensures.survives) failed)
 
