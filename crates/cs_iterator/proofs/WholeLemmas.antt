@@ -1,99 +1,20 @@
 -- Of bytes that are changes to their end, one more can be read wherever they do not end.
-use Rattle.std.proofs.Common.{◌≡◌, ℕ, ◌<◌, cond, Bool, true, false, List, [], ◌∷◌, ◌++◌, length, length-append, drop, refl, sym, ap, subst, ◌∙◌, append_assoc, append-nil, arith, inl, inr}
-use Rattle.std.specs.Prelude.{◌⊎◌}
+use Rattle.std.proofs.Common.{◌≡◌, ℕ, ◌<◌, List, [], ◌∷◌, ◌++◌, length, length-append, drop, refl, sym, ap, subst, ◌∙◌, append_assoc, append-nil, arith, inl, inr}
 use Rattle.std.specs.List.{AllByRecursion}
 use Rattle.std.proofs.lemmas.List.{drop_all, drop_at, length-drop}
 use Rattle.std.proofs.lemmas.List.Concat.{flat_map-append}
 use Rattle.std.proofs.lemmas.List.Elements.{All-from_recursion, All-push, recursion_from_All}
-use Rattle.cs_value.specs.Spelling.{record_bytes}
-use Rattle.cs_value.specs.Table.{IsFlags}
-use Rattle.cs_value.proofs.ListLemmas.{AllByRecursion-append_right, same_from_append}
-use Rattle.cs_value.proofs.Spellings.{varint_spellings, record_spellings}
+use Rattle.cs_value.proofs.ListLemmas.{AllByRecursion-append_right}
 use Rattle.cs_entries.specs.declared.entry.Entry.{Entry}
-use Rattle.cs_entries.specs.Entry.{IsEntry, operation, fields_of, entry_bytes}
-use Rattle.cs_entries.specs.Changeset.{HeaderData, GroupData, IsHeader, flags_bytes, header_bytes, entries_bytes, group_bytes, file_bytes}
+use Rattle.cs_entries.specs.Entry.{IsEntry, entry_bytes}
+use Rattle.cs_entries.specs.Changeset.{HeaderData, GroupData, IsHeader, header_bytes, entries_bytes, group_bytes, file_bytes}
 use Rattle.cs_entries.specs.ReadFaults.{Stands}
-use Rattle.cs_entries.proofs.ReadingLemmas.{flags_bytes-append, header_bytes-append, same_header}
-use Rattle.cs_entries.proofs.EntryLemmas.{entry_bytes-append, entry_bytes_some, same_entry}
-use Rattle.cs_wire.proofs.EntriesLemmas.{operation_no_header}
+use Rattle.cs_entries.proofs.EntryLemmas.{entry_bytes_some}
 use Rattle.cs_wire.proofs.GroupsLemmas.{group_bytes-append, same_group}
-use Rattle.cs_laws.proofs.WantsOnce.{same_width, same_change, fields_are}
-use Rattle.cs_laws.proofs.HeaderOnce.{split_zero}
+use Rattle.cs_laws.proofs.Prefixes.{header_spellings, table_no_entry, MoreEntries, compare_entries, entries_cons, groups_cons}
 use Rattle.cs_iterator.specs.Changes.{TableChange}
 use Rattle.cs_iterator.specs.Readable.{AddsChange, AreAll, IsReadable, ReadsAs}
 use Rattle.cs_iterator.proofs.ReadableLemmas.{group_of, change_of, one_entry}
-
--- ---- one entry, one header
-
-same_flag : (a b : Bool) → ◌≡◌ {A = ℕ} (cond a 1 0) (cond b 1 0) → a ≡ b
-same_flag true true e = refl
-same_flag false false e = refl
-same_flag true false e = absurd (omega arith)
-same_flag false true e = absurd (omega arith)
-
-heads : (a b c d : ℕ) (x y : List ℕ) → a ∷ b ∷ x ≡ c ∷ d ∷ y → (a ≡ c) × (b ≡ d) × (x ≡ y)
-heads a b c d x y e = (cc, cc, cc)
-
--- bytes that begin with two entries of a table begin with one
-entry_spellings : (flags : List ℕ) (d e : Entry) (x y : List ℕ) → IsEntry flags d → IsEntry flags e → entry_bytes d ++ x ≡ entry_bytes e ++ y → (d ≡ e) × (x ≡ y)
-entry_spellings flags d e x y h k same =
-    let parts = heads (operation d.change) (cond d.indirect 1 0) (operation e.change) (cond e.indirect 1 0) (record_bytes (fields_of d.change) ++ x) (record_bytes (fields_of e.change) ++ y)
-    (sym (entry_bytes-append d x) ∙ same ∙ entry_bytes-append e y) in
-    let both = record_spellings (fields_of d.change) (fields_of e.change) x y (fields_are flags d.change h) (fields_are flags e.change k) (same_width flags d.change e.change h k parts.0) parts.2 in
-    (same_entry d.indirect d.change e (same_flag d.indirect e.indirect parts.1) (same_change flags d.change e.change h k parts.0 both.0), both.1)
-
-flags_spellings : (f g x y : List ℕ) → IsFlags f → IsFlags g → flags_bytes f ++ x ≡ flags_bytes g ++ y → (f ≡ g) × (x ≡ y)
-flags_spellings f g x y h k same =
-    let count = varint_spellings (length f) (length g) (f ++ x) (g ++ y) (omega (arith, h.few)) (omega (arith, k.few)) (sym (flags_bytes-append f x) ∙ same ∙ flags_bytes-append g y) in
-    same_from_append f g x y count.0 count.1
-
-after_first : (a b : ℕ) (x y : List ℕ) → a ∷ x ≡ b ∷ y → x ≡ y
-after_first a b x y e = cc
-
--- bytes that begin with two headers begin with one
-header_spellings : (g h : HeaderData) (x y : List ℕ) → IsHeader g → IsHeader h → header_bytes g ++ x ≡ header_bytes h ++ y → (g ≡ h) × (x ≡ y)
-header_spellings g h x y is_g is_h same =
-    let after = after_first 0x54 0x54 _ _ (sym (header_bytes-append g x) ∙ same ∙ header_bytes-append h y) in
-    let flags = flags_spellings g.flags h.flags (g.name ++ 0 ∷ x) (h.name ++ 0 ∷ y) is_g.flags is_h.flags after in
-    let name = split_zero g.name h.name x y is_g.name.no_zero is_h.name.no_zero flags.1 in
-    (same_header g.name g.flags h name.0 flags.0, name.1)
-
--- no header begins as an entry does
-table_no_entry : (group : GroupData) (entry : Entry) (x y : List ℕ) → group_bytes group ++ x ≡ entry_bytes entry ++ y → ⊥
-table_no_entry group entry x y e =
-    (operation_no_header entry.change).0 (first (sym (entry_bytes-append entry y) ∙ sym e ∙ group_bytes-append group x ∙ header_bytes-append group.header (entries_bytes group.entries ++ x)))
-  where
-    first : {a b : ℕ} {v w : List ℕ} → a ∷ v ≡ b ∷ w → a ≡ b
-    first e = cc
-
--- ---- entries
-
--- the second list goes on with an entry
-record MoreEntries (c d : List Entry) (x : List ℕ) : Type 0 where
-  entry : Entry
-  more : List Entry
-  rest : List ℕ
-  is : d ≡ c ++ entry ∷ more
-  spelled : x ≡ entry_bytes entry ++ rest
-
-entries_cons : (entry : Entry) (entries : List Entry) (x : List ℕ) → entries_bytes (entry ∷ entries) ++ x ≡ entry_bytes entry ++ (entries_bytes entries ++ x)
-entries_cons entry entries x = append_assoc (entry_bytes entry) (entries_bytes entries) x
-
-more_cons : (d e : Entry) (c f : List Entry) (x : List ℕ) → d ≡ e → MoreEntries c f x → MoreEntries (d ∷ c) (e ∷ f) x
-more_cons d e c f x same m = record { entry = m.entry; more = m.more; rest = m.rest; is = cc (same, m.is); spelled = m.spelled }
-
-compare_entries : (flags : List ℕ) (c d : List Entry) (x y : List ℕ) → AllByRecursion (IsEntry flags) c → AllByRecursion (IsEntry flags) d → entries_bytes c ++ x ≡ entries_bytes d ++ y
-    → ((c ≡ d) × (x ≡ y)) ⊎ (MoreEntries c d x ⊎ MoreEntries d c y)
-compare_entries flags [] [] x y h k e = inl (refl, e)
-compare_entries flags [] (g ∷ d) x y h k e = inr (inl (record { entry = g; more = d; rest = entries_bytes d ++ y; is = refl; spelled = e ∙ entries_cons g d y }))
-compare_entries flags (f ∷ c) [] x y h k e = inr (inr (record { entry = f; more = c; rest = entries_bytes c ++ x; is = refl; spelled = sym e ∙ entries_cons f c x }))
-compare_entries flags (f ∷ c) (g ∷ d) x y h k e =
-    let first = entry_spellings flags f g (entries_bytes c ++ x) (entries_bytes d ++ y) h.0 k.0 (sym (entries_cons f c x) ∙ e ∙ entries_cons g d y) in
-    elim (compare_entries flags c d x y h.1 k.1 first.1) [
-      | inl same ↦ inl (cc (first.0, same.0), same.1)
-      | inr (inl m) ↦ inr (inl (more_cons f g c d x first.0 m))
-      | inr (inr m) ↦ inr (inr (more_cons g f d c y (sym first.0) m))
-    ]
 
 -- ---- groups
 
@@ -105,9 +26,6 @@ record Further (c : List GroupData) (x : List ℕ) : Type 0 where
   adds : AddsChange c change after
   are : AllByRecursion IsReadable after
   spelled : file_bytes c ++ x ≡ file_bytes after ++ rest
-
-groups_cons : (group : GroupData) (groups : List GroupData) (x : List ℕ) → file_bytes (group ∷ groups) ++ x ≡ group_bytes group ++ (file_bytes groups ++ x)
-groups_cons group groups x = append_assoc (group_bytes group) (file_bytes groups) x
 
 -- the first change of a table
 first_of : (header : HeaderData) (entries : List Entry) (x y : List ℕ) → IsHeader header → AllByRecursion (IsEntry header.flags) entries → 0 < length entries → x ≡ header_bytes header ++ (entries_bytes entries ++ y) → Further [] x

@@ -48,7 +48,7 @@ after_first : (a b : ℕ) (x y : List ℕ) → a ∷ x ≡ b ∷ y → x ≡ y
 after_first a b x y e = cc
 
 -- bytes that begin with two headers begin with one
-header_spellings : (g h : HeaderData) (x y : List ℕ) → IsHeader g → IsHeader h → header_bytes g ++ x ≡ header_bytes h ++ y → (g ≡ h) × (x ≡ y)
+pub header_spellings : (g h : HeaderData) (x y : List ℕ) → IsHeader g → IsHeader h → header_bytes g ++ x ≡ header_bytes h ++ y → (g ≡ h) × (x ≡ y)
 header_spellings g h x y is_g is_h same =
     let after = after_first 0x54 0x54 _ _ (sym (header_bytes-append g x) ∙ same ∙ header_bytes-append h y) in
     let flags = flags_spellings g.flags h.flags (g.name ++ 0 ∷ x) (h.name ++ 0 ∷ y) is_g.flags is_h.flags after in
@@ -56,7 +56,7 @@ header_spellings g h x y is_g is_h same =
     (same_header g.name g.flags h name.0 flags.0, name.1)
 
 -- no header begins as an entry does
-table_no_entry : (group : GroupData) (entry : Entry) (x y : List ℕ) → group_bytes group ++ x ≡ entry_bytes entry ++ y → ⊥
+pub table_no_entry : (group : GroupData) (entry : Entry) (x y : List ℕ) → group_bytes group ++ x ≡ entry_bytes entry ++ y → ⊥
 table_no_entry group entry x y e =
     (operation_no_header entry.change).0 (first (sym (entry_bytes-append entry y) ∙ sym e ∙ group_bytes-append group x ∙ header_bytes-append group.header (entries_bytes group.entries ++ x)))
   where
@@ -66,20 +66,20 @@ table_no_entry group entry x y e =
 -- ---- entries
 
 -- the second list goes on with an entry
-record MoreEntries (c d : List Entry) (x : List ℕ) : Type 0 where
-  entry : Entry
-  more : List Entry
-  rest : List ℕ
-  is : d ≡ c ++ entry ∷ more
-  spelled : x ≡ entry_bytes entry ++ rest
+pub record MoreEntries (c d : List Entry) (x : List ℕ) : Type 0 where
+  pub entry : Entry
+  pub more : List Entry
+  pub rest : List ℕ
+  pub is : d ≡ c ++ entry ∷ more
+  pub spelled : x ≡ entry_bytes entry ++ rest
 
-entries_cons : (entry : Entry) (entries : List Entry) (x : List ℕ) → entries_bytes (entry ∷ entries) ++ x ≡ entry_bytes entry ++ (entries_bytes entries ++ x)
+pub entries_cons : (entry : Entry) (entries : List Entry) (x : List ℕ) → entries_bytes (entry ∷ entries) ++ x ≡ entry_bytes entry ++ (entries_bytes entries ++ x)
 entries_cons entry entries x = append_assoc (entry_bytes entry) (entries_bytes entries) x
 
 more_cons : (d e : Entry) (c f : List Entry) (x : List ℕ) → d ≡ e → MoreEntries c f x → MoreEntries (d ∷ c) (e ∷ f) x
 more_cons d e c f x same m = record { entry = m.entry; more = m.more; rest = m.rest; is = cc (same, m.is); spelled = m.spelled }
 
-compare_entries : (flags : List ℕ) (c d : List Entry) (x y : List ℕ) → AllByRecursion (IsEntry flags) c → AllByRecursion (IsEntry flags) d → entries_bytes c ++ x ≡ entries_bytes d ++ y
+pub compare_entries : (flags : List ℕ) (c d : List Entry) (x y : List ℕ) → AllByRecursion (IsEntry flags) c → AllByRecursion (IsEntry flags) d → entries_bytes c ++ x ≡ entries_bytes d ++ y
     → ((c ≡ d) × (x ≡ y)) ⊎ (MoreEntries c d x ⊎ MoreEntries d c y)
 compare_entries flags [] [] x y h k e = inl (refl, e)
 compare_entries flags [] (g ∷ d) x y h k e = inr (inl (record { entry = g; more = d; rest = entries_bytes d ++ y; is = refl; spelled = e ∙ entries_cons g d y }))
@@ -121,7 +121,7 @@ record MoreInLast (c d : List GroupData) (x : List ℕ) : Type 0 where
 abbrev Longer : List GroupData → List GroupData → List ℕ → Type 0
 Longer c d x = MoreGroups c d x ⊎ MoreInLast c d x
 
-groups_cons : (group : GroupData) (groups : List GroupData) (x : List ℕ) → file_bytes (group ∷ groups) ++ x ≡ group_bytes group ++ (file_bytes groups ++ x)
+pub groups_cons : (group : GroupData) (groups : List GroupData) (x : List ℕ) → file_bytes (group ∷ groups) ++ x ≡ group_bytes group ++ (file_bytes groups ++ x)
 groups_cons group groups x = append_assoc (group_bytes group) (file_bytes groups) x
 
 longer_cons : (g h : GroupData) (c d : List GroupData) (x : List ℕ) → g ≡ h → Longer c d x → Longer (g ∷ c) (h ∷ d) x

@@ -25,8 +25,8 @@ use cs_value::Fault;
 /// `place` is 0 before the first call. Each later call takes `place` and `change` as the previous one left them. It
 /// answers `OK`, or `DONE` at the end of the file, or the number of what is wrong with the file, which is that of
 /// [`vollikash_check`](crate::vollikash_check) unless a table or a key is there twice; then both are unchanged. For a
-/// header without a change after it, it is that of `EmptyGroup`, also then. It allocates nothing, and takes time in
-/// proportion to the change.
+/// header without a change after it, it is that of `EmptyGroup`, whatever was read before. It allocates nothing, and
+/// takes time in proportion to the change.
 #[unsafe(no_mangle)]
 pub extern "C" fn vollikash_next(
     file: &[u8],
@@ -49,8 +49,9 @@ pub extern "C" fn vollikash_next(
         → IsUnreadable file.now found → (IsStepCode result → ⊥) → fault.new ≡ report_of (OfFile (First found)) }
     ensures unfinished { (groups : List GroupData) (found : ReadFaultData) → WereRead file.now groups place.old change.old
         → IsUnreadable file.now found → result ≢ DONE }
-    ensures empty { (header : HeaderData) (end : ℕ) → IsHeader header → Stands file.now place.old (header_bytes header) end
-        → (HasEntry file.now end → ⊥) → fault.new ≡ report_of (OfFile (First (record { kind = EmptyGroup; place = end }))) }
+    ensures empty { (header : HeaderData) (end : ℕ) → IsHeader header
+        → Stands file.now place.old (header_bytes header) end → (HasEntry file.now end → ⊥)
+        → fault.new ≡ report_of (OfFile (First (record { kind = EmptyGroup; place = end }))) }
     ensures within { result ≡ OK → LiesIn file.now change.new }
     ensures ends { result ≡ OK → change.new.records + change.new.records_length ≡ place.new }
     ensures forward { result ≡ OK → (place.old < place.new) × (place.new ≤ length file.now) }
