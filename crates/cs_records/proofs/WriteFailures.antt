@@ -1,5 +1,5 @@
 -- Why a statement that writes a record fails, and what it makes.
-use Rattle.std.proofs.Common.{◌≡◌, ◌≢◌, ◌⊎◌, ◌||◌, inl, inr, ℕ, Bool, true, false, true≢false, Option, List, length, None, Some, Result, Ok, Err, IsTrue, refl, sym, ap, subst, subst₂, ◌∙◌}
+use Rattle.std.proofs.Common.{◌≡◌, ◌≢◌, ◌||◌, inl, inr, ℕ, Bool, true, false, true≢false, Option, List, length, None, Ok, Err, IsTrue, refl, sym, ap, subst, ◌∙◌}
 use Rattle.std.proofs.lemmas.Bool.{cases_Bool}
 use Rattle.sqlite_value.specs.Order.{Row}
 use Rattle.sqlite_trees.specs.declared.error.StoreError.TheVariants as store
@@ -15,8 +15,8 @@ use Rattle.sqlite.specs.Clock.{timed}
 use Rattle.sqlite.specs.Does.{Tally, Does}
 use Rattle.sqlite.specs.Effect.{is_query}
 use Rattle.sqlite.specs.Listing.{understood}
-use Rattle.sqlite.specs.State.{State, Executes, ExecutesIn, IsNotRun, IsMisplaced, Fails, Runs, RunsCommand, Writes, is_pragma, mode_of, shows_rows, text_of}
-use Rattle.cs_records.specs.Failing.{Statement, puts, removes, text_in, params_in, FailsAt, Ends, Refuses, CannotWrite, HasDiskFailed}
+use Rattle.sqlite.specs.State.{State, Executes, ExecutesIn, IsNotRun, IsMisplaced, Runs, RunsCommand, Writes, is_pragma, mode_of, shows_rows, text_of}
+use Rattle.cs_records.specs.Failing.{Statement, puts, removes, text_in, params_in, FailsAt, Ends, CannotWrite}
 use Rattle.cs_records.specs.Records.{DeclaresRecords, records_tree}
 use Rattle.cs_records.specs.Statements.{IsCommand, put_command, remove_command}
 use Rattle.cs_records.proofs.PutLemmas.{puts_as}

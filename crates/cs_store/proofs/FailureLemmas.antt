@@ -1,6 +1,5 @@
 -- For which causes a call fails that begins and ends its own batch.
-use Rattle.std.proofs.Common.{◌≡◌, ◌≤◌, inl, inr, true, IsTrue, true≢false, Result, Ok, Err, OnOk, refl, sym, subst, ◌∙◌}
-use Rattle.std.specs.Option.{is_some}
+use Rattle.std.proofs.Common.{◌≡◌, ◌≤◌, inl, inr, true, true≢false, Result, Ok, Err, OnOk, sym, subst, ◌∙◌}
 use Rattle.std.specs.Result.{is_ok}
 use Rattle.sqlite.specs.Effect.{Database}
 use Rattle.sqlite.specs.State.{State, HasCleanDisk}

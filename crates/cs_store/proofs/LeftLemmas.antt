@@ -10,7 +10,7 @@ use Rattle.sqlite_trees.specs.Tree.{Trees}
 use Rattle.sqlite_trees.specs.Objects.{catalog_tree}
 use Rattle.sqlite_wal.specs.Recovery.{Image}
 use Rattle.sqlite.specs.Effect.{Database}
-use Rattle.sqlite.specs.Files.{HoldsDatabase, file_state}
+use Rattle.sqlite.specs.Files.{HoldsDatabase}
 use Rattle.sqlite.specs.State.{State, HasCleanDisk}
 use Rattle.sqlite.specs.Held.{AreDatabases, Held}
 use Rattle.sqlite.proofs.Theorems.{opens_again}

@@ -1,5 +1,5 @@
 -- `session::Session::attach`: what `push` asks for, the clauses `refused`, `named`, `shut`, `attached` and `rewound`.
-use Rattle.std.proofs.Common.{inl, inr, refl, sym, rules, ◌∙◌}
+use Rattle.std.proofs.Common.{inl, inr, refl, sym, ◌∙◌}
 use Rattle.std.proofs.lemmas.Result.{err_from_is_err_and}
 use Rattle.cs_value.specs.Table.{IsName}
 use Rattle.cs_session.specs.Attaching.{IsNewTable}
