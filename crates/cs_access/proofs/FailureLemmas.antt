@@ -70,40 +70,55 @@ pub put_fails : (old new : State) (name key : List ℕ) (row : List OwnedValue) 
     → BatchFails (Writes (λ held write. (held ≡ tables_in old.now) × (write ≡ rows.puts name key row))) old new why
 put_fails old new name key row why (inl outside) = inl outside
 put_fails old new name key row why (inr (is_new, (apt, (e, other, inl failed, is)))) = inr (e, other, inl (inl failed), is)
-put_fails old new name key row why (inr (is_new, (apt, (e, other, inr refused, is)))) = inr (e, other, inr (record {
-  at = old.now;
-  leads = itself;
-  statement = puts is_new name key (row_bytes row);
-  is = (rows.puts name key row, (refl, refl, refl), (refl, refl));
-  apt = apt;
-  refused = refused;
-}), is)
+put_fails old new name key row why (inr (is_new, (apt, (e, other, inr refused, is)))) = inr (
+  e,
+  other,
+  inr (record {
+    at = old.now;
+    leads = itself;
+    statement = puts is_new name key (row_bytes row);
+    is = (rows.puts name key row, (refl, refl, refl), (refl, refl));
+    apt = apt;
+    refused = refused;
+  }),
+  is,
+)
 
 pub remove_fails : (old new : State) (name key : List ℕ) (why : Cause) → RemoveFails old new name key why
     → BatchFails (Writes (λ held write. (held ≡ tables_in old.now) × (write ≡ rows.removes name key))) old new why
 remove_fails old new name key why (inl outside) = inl outside
 remove_fails old new name key why (inr (apt, (e, other, inl failed, is))) = inr (e, other, inl (inl failed), is)
-remove_fails old new name key why (inr (apt, (e, other, inr refused, is))) = inr (e, other, inr (record {
-  at = old.now;
-  leads = itself;
-  statement = removes name key;
-  is = (rows.removes name key, (refl, refl), (refl, refl));
-  apt = apt;
-  refused = refused;
-}), is)
+remove_fails old new name key why (inr (apt, (e, other, inr refused, is))) = inr (
+  e,
+  other,
+  inr (record {
+    at = old.now;
+    leads = itself;
+    statement = removes name key;
+    is = (rows.removes name key, (refl, refl), (refl, refl));
+    apt = apt;
+    refused = refused;
+  }),
+  is,
+)
 
 -- a declaration
 pub declare_fails : (old new : State) (name : List ℕ) (schema : tables.SchemaData) (why : Cause) → WriteFails old new (puts false [] name (declaration_bytes schema)) why
     → BatchFails (IsDeclarationOf name schema) old new why
 declare_fails old new name schema why (apt, (e, other, inl failed, is)) = inr (e, other, inl (inl failed), is)
-declare_fails old new name schema why (apt, (e, other, inr refused, is)) = inr (e, other, inr (record {
-  at = old.now;
-  leads = itself;
-  statement = puts false [] name (declaration_bytes schema);
-  is = refl;
-  apt = apt;
-  refused = refused;
-}), is)
+declare_fails old new name schema why (apt, (e, other, inr refused, is)) = inr (
+  e,
+  other,
+  inr (record {
+    at = old.now;
+    leads = itself;
+    statement = puts false [] name (declaration_bytes schema);
+    is = refl;
+    apt = apt;
+    refused = refused;
+  }),
+  is,
+)
 
 -- a read
 pub read_fails : (Is : tables.State → Statement → Type 0) (old new : State) (why : Cause) → ReadFails old new why → BatchFails Is old new why

@@ -154,14 +154,19 @@ batch_so : (Is Are : tables.State → Statement → Type 0) (a b : State) (why :
     → BatchFails Is a b why → BatchFails Are a b why
 batch_so Is Are a b why so (inl outside) = inl outside
 batch_so Is Are a b why so (inr (e, other, inl cannot, is)) = inr (e, other, inl cannot, is)
-batch_so Is Are a b why so (inr (e, other, inr refused, is)) = inr (e, other, inr (record {
-  at = refused.at;
-  leads = refused.leads;
-  statement = refused.statement;
-  is = so (tables_in refused.at) refused.statement refused.is;
-  apt = refused.apt;
-  refused = refused.refused;
-}), is)
+batch_so Is Are a b why so (inr (e, other, inr refused, is)) = inr (
+  e,
+  other,
+  inr (record {
+    at = refused.at;
+    leads = refused.leads;
+    statement = refused.statement;
+    is = so (tables_in refused.at) refused.statement refused.is;
+    apt = refused.apt;
+    refused = refused.refused;
+  }),
+  is,
+)
 
 pub batch_fails_so : (Is Are : tables.State → Write → Type 0) (a b : State) (why : Cause) → ((held : tables.State) (write : Write) → Is held write → Are held write)
     → BatchFails (Writes Is) a b why → BatchFails (Writes Are) a b why

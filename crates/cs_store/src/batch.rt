@@ -115,9 +115,12 @@ impl<S: Alter> Rows for SqlBatch<'_, S> {
 
     ghost keeps_itself = { λ b. (refl, laws.keeps_itself, λ accepted clean. laws.leads_itself) };
 
-    ghost keeps_then = { λ accepted a b c one two. (two.0 ∙ one.0, laws.keeps_then one.1 two.1,
-        λ is clean. laws.leads_on_then one.1.crash (one.2 refl (laws.was_clean (shown S.Store b.store.now)
-        (shown S.Store c.store.now) two.1.crash clean)) (two.2 is clean)) };
+    ghost keeps_then = { λ accepted a b c one two. (
+      two.0 ∙ one.0,
+      laws.keeps_then one.1 two.1,
+      λ is clean. laws.leads_on_then one.1.crash (one.2 refl (laws.was_clean (shown S.Store b.store.now)
+          (shown S.Store c.store.now) two.1.crash clean)) (two.2 is clean),
+    ) };
 
     ghost keeps_either = { λ accepted a b one. (one.0, one.1, λ is clean. one.2 refl clean) };
 

@@ -113,7 +113,7 @@ returns-in_err-report-clause-caused g c clean =
     let tables = begun_tables old begun mid c.in_ok-batch.ensures.begun keeps mid_clean in
     let notes : map attached_of c.as_slice.result.now ≡ c.args.self.now = search rules in
     let failed = subst (λ (s : State). IsCaused (BatchFails (Writes (IsRunWrite (directed Inverse (recorded_changes (map attached_of c.as_slice.result.now) s)))) begun mid) c.in_err-report.field-0.0) tables
-        (c.in_err-report.ensures.caused mid_clean) in
+    (c.in_err-report.ensures.caused mid_clean) in
     rw (← same) (caused_on c.from_residual-in_err-report.result _ _ c.in_err-report.field-0.0 c.from_residual-in_err-report.ensures.1
     (work_fails _ old begun mid last c.in_ok-batch.ensures.begun c.in_ok-batch.ensures.survives keeps mid_clean c.drop-batch.ensures.survives) (rw notes at failed))
 
