@@ -1,6 +1,6 @@
 -- For which causes a call on a store fails.
 use Rattle.std.proofs.Common.{◌≡◌, inl, inr, ℕ, [], false, Result, Ok, Err, IfErr, OnOk, sym, subst, MatchResult, IsErrAnd, IsTrue, refl, List, None, true, Bool}
-use Rattle.cs_access.specs.Failing.{WriteFails, BatchFails, IsDeclarationOf, IsCauseOf, ReadFails, IsApt, PutFails, RemoveFails, Writes}
+use Rattle.cs_access.specs.Failing.{IsMade, LeadsOn, WriteFails, BatchFails, IsDeclarationOf, IsCauseOf, ReadFails, IsApt, PutFails, RemoveFails, Writes}
 use Rattle.cs_records.specs.Failing.{Statement, CannotWrite, FailsAt, IsFailure, CannotRead, puts, EndsAs, LeadsTo, itself, by_each, removes}
 use Rattle.cs_records.proofs.WriteFailures.{write_fails}
 use Rattle.sqlite.specs.Effect.{Database as Shown}
@@ -16,12 +16,12 @@ use Rattle.cs_value.specs.declared.value.OwnedValue.{OwnedValue}
 use Rattle.cs_value.specs.Spelling.{row_bytes}
 use Rattle.cs_stored.specs.Declaration.{declaration_bytes}
 use Rattle.cs_access.specs.Refusals.{refusal_of}
-use Rattle.cs_access.specs.Store.{IsSound, LeadsOn, tables_in}
-use Rattle.cs_access.specs.Laws.{was_clean}
+use Rattle.cs_access.specs.Store.{IsSound, tables_in}
+use Rattle.cs_access.specs.Laws.{leads_so, was_clean}
 use Rattle.cs_rows.specs.declared.fault.StoreError.TheVariants as store
 pub use Rattle.cs_rows.proofs.CauseLemmas.{so_caused, caused_so}
 use Rattle.cs_value.specs.State as tables
-use Rattle.cs_rows.specs.Rows as rows
+use Rattle.cs_rows.specs.Rows.{puts_row, removes_row}
 
 -- where a call on records fails with such errors, the store refuses for such causes
 pub caused : (Fails : Error → Type 0) (f : RecordsError) → IsFailure Fails f → IsCaused (IsCauseOf Fails) (refusal_of f)
@@ -67,7 +67,7 @@ apt db false tab key value new = tt
 
 -- a write to rows that fails
 pub put_fails : (old new : State) (name key : List ℕ) (row : List OwnedValue) (why : Cause) → PutFails old new name key row why
-    → BatchFails (Writes (λ held write. (held ≡ tables_in old.now) × (write ≡ rows.puts name key row))) old new why
+    → BatchFails (Writes (λ held write. (held ≡ tables_in old.now) × (write ≡ puts_row name key row))) old new why
 put_fails old new name key row why (inl outside) = inl outside
 put_fails old new name key row why (inr (is_new, (apt, (e, other, inl failed, is)))) = inr (e, other, inl (inl failed), is)
 put_fails old new name key row why (inr (is_new, (apt, (e, other, inr refused, is)))) = inr (
@@ -77,15 +77,14 @@ put_fails old new name key row why (inr (is_new, (apt, (e, other, inr refused, i
     at = old.now;
     leads = itself;
     statement = puts is_new name key (row_bytes row);
-    is = (rows.puts name key row, (refl, refl, refl), (refl, refl));
-    apt = apt;
+    is = ((puts_row name key row, (refl, refl, refl), (refl, refl)), apt);
     refused = refused;
   }),
   is,
 )
 
 pub remove_fails : (old new : State) (name key : List ℕ) (why : Cause) → RemoveFails old new name key why
-    → BatchFails (Writes (λ held write. (held ≡ tables_in old.now) × (write ≡ rows.removes name key))) old new why
+    → BatchFails (Writes (λ held write. (held ≡ tables_in old.now) × (write ≡ removes_row name key))) old new why
 remove_fails old new name key why (inl outside) = inl outside
 remove_fails old new name key why (inr (apt, (e, other, inl failed, is))) = inr (e, other, inl (inl failed), is)
 remove_fails old new name key why (inr (apt, (e, other, inr refused, is))) = inr (
@@ -95,8 +94,7 @@ remove_fails old new name key why (inr (apt, (e, other, inr refused, is))) = inr
     at = old.now;
     leads = itself;
     statement = removes name key;
-    is = (rows.removes name key, (refl, refl), (refl, refl));
-    apt = apt;
+    is = ((removes_row name key, (refl, refl), (refl, refl)), apt);
     refused = refused;
   }),
   is,
@@ -104,7 +102,7 @@ remove_fails old new name key why (inr (apt, (e, other, inr refused, is))) = inr
 
 -- a declaration
 pub declare_fails : (old new : State) (name : List ℕ) (schema : tables.SchemaData) (why : Cause) → WriteFails old new (puts false [] name (declaration_bytes schema)) why
-    → BatchFails (IsDeclarationOf name schema) old new why
+    → BatchFails (IsDeclarationOf (tables_in old.now) name schema) old new why
 declare_fails old new name schema why (apt, (e, other, inl failed, is)) = inr (e, other, inl (inl failed), is)
 declare_fails old new name schema why (apt, (e, other, inr refused, is)) = inr (
   e,
@@ -113,8 +111,7 @@ declare_fails old new name schema why (apt, (e, other, inr refused, is)) = inr (
     at = old.now;
     leads = itself;
     statement = puts false [] name (declaration_bytes schema);
-    is = refl;
-    apt = apt;
+    is = ((refl, refl), apt);
     refused = refused;
   }),
   is,
@@ -126,14 +123,25 @@ read_fails Is old new why (e, other, cannot, is) = inr (e, other, inl cannot, is
 
 -- ---- accepted calls
 
-pub read_leads : (old new : State) → IsUnchanged old new → LeadsOn old new
-read_leads old new same = record {
+pub read_leads : {Is : tables.State → Statement → Type 0} (old new : State) → IsUnchanged old new → LeadsOn Is old new
+read_leads {Is} old new same = record {
   inside = λ is. subst IsTrue (sym same.0.mode) is;
-  leads = subst (λ (db : Shown). LeadsTo old.step_limit old.now db) (sym same.0.now_is) itself;
+  leads = subst (λ (db : Shown). LeadsTo (IsMade Is) old.step_limit old.now db) (sym same.0.now_is) itself;
 }
 
-pub write_leads : (old new : State) (statement : Statement) → EndsAs old statement new → GoesOn old new → LeadsOn old new
-write_leads old new statement ends on = record { inside = λ is. on.mode; leads = by_each old.now new.now statement ends.0 itself ends.1 }
+pub write_leads : (Is : tables.State → Statement → Type 0) (old new : State) (statement : Statement) → IsMade Is old.now statement → EndsAs old statement new → GoesOn old new → LeadsOn Is old new
+write_leads Is old new statement is ends on = record { inside = λ was. on.mode; leads = by_each old.now new.now statement ends.0 itself is ends.1 }
+
+-- a row is put, or removed
+pub put_leads : (old new : State) (is_new : Bool) (name key : List ℕ) (row : List OwnedValue) → LeadsOn (λ held statement. (held ≡ tables_in old.now) × (statement ≡ puts is_new name key (row_bytes row))) old new
+    → LeadsOn (Writes (λ held write. (held ≡ tables_in old.now) × (write ≡ puts_row name key row))) old new
+put_leads old new is_new name key row = leads_so _ _ (λ held statement is.
+    subst (λ (s : Statement). Writes (λ held write. (held ≡ tables_in old.now) × (write ≡ puts_row name key row)) held s) (sym is.1) (puts_row name key row, (refl, refl, refl), (is.0, refl)))
+
+pub remove_leads : (old new : State) (name key : List ℕ) → LeadsOn (λ held statement. (held ≡ tables_in old.now) × (statement ≡ removes name key)) old new
+    → LeadsOn (Writes (λ held write. (held ≡ tables_in old.now) × (write ≡ removes_row name key))) old new
+remove_leads old new name key = leads_so _ _ (λ held statement is.
+    subst (λ (s : Statement). Writes (λ held write. (held ≡ tables_in old.now) × (write ≡ removes_row name key)) held s) (sym is.1) (removes_row name key, (refl, refl), (is.0, refl)))
 
 pub on_ok : {X E : Type 0} (r : Result X E) (P : Type 0) → P → OnOk r P
 on_ok (Ok x) P p = p

@@ -12,8 +12,7 @@ use Rattle.cs_value.specs.Spelling.{row_bytes}
 use Rattle.cs_rows.specs.declared.fault.Cause.{Cause}
 use Rattle.cs_rows.specs.declared.fault.Cause.TheVariants.{Other}
 use Rattle.cs_records.specs.Records.{records_in, record_rows, HoldsRecords, IsUnsupported, KeepsCrash, KeepsOthers, LacksRecords}
-use Rattle.cs_rows.specs.Rows.{Write}
-use Rattle.cs_rows.specs.Rows as rows
+use Rattle.cs_rows.specs.Rows.{Write, puts_row, removes_row}
 use Rattle.cs_value.specs.State as tables
 use Rattle.cs_stored.specs.Declaration.{declaration_bytes}
 use Rattle.cs_stored.specs.Stored.{version}
@@ -62,27 +61,36 @@ CommitFails old new = IsCauseOf (λ error. IsMisplaced (old.in_transaction ≡ f
 
 -- The statement writes the record of such a write to rows.
 abbrev pub IsStatementOf : Write → Statement → Type 0
-IsStatementOf (rows.puts name key row) (puts is_new tab k value) = (tab ≡ name) × (k ≡ key) × (value ≡ row_bytes row)
-IsStatementOf (rows.puts name key row) (removes tab k) = ⊥
-IsStatementOf (rows.removes name key) (puts is_new tab k value) = ⊥
-IsStatementOf (rows.removes name key) (removes tab k) = (tab ≡ name) × (k ≡ key)
+IsStatementOf (puts_row name key row) (puts is_new tab k value) = (tab ≡ name) × (k ≡ key) × (value ≡ row_bytes row)
+IsStatementOf (puts_row name key row) (removes tab k) = ⊥
+IsStatementOf (removes_row name key) (puts is_new tab k value) = ⊥
+IsStatementOf (removes_row name key) (removes tab k) = (tab ≡ name) × (k ≡ key)
 
 -- The statement writes the record of a write to rows of which `Is` holds, with the tables as they are then.
 abbrev pub Writes : (tables.State → Write → Type 0) → tables.State → Statement → Type 0
 Writes Is held statement = (write : Write) × IsStatementOf write statement × Is held write
 
--- The statement declares this table, whatever tables there are.
-abbrev pub IsDeclarationOf : List ℕ → tables.SchemaData → tables.State → Statement → Type 0
-IsDeclarationOf name schema held statement = statement ≡ puts false [] name (declaration_bytes schema)
+-- The statement declares this table, with these tables before.
+abbrev pub IsDeclarationOf : tables.State → List ℕ → tables.SchemaData → tables.State → Statement → Type 0
+IsDeclarationOf old name schema held statement = (held ≡ old) × (statement ≡ puts false [] name (declaration_bytes schema))
 
--- The database `at`, to which statements that write records lead, refuses a statement of which `Is` holds.
+-- The statement holds of the tables as they are then, and is one that a store makes.
+abbrev pub IsMade : (tables.State → Statement → Type 0) → Database → Statement → Type 0
+IsMade Is db statement = Is (tables_in db) statement × IsApt db statement
+
+-- An accepted call goes on: a transaction that was open still is, and statements of which `Is` holds lead from the
+-- database that was shown to the one that is.
+pub record LeadsOn (Is : tables.State → Statement → Type 0) (old new : State) : Type 0 where
+  pub inside : IsTrue old.in_transaction → IsTrue new.in_transaction
+  pub leads : LeadsTo (IsMade Is) old.step_limit old.now new.now
+
+-- The database `at`, to which statements of which `Is` holds lead, refuses another.
 pub record IsRefused (Is : tables.State → Statement → Type 0) (limit : Option ℕ) (from : Database) (error : Error) :
     Type 0 where
   pub at : Database
-  pub leads : LeadsTo limit from at
+  pub leads : LeadsTo (IsMade Is) limit from at
   pub statement : Statement
-  pub is : Is (tables_in at) statement
-  pub apt : IsApt at statement
+  pub is : IsMade Is at statement
   pub refused : Refuses limit at statement error
 
 -- The disk failed between the ends of a call, or the connection limits the steps of a query, or a statement of which

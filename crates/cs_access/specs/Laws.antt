@@ -15,8 +15,8 @@ use Rattle.cs_records.specs.Records.{KeepsContent, KeepsCrash}
 use Rattle.cs_records.proofs.ContentLemmas.{crash_itself}
 use Rattle.cs_access.specs.Crash.{LeavesOnly}
 use Rattle.cs_rows.specs.Rows.{Write}
-use Rattle.cs_access.specs.Failing.{BatchFails, CallFails, IsRefused, ReadFails, Writes}
-use Rattle.cs_access.specs.Store.{KeepsStore, LeadsOn, tables_in}
+use Rattle.cs_access.specs.Failing.{BatchFails, CallFails, IsMade, IsRefused, LeadsOn, ReadFails, Writes}
+use Rattle.cs_access.specs.Store.{KeepsStore, tables_in}
 
 -- an honest disk was honest before
 pub was_clean : {P : Trees → Type 0} (old new : State) → Survives old new P → HasCleanDisk new → HasCleanDisk old
@@ -80,18 +80,31 @@ leaves_then {a} {b} keeps leaves clean trees may =
 -- ---- accepted calls
 
 -- the statements of one call, and then those of another
-leads_to_then : {limit : Option ℕ} {a b c : Database} → LeadsTo limit a b → LeadsTo limit b c → LeadsTo limit a c
+leads_to_then : {Is : Database → Statement → Type 0} {limit : Option ℕ} {a b c : Database} → LeadsTo Is limit a b → LeadsTo Is limit b c → LeadsTo Is limit a c
 leads_to_then one itself = one
-leads_to_then one (by_each mid new statement tally two ends) = by_each mid new statement tally (leads_to_then one two) ends
+leads_to_then one (by_each mid new statement tally two is ends) = by_each mid new statement tally (leads_to_then one two) is ends
 
-pub leads_itself : {s : State} → LeadsOn s s
+leads_to_so : (Is Are : tables.State → Statement → Type 0) {limit : Option ℕ} {a b : Database} → ((held : tables.State) (statement : Statement) → Is held statement → Are held statement)
+    → LeadsTo (IsMade Is) limit a b → LeadsTo (IsMade Are) limit a b
+leads_to_so Is Are so itself = itself
+leads_to_so Is Are so (by_each mid new statement tally leads is ends) =
+    by_each mid new statement tally (leads_to_so Is Are so leads) (so (tables_in mid) statement is.0, is.1) ends
+
+pub leads_itself : {Is : tables.State → Statement → Type 0} {s : State} → LeadsOn Is s s
 leads_itself = record { inside = λ is. is; leads = itself }
 
-pub leads_on_then : {a b c : State} → KeepsCrash a b → LeadsOn a b → LeadsOn b c → LeadsOn a c
-leads_on_then {a} {b} {c} keeps one two = record {
+pub leads_on_then : {Is : tables.State → Statement → Type 0} {a b c : State} → KeepsCrash a b → LeadsOn Is a b → LeadsOn Is b c → LeadsOn Is a c
+leads_on_then {Is} {a} {b} {c} keeps one two = record {
   inside = λ is. two.inside (one.inside is);
-  leads = leads_to_then one.leads (subst (λ limit. LeadsTo limit b.now c.now) keeps.limit two.leads);
+  leads = leads_to_then one.leads (subst (λ limit. LeadsTo (IsMade Is) limit b.now c.now) keeps.limit two.leads);
 }
+
+pub leads_so : (Is Are : tables.State → Statement → Type 0) {a b : State} → ((held : tables.State) (statement : Statement) → Is held statement → Are held statement) → LeadsOn Is a b → LeadsOn Are a b
+leads_so Is Are so leads = record { inside = leads.inside; leads = leads_to_so Is Are so leads.leads }
+
+-- of the statements that write the records of writes to rows
+pub writes_so : (Is Are : tables.State → Write → Type 0) {a b : State} → ((held : tables.State) (write : Write) → Is held write → Are held write) → LeadsOn (Writes Is) a b → LeadsOn (Writes Are) a b
+writes_so Is Are so = leads_so (Writes Is) (Writes Are) (λ held statement made. (made.0, made.1, so held made.0 made.2))
 
 -- ---- failures
 
@@ -121,14 +134,13 @@ cannot_then a b c e one clean two (inr limited) = inr (limited.0, subst (λ (o :
 pub read_then : (a b c : State) (why : Cause) → KeepsCrash a b → HasCleanDisk b → KeepsCrash b c → ReadFails b c why → ReadFails a c why
 read_then a b c why one clean two (e, other, fails, is) = (e, other, cannot_then a b c e one clean two fails, is)
 
-module _ (Is : tables.State → Statement → Type 0) (a b c : State) (one : KeepsCrash a b) (clean : HasCleanDisk b) (two : KeepsCrash b c) (leads : LeadsTo a.step_limit a.now b.now) where
+module _ (Is : tables.State → Statement → Type 0) (a b c : State) (one : KeepsCrash a b) (clean : HasCleanDisk b) (two : KeepsCrash b c) (leads : LeadsTo (IsMade Is) a.step_limit a.now b.now) where
   refused_then : (e : Error) → IsRefused Is b.step_limit b.now e → IsRefused Is a.step_limit a.now e
   refused_then e refused = record {
     at = refused.at;
-    leads = leads_to_then leads (subst (λ limit. LeadsTo limit b.now refused.at) one.limit refused.leads);
+    leads = leads_to_then leads (subst (λ limit. LeadsTo (IsMade Is) limit b.now refused.at) one.limit refused.leads);
     statement = refused.statement;
     is = refused.is;
-    apt = refused.apt;
     refused = subst (λ limit. Refuses limit refused.at refused.statement e) one.limit refused.refused;
   }
 
@@ -137,7 +149,7 @@ module _ (Is : tables.State → Statement → Type 0) (a b c : State) (one : Kee
   call_then e (inr refused) = inr (refused_then e refused)
 
 -- a failure after an accepted call of a batch is one between the ends of both
-pub batch_then : (Is : tables.State → Statement → Type 0) (a b c : State) (why : Cause) → KeepsCrash a b → HasCleanDisk b → KeepsCrash b c → LeadsOn a b → BatchFails Is b c why → BatchFails Is a c why
+pub batch_then : (Is : tables.State → Statement → Type 0) (a b c : State) (why : Cause) → KeepsCrash a b → HasCleanDisk b → KeepsCrash b c → LeadsOn Is a b → BatchFails Is b c why → BatchFails Is a c why
 batch_then Is a b c why one clean two leads (inl (outside, other)) = elim (cases_Bool a.in_transaction) [
   | inl inside ↦ absurd (true≢false (sym (leads.inside inside) ∙ outside))
   | inr out ↦ inl (out, other)
@@ -145,7 +157,7 @@ batch_then Is a b c why one clean two leads (inl (outside, other)) = elim (cases
 batch_then Is a b c why one clean two leads (inr (e, other, fails, is)) = inr (e, other, call_then Is a b c one clean two leads.leads e fails, is)
 
 -- the same, with what calls of a batch's rows keep
-pub batch_fails_then : (Is : tables.State → Statement → Type 0) (a b c : State) (why : Cause) → KeepsStore a b → KeepsCrash b c → (HasCleanDisk b → LeadsOn a b) → HasCleanDisk c → BatchFails Is b c why
+pub batch_fails_then : (Is : tables.State → Statement → Type 0) (a b c : State) (why : Cause) → KeepsStore a b → KeepsCrash b c → (HasCleanDisk b → LeadsOn Is a b) → HasCleanDisk c → BatchFails Is b c why
     → BatchFails Is a c why
 batch_fails_then Is a b c why one two leads clean failed = let was = was_clean b c two clean in batch_then Is a b c why one.crash was two (leads was) failed
 
@@ -159,10 +171,9 @@ batch_so Is Are a b why so (inr (e, other, inr refused, is)) = inr (
   other,
   inr (record {
     at = refused.at;
-    leads = refused.leads;
+    leads = leads_to_so Is Are so refused.leads;
     statement = refused.statement;
-    is = so (tables_in refused.at) refused.statement refused.is;
-    apt = refused.apt;
+    is = (so (tables_in refused.at) refused.statement refused.is.0, refused.is.1);
     refused = refused.refused;
   }),
   is,

@@ -15,7 +15,6 @@ use Rattle.sqlite.specs.Steps.{over_memory}
 use Rattle.sqlite.specs.State.{State, HasCleanDisk, Shows, KeepsCommit}
 use Rattle.cs_rows.specs.declared.fault.StoreError.{StoreError}
 use Rattle.cs_rows.specs.Faults.{IsResource}
-use Rattle.cs_records.specs.Failing.{LeadsTo}
 use Rattle.cs_records.specs.Records.{HoldsRecords, DeclaresRecords, IsDeclaredOtherwise, LacksRecords, KeepsOthers, record_rows, records_in, GoesOn, KeepsContent, KeepsCrash}
 use Rattle.cs_stored.specs.Stored.{Stores, StoresInSome, state_of}
 use Rattle.cs_rows.specs.Rows.{IsRowIn}
@@ -89,12 +88,6 @@ pub record KeepsStore (old new : State) : Type 0 where
   pub sound : IsSound old → IsSound new
   pub outside : HasCleanDisk new → old.in_transaction ≡ false → (IsTrue old.is_open → old.now ≡ old.committed)
       → KeepsContent old new
-
--- An accepted call goes on: a transaction that was open still is, and statements that write records lead from the
--- database that was shown to the one that is.
-pub record LeadsOn (old new : State) : Type 0 where
-  pub inside : IsTrue old.in_transaction → IsTrue new.in_transaction
-  pub leads : LeadsTo old.step_limit old.now new.now
 
 -- a reader of what is stored gives it back, or is refused memory
 abbrev pub Recovers : {X : Type 0} → Result X StoreError → X → Type 0

@@ -7,9 +7,9 @@ ghost use Rattle.cs_value.specs.Table.{IsName};
 ghost use Rattle.cs_value.specs.State.{schema_at, row_at, rows_at, with_row, without_row};
 ghost use Rattle.cs_rows.specs.declared.fault.StoreError.TheVariants.{TableExists as TakenName};
 ghost use Rattle.cs_rows.specs.Faults.{IsCaused, IsResource, IsReadRefusal};
-ghost use Rattle.cs_rows.specs.Rows.{IsDeclared, Fits};
-ghost use Rattle.cs_access.specs.Failing.{BatchFails, IsDeclarationOf, PutFails, ReadFails, RemoveFails};
-ghost use Rattle.cs_access.specs.Store.{AddsTable, IsFreeKey, IsSound, KeepsStore, Knows, LeadsOn, RefusesShut};
+ghost use Rattle.cs_rows.specs.Rows.{IsDeclared, Fits, puts_row, removes_row};
+ghost use Rattle.cs_access.specs.Failing.{BatchFails, IsDeclarationOf, LeadsOn, PutFails, ReadFails, RemoveFails, Writes};
+ghost use Rattle.cs_access.specs.Store.{AddsTable, IsFreeKey, IsSound, KeepsStore, Knows, RefusesShut};
 ghost use Rattle.cs_access.specs.Store.{tables_in, without_free_key};
 ghost use Rattle.sqlite.specs.State.{HasCleanDisk};
 ghost use Rattle.sqlite.specs.Held.{state};
@@ -60,7 +60,7 @@ pub fn find_schema<S: Alter>(
     ensures named { IfErr result IsReadRefusal }
     ensures knows { Knows (state S.Store conn.new) known.new }
     ensures leads { HasCleanDisk (state S.Store conn.new)
-        → OnOk result (LeadsOn (state S.Store conn.old) (state S.Store conn.new)) }
+        → OnOk result (LeadsOn (λ _ _. ⊥) (state S.Store conn.old) (state S.Store conn.new)) }
     ensures kept { KeepsStore (state S.Store conn.old) (state S.Store conn.new) }
 {
     look_up(conn, known, alloc, name)?;
@@ -96,7 +96,7 @@ pub fn find_row<S: Alter>(
     ensures named { IfErr result IsReadRefusal }
     ensures knows { Knows (state S.Store conn.new) known.new }
     ensures leads { HasCleanDisk (state S.Store conn.new)
-        → OnOk result (LeadsOn (state S.Store conn.old) (state S.Store conn.new)) }
+        → OnOk result (LeadsOn (λ _ _. ⊥) (state S.Store conn.old) (state S.Store conn.new)) }
     ensures kept { KeepsStore (state S.Store conn.old) (state S.Store conn.new) }
 {
     look_up(conn, known, alloc, name)?;
@@ -139,7 +139,7 @@ pub fn list_rows<S: Alter>(
     ensures named { IfErr result IsReadRefusal }
     ensures knows { Knows (state S.Store conn.new) known.new }
     ensures leads { HasCleanDisk (state S.Store conn.new)
-        → OnOk result (LeadsOn (state S.Store conn.old) (state S.Store conn.new)) }
+        → OnOk result (LeadsOn (λ _ _. ⊥) (state S.Store conn.old) (state S.Store conn.new)) }
     ensures kept { KeepsStore (state S.Store conn.old) (state S.Store conn.new) }
 {
     look_up(conn, known, alloc, name)?;
@@ -175,7 +175,8 @@ pub fn put_row<S: Alter>(
         (IsCaused (PutFails (state S.Store conn.old) (state S.Store conn.new) name.now key.now row.now)) }
     ensures knows { Knows (state S.Store conn.new) known.new }
     ensures leads { HasCleanDisk (state S.Store conn.new)
-        → OnOk result (LeadsOn (state S.Store conn.old) (state S.Store conn.new)) }
+        → OnOk result (LeadsOn (Writes (λ held write. (held ≡ tables_in (state S.Store conn.old).now)
+        × (write ≡ puts_row name.now key.now row.now))) (state S.Store conn.old) (state S.Store conn.new)) }
     ensures kept { KeepsStore (state S.Store conn.old) (state S.Store conn.new) }
 {
     if conn.is_autocommit() {
@@ -212,7 +213,8 @@ pub fn remove_row<S: Alter>(
         (IsCaused (RemoveFails (state S.Store conn.old) (state S.Store conn.new) name.now key.now)) }
     ensures knows { Knows (state S.Store conn.new) known.new }
     ensures leads { HasCleanDisk (state S.Store conn.new)
-        → OnOk result (LeadsOn (state S.Store conn.old) (state S.Store conn.new)) }
+        → OnOk result (LeadsOn (Writes (λ held write. (held ≡ tables_in (state S.Store conn.old).now)
+        × (write ≡ removes_row name.now key.now))) (state S.Store conn.old) (state S.Store conn.new)) }
     ensures kept { KeepsStore (state S.Store conn.old) (state S.Store conn.new) }
 {
     if conn.is_autocommit() {
@@ -247,11 +249,12 @@ pub fn add_table<S: Alter>(
     ensures refused { HasCleanDisk (state S.Store conn.new) → IfErr result (λ e. ((e ≡ TakenName)
         × IsDeclared (tables_in (state S.Store conn.old).now) name.now) ⊎ IsResource e) }
     ensures caused { HasCleanDisk (state S.Store conn.new) → IfErr result (IsCaused
-        (BatchFails (IsDeclarationOf name.now schema.now) (state S.Store conn.old) (state S.Store conn.new))) }
+        (BatchFails (IsDeclarationOf (tables_in (state S.Store conn.old).now) name.now schema.now)
+        (state S.Store conn.old) (state S.Store conn.new))) }
     ensures named { IfErr result (λ e. (e ≡ TakenName) ⊎ IsReadRefusal e) }
     ensures knows { Knows (state S.Store conn.new) known.new }
     ensures leads { HasCleanDisk (state S.Store conn.new)
-        → OnOk result (LeadsOn (state S.Store conn.old) (state S.Store conn.new)) }
+        → OnOk result (LeadsOn (IsDeclarationOf (tables_in (state S.Store conn.old).now) name.now schema.now) (state S.Store conn.old) (state S.Store conn.new)) }
     ensures kept { KeepsStore (state S.Store conn.old) (state S.Store conn.new) }
 {
     match find_schema(conn, known, alloc, name) {
@@ -278,10 +281,11 @@ fn put_table<S: Alter>(
         (tables_in (state S.Store conn.new).now)) }
     ensures refused { IfErr result IsResource }
     ensures caused { HasCleanDisk (state S.Store conn.new) → IfErr result (IsCaused
-        (BatchFails (IsDeclarationOf name.now schema.now) (state S.Store conn.old) (state S.Store conn.new))) }
+        (BatchFails (IsDeclarationOf (tables_in (state S.Store conn.old).now) name.now schema.now)
+        (state S.Store conn.old) (state S.Store conn.new))) }
     ensures knows { Knows (state S.Store conn.new) known.new }
     ensures leads { HasCleanDisk (state S.Store conn.new)
-        → OnOk result (LeadsOn (state S.Store conn.old) (state S.Store conn.new)) }
+        → OnOk result (LeadsOn (IsDeclarationOf (tables_in (state S.Store conn.old).now) name.now schema.now) (state S.Store conn.old) (state S.Store conn.new)) }
     ensures kept { KeepsStore (state S.Store conn.old) (state S.Store conn.new) }
 {
     *known = None;
@@ -314,7 +318,7 @@ fn look_up<S: Alter>(
     ensures named { IfErr result IsReadRefusal }
     ensures knows { Knows (state S.Store conn.new) known.new }
     ensures leads { HasCleanDisk (state S.Store conn.new)
-        → OnOk result (LeadsOn (state S.Store conn.old) (state S.Store conn.new)) }
+        → OnOk result (LeadsOn (λ _ _. ⊥) (state S.Store conn.old) (state S.Store conn.new)) }
     ensures kept { KeepsStore (state S.Store conn.old) (state S.Store conn.new) }
 {
     if !conn.is_autocommit() && has_name(known, name) {

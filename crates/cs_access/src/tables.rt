@@ -14,9 +14,9 @@ ghost use Rattle.sqlite.specs.State.{HasCleanDisk};
 ghost use Rattle.sqlite.specs.Held.{state};
 ghost use Rattle.cs_rows.specs.Faults.{IsCaused, IsResource, IsReadRefusal};
 ghost use Rattle.cs_records.specs.Failing.{puts, removes};
-ghost use Rattle.cs_access.specs.Failing.{ReadFails, WriteFails};
+ghost use Rattle.cs_access.specs.Failing.{IsDeclarationOf, LeadsOn, ReadFails, WriteFails};
 ghost use Rattle.cs_rows.specs.Rows.{IsDeclared, Fits, IsRowIn};
-ghost use Rattle.cs_access.specs.Store.{IsSound, KeepsStore, LeadsOn, Recovers, RecoversList, RefusesShut};
+ghost use Rattle.cs_access.specs.Store.{IsSound, KeepsStore, Recovers, RecoversList, RefusesShut};
 ghost use Rattle.cs_access.specs.Store.{AddsTable, AreNamed, AreStored, HoldsState, tables_in};
 
 use crate::refusal::refused;
@@ -44,7 +44,7 @@ pub fn find_schema<S: Alter>(
         → IfErr result (IsCaused (ReadFails (state S.Store conn.old) (state S.Store conn.new))) }
     ensures named { IfErr result IsReadRefusal }
     ensures leads { HasCleanDisk (state S.Store conn.new)
-        → OnOk result (LeadsOn (state S.Store conn.old) (state S.Store conn.new)) }
+        → OnOk result (LeadsOn (λ _ _. ⊥) (state S.Store conn.old) (state S.Store conn.new)) }
     ensures kept { KeepsStore (state S.Store conn.old) (state S.Store conn.new) }
 {
     match find_record(conn, "", name.as_bytes()) {
@@ -94,7 +94,7 @@ pub fn find_row<S: Alter>(
         → IfErr result (IsCaused (ReadFails (state S.Store conn.old) (state S.Store conn.new))) }
     ensures named { IfErr result IsReadRefusal }
     ensures leads { HasCleanDisk (state S.Store conn.new)
-        → OnOk result (LeadsOn (state S.Store conn.old) (state S.Store conn.new)) }
+        → OnOk result (LeadsOn (λ _ _. ⊥) (state S.Store conn.old) (state S.Store conn.new)) }
     ensures kept { KeepsStore (state S.Store conn.old) (state S.Store conn.new) }
 {
     match find_record(conn, name, key.bytes()) {
@@ -136,7 +136,7 @@ pub fn list_rows<S: Alter>(
         → IfErr result (IsCaused (ReadFails (state S.Store conn.old) (state S.Store conn.new))) }
     ensures named { IfErr result IsReadRefusal }
     ensures leads { HasCleanDisk (state S.Store conn.new)
-        → OnOk result (LeadsOn (state S.Store conn.old) (state S.Store conn.new)) }
+        → OnOk result (LeadsOn (λ _ _. ⊥) (state S.Store conn.old) (state S.Store conn.new)) }
     ensures kept { KeepsStore (state S.Store conn.old) (state S.Store conn.new) }
 {
     match list_records(conn, alloc, name) {
@@ -186,7 +186,8 @@ pub fn put_row<S: Alter>(
         (IsCaused (WriteFails (state S.Store conn.old) (state S.Store conn.new) (puts is_new name.now key.now (row_bytes row.now)))) }
     ensures leads { IsSound (state S.Store conn.old) → IsTrue (state S.Store conn.old).in_transaction
         → HasCleanDisk (state S.Store conn.new)
-        → OnOk result (LeadsOn (state S.Store conn.old) (state S.Store conn.new)) }
+        → OnOk result (LeadsOn (λ held statement. (held ≡ tables_in (state S.Store conn.old).now)
+        × (statement ≡ puts is_new name.now key.now (row_bytes row.now))) (state S.Store conn.old) (state S.Store conn.new)) }
     ensures kept { IsSound (state S.Store conn.old) → IsTrue (state S.Store conn.old).in_transaction
         → KeepsStore (state S.Store conn.old) (state S.Store conn.new) }
 {
@@ -212,7 +213,8 @@ pub fn remove_row<S: Alter>(
         (IsCaused (WriteFails (state S.Store conn.old) (state S.Store conn.new) (removes name.now key.now))) }
     ensures leads { IsSound (state S.Store conn.old) → IsTrue (state S.Store conn.old).in_transaction
         → HasCleanDisk (state S.Store conn.new)
-        → OnOk result (LeadsOn (state S.Store conn.old) (state S.Store conn.new)) }
+        → OnOk result (LeadsOn (λ held statement. (held ≡ tables_in (state S.Store conn.old).now)
+        × (statement ≡ removes name.now key.now)) (state S.Store conn.old) (state S.Store conn.new)) }
     ensures kept { IsSound (state S.Store conn.old) → IsTrue (state S.Store conn.old).in_transaction
         → KeepsStore (state S.Store conn.old) (state S.Store conn.new) }
 {
@@ -292,7 +294,7 @@ pub fn put_table<S: Alter>(
         (IsCaused (WriteFails (state S.Store conn.old) (state S.Store conn.new) (puts false [] name.now (declaration_bytes schema.now)))) }
     ensures leads { IsSound (state S.Store conn.old) → IsTrue (state S.Store conn.old).in_transaction
         → HasCleanDisk (state S.Store conn.new)
-        → OnOk result (LeadsOn (state S.Store conn.old) (state S.Store conn.new)) }
+        → OnOk result (LeadsOn (IsDeclarationOf (tables_in (state S.Store conn.old).now) name.now schema.now) (state S.Store conn.old) (state S.Store conn.new)) }
     ensures kept { IsSound (state S.Store conn.old) → IsTrue (state S.Store conn.old).in_transaction
         → KeepsStore (state S.Store conn.old) (state S.Store conn.new) }
 {

@@ -16,7 +16,7 @@ use Rattle.sqlite.specs.Does.{Tally, Does}
 use Rattle.sqlite.specs.Effect.{is_query}
 use Rattle.sqlite.specs.Listing.{understood}
 use Rattle.sqlite.specs.State.{State, Executes, ExecutesIn, IsNotRun, IsMisplaced, Runs, RunsCommand, Writes, is_pragma, mode_of, shows_rows, text_of}
-use Rattle.cs_records.specs.Failing.{Statement, puts, removes, text_in, params_in, FailsAt, Ends, CannotWrite}
+use Rattle.cs_records.specs.Failing.{Statement, puts, removes, text_in, params_in, FailsAt, StatementEnds, CannotWrite}
 use Rattle.cs_records.specs.Records.{DeclaresRecords, records_tree}
 use Rattle.cs_records.specs.Statements.{IsCommand, put_command, remove_command}
 use Rattle.cs_records.proofs.PutLemmas.{puts_as}
@@ -114,7 +114,7 @@ module _ (s : Statement) (old new : State) where
   ]
 
   -- it makes what its run ends with
-  pub write_ends : (count : ℕ) → DeclaresRecords old.now.schema → Executes sql (params_in s) old new (Ok count) → (tally : Tally) × Ends old.step_limit old.now s (Ok (tally, new.now))
+  pub write_ends : (count : ℕ) → DeclaresRecords old.now.schema → Executes sql (params_in s) old new (Ok count) → (tally : Tally) × StatementEnds old.step_limit old.now s (Ok (tally, new.now))
   unfolding ExecutesIn
   write_ends count declares h =
       let c = h.0 in

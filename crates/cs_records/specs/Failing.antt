@@ -45,27 +45,27 @@ FailsAt old new statement error = Executes (text_in statement) (params_in statem
 
 -- Run on the database, with this limit on its steps, the statement may end so: with the database that it makes, with an
 -- error, or without one at a row that is too big to be stored.
-abbrev pub Ends : Option ℕ → Database → Statement → Result (Tally × Database) (Option Error) → Type 0
-Ends limit db statement end =
+abbrev pub StatementEnds : Option ℕ → Database → Statement → Result (Tally × Database) (Option Error) → Type 0
+StatementEnds limit db statement end =
     (it : Compiled) × (understood db.schema (text_in statement) ≡ Ok it) × (now : ℕ)
     × Does limit (record { keys = Enforced; in_doubt = false; may_wait = false })
     (timed (params_in statement) it.formats now) db (text_of (text_in statement) it) it.returning it.command end
 
 -- The statement, run on what the first connection shows, makes what the second one shows.
 abbrev pub EndsAs : State → Statement → State → Type 0
-EndsAs old statement new = (tally : Tally) × Ends old.step_limit old.now statement (Ok (tally, new.now))
+EndsAs old statement new = (tally : Tally) × StatementEnds old.step_limit old.now statement (Ok (tally, new.now))
 
 -- The database may refuse the statement with this error, without a failure of the disk.
 abbrev pub Refuses : Option ℕ → Database → Statement → Error → Type 0
 Refuses limit db statement error =
-    Ends limit db statement (Err (Some error)) ⊎ ((error ≡ SqliteFailure TooBig) × Ends limit db statement (Err None))
+    StatementEnds limit db statement (Err (Some error)) ⊎ ((error ≡ SqliteFailure TooBig) × StatementEnds limit db statement (Err None))
 
--- Any number of statements that write records make the second database of the first, one after another. They may be any
--- such statements.
-pub data LeadsTo (limit : Option ℕ) (old : Database) : Database → Type 0 where
-  itself : LeadsTo limit old old
-  by_each : (mid new : Database) (statement : Statement) (tally : Tally) → LeadsTo limit old mid
-      → Ends limit mid statement (Ok (tally, new)) → LeadsTo limit old new
+-- Statements that write records make the second database of the first, one after another. Of each this holds, with the
+-- database as it is then.
+pub data LeadsTo (Is : Database → Statement → Type 0) (limit : Option ℕ) (old : Database) : Database → Type 0 where
+  itself : LeadsTo Is limit old old
+  by_each : (mid new : Database) (statement : Statement) (tally : Tally) → LeadsTo Is limit old mid → Is mid statement
+      → StatementEnds limit mid statement (Ok (tally, new)) → LeadsTo Is limit old new
 
 -- The count of disk failures rose, or the connection was already shut.
 abbrev pub IsHindered : State → State → StoreError → Type 0

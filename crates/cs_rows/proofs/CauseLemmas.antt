@@ -6,7 +6,7 @@ use Rattle.cs_rows.specs.declared.fault.Cause.{Cause}
 use Rattle.cs_rows.specs.declared.fault.StoreError.{StoreError}
 use Rattle.cs_rows.specs.declared.fault.StoreError.TheVariants.{StoreFault}
 use Rattle.cs_rows.specs.Faults.{IsCaused}
-use Rattle.cs_rows.specs.Rows.{Fits, Write, puts, removes}
+use Rattle.cs_rows.specs.Rows.{Fits, Write, puts_row, removes_row}
 use Rattle.cs_rows.specs.Editing.{IsPutOf, IsRemovalOf, IsClearingOf, IsUpdateOf}
 
 -- what fails for one cause fails for another
@@ -25,16 +25,16 @@ caused_on (Ok x) One Other e is so h = tt
 caused_on (Err f) One Other e is so h = subst (IsCaused Other) (sym is) (so_caused One Other e so h)
 
 -- the write of a put, of a row that fits
-pub put_of : (old now : State) (table key : List ℕ) (row : List OwnedValue) (held : State) (write : Write) → now ≡ old → Fits now table key row → (held ≡ now) × (write ≡ puts table key row)
+pub put_of : (old now : State) (table key : List ℕ) (row : List OwnedValue) (held : State) (write : Write) → now ≡ old → Fits now table key row → (held ≡ now) × (write ≡ puts_row table key row)
     → IsPutOf old table row held write
 put_of old now table key row held write same fits is =
     subst (IsPutOf old table row held) (sym is.1) (is.0 ∙ same, refl, refl, subst (λ (s : State). Fits s table key row) (sym is.0) fits)
 
 -- and of a removal
-pub removal_of : (old now : State) (table key : List ℕ) (held : State) (write : Write) → now ≡ old → (held ≡ now) × (write ≡ removes table key) → IsRemovalOf old table key held write
+pub removal_of : (old now : State) (table key : List ℕ) (held : State) (write : Write) → now ≡ old → (held ≡ now) × (write ≡ removes_row table key) → IsRemovalOf old table key held write
 removal_of old now table key held write same is = subst (IsRemovalOf old table key held) (sym is.1) (is.0 ∙ same, refl, refl)
 
 -- and of a removal after a put
-pub clearing_of : (old now : State) (table key next : List ℕ) (row : List OwnedValue) (held : State) (write : Write) → now ≡ with_row old table next row → (held ≡ now) × (write ≡ removes table key)
+pub clearing_of : (old now : State) (table key next : List ℕ) (row : List OwnedValue) (held : State) (write : Write) → now ≡ with_row old table next row → (held ≡ now) × (write ≡ removes_row table key)
     → IsUpdateOf old table key row held write
 clearing_of old now table key next row held write same is = inr (subst (IsClearingOf old table key row held) (sym is.1) (refl, refl, next, is.0 ∙ same))

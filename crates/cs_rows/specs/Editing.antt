@@ -18,7 +18,7 @@ use Rattle.cs_rows.specs.declared.fault.StoreError.TheVariants.{KeyTaken, NoRow,
 use Rattle.cs_rows.specs.declared.edit.Edit.{Edit}
 use Rattle.cs_rows.specs.declared.edit.Edit.TheVariants.{Insert, Update, Delete}
 use Rattle.cs_rows.specs.declared.edit.Written.{Written}
-use Rattle.cs_rows.specs.Rows.{Fits, Write, puts, removes}
+use Rattle.cs_rows.specs.Rows.{Fits, Write, puts_row, removes_row}
 
 -- ---- declaring
 
@@ -144,18 +144,18 @@ EditsInto state edit next = (written : List WrittenData) × (edited state edit �
 
 -- the row is put into this table, under a key that it has, with all tables as before the edit
 abbrev pub IsPutOf : State → List ℕ → List OwnedValue → State → Write → Type 0
-IsPutOf old table row held (puts name key it) = (held ≡ old) × (name ≡ table) × (it ≡ row) × Fits held name key it
-IsPutOf old table row held (removes name key) = ⊥
+IsPutOf old table row held (puts_row name key it) = (held ≡ old) × (name ≡ table) × (it ≡ row) × Fits held name key it
+IsPutOf old table row held (removes_row name key) = ⊥
 
 -- the row under this key is removed
 abbrev pub IsRemovalOf : State → List ℕ → List ℕ → State → Write → Type 0
-IsRemovalOf old table from held (puts name key row) = ⊥
-IsRemovalOf old table from held (removes name key) = (held ≡ old) × (name ≡ table) × (key ≡ from)
+IsRemovalOf old table from held (puts_row name key row) = ⊥
+IsRemovalOf old table from held (removes_row name key) = (held ≡ old) × (name ≡ table) × (key ≡ from)
 
 -- it is removed after the row that takes its place was put under another key
 abbrev pub IsClearingOf : State → List ℕ → List ℕ → List OwnedValue → State → Write → Type 0
-IsClearingOf old table from row held (puts name key it) = ⊥
-IsClearingOf old table from row held (removes name key) =
+IsClearingOf old table from row held (puts_row name key it) = ⊥
+IsClearingOf old table from row held (removes_row name key) =
     (name ≡ table) × (key ≡ from) × (next : List ℕ) × (held ≡ with_row old table next row)
 
 abbrev pub IsUpdateOf : State → List ℕ → List ℕ → List OwnedValue → State → Write → Type 0

@@ -23,5 +23,5 @@ pub record Fits (state : State) (name key : List ℕ) (row : List OwnedValue) : 
 
 -- a row is put under a key of a table, or the row there is removed
 pub data Write : Type 0 where
-  puts : (name key : List ℕ) (row : List OwnedValue) → Write
-  removes : (name key : List ℕ) → Write
+  puts_row : (name key : List ℕ) (row : List OwnedValue) → Write
+  removes_row : (name key : List ℕ) → Write

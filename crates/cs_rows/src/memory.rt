@@ -218,17 +218,19 @@ impl Rows for MemRows {
 
     ghost is_honest = { λ _. ⊤ };
 
-    ghost keeps = { λ _ _ _. ⊤ };
+    ghost keeps = { λ _ _ _ _. ⊤ };
 
-    ghost keeps_itself = { λ _. tt };
+    ghost keeps_itself = { λ _ _. tt };
 
-    ghost keeps_then = { λ _ _ _ _ _ _. tt };
+    ghost keeps_then = { λ _ _ _ _ _ _ _. tt };
 
-    ghost keeps_either = { λ _ _ _ _. tt };
+    ghost keeps_refused = { λ _ _ _ _ _. tt };
+
+    ghost keeps_so = { λ _ _ _ _ _ _ _. tt };
 
     ghost leaves_only = { λ _ _. ⊤ };
 
-    ghost leaves_still = { λ _ _ _ _ _ _. tt };
+    ghost leaves_still = { λ _ _ _ _ _ _ _. tt };
 
     ghost fails = { λ _ _ _ _. ⊥ };
 

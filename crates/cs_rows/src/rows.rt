@@ -3,7 +3,7 @@ ghost use Rattle.std.specs.Prelude.{◌≡◌, IfOk, IfErr, OnOk, IfSome, is_ok}
 ghost use Rattle.std.specs.FinMap as map;
 ghost use Rattle.cs_value.specs.State.{State, schema_at, row_at, rows_at, with_row, without_row};
 ghost use Rattle.cs_rows.specs.Faults.{IsCaused, IsResource, IsReadRefusal};
-ghost use Rattle.cs_rows.specs.Rows.{IsDeclared, Fits, puts, removes};
+ghost use Rattle.cs_rows.specs.Rows.{IsDeclared, Fits, puts_row, removes_row};
 
 use crate::fault::StoreError;
 use crate::schema::Schema;
@@ -25,28 +25,35 @@ pub trait Rows {
     // What is read is what was written. The clauses speak where it still holds as a call returns.
     ghost is_honest: { Self → Type 0 };
 
-    // What a call keeps, whether it is accepted or refused: what the rows are borrowed from, and what lasts of it. Only
-    // after accepted calls is it said that more of them can follow.
-    ghost keeps: { Bool → Self → Self → Type 0 };
+    // What a call keeps, whether it is accepted or refused: what the rows are borrowed from, and what lasts of it. Of
+    // an accepted call also that it made no writes but those of which `Is` holds, with the tables as they were then.
+    ghost keeps: { (State → Write → Type 0) → Bool → Self → Self → Type 0 };
 
-    ghost keeps_itself: { (b : Self) → keeps true b b };
+    ghost keeps_itself: { (Is : State → Write → Type 0) (b : Self) → keeps Is true b b };
 
-    ghost keeps_then: { (accepted : Bool) (a b c : Self) → keeps true a b → keeps accepted b c → keeps accepted a c };
+    ghost keeps_then: { (Is : State → Write → Type 0) (accepted : Bool) (a b c : Self) → keeps Is true a b
+        → keeps Is accepted b c → keeps Is accepted a c };
 
-    ghost keeps_either: { (accepted : Bool) (a b : Self) → keeps true a b → keeps accepted a b };
+    ghost keeps_refused: { (Is : State → Write → Type 0) (accepted : Bool) (a b : Self) → keeps Is true a b
+        → keeps Is accepted a b };
+
+    // The map may need what a clause says under `is_honest`.
+    ghost keeps_so: { (Is Are : State → Write → Type 0) (accepted : Bool) (a b : Self)
+        → ((held : State) (write : Write) → is_honest b → Is held write → Are held write) → keeps Is accepted a b
+        → keeps Are accepted a b };
 
     // A crash leaves these tables and no others.
     ghost leaves_only: { Self → State → Type 0 };
 
-    ghost leaves_still: { (accepted : Bool) (a b : Self) (held : State) → keeps accepted a b → leaves_only a held
-        → leaves_only b held };
+    ghost leaves_still: { (Is : State → Write → Type 0) (accepted : Bool) (a b : Self) (held : State)
+        → keeps Is accepted a b → leaves_only a held → leaves_only b held };
 
     // Between the first rows and the second, what holds them failed a call for this cause: a read, or a write of which
     // `Is` holds, with the tables as they were then.
     ghost fails: { (State → Write → Type 0) → Self → Self → Cause → Type 0 };
 
-    ghost fails_then: { (Is : State → Write → Type 0) (accepted : Bool) (a b c : Self) (cause : Cause) → keeps true a b
-        → keeps accepted b c → is_honest c → fails Is b c cause → fails Is a c cause };
+    ghost fails_then: { (Is : State → Write → Type 0) (accepted : Bool) (a b c : Self) (cause : Cause)
+        → keeps Is true a b → keeps Is accepted b c → is_honest c → fails Is b c cause → fails Is a c cause };
 
     ghost fails_so: { (Is Are : State → Write → Type 0) (a b : Self) (cause : Cause)
         → ((held : State) (write : Write) → Is held write → Are held write) → fails Is a b cause
@@ -61,7 +68,7 @@ pub trait Rows {
         ensures caused { is_honest self.new
             → IfErr result (IsCaused (fails (λ _ _. ⊥) self.old self.new)) }
         ensures was_honest { is_honest self.new → is_honest self.old }
-        ensures kept { keeps (is_ok result) self.old self.new };
+        ensures kept { keeps (λ _ _. ⊥) (is_ok result) self.old self.new };
 
     /// The row of a declared table under a key, and none where no row has the key.
     fn get(&mut self, alloc: Global, table: &str, key: &Key) -> Result<Option<Row>, StoreError>
@@ -74,7 +81,7 @@ pub trait Rows {
         ensures caused { is_honest self.new
             → IfErr result (IsCaused (fails (λ _ _. ⊥) self.old self.new)) }
         ensures was_honest { is_honest self.new → is_honest self.old }
-        ensures kept { keeps (is_ok result) self.old self.new };
+        ensures kept { keeps (λ _ _. ⊥) (is_ok result) self.old self.new };
 
     /// Puts the row at its key in a declared table that it fits, in place of the row there.
     fn put(&mut self, alloc: Global, table: &str, key: &Key, row: &Row) -> Result<(), StoreError>
@@ -83,9 +90,10 @@ pub trait Rows {
             ≡ with_row (state self.old) table.now key.now row.now) }
         ensures named { IfErr result IsResource }
         ensures caused { is_honest self.new → IfErr result (IsCaused (fails
-            (λ held write. (held ≡ state self.old) × (write ≡ puts table.now key.now row.now)) self.old self.new)) }
+            (λ held write. (held ≡ state self.old) × (write ≡ puts_row table.now key.now row.now)) self.old self.new)) }
         ensures was_honest { is_honest self.new → is_honest self.old }
-        ensures kept { keeps (is_ok result) self.old self.new };
+        ensures kept { keeps (λ held write. (held ≡ state self.old) × (write ≡ puts_row table.now key.now row.now))
+            (is_ok result) self.old self.new };
 
     /// Removes the row under a key of a declared table, if there is one.
     fn remove(&mut self, alloc: Global, table: &str, key: &Key) -> Result<(), StoreError>
@@ -94,9 +102,10 @@ pub trait Rows {
             ≡ without_row (state self.old) table.now key.now) }
         ensures named { IfErr result IsResource }
         ensures caused { is_honest self.new → IfErr result (IsCaused (fails
-            (λ held write. (held ≡ state self.old) × (write ≡ removes table.now key.now)) self.old self.new)) }
+            (λ held write. (held ≡ state self.old) × (write ≡ removes_row table.now key.now)) self.old self.new)) }
         ensures was_honest { is_honest self.new → is_honest self.old }
-        ensures kept { keeps (is_ok result) self.old self.new };
+        ensures kept { keeps (λ held write. (held ≡ state self.old) × (write ≡ removes_row table.now key.now))
+            (is_ok result) self.old self.new };
 
     /// All rows of a declared table by the bytes of their keys, the smallest first.
     fn list(&mut self, alloc: Global, table: &str) -> Result<Vec<Row>, StoreError>
@@ -109,5 +118,5 @@ pub trait Rows {
         ensures caused { is_honest self.new
             → IfErr result (IsCaused (fails (λ _ _. ⊥) self.old self.new)) }
         ensures was_honest { is_honest self.new → is_honest self.old }
-        ensures kept { keeps (is_ok result) self.old self.new };
+        ensures kept { keeps (λ _ _. ⊥) (is_ok result) self.old self.new };
 }

@@ -7,7 +7,7 @@ use Rattle.cs_entries.specs.declared.entry.Change.{Change}
 use Rattle.cs_wire.specs.Changeset.{HeaderData}
 use Rattle.cs_wire.specs.Items.{FlaggedEntry}
 use Rattle.cs_rows.specs.declared.fault.StoreError.TheVariants.{DamagedStore}
-use Rattle.cs_rows.specs.Rows.{Write, puts, removes}
+use Rattle.cs_rows.specs.Rows.{Write, puts_row, removes_row}
 use Rattle.cs_group.specs.declared.conflict.Kind.{Kind}
 use Rattle.cs_group.specs.declared.conflict.Choice.{Choice}
 use Rattle.cs_group.specs.declared.conflict.Choice.TheVariants as choice
@@ -159,8 +159,8 @@ with_result state table key (Some row) = with_row state table key row
 
 -- so the row is put, or removed
 abbrev pub write_of : List ℕ → List ℕ → Option (List OwnedValue) → Write
-write_of table key None = removes table key
-write_of table key (Some row) = puts table key row
+write_of table key None = removes_row table key
+write_of table key (Some row) = puts_row table key row
 
 -- that is the write, with the tables as they were
 abbrev pub IsResultWrite : State → List ℕ → List ℕ → Option (List OwnedValue) → State → Write → Type 0

@@ -4,17 +4,17 @@ use Rattle.cs_value.specs.State.{State, row_at}
 use Rattle.cs_entries.specs.declared.entry.Entry.{Entry}
 use Rattle.cs_wire.specs.Entry.{key_of}
 use Rattle.cs_wire.specs.Changeset.{HeaderData, GroupData}
-use Rattle.cs_rows.specs.Rows.{Write, puts, removes}
+use Rattle.cs_rows.specs.Rows.{Write, puts_row, removes_row}
 use Rattle.cs_group.specs.Conflicts.{row_after}
 use Rattle.cs_run.specs.declared.running.Direction.{Direction}
 use Rattle.cs_run.specs.Running.{IsReadAs}
 
 -- the entry of a table puts what it leaves of the row with its key, or removes that row
 abbrev pub IsEntryWrite : HeaderData → Entry → State → Write → Type 0
-IsEntryWrite header entry held (puts name key row) =
+IsEntryWrite header entry held (puts_row name key row) =
     (name ≡ header.name) × (key ≡ key_of header.flags entry.change)
     × (row_after header.flags entry.change (row_at held name key) ≡ Some row)
-IsEntryWrite header entry held (removes name key) =
+IsEntryWrite header entry held (removes_row name key) =
     (name ≡ header.name) × (key ≡ key_of header.flags entry.change)
     × (row_after header.flags entry.change (row_at held name key) ≡ None)
 

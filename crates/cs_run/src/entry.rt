@@ -78,7 +78,8 @@ pub(crate) fn apply_entry<B: Rows, H: Fn(&Conflict) -> Choice>(
     ensures caused { B.is_honest rows.new → IfErr result (IsCaused (B.fails
         (IsEntryWrite (header_in (rc_str_bytes table.now) entry.now) entry.now.entry) rows.old rows.new)) }
     ensures was_honest { B.is_honest rows.new → B.is_honest rows.old }
-    ensures kept { B.keeps (is_ok result) rows.old rows.new }
+    ensures kept { B.keeps (IsEntryWrite (header_in (rc_str_bytes table.now) entry.now) entry.now.entry)
+        (is_ok result) rows.old rows.new }
 {
     let name = table.as_str();
     let key = entry.key(alloc)?;
@@ -218,7 +219,10 @@ fn carry_out<B: Rows>(
         (IsResultWrite (B.state rows.old) (rc_str_bytes table.now) key
         (row_of_change entry.now.flags entry.now.entry.change current)) rows.old rows.new)) }
     ensures was_honest { B.is_honest rows.new → B.is_honest rows.old }
-    ensures kept { B.keeps (is_ok result) rows.old rows.new }
+    ensures kept { B.keeps
+        (IsResultWrite (B.state rows.old) (rc_str_bytes table.now) key
+        (row_of_change entry.now.flags entry.now.entry.change current))
+        (is_ok result) rows.old rows.new }
 {
     write(alloc, rows, table.as_str(), entry, &key, current.as_ref())?;
     written.note(table, key, current)?;
@@ -249,7 +253,10 @@ fn write<B: Rows>(
         (row_of_change entry.now.flags entry.now.entry.change (option_map (λ r. r.now) current.entry)))
         rows.old rows.new)) }
     ensures was_honest { B.is_honest rows.new → B.is_honest rows.old }
-    ensures kept { B.keeps (is_ok result) rows.old rows.new }
+    ensures kept { B.keeps
+        (IsResultWrite (B.state rows.old) table.now key.now
+        (row_of_change entry.now.flags entry.now.entry.change (option_map (λ r. r.now) current.entry)))
+        (is_ok result) rows.old rows.new }
 {
     match row_after(alloc, entry, current)? {
         Some(row) => rows.put(alloc, table, key, &row)?,

@@ -28,7 +28,7 @@ pub(crate) fn judge_table<B: Rows>(
     ensures named { IfErr result IsStoreRefusal }
     ensures caused { B.is_honest rows.new → IfErr result (IsCaused (B.fails (λ _ _. ⊥) rows.old rows.new)) }
     ensures was_honest { B.is_honest rows.new → B.is_honest rows.old }
-    ensures kept { B.keeps (is_ok result) rows.old rows.new }
+    ensures kept { B.keeps (λ _ _. ⊥) (is_ok result) rows.old rows.new }
 {
     match rows.schema(alloc, header.name)? {
         None => Ok((judge(header.flags, None), Vec::new(alloc))),

@@ -45,7 +45,8 @@ pub fn run_changeset_in<B: Rows, H: Fn(&Conflict) -> Choice>(
     ensures caused { B.is_honest rows.new → IfErr result (IsCaused
         (B.fails (IsRunWrite (directed_groups direction changeset.now)) rows.old rows.new)) }
     ensures was_honest { B.is_honest rows.new → B.is_honest rows.old }
-    ensures kept { B.keeps (is_ok result) rows.old rows.new }
+    ensures kept { B.keeps (IsRunWrite (directed_groups direction changeset.now))
+        (is_ok result) rows.old rows.new }
 {
     let written = Writings::Listed(Vec::new(alloc));
     let mut run = Run::new(alloc, Noop::Report, written)?;
@@ -81,7 +82,8 @@ fn take_group<B: Rows, H: Fn(&Conflict) -> Choice>(
     ensures caused { B.is_honest rows.new → IfErr result (IsCaused
         (B.fails (IsGroupWrite (directed_group direction group.now)) rows.old rows.new)) }
     ensures was_honest { B.is_honest rows.new → B.is_honest rows.old }
-    ensures kept { B.keeps (is_ok result) rows.old rows.new }
+    ensures kept { B.keeps (IsGroupWrite (directed_group direction group.now))
+        (is_ok result) rows.old rows.new }
 {
     let header = HeaderRef {
         name: group.header().name(),

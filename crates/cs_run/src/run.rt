@@ -86,7 +86,7 @@ impl Run {
         ensures named { IfErr result IsStoreRefusal }
         ensures caused { B.is_honest rows.new → IfErr result (IsCaused (B.fails (λ _ _. ⊥) rows.old rows.new)) }
         ensures was_honest { B.is_honest rows.new → B.is_honest rows.old }
-        ensures kept { B.keeps (is_ok result) rows.old rows.new }
+        ensures kept { B.keeps (λ _ _. ⊥) (is_ok result) rows.old rows.new }
     {
         (self.judgement, self.refuses) = judge_table(alloc, rows, &header)?;
         self.table = RcStr::from_str(alloc, header.name)?;
@@ -145,7 +145,9 @@ impl Run {
         ensures caused { B.is_honest rows.new → IfErr result (IsCaused (B.fails
             (IsEntryWrite (header_in (rc_str_bytes self.old.table) entry.entry) entry.entry.entry) rows.old rows.new)) }
         ensures was_honest { B.is_honest rows.new → B.is_honest rows.old }
-        ensures kept { B.keeps (is_ok result) rows.old rows.new }
+        ensures kept { B.keeps
+            (IsEntryWrite (header_in (rc_str_bytes self.old.table) entry.entry) entry.entry.entry)
+            (is_ok result) rows.old rows.new }
     {
         if !self.takes_entries() {
             return Ok(());

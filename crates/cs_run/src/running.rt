@@ -72,7 +72,7 @@ pub fn run_in<B: Rows, H: Fn(&Conflict) -> Choice>(
     ensures caused { B.is_honest rows.new → IfErr result (IsCaused
         (B.fails (IsFileWrite direction file.now) rows.old rows.new)) }
     ensures was_honest { B.is_honest rows.new → B.is_honest rows.old }
-    ensures kept { B.keeps (is_ok result) rows.old rows.new }
+    ensures kept { B.keeps (IsFileWrite direction file.now) (is_ok result) rows.old rows.new }
     ensures leaves { (held : State) → B.leaves_only rows.old held → B.leaves_only rows.new held }
 {
     let written = Writings::Listed(Vec::new(alloc));
@@ -107,7 +107,7 @@ pub fn tally_in<B: Rows, H: Fn(&Conflict) -> Choice>(
     ensures caused { B.is_honest rows.new → IfErr result (IsCaused
         (B.fails (IsFileWrite direction file.now) rows.old rows.new)) }
     ensures was_honest { B.is_honest rows.new → B.is_honest rows.old }
-    ensures kept { B.keeps (is_ok result) rows.old rows.new }
+    ensures kept { B.keeps (IsFileWrite direction file.now) (is_ok result) rows.old rows.new }
     ensures leaves { (held : State) → B.leaves_only rows.old held → B.leaves_only rows.new held }
 {
     let mut tables = Tables::read(alloc, file)?;
@@ -164,7 +164,10 @@ fn take_table<B: Rows, H: Fn(&Conflict) -> Choice>(
         → AreLeft tables.old entries others → IfErr result (IsCaused (B.fails
         (IsGroupWrite (directed_group direction (group_of (header_of header.entry) entries))) rows.old rows.new)) }
     ensures was_honest { B.is_honest rows.new → B.is_honest rows.old }
-    ensures kept { B.keeps (is_ok result) rows.old rows.new }
+    ensures kept { (entries : List EntryData) (others : List GroupData)
+        → AreLeft tables.old entries others
+        → B.keeps (IsGroupWrite (directed_group direction (group_of (header_of header.entry) entries)))
+        (is_ok result) rows.old rows.new }
 {
     run.take_table(alloc, rows, header)?;
     'entries: while let Some(entry) = tables.next_entry() {

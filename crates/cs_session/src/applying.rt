@@ -139,7 +139,7 @@ fn apply_rows<B: Rows, H: Fn(&Conflict) -> Choice>(
     ensures caused { B.is_honest rows.new → IfErr result (IsCaused
         (B.fails (IsFileWrite ForwardRun file.now) rows.old rows.new)) }
     ensures was_honest { B.is_honest rows.new → B.is_honest rows.old }
-    ensures kept { B.keeps (is_ok result) rows.old rows.new }
+    ensures kept { B.keeps (IsFileWrite ForwardRun file.now) (is_ok result) rows.old rows.new }
 {
     check_tables(alloc, rows, tables.as_slice())?;
     let report = run_in(alloc, rows, file, Direction::Forward, noop, handler)?;

@@ -38,7 +38,7 @@ pub(crate) fn net_changeset<B: Rows>(
     ensures named { IfErr result IsChangesRefusal }
     ensures caused { B.is_honest rows.new → IfErr result (IsCaused (B.fails (λ _ _. ⊥) rows.old rows.new)) }
     ensures was_honest { B.is_honest rows.new → B.is_honest rows.old }
-    ensures kept { B.keeps (is_ok result) rows.old rows.new }
+    ensures kept { B.keeps (λ _ _. ⊥) (is_ok result) rows.old rows.new }
 {
     check_tables(alloc, rows, tables)?;
     let mut changeset = Changeset::new(alloc);
@@ -66,7 +66,7 @@ fn table_changes<B: Rows>(
     ensures named { IfErr result IsChangesRefusal }
     ensures caused { B.is_honest rows.new → IfErr result (IsCaused (B.fails (λ _ _. ⊥) rows.old rows.new)) }
     ensures was_honest { B.is_honest rows.new → B.is_honest rows.old }
-    ensures kept { B.keeps (is_ok result) rows.old rows.new }
+    ensures kept { B.keeps (λ _ _. ⊥) (is_ok result) rows.old rows.new }
 {
     let entries = table_entries(alloc, rows, table)?;
     if entries.is_empty() {
@@ -95,7 +95,7 @@ fn table_entries<B: Rows>(
     ensures named { IfErr result IsChangesRefusal }
     ensures caused { B.is_honest rows.new → IfErr result (IsCaused (B.fails (λ _ _. ⊥) rows.old rows.new)) }
     ensures was_honest { B.is_honest rows.new → B.is_honest rows.old }
-    ensures kept { B.keeps (is_ok result) rows.old rows.new }
+    ensures kept { B.keeps (λ _ _. ⊥) (is_ok result) rows.old rows.new }
 {
     let mut entries = Vec::new(alloc);
     for (key, row) in table.firsts.iter() {
@@ -128,7 +128,7 @@ fn row_change<B: Rows>(
     ensures named { IfErr result IsChangesRefusal }
     ensures caused { B.is_honest rows.new → IfErr result (IsCaused (B.fails (λ _ _. ⊥) rows.old rows.new)) }
     ensures was_honest { B.is_honest rows.new → B.is_honest rows.old }
-    ensures kept { B.keeps (is_ok result) rows.old rows.new }
+    ensures kept { B.keeps (λ _ _. ⊥) (is_ok result) rows.old rows.new }
 {
     let row = rows.get(alloc, table.name.as_str(), key)?;
     let flags = table.schema.flags();

@@ -27,7 +27,7 @@ pub(crate) fn check_tables<B: Rows>(
     ensures named { IfErr result IsChangesRefusal }
     ensures caused { B.is_honest rows.new → IfErr result (IsCaused (B.fails (λ _ _. ⊥) rows.old rows.new)) }
     ensures was_honest { B.is_honest rows.new → B.is_honest rows.old }
-    ensures kept { B.keeps (is_ok result) rows.old rows.new }
+    ensures kept { B.keeps (λ _ _. ⊥) (is_ok result) rows.old rows.new }
 {
     for table in tables {
         check_table(alloc, rows, table)?;
@@ -51,7 +51,7 @@ pub(crate) fn check_named<B: Rows>(
     ensures named { IfErr result IsChangesRefusal }
     ensures caused { B.is_honest rows.new → IfErr result (IsCaused (B.fails (λ _ _. ⊥) rows.old rows.new)) }
     ensures was_honest { B.is_honest rows.new → B.is_honest rows.old }
-    ensures kept { B.keeps (is_ok result) rows.old rows.new }
+    ensures kept { B.keeps (λ _ _. ⊥) (is_ok result) rows.old rows.new }
 {
     match tables.place_of(name) {
         None => Ok(()),
@@ -71,7 +71,7 @@ pub(crate) fn check_table<B: Rows>(
     ensures named { IfErr result IsChangesRefusal }
     ensures caused { B.is_honest rows.new → IfErr result (IsCaused (B.fails (λ _ _. ⊥) rows.old rows.new)) }
     ensures was_honest { B.is_honest rows.new → B.is_honest rows.old }
-    ensures kept { B.keeps (is_ok result) rows.old rows.new }
+    ensures kept { B.keeps (λ _ _. ⊥) (is_ok result) rows.old rows.new }
 {
     match rows.schema(alloc, table.name.as_str())? {
         Some(schema) if is_same(&schema, &table.schema) => Ok(()),

@@ -128,7 +128,7 @@ fn edit_rows<B: Rows>(
     ensures caused { B.is_honest rows.new → IfErr result (IsCaused
         (B.fails (IsWriteOf (B.state rows.old) edit.now) rows.old rows.new)) }
     ensures was_honest { B.is_honest rows.new → B.is_honest rows.old }
-    ensures kept { B.keeps (is_ok result) rows.old rows.new }
+    ensures kept { B.keeps (IsWriteOf (B.state rows.old) edit.now) (is_ok result) rows.old rows.new }
 {
     check_named(alloc, rows, tables, edited_table(edit))?;
     let written = edit_in(alloc, rows, edit)?;

@@ -34,7 +34,9 @@ pub(crate) fn undo_rows<B: Rows>(
         (directed InverseRun (recorded_changes (map attached_of tables.now) (B.state rows.old))))
         rows.old rows.new)) }
     ensures was_honest { B.is_honest rows.new → B.is_honest rows.old }
-    ensures kept { B.keeps (is_ok result) rows.old rows.new }
+    ensures kept { B.keeps
+        (IsRunWrite (directed InverseRun (recorded_changes (map attached_of tables.now) (B.state rows.old))))
+        (is_ok result) rows.old rows.new }
 {
     changeset_files_law();
     let changeset = net_changeset(alloc, rows, tables)?;

@@ -1,5 +1,5 @@
 -- For which causes a call fails that begins and ends its own batch.
-use Rattle.std.proofs.Common.{◌≡◌, ◌≤◌, inl, inr, true, true≢false, Result, Ok, Err, OnOk, sym, subst, ◌∙◌}
+use Rattle.std.proofs.Common.{◌≡◌, ◌≤◌, inl, inr, true, IsTrue, true≢false, Result, Ok, Err, OnOk, sym, subst, ◌∙◌}
 use Rattle.std.specs.Result.{is_ok}
 use Rattle.sqlite.specs.Effect.{Database}
 use Rattle.sqlite.specs.State.{State, HasCleanDisk}
@@ -10,8 +10,8 @@ use Rattle.cs_records.specs.Failing.{Statement, LeadsTo, itself}
 use Rattle.cs_records.specs.Records.{KeepsCrash}
 use Rattle.cs_records.proofs.ContentLemmas.{crash_then}
 use Rattle.cs_records.proofs.ReadFailures.{read_to}
-use Rattle.cs_access.specs.Failing.{BatchFails, BeginFails, CallFails, CommitFails, StoreFails}
-use Rattle.cs_access.specs.Store.{Begins, KeepsStore, LeadsOn}
+use Rattle.cs_access.specs.Failing.{IsMade, BatchFails, BeginFails, CallFails, CommitFails, StoreFails}
+use Rattle.cs_access.specs.Store.{Begins, KeepsStore}
 use Rattle.cs_access.specs.Laws.{call_then, disk_then, was_clean}
 
 -- what an accepted call answers
@@ -42,13 +42,13 @@ module _ (Is : tables.State → Statement → Type 0) (old begun mid last : Stat
       at : BatchFails Is begun mid why → StoreFails Is old last why
       at (inl (outside, other)) = absurd (true≢false (sym began.shown.mode ∙ outside))
       at (inr (e, other, fails, is)) =
-          let leads = subst (λ (db : Database). LeadsTo old.step_limit old.now db) (sym began.shown.now_is) itself in
+          let leads = subst (λ (db : Database). LeadsTo (IsMade Is) old.step_limit old.now db) (sym began.shown.now_is) itself in
           (e, other, inr (longer e (call_then Is old begun mid starts was keeps.crash leads e fails)), is)
 
   -- its commit fails
-  pub commit_fails : HasCleanDisk mid → mid.faults ≤ last.faults → LeadsOn begun mid → (why : Cause) → CommitFails mid last why → StoreFails Is old last why
-  commit_fails clean counts leads why (e, other, inl (outside, misplaced), is) =
+  pub commit_fails : HasCleanDisk mid → mid.faults ≤ last.faults → (IsTrue begun.in_transaction → IsTrue mid.in_transaction) → (why : Cause) → CommitFails mid last why → StoreFails Is old last why
+  commit_fails clean counts stays why (e, other, inl (outside, misplaced), is) =
       let began = begins (was_clean begun mid keeps.crash clean) in
-      absurd (true≢false (sym (leads.inside began.shown.mode) ∙ outside))
-  commit_fails clean counts leads why (e, other, inr failed, is) =
+      absurd (true≢false (sym (stays began.shown.mode) ∙ outside))
+  commit_fails clean counts stays why (e, other, inr failed, is) =
       (e, other, inr (inl (inl (disk_then old mid last e (crash_then old begun mid starts keeps.crash) clean counts failed))), is)

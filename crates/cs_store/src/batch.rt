@@ -5,11 +5,11 @@ ghost use Rattle.sqlite.specs.Held.{state};
 ghost use Rattle.cs_value.specs.Table.{IsName};
 ghost use Rattle.cs_rows.specs.declared.fault.StoreError.TheVariants.{TableExists as TakenName};
 ghost use Rattle.cs_rows.specs.Faults.{IsCaused, IsResource, IsReadRefusal};
-ghost use Rattle.cs_access.specs.Failing.{BatchFails, CommitFails, IsDeclarationOf};
+ghost use Rattle.cs_access.specs.Failing.{BatchFails, CommitFails, IsDeclarationOf, LeadsOn};
 ghost use Rattle.cs_rows.specs.Rows.{IsDeclared};
 ghost use Rattle.cs_records.specs.Records.{IsUndone, KeepsCrash, KeepsOthers};
 ghost use Rattle.cs_access.specs.Crash.{IsAtomic, LeavesOnly};
-ghost use Rattle.cs_access.specs.Store.{AddsTable, Ends, IsInside, KeepsStore, LeadsOn, tables_in};
+ghost use Rattle.cs_access.specs.Store.{AddsTable, Ends, IsInside, KeepsStore, tables_in};
 
 use crate::store::Store;
 use cs_access::{commit, refused};
@@ -39,12 +39,13 @@ impl<S: Alter> SqlBatch<'_, S> {
         ensures refused { HasCleanDisk (state S.Store self.new.store.now) → IfErr result (λ e. ((e ≡ TakenName)
             × IsDeclared (tables_in (state S.Store self.old.store.now).now) name.now) ⊎ IsResource e) }
         ensures caused { HasCleanDisk (state S.Store self.new.store.now)
-            → IfErr result (IsCaused (BatchFails (IsDeclarationOf name.now schema.now) (state S.Store self.old.store.now)
-            (state S.Store self.new.store.now))) }
+            → IfErr result (IsCaused (BatchFails (IsDeclarationOf (tables_in (state S.Store self.old.store.now).now) name.now schema.now)
+            (state S.Store self.old.store.now) (state S.Store self.new.store.now))) }
         ensures named { IfErr result (λ e. (e ≡ TakenName) ⊎ IsReadRefusal e) }
         ensures same_reference { self.new.store.ghost_name ≡ self.old.store.ghost_name }
         ensures leads { HasCleanDisk (state S.Store self.new.store.now)
-            → OnOk result (LeadsOn (state S.Store self.old.store.now) (state S.Store self.new.store.now)) }
+            → OnOk result (LeadsOn (IsDeclarationOf (tables_in (state S.Store self.old.store.now).now) name.now schema.now)
+            (state S.Store self.old.store.now) (state S.Store self.new.store.now)) }
         ensures kept { KeepsStore (state S.Store self.old.store.now) (state S.Store self.new.store.now) }
     {
         let store = &mut *self.store;
@@ -100,33 +101,40 @@ impl<S: Alter> Rows for SqlBatch<'_, S> {
     ghost use Rattle.sqlite.specs.State.{HasCleanDisk};
     ghost use Rattle.sqlite.specs.Held.{state as shown};
     ghost use Rattle.cs_access.specs.Crash.{LeavesOnly};
-    ghost use Rattle.cs_access.specs.Failing.{BatchFails, Writes};
-    ghost use Rattle.cs_access.specs.Store.{KeepsStore, LeadsOn, tables_in};
+    ghost use Rattle.cs_access.specs.Failing.{BatchFails, LeadsOn, Writes};
+    ghost use Rattle.cs_access.specs.Store.{KeepsStore, tables_in};
     ghost use Rattle.cs_access.specs.Laws as laws;
 
     ghost state = { λ b. tables_in (shown S.Store b.store.now).now };
 
     ghost is_honest = { λ b. HasCleanDisk (shown S.Store b.store.now) };
 
-    ghost keeps = { λ accepted a b. (b.store.ghost_name ≡ a.store.ghost_name)
+    ghost keeps = { λ Is accepted a b. (b.store.ghost_name ≡ a.store.ghost_name)
         × KeepsStore (shown S.Store a.store.now) (shown S.Store b.store.now)
         × (accepted ≡ true → HasCleanDisk (shown S.Store b.store.now)
-        → LeadsOn (shown S.Store a.store.now) (shown S.Store b.store.now)) };
+        → LeadsOn (Writes Is) (shown S.Store a.store.now) (shown S.Store b.store.now)) };
 
-    ghost keeps_itself = { λ b. (refl, laws.keeps_itself, λ accepted clean. laws.leads_itself) };
+    ghost keeps_itself = { λ Is b. (refl, laws.keeps_itself, λ accepted clean. laws.leads_itself) };
 
-    ghost keeps_then = { λ accepted a b c one two. (
+    ghost keeps_then = { λ Is accepted a b c one two. (
       two.0 ∙ one.0,
       laws.keeps_then one.1 two.1,
       λ is clean. laws.leads_on_then one.1.crash (one.2 refl (laws.was_clean (shown S.Store b.store.now)
           (shown S.Store c.store.now) two.1.crash clean)) (two.2 is clean),
     ) };
 
-    ghost keeps_either = { λ accepted a b one. (one.0, one.1, λ is clean. one.2 refl clean) };
+    ghost keeps_refused = { λ Is accepted a b one. (one.0, one.1, λ is clean. one.2 refl clean) };
+
+    ghost keeps_so = { λ Is Are accepted a b so kept. (
+      kept.0,
+      kept.1,
+      λ is clean. laws.writes_so Is Are
+          (λ held write. so held write clean) (kept.2 is clean),
+    ) };
 
     ghost leaves_only = { λ b held. LeavesOnly (λ left. left ≡ held) (shown S.Store b.store.now) };
 
-    ghost leaves_still = { λ accepted a b held kept leaves. laws.leaves_then kept.1 leaves };
+    ghost leaves_still = { λ Is accepted a b held kept leaves. laws.leaves_then kept.1 leaves };
 
     ghost fails = { λ Is a b. BatchFails (Writes Is) (shown S.Store a.store.now) (shown S.Store b.store.now) };
 

@@ -243,8 +243,8 @@ impl<S: Alter> Store<S> {
             (λ e. (held : tables.State) → Declares held name.now (schema_of columns.now keys.now refuses.now) (Err e)
             ⊎ IsResource e) result }
         ensures caused { HasCleanDisk (state S.Store self.new) → IfErr result (IsCaused (StoreFails
-            (IsDeclarationOf name.now (schema_of columns.now keys.now refuses.now)) (state S.Store self.old)
-            (state S.Store self.new))) }
+            (IsDeclarationOf (tables_in (state S.Store self.old).now) name.now
+            (schema_of columns.now keys.now refuses.now)) (state S.Store self.old) (state S.Store self.new))) }
         ensures named { IfErr result (λ e. (e ≡ NoSchema) ⊎ (e ≡ TakenName) ⊎ IsReadRefusal e) }
         ensures at_rest { HasCleanDisk (state S.Store self.new) → OnOk result (IsAtRest (state S.Store self.new)) }
         ensures others { HasCleanDisk (state S.Store self.new)

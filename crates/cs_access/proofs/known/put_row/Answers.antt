@@ -1,4 +1,4 @@
--- `known::put_row`: the clauses `refused`, `caused`, `knows` and `kept`.
+-- `known::put_row`: the clauses `refused`, `caused`, `leads`, `knows` and `kept`.
 use Rattle.std.proofs.Common.{ap, inr, Option}
 use Rattle.std.specs.Option.{is_some}
 use Rattle.std.specs.FinMap.{insert}
@@ -11,7 +11,7 @@ use Rattle.cs_access.specs.Laws.{was_clean}
 use Rattle.cs_records.proofs.ContentLemmas.{in_transaction}
 use Rattle.cs_access.proofs.WriteLemmas.{shows_state}
 use Rattle.cs_access.proofs.KnownLemmas.{known_free, knows_written}
-use Rattle.cs_access.proofs.FailureLemmas.{so_caused}
+use Rattle.cs_access.proofs.FailureLemmas.{put_leads, so_caused}
 use Rattle.cs_access.proofs.known.put_row.Goals as goal
 
 pub returns-in-Ok-clause-knows : goal.returns-in-Ok-clause-knows
@@ -41,3 +41,8 @@ returns-then-is_autocommit-clause-refused g c = inr (refused_for cause.Other)
 pub returns-in-Err-clause-caused : goal.returns-in-Err-clause-caused
 returns-in-Err-clause-caused g c clean =
     so_caused _ _ c.in-Err.error (λ why fails. inr (c.is_free-is_new.result, fails)) (c.in-Err.ensures.caused c.requires.sound (in_transaction _ c.if-is_autocommit.ensures.value) clean)
+
+pub returns-in-Ok-clause-leads : goal.returns-in-Ok-clause-leads
+returns-in-Ok-clause-leads g c clean =
+    put_leads (state g.S.Store c.args.conn.now) (state g.S.Store c.put_row.new.conn) c.is_free-is_new.result c.args.name.now c.args.key.now c.args.row.now
+    (c.in-Ok.ensures.leads c.requires.sound (in_transaction _ c.if-is_autocommit.ensures.value) clean)

@@ -1,4 +1,4 @@
--- `known::remove_row`: the clauses `refused`, `caused`, `knows` and `kept`.
+-- `known::remove_row`: the clauses `refused`, `caused`, `leads`, `knows` and `kept`.
 use Rattle.std.proofs.Common.{inr}
 use Rattle.std.specs.FinMap.{remove}
 use Rattle.sqlite.specs.Held.{state}
@@ -9,7 +9,7 @@ use Rattle.cs_access.specs.Store.{tables_in}
 use Rattle.cs_access.specs.Laws.{was_clean}
 use Rattle.cs_records.proofs.ContentLemmas.{in_transaction}
 use Rattle.cs_access.proofs.KnownLemmas.{knows_written}
-use Rattle.cs_access.proofs.FailureLemmas.{so_caused}
+use Rattle.cs_access.proofs.FailureLemmas.{remove_leads, so_caused}
 use Rattle.cs_access.proofs.known.remove_row.Goals as goal
 
 pub returns-in-Ok-clause-knows : goal.returns-in-Ok-clause-knows
@@ -33,3 +33,8 @@ returns-then-is_autocommit-clause-refused g c = inr (refused_for cause.Other)
 pub returns-in-Err-clause-caused : goal.returns-in-Err-clause-caused
 returns-in-Err-clause-caused g c clean =
     so_caused _ _ c.in-Err.error (λ why fails. inr fails) (c.in-Err.ensures.caused c.requires.sound (in_transaction _ c.if-is_autocommit.ensures.value) clean)
+
+pub returns-in-Ok-clause-leads : goal.returns-in-Ok-clause-leads
+returns-in-Ok-clause-leads g c clean =
+    remove_leads (state g.S.Store c.args.conn.now) (state g.S.Store c.remove_row.new.conn) c.args.name.now c.args.key.now
+    (c.in-Ok.ensures.leads c.requires.sound (in_transaction _ c.if-is_autocommit.ensures.value) clean)

@@ -1,5 +1,5 @@
 -- `tables::put_row`: the clauses `put`, `caused`, `leads` and `kept`.
-use Rattle.std.proofs.Common.{◌≡◌, Some, rules}
+use Rattle.std.proofs.Common.{◌≡◌, Some, refl, rules}
 use Rattle.cs_access.proofs.FailureLemmas.{caused_write, apt, declared, write_leads}
 use Rattle.cs_records.specs.Failing.{puts}
 use Rattle.sqlite.specs.Held.{state}
@@ -47,5 +47,9 @@ returns-clause-leads g c sound inside clean =
     let old = state g.S.Store c.args.conn.now in
     let new = state g.S.Store c.put_record.new.conn in
     let h = c.put_record.ensures in
-    let holds = (shows_state old sound inside (h.was_clean clean)).records in
-    mapped _ c.put_record.result c.map_err.result _ c.map_err.ensures.cases (on_ok_both c.put_record.result _ _ _ (write_leads old new (puts c.args.is_new c.args.name.now c.bytes.result.now c.deref.result.now)) (h.ends clean holds) (h.goes_on clean holds inside))
+    let was = h.was_clean clean in
+    let holds = (shows_state old sound inside was).records in
+    let spelled : c.deref.result.now ≡ row_bytes c.args.row.now = search rules in
+    let made = apt old.now c.args.is_new c.args.name.now c.args.key.now (row_bytes c.args.row.now) (λ is. let it = c.requires.new is was in no_record old.now c.args.name.now c.args.key.now c.args.row.now it.0 (c.requires.fits was) it.1) in
+    mapped _ c.put_record.result c.map_err.result _ c.map_err.ensures.cases (on_ok_both c.put_record.result _ _ _
+    (write_leads _ old new (puts c.args.is_new c.args.name.now c.args.key.now (row_bytes c.args.row.now)) ((refl, refl), made)) (rw (c.bytes.ensures, spelled) at (h.ends clean holds)) (h.goes_on clean holds inside))

@@ -1,5 +1,5 @@
 -- `tables::put_table`: the clauses `declared`, `caused`, `leads` and `kept`.
-use Rattle.std.proofs.Common.{◌≡◌, Some, [], false, rules}
+use Rattle.std.proofs.Common.{◌≡◌, Some, [], false, refl, rules}
 use Rattle.cs_records.specs.Failing.{puts}
 use Rattle.sqlite.specs.Held.{state}
 use Rattle.cs_stored.specs.Declaration.{declaration_bytes}
@@ -40,4 +40,6 @@ returns-clause-leads g c sound inside clean =
     let new = state g.S.Store c.put_record.new.conn in
     let h = c.put_record.ensures in
     let holds = (shows_state old sound inside (h.was_clean clean)).records in
-    mapped _ c.put_record.result c.map_err.result _ c.map_err.ensures.cases (on_ok_both c.put_record.result _ _ _ (write_leads old new (puts false [] c.as_bytes.result.now c.deref.result.now)) (h.ends clean holds) (h.goes_on clean holds inside))
+    let spelled : c.deref.result.now ≡ declaration_bytes c.args.schema.now = search rules in
+    mapped _ c.put_record.result c.map_err.result _ c.map_err.ensures.cases (on_ok_both c.put_record.result _ _ _
+    (write_leads _ old new (puts false [] c.args.name.now (declaration_bytes c.args.schema.now)) ((refl, refl), tt)) (rw (c.as_bytes.ensures.value, spelled) at (h.ends clean holds)) (h.goes_on clean holds inside))

@@ -1,5 +1,5 @@
 -- `tables::remove_row`: the clauses `removed`, `caused`, `leads` and `kept`.
-use Rattle.std.proofs.Common.{None}
+use Rattle.std.proofs.Common.{None, refl}
 use Rattle.sqlite.specs.Held.{state}
 use Rattle.cs_access.proofs.WriteLemmas.{row_removed, mapped, on_ok_both, shows_state, written_is, written_keeps}
 use Rattle.cs_records.specs.Failing.{removes}
@@ -35,4 +35,5 @@ returns-clause-leads g c sound inside clean =
     let new = state g.S.Store c.remove_record.new.conn in
     let h = c.remove_record.ensures in
     let holds = (shows_state old sound inside (was_clean old new (returns-clause-kept g c sound inside).crash clean)).records in
-    mapped _ c.remove_record.result c.map_err.result _ c.map_err.ensures.cases (on_ok_both c.remove_record.result _ _ _ (write_leads old new (removes c.args.name.now c.bytes.result.now)) (h.ends clean holds) (h.goes_on clean holds inside))
+    mapped _ c.remove_record.result c.map_err.result _ c.map_err.ensures.cases (on_ok_both c.remove_record.result _ _ _
+    (write_leads _ old new (removes c.args.name.now c.args.key.now) ((refl, refl), tt)) (rw c.bytes.ensures at (h.ends clean holds)) (h.goes_on clean holds inside))

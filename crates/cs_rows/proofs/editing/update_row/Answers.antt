@@ -14,16 +14,30 @@ returns-in_err-schema-clause-caused g c = λ honest.
     caused_on c.from_residual.result _ _ c.in_err-schema.field-0.0 c.from_residual.ensures.1
     (λ why by. g.B.Rows.fails_so _ _ _ _ why (λ held write none. absurd none) by) (c.in_err-schema.ensures.caused honest)
 
+pub returns-in_err-schema-clause-kept : goal.returns-in_err-schema-clause-kept
+returns-in_err-schema-clause-kept g c =
+    let p = err_from_is_err_and c.from_residual.result c.from_residual.ensures.1 in
+    rw p.1 (g.B.Rows.keeps_so _ _ _ _ _ (λ held write h none. absurd none) c.in_err-schema.ensures.kept)
+
+pub returns-in_err-next-clause-kept : goal.returns-in_err-next-clause-kept
+returns-in_err-next-clause-kept g c =
+    let Is = IsUpdateOf (g.B.Rows.state c.args.rows.now) c.args.table.now c.args.key.now c.args.row.now in
+    g.B.Rows.keeps_refused Is _ _ _ (g.B.Rows.keeps_so _ Is _ _ _ (λ held write h none. absurd none) c.in_ok-schema.ensures.kept)
+
 pub returns-in_err-former-clause-caused : goal.returns-in_err-former-clause-caused
 returns-in_err-former-clause-caused g c = λ honest.
+    let Is = IsUpdateOf (g.B.Rows.state c.args.rows.now) c.args.table.now c.args.key.now c.args.row.now in
     caused_on c.from_residual-in_err-former.result _ _ c.in_err-former.field-0.0 c.from_residual-in_err-former.ensures.1
-    (λ why by. g.B.Rows.fails_then _ _ _ _ _ why c.in_ok-schema.ensures.kept c.in_err-former.ensures.kept honest
+    (λ why by. g.B.Rows.fails_then Is _ _ _ _ why (g.B.Rows.keeps_so _ Is _ _ _ (λ held write h none. absurd none) c.in_ok-schema.ensures.kept)
+    (g.B.Rows.keeps_so _ Is _ _ _ (λ held write h none. absurd none) c.in_err-former.ensures.kept) honest
     (g.B.Rows.fails_so _ _ _ _ why (λ held write none. absurd none) by)) (c.in_err-former.ensures.caused honest)
 
 pub returns-in_err-former-clause-kept : goal.returns-in_err-former-clause-kept
 returns-in_err-former-clause-kept g c =
+    let Is = IsUpdateOf (g.B.Rows.state c.args.rows.now) c.args.table.now c.args.key.now c.args.row.now in
     let p = err_from_is_err_and c.from_residual-in_err-former.result c.from_residual-in_err-former.ensures.1 in
-    rw p.1 (g.B.Rows.keeps_then _ _ _ _ c.in_ok-schema.ensures.kept c.in_err-former.ensures.kept)
+    rw p.1 (g.B.Rows.keeps_then Is _ _ _ _ (g.B.Rows.keeps_so _ Is _ _ _ (λ held write h none. absurd none) c.in_ok-schema.ensures.kept)
+    (g.B.Rows.keeps_so _ Is _ _ _ (λ held write h none. absurd none) c.in_err-former.ensures.kept))
 
 pub replace_row-requires : goal.replace_row-requires
 replace_row-requires g c = record {
@@ -38,18 +52,29 @@ replace_row-requires g c = record {
 
 pub returns-then-eq-clause-caused : goal.returns-then-eq-clause-caused
 returns-then-eq-clause-caused g c = λ honest.
+    let state = g.B.Rows.state c.args.rows.now in
+    let Is = IsUpdateOf (g.B.Rows.state c.args.rows.now) c.args.table.now c.args.key.now c.args.row.now in
+    let kept = g.B.Rows.keeps_then Is _ _ _ _ (g.B.Rows.keeps_so _ Is _ _ _ (λ held write h none. absurd none) c.in_ok-schema.ensures.kept)
+    (g.B.Rows.keeps_so _ Is _ _ _ (λ held write h none. absurd none) c.in_ok-former.ensures.kept) in
     let at = c.replace_row.ensures.was_honest honest in
     let before = c.in_ok-former.ensures.was_honest at in
     let same = c.in_ok-former.ensures.same at ∙ c.in_ok-schema.ensures.same before in
-    let kept = g.B.Rows.keeps_then _ _ _ _ c.in_ok-schema.ensures.kept c.in_ok-former.ensures.kept in
-    let state = g.B.Rows.state c.args.rows.now in
     caused_so c.replace_row.result _ _
-    (λ why by. g.B.Rows.fails_then _ _ _ _ _ why kept c.replace_row.ensures.kept honest
+    (λ why by. g.B.Rows.fails_then Is _ _ _ _ why kept
+    (g.B.Rows.keeps_so _ Is _ _ _ (λ held write h is. let put : IsPutOf state c.args.table.now c.args.row.now held write = subst (λ (s : State). IsPutOf s c.args.table.now c.args.row.now held write) same is in inl put) c.replace_row.ensures.kept) honest
     (g.B.Rows.fails_so _ _ _ _ why (λ held write is. let put : IsPutOf state c.args.table.now c.args.row.now held write = subst (λ (s : State). IsPutOf s c.args.table.now c.args.row.now held write) same is in inl put) by)) (c.replace_row.ensures.caused honest)
 
 pub returns-then-eq-clause-kept : goal.returns-then-eq-clause-kept
 returns-then-eq-clause-kept g c =
-    g.B.Rows.keeps_then _ _ _ _ (g.B.Rows.keeps_then _ _ _ _ c.in_ok-schema.ensures.kept c.in_ok-former.ensures.kept) c.replace_row.ensures.kept
+    let state = g.B.Rows.state c.args.rows.now in
+    let Is = IsUpdateOf (g.B.Rows.state c.args.rows.now) c.args.table.now c.args.key.now c.args.row.now in
+    let kept = g.B.Rows.keeps_then Is _ _ _ _ (g.B.Rows.keeps_so _ Is _ _ _ (λ held write h none. absurd none) c.in_ok-schema.ensures.kept)
+    (g.B.Rows.keeps_so _ Is _ _ _ (λ held write h none. absurd none) c.in_ok-former.ensures.kept) in
+    g.B.Rows.keeps_then Is _ _ _ _ kept (g.B.Rows.keeps_so _ Is _ _ _ (λ held write honest is.
+    let at = c.replace_row.ensures.was_honest honest in
+    let before = c.in_ok-former.ensures.was_honest at in
+    let same = c.in_ok-former.ensures.same at ∙ c.in_ok-schema.ensures.same before in
+    let put : IsPutOf state c.args.table.now c.args.row.now held write = subst (λ (s : State). IsPutOf s c.args.table.now c.args.row.now held write) same is in inl put) c.replace_row.ensures.kept)
 
 pub move_row-requires : goal.move_row-requires
 move_row-requires g c = record {
@@ -63,14 +88,26 @@ move_row-requires g c = record {
 
 pub returns-clause-caused : goal.returns-clause-caused
 returns-clause-caused g c = λ honest.
+    let state = g.B.Rows.state c.args.rows.now in
+    let Is = IsUpdateOf (g.B.Rows.state c.args.rows.now) c.args.table.now c.args.key.now c.args.row.now in
+    let kept = g.B.Rows.keeps_then Is _ _ _ _ (g.B.Rows.keeps_so _ Is _ _ _ (λ held write h none. absurd none) c.in_ok-schema.ensures.kept)
+    (g.B.Rows.keeps_so _ Is _ _ _ (λ held write h none. absurd none) c.in_ok-former.ensures.kept) in
     let at = c.move_row.ensures.was_honest honest in
     let before = c.in_ok-former.ensures.was_honest at in
     let same = c.in_ok-former.ensures.same at ∙ c.in_ok-schema.ensures.same before in
-    let kept = g.B.Rows.keeps_then _ _ _ _ c.in_ok-schema.ensures.kept c.in_ok-former.ensures.kept in
     caused_so c.move_row.result _ _
-    (λ why by. g.B.Rows.fails_then _ _ _ _ _ why kept c.move_row.ensures.kept honest
+    (λ why by. g.B.Rows.fails_then Is _ _ _ _ why kept
+    (g.B.Rows.keeps_so _ Is _ _ _ (λ held write h is. subst (λ (s : State). IsUpdateOf s c.args.table.now c.args.key.now c.args.row.now held write) same is) c.move_row.ensures.kept) honest
     (g.B.Rows.fails_so _ _ _ _ why (λ held write is. subst (λ (s : State). IsUpdateOf s c.args.table.now c.args.key.now c.args.row.now held write) same is) by)) (c.move_row.ensures.caused honest)
 
 pub returns-clause-kept : goal.returns-clause-kept
 returns-clause-kept g c =
-    g.B.Rows.keeps_then _ _ _ _ (g.B.Rows.keeps_then _ _ _ _ c.in_ok-schema.ensures.kept c.in_ok-former.ensures.kept) c.move_row.ensures.kept
+    let state = g.B.Rows.state c.args.rows.now in
+    let Is = IsUpdateOf (g.B.Rows.state c.args.rows.now) c.args.table.now c.args.key.now c.args.row.now in
+    let kept = g.B.Rows.keeps_then Is _ _ _ _ (g.B.Rows.keeps_so _ Is _ _ _ (λ held write h none. absurd none) c.in_ok-schema.ensures.kept)
+    (g.B.Rows.keeps_so _ Is _ _ _ (λ held write h none. absurd none) c.in_ok-former.ensures.kept) in
+    g.B.Rows.keeps_then Is _ _ _ _ kept (g.B.Rows.keeps_so _ Is _ _ _ (λ held write honest is.
+    let at = c.move_row.ensures.was_honest honest in
+    let before = c.in_ok-former.ensures.was_honest at in
+    let same = c.in_ok-former.ensures.same at ∙ c.in_ok-schema.ensures.same before in
+    subst (λ (s : State). IsUpdateOf s c.args.table.now c.args.key.now c.args.row.now held write) same is) c.move_row.ensures.kept)

@@ -9,6 +9,7 @@ use Rattle.cs_value.proofs.StateLemmas.{table_of_schema}
 use Rattle.cs_group.specs.Conflicts.{is_refused, row_after}
 use Rattle.cs_group.specs.Applying.{current, refused_at}
 use Rattle.cs_run.specs.Steps.{header_in, placed_in_table, with_result}
+use Rattle.cs_run.specs.Writes.{IsEntryWrite}
 use Rattle.cs_run.proofs.CauseLemmas.{caused_on, entry_write, rows_caused_on}
 use Rattle.cs_run.proofs.CarryLemmas.{carries_written, carries_passed, carries_ignored, stops_here}
 use Rattle.cs_run.proofs.EntryLemmas.{carried_out}
@@ -85,21 +86,54 @@ returns-in_err-current-clause-caused g c = λ honest.
     rows_caused_on c.from_residual-in_err-current.result _ _ c.in_err-current.field-0.0 c.from_residual-in_err-current.ensures.1
     (λ why by. g.B.Rows.fails_so _ _ _ _ why (λ held write none. absurd none) by) (c.in_err-current.ensures.caused honest)
 
+pub returns-in_err-current-clause-kept : goal.returns-in_err-current-clause-kept
+returns-in_err-current-clause-kept g c =
+    let p = err_from_is_err_and c.from_residual-in_err-current.result c.from_residual-in_err-current.ensures.1 in
+    rw p.1 (g.B.Rows.keeps_so _ _ _ _ _ (λ held write h none. absurd none) c.in_err-current.ensures.kept)
+
+pub returns-in_err-settle-clause-kept : goal.returns-in_err-settle-clause-kept
+returns-in_err-settle-clause-kept g c =
+    let Is = IsEntryWrite (header_in (rc_str_bytes c.args.table.now) c.args.entry.now) c.args.entry.now.entry in
+    g.B.Rows.keeps_refused Is _ _ _ (g.B.Rows.keeps_so _ Is _ _ _ (λ held write h none. absurd none) c.in_ok-current.ensures.kept)
+
+pub returns-in-Ended-clause-kept : goal.returns-in-Ended-clause-kept
+returns-in-Ended-clause-kept g c =
+    g.B.Rows.keeps_so _ _ _ _ _ (λ held write h none. absurd none) c.in_ok-current.ensures.kept
+
+pub returns-in-Passed-clause-kept : goal.returns-in-Passed-clause-kept
+returns-in-Passed-clause-kept g c =
+    g.B.Rows.keeps_so _ _ _ _ _ (λ held write h none. absurd none) c.in_ok-current.ensures.kept
+
+pub returns-in-Ignored-clause-kept : goal.returns-in-Ignored-clause-kept
+returns-in-Ignored-clause-kept g c =
+    g.B.Rows.keeps_so _ _ _ _ _ (λ held write h none. absurd none) c.in_ok-current.ensures.kept
+
 pub returns-in_err-carry_out-in-Carried-clause-caused : goal.returns-in_err-carry_out-in-Carried-clause-caused
-returns-in_err-carry_out-in-Carried-clause-caused g c = λ after.
-    let honest = c.carry_out.ensures.was_honest after in
+returns-in_err-carry_out-in-Carried-clause-caused g c = λ honest.
+    let Is = IsEntryWrite (header_in (rc_str_bytes c.args.table.now) c.args.entry.now) c.args.entry.now.entry in
+    let before = c.carry_out.ensures.was_honest honest in
     let header = header_in (rc_str_bytes c.args.table.now) c.args.entry.now in
-    let found = rw c.as_str-name.ensures.value at c.in_ok-current.ensures.found honest in
+    let found = rw c.as_str-name.ensures.value at c.in_ok-current.ensures.found before in
     caused_on c.from_residual-in_err-carry_out-in-Carried.result _ _ c.in_err-carry_out-in-Carried.field-0.0 c.from_residual-in_err-carry_out-in-Carried.ensures.1
-    (λ why by. g.B.Rows.fails_then _ _ _ _ _ why c.in_ok-current.ensures.kept c.in_err-carry_out-in-Carried.ensures.kept after
-    (g.B.Rows.fails_so _ _ _ _ why
-    (λ held write is. entry_write header c.args.entry.now.entry _ _ held write c.in_ok-key.key c.in_ok-current.current (c.in_ok-current.ensures.same honest) c.in_ok-key.ensures (sym found) is) by))
-    (c.in_err-carry_out-in-Carried.ensures.caused after)
+    (λ why by. g.B.Rows.fails_then Is _ _ _ _ why (g.B.Rows.keeps_so _ Is _ _ _ (λ held write h none. absurd none) c.in_ok-current.ensures.kept)
+    (g.B.Rows.keeps_so _ Is _ _ _ (λ held write h is. entry_write header c.args.entry.now.entry _ _ held write c.in_ok-key.key c.in_ok-current.current (c.in_ok-current.ensures.same before) c.in_ok-key.ensures (sym found) is) c.in_err-carry_out-in-Carried.ensures.kept) honest
+    (g.B.Rows.fails_so _ _ _ _ why (λ held write is. entry_write header c.args.entry.now.entry _ _ held write c.in_ok-key.key c.in_ok-current.current (c.in_ok-current.ensures.same before) c.in_ok-key.ensures (sym found) is) by)) (c.in_err-carry_out-in-Carried.ensures.caused honest)
 
 pub returns-in_err-carry_out-in-Carried-clause-kept : goal.returns-in_err-carry_out-in-Carried-clause-kept
 returns-in_err-carry_out-in-Carried-clause-kept g c =
+    let Is = IsEntryWrite (header_in (rc_str_bytes c.args.table.now) c.args.entry.now) c.args.entry.now.entry in
     let p = err_from_is_err_and c.from_residual-in_err-carry_out-in-Carried.result c.from_residual-in_err-carry_out-in-Carried.ensures.1 in
-    rw p.1 (g.B.Rows.keeps_then _ _ _ _ c.in_ok-current.ensures.kept c.in_err-carry_out-in-Carried.ensures.kept)
+    rw p.1 (g.B.Rows.keeps_then Is _ _ _ _ (g.B.Rows.keeps_so _ Is _ _ _ (λ held write h none. absurd none) c.in_ok-current.ensures.kept) (g.B.Rows.keeps_so _ Is _ _ _ (λ held write honest is.
+    let before = c.carry_out.ensures.was_honest honest in
+    let header = header_in (rc_str_bytes c.args.table.now) c.args.entry.now in
+    let found = rw c.as_str-name.ensures.value at c.in_ok-current.ensures.found before in
+    entry_write header c.args.entry.now.entry _ _ held write c.in_ok-key.key c.in_ok-current.current (c.in_ok-current.ensures.same before) c.in_ok-key.ensures (sym found) is) c.in_err-carry_out-in-Carried.ensures.kept))
 
 pub returns-in_ok-carry_out-in-Carried-clause-kept : goal.returns-in_ok-carry_out-in-Carried-clause-kept
-returns-in_ok-carry_out-in-Carried-clause-kept g c = g.B.Rows.keeps_then _ _ _ _ c.in_ok-current.ensures.kept c.in_ok-carry_out-in-Carried.ensures.kept
+returns-in_ok-carry_out-in-Carried-clause-kept g c =
+    let Is = IsEntryWrite (header_in (rc_str_bytes c.args.table.now) c.args.entry.now) c.args.entry.now.entry in
+    g.B.Rows.keeps_then Is _ _ _ _ (g.B.Rows.keeps_so _ Is _ _ _ (λ held write h none. absurd none) c.in_ok-current.ensures.kept) (g.B.Rows.keeps_so _ Is _ _ _ (λ held write honest is.
+    let before = c.carry_out.ensures.was_honest honest in
+    let header = header_in (rc_str_bytes c.args.table.now) c.args.entry.now in
+    let found = rw c.as_str-name.ensures.value at c.in_ok-current.ensures.found before in
+    entry_write header c.args.entry.now.entry _ _ held write c.in_ok-key.key c.in_ok-current.current (c.in_ok-current.ensures.same before) c.in_ok-key.ensures (sym found) is) c.in_ok-carry_out-in-Carried.ensures.kept)

@@ -6,6 +6,7 @@ use Rattle.std.proofs.lemmas.List.{take_all}
 use Rattle.std.proofs.lemmas.Result.{err_from_is_err_and}
 use Rattle.cs_wire.specs.Changeset.{GroupData, file_bytes}
 use Rattle.cs_run.specs.Running.{directed}
+use Rattle.cs_run.specs.Writes.{IsRunWrite}
 use Rattle.cs_run.proofs.BehindLemmas.{behind_start}
 use Rattle.cs_run.proofs.CauseLemmas.{caused_on, run_write}
 use Rattle.cs_run.proofs.DirectedLemmas.{directed_none, group_names, groups_more, read_as, run_outcome}
@@ -16,7 +17,7 @@ use Rattle.cs_run.proofs.owned.run_changeset_in.Goals as goal
 pub loop-group-init : goal.loop-group-init
 loop-group-init g c = (
   c.requires,
-  g.B.Rows.keeps_itself _,
+  g.B.Rows.keeps_itself _ _,
   c.in_ok-run.ensures.start.tables,
   (c.in_ok-run.ensures.noop, c.in_ok-run.ensures.start.empty.ignored),
   c.in_ok-run.ensures.listed,
@@ -25,6 +26,7 @@ loop-group-init g c = (
 
 pub loop-group-preserved : goal.loop-group-preserved
 loop-group-preserved g c =
+    let Is = IsRunWrite (directed c.args.direction c.args.changeset.now) in
     let so = c.loop-group.invariant in
     let all = c.args.changeset.now in
     let groups = c.groups-group-items.ensures in
@@ -33,7 +35,7 @@ loop-group-preserved g c =
     let within : i < length all = rw groups.same at c.loop-group-test.true in
     let is : group ≡ get_or all i group = c.group-item.is ∙ ap (λ (l : List GroupData). get_or l i group) groups.same in (
       so.0,
-      g.B.Rows.keeps_then _ _ _ _ so.1 c.in_ok-take_group.ensures.kept,
+      g.B.Rows.keeps_then Is _ _ _ _ so.1 (g.B.Rows.keeps_so _ Is _ _ _ (λ held write h wrote. run_write c.args.direction all i group held write within is wrote) c.in_ok-take_group.ensures.kept),
       c.in_ok-take_group.ensures.tables ∙ ap (λ (n : ℕ). n + 1) so.2,
       c.in_ok-take_group.ensures.reported,
       c.take_group.ensures.listed ∙ so.4,
@@ -47,6 +49,7 @@ loop-group-preserved g c =
 
 pub returns-in_err-take_group-clause-caused : goal.returns-in_err-take_group-clause-caused
 returns-in_err-take_group-clause-caused g c = λ honest.
+    let Is = IsRunWrite (directed c.args.direction c.args.changeset.now) in
     let all = c.args.changeset.now in
     let groups = c.groups-group-items.ensures in
     let i = c.loop-group.group-index in
@@ -54,14 +57,23 @@ returns-in_err-take_group-clause-caused g c = λ honest.
     let within : i < length all = rw groups.same at c.loop-group-test.true in
     let is : group ≡ get_or all i group = c.group-item.is ∙ ap (λ (l : List GroupData). get_or l i group) groups.same in
     caused_on c.from_residual-in_err-take_group.result _ _ c.in_err-take_group.field-0.0 c.from_residual-in_err-take_group.ensures.1
-    (λ why by. g.B.Rows.fails_then _ _ _ _ _ why c.loop-group.invariant.1 c.in_err-take_group.ensures.kept honest
+    (λ why by. g.B.Rows.fails_then Is _ _ _ _ why c.loop-group.invariant.1
+    (g.B.Rows.keeps_so _ Is _ _ _ (λ held write h wrote. run_write c.args.direction all i group held write within is wrote) c.in_err-take_group.ensures.kept) honest
     (g.B.Rows.fails_so _ _ _ _ why (λ held write wrote. run_write c.args.direction all i group held write within is wrote) by))
     (c.in_err-take_group.ensures.caused honest)
 
 pub returns-in_err-take_group-clause-kept : goal.returns-in_err-take_group-clause-kept
 returns-in_err-take_group-clause-kept g c =
+    let Is = IsRunWrite (directed c.args.direction c.args.changeset.now) in
+    let all = c.args.changeset.now in
+    let groups = c.groups-group-items.ensures in
+    let i = c.loop-group.group-index in
+    let group = c.group-item.result in
+    let within : i < length all = rw groups.same at c.loop-group-test.true in
+    let is : group ≡ get_or all i group = c.group-item.is ∙ ap (λ (l : List GroupData). get_or l i group) groups.same in
     let p = err_from_is_err_and c.from_residual-in_err-take_group.result c.from_residual-in_err-take_group.ensures.1 in
-    rw p.1 (g.B.Rows.keeps_then _ _ _ _ c.loop-group.invariant.1 c.in_err-take_group.ensures.kept)
+    rw p.1 (g.B.Rows.keeps_then Is _ _ _ _ c.loop-group.invariant.1
+    (g.B.Rows.keeps_so _ Is _ _ _ (λ held write h wrote. run_write c.args.direction all i group held write within is wrote) c.in_err-take_group.ensures.kept))
 
 pub returns-clause-applied : goal.returns-clause-applied
 returns-clause-applied g c = λ honest.

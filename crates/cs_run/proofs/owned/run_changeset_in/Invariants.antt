@@ -5,10 +5,11 @@ use Rattle.cs_group.specs.declared.conflict.Noop.TheVariants.{Report as Reported
 use Rattle.cs_run.specs.Tally.{is_listed}
 use Rattle.cs_run.specs.Running.{directed}
 use Rattle.cs_run.specs.Run.{IsBehind}
+use Rattle.cs_run.specs.Writes.{IsRunWrite}
 use Rattle.cs_run.proofs.owned.run_changeset_in.Given as goal
 
 abbrev pub invariant-loop-group : goal.invariant-loop-group
 invariant-loop-group g l =
     let rows = g.B.Rows in
-    goal.H-IsAlwaysCallable g l.handler × rows.keeps true l.fn.rows l.rows × (l.run.tables ≡ l.group-index) × ((l.run.noop ≡ Reported) × (l.run.tally.ignored ≡ 0)) × (is_listed l.run.tally.written ≡ true)
+    goal.H-IsAlwaysCallable g l.handler × rows.keeps (IsRunWrite (directed l.direction l.changeset)) true l.fn.rows l.rows × (l.run.tables ≡ l.group-index) × ((l.run.noop ≡ Reported) × (l.run.tally.ignored ≡ 0)) × (is_listed l.run.tally.written ≡ true)
     × (rows.is_honest l.rows → rows.is_honest l.fn.rows × IsBehind (FnReturnsAt g.H.Fn l.handler) (rows.state l.fn.rows) (directed l.direction (take l.group-index l.changeset)) l.run (rows.state l.rows))

@@ -11,7 +11,8 @@ use Rattle.cs_wire.specs.Headers.{header_of}
 use Rattle.cs_wire.specs.Items.{FlaggedEntry}
 use Rattle.cs_group.specs.Applying.{refuses_at}
 use Rattle.cs_group.proofs.ApplyLemmas.{judged_same, refuses_same}
-use Rattle.cs_run.specs.Run.{directed_entry, group_of}
+use Rattle.cs_run.specs.Run.{directed_entry, directed_group, group_of}
+use Rattle.cs_run.specs.Writes.{IsGroupWrite}
 use Rattle.cs_run.specs.Steps.{header_in}
 use Rattle.cs_run.proofs.BehindLemmas.{behind_table, has_judged_table}
 use Rattle.cs_run.proofs.CauseLemmas.{caused_on, entry_write_as, group_write}
@@ -24,7 +25,7 @@ loop-entry-init g c =
     let same : header_of (record { name = c.name.result; flags = c.flags.result }) ≡ h =
     ap₂ (λ (name flags : List ℕ). record { name = name; flags = flags }) (c.name.ensures ∙ ap (λ (x : HeaderData). x.name) c.header.ensures.same) c.flags.ensures.same in (
       c.requires.callable,
-      c.in_ok-take_table.ensures.kept,
+      g.B.Rows.keeps_so _ _ _ _ _ (λ held write h none. absurd none) c.in_ok-take_table.ensures.kept,
       c.in_ok-take_table.ensures.tables,
       (c.take_table.ensures.noop ∙ c.requires.reported.0, c.take_table.ensures.ignored ∙ c.requires.reported.1),
       c.take_table.ensures.listed,
@@ -56,8 +57,14 @@ returns-in_err-take_table-clause-caused g c = λ honest.
     caused_on c.from_residual.result _ _ c.in_err-take_table.field-0.0 c.from_residual.ensures.1
     (λ why by. g.B.Rows.fails_so _ _ _ _ why (λ held write none. absurd none) by) (c.in_err-take_table.ensures.caused honest)
 
+pub returns-in_err-take_table-clause-kept : goal.returns-in_err-take_table-clause-kept
+returns-in_err-take_table-clause-kept g c =
+    let p = err_from_is_err_and c.from_residual.result c.from_residual.ensures.1 in
+    rw p.1 (g.B.Rows.keeps_so _ _ _ _ _ (λ held write h none. absurd none) c.in_err-take_table.ensures.kept)
+
 pub returns-in_err-take_entry-clause-caused : goal.returns-in_err-take_entry-clause-caused
 returns-in_err-take_entry-clause-caused g c = λ honest.
+    let Is = IsGroupWrite (directed_group c.args.direction c.args.group.now) in
     let group = c.args.group.now in
     let h = group.header in
     let entries = c.entries-entry-items.ensures in
@@ -66,23 +73,40 @@ returns-in_err-take_entry-clause-caused g c = λ honest.
     let shown = c.directed.result in
     let within : j < length group.entries = rw entries.same at c.loop-entry-test.true in
     let is : e ≡ get_or group.entries j e = c.entry-item.is ∙ ap (λ (l : List Entry). get_or l j e) entries.same in
-    let was = c.loop-entry.invariant.5 (c.take_entry.ensures.was_honest honest) in
     let flags = ap (λ (x : FlaggedEntry). x.flags) c.from_entry-entry.ensures ∙ c.flags.ensures.same in
-    let header : header_in (rc_str_bytes c.loop-entry.run.table) shown ≡ h = ap₂ (λ (name flags : List ℕ). record { name = name; flags = flags }) was.1 (ap (λ (x : FlaggedEntry). x.flags) c.directed.ensures ∙ flags) in
     let entry : shown.entry ≡ directed_entry c.args.direction h.flags e =
     ap (λ (x : FlaggedEntry). x.entry) c.directed.ensures ∙ ap₂ (λ (flags : List ℕ) (x : Entry). directed_entry c.args.direction flags x) flags (ap (λ (x : FlaggedEntry). x.entry) c.from_entry-entry.ensures) in
+    let was = c.loop-entry.invariant.5 (c.take_entry.ensures.was_honest honest) in
+    let header : header_in (rc_str_bytes c.loop-entry.run.table) shown ≡ h = ap₂ (λ (name flags : List ℕ). record { name = name; flags = flags }) was.1 (ap (λ (x : FlaggedEntry). x.flags) c.directed.ensures ∙ flags) in
     caused_on c.from_residual-in_err-take_entry.result _ _ c.in_err-take_entry.field-0.0 c.from_residual-in_err-take_entry.ensures.1
-    (λ why by. g.B.Rows.fails_then _ _ _ _ _ why c.loop-entry.invariant.1 c.in_err-take_entry.ensures.kept honest
+    (λ why by. g.B.Rows.fails_then Is _ _ _ _ why c.loop-entry.invariant.1
+    (g.B.Rows.keeps_so _ Is _ _ _ (λ held write h wrote. group_write c.args.direction group j e held write within is (entry_write_as _ group.header _ _ held write header entry wrote)) c.in_err-take_entry.ensures.kept) honest
     (g.B.Rows.fails_so _ _ _ _ why (λ held write wrote. group_write c.args.direction group j e held write within is (entry_write_as _ h _ _ held write header entry wrote)) by))
     (c.in_err-take_entry.ensures.caused honest)
 
 pub returns-in_err-take_entry-clause-kept : goal.returns-in_err-take_entry-clause-kept
 returns-in_err-take_entry-clause-kept g c =
+    let Is = IsGroupWrite (directed_group c.args.direction c.args.group.now) in
+    let group = c.args.group.now in
+    let h = group.header in
+    let entries = c.entries-entry-items.ensures in
+    let j = c.loop-entry.entry-index in
+    let e = c.entry-item.result in
+    let shown = c.directed.result in
+    let within : j < length group.entries = rw entries.same at c.loop-entry-test.true in
+    let is : e ≡ get_or group.entries j e = c.entry-item.is ∙ ap (λ (l : List Entry). get_or l j e) entries.same in
+    let flags = ap (λ (x : FlaggedEntry). x.flags) c.from_entry-entry.ensures ∙ c.flags.ensures.same in
+    let entry : shown.entry ≡ directed_entry c.args.direction h.flags e =
+    ap (λ (x : FlaggedEntry). x.entry) c.directed.ensures ∙ ap₂ (λ (flags : List ℕ) (x : Entry). directed_entry c.args.direction flags x) flags (ap (λ (x : FlaggedEntry). x.entry) c.from_entry-entry.ensures) in
     let p = err_from_is_err_and c.from_residual-in_err-take_entry.result c.from_residual-in_err-take_entry.ensures.1 in
-    rw p.1 (g.B.Rows.keeps_then _ _ _ _ c.loop-entry.invariant.1 c.in_err-take_entry.ensures.kept)
+    rw p.1 (g.B.Rows.keeps_then Is _ _ _ _ c.loop-entry.invariant.1 (g.B.Rows.keeps_so _ Is _ _ _ (λ held write honest wrote.
+    let was = c.loop-entry.invariant.5 (c.take_entry.ensures.was_honest honest) in
+    let header : header_in (rc_str_bytes c.loop-entry.run.table) shown ≡ h = ap₂ (λ (name flags : List ℕ). record { name = name; flags = flags }) was.1 (ap (λ (x : FlaggedEntry). x.flags) c.directed.ensures ∙ flags) in
+    group_write c.args.direction group j e held write within is (entry_write_as _ h _ _ held write header entry wrote)) c.in_err-take_entry.ensures.kept))
 
 pub loop-entry-preserved : goal.loop-entry-preserved
 loop-entry-preserved g c =
+    let Is = IsGroupWrite (directed_group c.args.direction c.args.group.now) in
     let so = c.loop-entry.invariant in
     let group = c.args.group.now in
     let h = group.header in
@@ -97,7 +121,11 @@ loop-entry-preserved g c =
     let shown : c.directed.result.entry ≡ directed_entry c.args.direction h.flags e =
     ap (λ (x : FlaggedEntry). x.entry) c.directed.ensures ∙ ap₂ (λ (flags : List ℕ) (x : Entry). directed_entry c.args.direction flags x) flags_are entry_is in (
       so.0,
-      g.B.Rows.keeps_then _ _ _ _ so.1 c.in_ok-take_entry.ensures.kept,
+      g.B.Rows.keeps_then Is _ _ _ _ so.1
+          (g.B.Rows.keeps_so _ Is _ _ _ (λ held write honest wrote.
+          let was = so.5 (c.take_entry.ensures.was_honest honest) in
+          let header : header_in (rc_str_bytes c.loop-entry.run.table) c.directed.result ≡ h = ap₂ (λ (name flags : List ℕ). record { name = name; flags = flags }) was.1 shown_flags in
+          group_write c.args.direction group j e held write within is (entry_write_as _ h _ _ held write header shown wrote)) c.in_ok-take_entry.ensures.kept),
       c.take_entry.ensures.tables ∙ so.2,
       (c.take_entry.ensures.noop ∙ so.3.0, c.take_entry.ensures.reported so.3.0 ∙ so.3.1),
       c.take_entry.ensures.listed ∙ so.4,

@@ -1,5 +1,5 @@
--- `running::take_table`: the invariant of the loop, what `take_entry` asks for, the clauses `caused`, `place`,
--- `behind` and `left`.
+-- `running::take_table`: the invariant of the loop, what `take_entry` asks for, the clauses `caused`, `kept`,
+-- `place`, `behind` and `left`.
 use Rattle.std.proofs.Common.{◌≡◌, ℕ, List, [], ◌∷◌, ◌++◌, length, refl, sym, ap, ap₂, ◌∙◌, arith}
 use Rattle.std.proofs.lemmas.Result.{err_from_is_err_and}
 use Rattle.std.specs.Fn.{FnReturnsAt}
@@ -9,7 +9,8 @@ use Rattle.cs_wire.specs.Headers.{header_of}
 use Rattle.cs_wire.specs.Items.{FlaggedEntry}
 use Rattle.cs_group.specs.Applying.{refuses_at}
 use Rattle.cs_group.proofs.ApplyLemmas.{judged_same, refuses_same}
-use Rattle.cs_run.specs.Run.{directed_entry, group_of}
+use Rattle.cs_run.specs.Run.{directed_entry, directed_group, group_of}
+use Rattle.cs_run.specs.Writes.{IsGroupWrite}
 use Rattle.cs_run.specs.Steps.{header_in}
 use Rattle.cs_run.proofs.BehindLemmas.{behind_table, has_judged_table}
 use Rattle.cs_run.proofs.CauseLemmas.{caused_on, entry_write_as, next_entry_write}
@@ -21,7 +22,7 @@ pub entries-init : goal.entries-init
 entries-init g c =
     let h = header_of c.args.header in (
       c.requires.callable,
-      c.in_ok-take_table.ensures.kept,
+      (λ entries others left. g.B.Rows.keeps_so _ _ _ _ _ (λ held write h none. absurd none) c.in_ok-take_table.ensures.kept),
       refl,
       c.requires.flags,
       omega arith,
@@ -73,28 +74,46 @@ returns-in_err-take_table-clause-caused g c = λ honest entries others left.
     caused_on c.from_residual.result _ _ c.in_err-take_table.field-0.0 c.from_residual.ensures.1
     (λ why by. g.B.Rows.fails_so _ _ _ _ why (λ held write none. absurd none) by) (c.in_err-take_table.ensures.caused honest)
 
+pub returns-in_err-take_table-clause-kept : goal.returns-in_err-take_table-clause-kept
+returns-in_err-take_table-clause-kept g c = λ entries others left.
+    let p = err_from_is_err_and c.from_residual.result c.from_residual.ensures.1 in
+    rw p.1 (g.B.Rows.keeps_so _ _ _ _ _ (λ held write h none. absurd none) c.in_err-take_table.ensures.kept)
+
 pub returns-in_err-take_entry-clause-caused : goal.returns-in_err-take_entry-clause-caused
 returns-in_err-take_entry-clause-caused g c = λ honest entries others left.
+    let Is = IsGroupWrite (directed_group c.args.direction (group_of (header_of c.args.header) entries)) in
     let h = header_of c.args.header in
     let seen = c.in-Some.entry in
     let shown = c.directed.result in
     let it = c.entries.invariant.11 entries others left in
     let is = c.in-Some.ensures.next it.passed.others others it.passed.are_left in
-    let was = c.entries.invariant.10 (c.take_entry.ensures.was_honest honest) in
     let flags : seen.flags ≡ h.flags = c.in-Some.ensures.flags.1 ∙ c.entries.invariant.3 in
-    let header : header_in (rc_str_bytes c.entries.run.table) shown ≡ h = ap₂ (λ (name flags : List ℕ). record { name = name; flags = flags }) was.1 (ap (λ (x : FlaggedEntry). x.flags) c.directed.ensures ∙ flags) in
     let entry : shown.entry ≡ directed_entry c.args.direction h.flags seen.entry = ap (λ (x : FlaggedEntry). x.entry) c.directed.ensures ∙ ap (λ (fs : List ℕ). directed_entry c.args.direction fs seen.entry) flags in
     let whole : entries ≡ it.done ++ seen.entry ∷ is.others = it.passed.whole ∙ ap (λ (es : List Entry). it.done ++ es) is.is in
+    let was = c.entries.invariant.10 (c.take_entry.ensures.was_honest honest) in
+    let header : header_in (rc_str_bytes c.entries.run.table) shown ≡ h = ap₂ (λ (name flags : List ℕ). record { name = name; flags = flags }) was.1 (ap (λ (x : FlaggedEntry). x.flags) c.directed.ensures ∙ flags) in
     caused_on c.from_residual-in_err-take_entry.result _ _ c.in_err-take_entry.field-0.0 c.from_residual-in_err-take_entry.ensures.1
-    (λ why by. g.B.Rows.fails_then _ _ _ _ _ why c.entries.invariant.1 c.in_err-take_entry.ensures.kept honest
-    (g.B.Rows.fails_so _ _ _ _ why
-    (λ held write wrote. next_entry_write c.args.direction (group_of h entries) it.done is.others seen.entry held write whole (entry_write_as _ h _ _ held write header entry wrote)) by))
+    (λ why by. g.B.Rows.fails_then Is _ _ _ _ why (c.entries.invariant.1 entries others left)
+    (g.B.Rows.keeps_so _ Is _ _ _ (λ held write k wrote. next_entry_write c.args.direction (group_of h entries) it.done is.others seen.entry held write whole (entry_write_as _ h _ _ held write header entry wrote)) c.in_err-take_entry.ensures.kept) honest
+    (g.B.Rows.fails_so _ _ _ _ why (λ held write wrote. next_entry_write c.args.direction (group_of h entries) it.done is.others seen.entry held write whole (entry_write_as _ h _ _ held write header entry wrote)) by))
     (c.in_err-take_entry.ensures.caused honest)
 
 pub returns-in_err-take_entry-clause-kept : goal.returns-in_err-take_entry-clause-kept
-returns-in_err-take_entry-clause-kept g c =
+returns-in_err-take_entry-clause-kept g c = λ entries others left.
+    let Is = IsGroupWrite (directed_group c.args.direction (group_of (header_of c.args.header) entries)) in
+    let h = header_of c.args.header in
+    let seen = c.in-Some.entry in
+    let shown = c.directed.result in
+    let it = c.entries.invariant.11 entries others left in
+    let is = c.in-Some.ensures.next it.passed.others others it.passed.are_left in
+    let flags : seen.flags ≡ h.flags = c.in-Some.ensures.flags.1 ∙ c.entries.invariant.3 in
+    let entry : shown.entry ≡ directed_entry c.args.direction h.flags seen.entry = ap (λ (x : FlaggedEntry). x.entry) c.directed.ensures ∙ ap (λ (fs : List ℕ). directed_entry c.args.direction fs seen.entry) flags in
+    let whole : entries ≡ it.done ++ seen.entry ∷ is.others = it.passed.whole ∙ ap (λ (es : List Entry). it.done ++ es) is.is in
     let p = err_from_is_err_and c.from_residual-in_err-take_entry.result c.from_residual-in_err-take_entry.ensures.1 in
-    rw p.1 (g.B.Rows.keeps_then _ _ _ _ c.entries.invariant.1 c.in_err-take_entry.ensures.kept)
+    rw p.1 (g.B.Rows.keeps_then Is _ _ _ _ (c.entries.invariant.1 entries others left) (g.B.Rows.keeps_so _ Is _ _ _ (λ held write honest wrote.
+    let was = c.entries.invariant.10 (c.take_entry.ensures.was_honest honest) in
+    let header : header_in (rc_str_bytes c.entries.run.table) shown ≡ h = ap₂ (λ (name flags : List ℕ). record { name = name; flags = flags }) was.1 (ap (λ (x : FlaggedEntry). x.flags) c.directed.ensures ∙ flags) in
+    next_entry_write c.args.direction (group_of h entries) it.done is.others seen.entry held write whole (entry_write_as _ h _ _ held write header entry wrote)) c.in_err-take_entry.ensures.kept))
 
 pub entries-preserved : goal.entries-preserved
 entries-preserved g c =
@@ -102,7 +121,21 @@ entries-preserved g c =
     let h = header_of c.args.header in
     let forward = c.in-Some.ensures.forward in (
       so.0,
-      g.B.Rows.keeps_then _ _ _ _ so.1 c.in_ok-take_entry.ensures.kept,
+      (λ entries others left.
+          let Is = IsGroupWrite (directed_group c.args.direction (group_of (header_of c.args.header) entries)) in
+          let h = header_of c.args.header in
+          let seen = c.in-Some.entry in
+          let shown = c.directed.result in
+          let it = c.entries.invariant.11 entries others left in
+          let is = c.in-Some.ensures.next it.passed.others others it.passed.are_left in
+          let flags : seen.flags ≡ h.flags = c.in-Some.ensures.flags.1 ∙ c.entries.invariant.3 in
+          let entry : shown.entry ≡ directed_entry c.args.direction h.flags seen.entry = ap (λ (x : FlaggedEntry). x.entry) c.directed.ensures ∙ ap (λ (fs : List ℕ). directed_entry c.args.direction fs seen.entry) flags in
+          let whole : entries ≡ it.done ++ seen.entry ∷ is.others = it.passed.whole ∙ ap (λ (es : List Entry). it.done ++ es) is.is in
+          g.B.Rows.keeps_then Is _ _ _ _ (so.1 entries others left)
+          (g.B.Rows.keeps_so _ Is _ _ _ (λ held write honest wrote.
+          let was = c.entries.invariant.10 (c.take_entry.ensures.was_honest honest) in
+          let header : header_in (rc_str_bytes c.entries.run.table) shown ≡ h = ap₂ (λ (name flags : List ℕ). record { name = name; flags = flags }) was.1 (ap (λ (x : FlaggedEntry). x.flags) c.directed.ensures ∙ flags) in
+          next_entry_write c.args.direction (group_of h entries) it.done is.others seen.entry held write whole (entry_write_as _ h _ _ held write header entry wrote)) c.in_ok-take_entry.ensures.kept)),
       c.in-Some.ensures.file ∙ so.2,
       c.in-Some.ensures.flags.0 ∙ so.3,
       omega (arith, so.4, forward.0),

@@ -18,7 +18,7 @@ pub tables-init : goal.tables-init
 tables-init g c =
     let found = c.in_ok-tables.ensures.found in (
       c.requires.callable,
-      g.B.Rows.keeps_itself _,
+      g.B.Rows.keeps_itself _ _,
       c.in_ok-tables.ensures.file,
       omega (arith, c.in_ok-run.ensures.start.tables),
       found.2.within,
@@ -52,12 +52,15 @@ take_table-requires-clause-flags g c =
 
 pub returns-in_err-take_table-clause-caused : goal.returns-in_err-take_table-clause-caused
 returns-in_err-take_table-clause-caused g c = λ honest.
+    let Is = IsFileWrite c.args.direction c.args.file.now in
     let so = c.tables.invariant in
     let is = c.in-Some.ensures.next [] so.8.others so.8.are_left in
     let group : group_of (header_of c.in-Some.header) is.group.entries ≡ is.group = ap (λ (h : HeaderData). group_of h is.group.entries) is.header_is in
     let whole : so.8.groups ≡ so.8.closed ++ is.group ∷ is.others = so.8.whole ∙ ap (λ (gs : List GroupData). so.8.closed ++ gs) is.is in
     caused_on c.from_residual-in_err-take_table.result _ _ c.in_err-take_table.field-0.0 c.from_residual-in_err-take_table.ensures.1
-    (λ why by. g.B.Rows.fails_then _ _ _ _ _ why so.1 c.in_err-take_table.ensures.kept honest
+    (λ why by. g.B.Rows.fails_then Is _ _ _ _ why so.1
+    (g.B.Rows.keeps_so _ Is _ _ _ (λ held write h wrote. next_table_write c.args.direction c.args.file.now so.8.groups so.8.closed is.others is.group held write so.8.is_file whole
+    (subst (λ (k : GroupData). IsGroupWrite (directed_group c.args.direction k) held write) group wrote)) (c.in_err-take_table.ensures.kept is.group.entries is.others is.are_left)) honest
     (g.B.Rows.fails_so _ _ _ _ why
     (λ held write wrote. next_table_write c.args.direction c.args.file.now so.8.groups so.8.closed is.others is.group held write so.8.is_file whole
     (subst (λ (k : GroupData). IsGroupWrite (directed_group c.args.direction k) held write) group wrote)) by))
@@ -65,19 +68,34 @@ returns-in_err-take_table-clause-caused g c = λ honest.
 
 pub returns-in_err-take_table-clause-kept : goal.returns-in_err-take_table-clause-kept
 returns-in_err-take_table-clause-kept g c =
+    let Is = IsFileWrite c.args.direction c.args.file.now in
+    let so = c.tables.invariant in
+    let is = c.in-Some.ensures.next [] so.8.others so.8.are_left in
+    let group : group_of (header_of c.in-Some.header) is.group.entries ≡ is.group = ap (λ (h : HeaderData). group_of h is.group.entries) is.header_is in
+    let whole : so.8.groups ≡ so.8.closed ++ is.group ∷ is.others = so.8.whole ∙ ap (λ (gs : List GroupData). so.8.closed ++ gs) is.is in
     let p = err_from_is_err_and c.from_residual-in_err-take_table.result c.from_residual-in_err-take_table.ensures.1 in
-    rw p.1 (g.B.Rows.keeps_then _ _ _ _ c.tables.invariant.1 c.in_err-take_table.ensures.kept)
+    rw p.1 (g.B.Rows.keeps_then Is _ _ _ _ so.1
+    (g.B.Rows.keeps_so _ Is _ _ _ (λ held write h wrote. next_table_write c.args.direction c.args.file.now so.8.groups so.8.closed is.others is.group held write so.8.is_file whole
+    (subst (λ (k : GroupData). IsGroupWrite (directed_group c.args.direction k) held write) group wrote)) (c.in_err-take_table.ensures.kept is.group.entries is.others is.are_left)))
 
 pub returns-in_err-take_table-clause-leaves : goal.returns-in_err-take_table-clause-leaves
-returns-in_err-take_table-clause-leaves g c = λ held. g.B.Rows.leaves_still _ _ _ held (g.B.Rows.keeps_then _ _ _ _ c.tables.invariant.1 c.in_err-take_table.ensures.kept)
+returns-in_err-take_table-clause-leaves g c = λ held first.
+    let so = c.tables.invariant in
+    let is = c.in-Some.ensures.next [] so.8.others so.8.are_left in
+    g.B.Rows.leaves_still _ _ _ _ held (c.in_err-take_table.ensures.kept is.group.entries is.others is.are_left) (g.B.Rows.leaves_still _ _ _ _ held so.1 first)
 
 pub tables-preserved : goal.tables-preserved
 tables-preserved g c =
+    let Is = IsFileWrite c.args.direction c.args.file.now in
     let so = c.tables.invariant in
     let is = c.in-Some.ensures.next [] so.8.others so.8.are_left in
+    let group : group_of (header_of c.in-Some.header) is.group.entries ≡ is.group = ap (λ (h : HeaderData). group_of h is.group.entries) is.header_is in
+    let whole : so.8.groups ≡ so.8.closed ++ is.group ∷ is.others = so.8.whole ∙ ap (λ (gs : List GroupData). so.8.closed ++ gs) is.is in
     let forward = c.in-Some.ensures.forward in (
       so.0,
-      g.B.Rows.keeps_then _ _ _ _ so.1 c.in_ok-take_table.ensures.kept,
+      g.B.Rows.keeps_then Is _ _ _ _ so.1
+          (g.B.Rows.keeps_so _ Is _ _ _ (λ held write h wrote. next_table_write c.args.direction c.args.file.now so.8.groups so.8.closed is.others is.group held write so.8.is_file whole
+          (subst (λ (k : GroupData). IsGroupWrite (directed_group c.args.direction k) held write) group wrote)) (c.in_ok-take_table.ensures.kept is.group.entries is.others is.are_left)),
       c.take_table.ensures.file ∙ c.in-Some.ensures.file ∙ so.2,
       omega (arith, so.3, forward.0, c.in_ok-take_table.ensures.tables, c.take_table.ensures.place.0),
       c.take_table.ensures.place.1,
@@ -111,4 +129,4 @@ pub returns-clause-caused : goal.returns-clause-caused
 returns-clause-caused g c = λ honest. outcome_caused (g.B.Rows.fails (IsFileWrite c.args.direction c.args.file.now) c.args.rows.now c.tables.rows) c.tables.run c.finish.result c.finish.ensures
 
 pub returns-clause-kept : goal.returns-clause-kept
-returns-clause-kept g c = g.B.Rows.keeps_either _ _ _ c.tables.invariant.1
+returns-clause-kept g c = g.B.Rows.keeps_refused _ _ _ _ c.tables.invariant.1

@@ -2,6 +2,8 @@
 use Rattle.std.proofs.Common.{map}
 use Rattle.std.specs.Fn.{FnReturnsAt}
 use Rattle.std.proofs.lemmas.Result.{err_from_is_err_and}
+use Rattle.cs_run.specs.declared.running.Direction.TheVariants.{Forward}
+use Rattle.cs_run.specs.Writes.{IsFileWrite}
 use Rattle.cs_session.specs.Views.{attached_of}
 use Rattle.cs_session.proofs.CauseLemmas.{caused_on, run_caused_on}
 use Rattle.cs_session.proofs.NotesLemmas.{recorded_are}
@@ -41,15 +43,32 @@ returns-in_err-check_tables-clause-caused g c = λ honest.
 pub returns-in_err-report-clause-caused : goal.returns-in_err-report-clause-caused
 returns-in_err-report-clause-caused g c = λ honest.
     run_caused_on c.from_residual-in_err-report.result _ _ c.in_err-report.field-0.0 c.from_residual-in_err-report.ensures.1
-    (λ why by. g.B.Rows.fails_then _ _ _ _ _ why c.in_ok-check_tables.ensures.kept c.in_err-report.ensures.kept honest by) (c.in_err-report.ensures.caused honest)
+    (λ why by. g.B.Rows.fails_then _ _ _ _ _ why
+    (g.B.Rows.keeps_so _ (IsFileWrite Forward c.args.file.now) _ _ _ (λ held write h none. absurd none) c.in_ok-check_tables.ensures.kept)
+    c.in_err-report.ensures.kept honest by) (c.in_err-report.ensures.caused honest)
+
+pub returns-in_err-check_tables-clause-kept : goal.returns-in_err-check_tables-clause-kept
+returns-in_err-check_tables-clause-kept g c =
+    let p = err_from_is_err_and c.from_residual.result c.from_residual.ensures.1 in
+    rw p.1 (g.B.Rows.keeps_so _ _ _ _ _ (λ held write h none. absurd none) c.in_err-check_tables.ensures.kept)
 
 pub returns-in_err-report-clause-kept : goal.returns-in_err-report-clause-kept
 returns-in_err-report-clause-kept g c =
+    let Is = IsFileWrite Forward c.args.file.now in
     let p = err_from_is_err_and c.from_residual-in_err-report.result c.from_residual-in_err-report.ensures.1 in
-    rw p.1 (g.B.Rows.keeps_then _ _ _ _ c.in_ok-check_tables.ensures.kept c.in_err-report.ensures.kept)
+    rw p.1
+    (g.B.Rows.keeps_then Is _ _ _ _ (g.B.Rows.keeps_so _ Is _ _ _ (λ held write h none. absurd none) c.in_ok-check_tables.ensures.kept)
+    c.in_err-report.ensures.kept)
 
 pub returns-in_err-note_all-clause-kept : goal.returns-in_err-note_all-clause-kept
-returns-in_err-note_all-clause-kept g c = g.B.Rows.keeps_either _ _ _ (g.B.Rows.keeps_then _ _ _ _ c.in_ok-check_tables.ensures.kept c.in_ok-report.ensures.kept)
+returns-in_err-note_all-clause-kept g c =
+    let Is = IsFileWrite Forward c.args.file.now in
+    g.B.Rows.keeps_refused Is _ _ _
+    (g.B.Rows.keeps_then Is _ _ _ _ (g.B.Rows.keeps_so _ Is _ _ _ (λ held write h none. absurd none) c.in_ok-check_tables.ensures.kept)
+    c.in_ok-report.ensures.kept)
 
 pub returns-clause-kept : goal.returns-clause-kept
-returns-clause-kept g c = g.B.Rows.keeps_then _ _ _ _ c.in_ok-check_tables.ensures.kept c.in_ok-report.ensures.kept
+returns-clause-kept g c =
+    let Is = IsFileWrite Forward c.args.file.now in
+    g.B.Rows.keeps_then Is _ _ _ _ (g.B.Rows.keeps_so _ Is _ _ _ (λ held write h none. absurd none) c.in_ok-check_tables.ensures.kept)
+    c.in_ok-report.ensures.kept

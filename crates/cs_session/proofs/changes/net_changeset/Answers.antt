@@ -30,7 +30,7 @@ push-requires g c =
     rw named (c.loop-table.invariant.1 _ apart)
 
 pub returns-in_err-push-clause-kept : goal.returns-in_err-push-clause-kept
-returns-in_err-push-clause-kept g c = g.B.Rows.keeps_either _ _ _ (g.B.Rows.keeps_then _ _ _ _ c.loop-table.invariant.0 c.in_ok-group.ensures.kept)
+returns-in_err-push-clause-kept g c = g.B.Rows.keeps_refused _ _ _ _ (g.B.Rows.keeps_then _ _ _ _ _ c.loop-table.invariant.0 c.in_ok-group.ensures.kept)
 
 pub loop-table-preserved : goal.loop-table-preserved
 loop-table-preserved g c =
@@ -46,7 +46,7 @@ loop-table-preserved g c =
       | in-Some+in_ok-push w ↦ rw (w.changeset-is, w.in-Some.is) w.in_ok-push.ensures.ok
       | in_default w ↦ rw (w.changeset-is, w.in_default.is) (sym (append-nil before))
     ] in (
-      g.B.Rows.keeps_then _ _ _ _ c.loop-table.invariant.0 c.in_ok-group.ensures.kept,
+      g.B.Rows.keeps_then _ _ _ _ _ c.loop-table.invariant.0 c.in_ok-group.ensures.kept,
       rw (grown, map_more_at tables i table lt is attached_of)
           (no_other_more (λ (t : AttachedTable). t.name) (λ (g : GroupData). g.header.name) _ before c.loop-table.invariant.1 (attached_of table) group c.in_ok-group.ensures.of_table),
       λ honest.
@@ -68,4 +68,4 @@ returns-in_err-group-clause-caused g c = λ honest.
 pub returns-in_err-group-clause-kept : goal.returns-in_err-group-clause-kept
 returns-in_err-group-clause-kept g c =
     let p = err_from_is_err_and c.from_residual-in_err-group.result c.from_residual-in_err-group.ensures.1 in
-    rw p.1 (g.B.Rows.keeps_then _ _ _ _ c.loop-table.invariant.0 c.in_err-group.ensures.kept)
+    rw p.1 (g.B.Rows.keeps_then _ _ _ _ _ c.loop-table.invariant.0 c.in_err-group.ensures.kept)

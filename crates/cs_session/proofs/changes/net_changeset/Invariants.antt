@@ -11,6 +11,6 @@ abbrev pub invariant-loop-table : goal.invariant-loop-table
 invariant-loop-table g l =
     let rows = g.B.Rows in
     let notes = map attached_of (take l.table-index l.tables) in
-    rows.keeps true l.fn.rows l.rows × HasNoOther (λ (t : AttachedTable). t.name) (λ (g : GroupData). g.header.name) notes l.changeset
+    rows.keeps (λ _ _. ⊥) true l.fn.rows l.rows × HasNoOther (λ (t : AttachedTable). t.name) (λ (g : GroupData). g.header.name) notes l.changeset
     × (rows.is_honest l.rows → rows.is_honest l.fn.rows × (rows.state l.rows ≡ rows.state l.fn.rows)
     × (l.changeset ≡ recorded_changes notes (rows.state l.fn.rows)) × HasTables (rows.state l.fn.rows) (map attached_of l.tables))

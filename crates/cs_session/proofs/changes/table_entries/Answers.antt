@@ -37,7 +37,7 @@ loop-key-preserved-in-Continue-branch-3 g c =
     let change = c.in_ok-change.field-0 in
     let grown : c.push.new.self.items ≡ before ++ option_to_list (option_map entry_of change) = rw c.in-Some-2.is c.in_ok-push.ensures.items in
     let apart = next_apart table c.requires.table so.0 _ first all in (
-      g.B.Rows.keeps_then _ _ _ _ c.loop-key.invariant.0 c.in_ok-change.ensures.kept,
+      g.B.Rows.keeps_then _ _ _ _ _ c.loop-key.invariant.0 c.in_ok-change.ensures.kept,
       (
         so.0 ++ first ∷ [],
         append_assoc so.0 (first ∷ []) (map first_of c.next.new.self) ∙ all,
@@ -64,7 +64,7 @@ loop-key-preserved g c =
     let change = c.in_ok-change.field-0 in
     let grown : c.loop-key.entries.items ≡ before ++ option_to_list (option_map entry_of change) = rw c.in_default.is (sym (append-nil before)) in
     let apart = next_apart table c.requires.table so.0 _ first all in (
-      g.B.Rows.keeps_then _ _ _ _ c.loop-key.invariant.0 c.in_ok-change.ensures.kept,
+      g.B.Rows.keeps_then _ _ _ _ _ c.loop-key.invariant.0 c.in_ok-change.ensures.kept,
       (
         so.0 ++ first ∷ [],
         append_assoc so.0 (first ∷ []) (map first_of c.next.new.self) ∙ all,
@@ -82,4 +82,4 @@ loop-key-preserved g c =
     )
 
 pub returns-in_err-push-clause-kept : goal.returns-in_err-push-clause-kept
-returns-in_err-push-clause-kept g c = g.B.Rows.keeps_either _ _ _ (g.B.Rows.keeps_then _ _ _ _ c.loop-key.invariant.0 c.in_ok-change.ensures.kept)
+returns-in_err-push-clause-kept g c = g.B.Rows.keeps_refused _ _ _ _ (g.B.Rows.keeps_then _ _ _ _ _ c.loop-key.invariant.0 c.in_ok-change.ensures.kept)

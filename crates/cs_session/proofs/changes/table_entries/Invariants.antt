@@ -11,6 +11,6 @@ abbrev pub invariant-loop-key : goal.invariant-loop-key
 invariant-loop-key g l =
     let rows = g.B.Rows in
     let table = attached_of l.table in
-    rows.keeps true l.fn.rows l.rows × ((done : List FirstImage) × (done ++ map first_of l.key-iterator ≡ table.firsts) × AreOfKeys table.schema.flags done l.entries.items
+    rows.keeps (λ _ _. ⊥) true l.fn.rows l.rows × ((done : List FirstImage) × (done ++ map first_of l.key-iterator ≡ table.firsts) × AreOfKeys table.schema.flags done l.entries.items
     × (rows.is_honest l.rows → rows.is_honest l.fn.rows × (rows.state l.rows ≡ rows.state l.fn.rows)
     × (l.entries.items ≡ filter_map (entry_since (rows.state l.fn.rows) table) done)))

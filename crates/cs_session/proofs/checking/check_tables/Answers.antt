@@ -20,7 +20,7 @@ returns-in_err-check_table-clause-refused g c = λ honest.
 
 pub loop-table-preserved : goal.loop-table-preserved
 loop-table-preserved g c = (
-  g.B.Rows.keeps_then _ _ _ _ c.loop-table.invariant.0 c.in_ok-check_table.ensures.kept,
+  g.B.Rows.keeps_then _ _ _ _ _ c.loop-table.invariant.0 c.in_ok-check_table.ensures.kept,
   λ honest.
       let so = c.loop-table.invariant.1 (c.check_table.ensures.was_honest honest) in
       let has = rw so.1 at (c.in_ok-check_table.ensures.attached honest) in (

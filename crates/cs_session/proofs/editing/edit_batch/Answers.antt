@@ -126,7 +126,7 @@ returns-in_err-commit-clause-caused g c clean =
     let survives = c.commit.ensures.atomic.survives in
     let mid_clean = was_clean mid last survives last_clean in
     rw (← same) (rows_caused_on c.from_residual-in_err-commit.result _ _ c.in_err-commit.field-0.0 c.from_residual-in_err-commit.ensures.1
-    (commit_fails _ old begun mid last c.in_ok-batch.ensures.begun c.in_ok-batch.ensures.survives kept.1 mid_clean survives.counts (kept.2 refl mid_clean)) (c.in_err-commit.ensures.caused last_clean))
+    (commit_fails _ old begun mid last c.in_ok-batch.ensures.begun c.in_ok-batch.ensures.survives kept.1 mid_clean survives.counts (kept.2 refl mid_clean).inside) (c.in_err-commit.ensures.caused last_clean))
 
 pub returns-in_err-commit-clause-named : goal.returns-in_err-commit-clause-named
 returns-in_err-commit-clause-named g c =

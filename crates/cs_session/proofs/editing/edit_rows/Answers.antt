@@ -43,13 +43,31 @@ pub returns-in_err-written-clause-caused : goal.returns-in_err-written-clause-ca
 returns-in_err-written-clause-caused g c = λ honest.
     let same = c.in_ok-check_named.ensures.same (c.edit_in.ensures.was_honest honest) in
     rows_caused_on c.from_residual-in_err-written.result _ _ c.in_err-written.field-0.0 c.from_residual-in_err-written.ensures.1
-    (λ why by. g.B.Rows.fails_then _ _ _ _ _ why c.in_ok-check_named.ensures.kept c.in_err-written.ensures.kept honest
+    (λ why by. g.B.Rows.fails_then (IsWriteOf (g.B.Rows.state c.args.rows.now) c.args.edit.now) _ _ _ _ why
+    (g.B.Rows.keeps_so _ (IsWriteOf (g.B.Rows.state c.args.rows.now) c.args.edit.now) _ _ _ (λ held write h none. absurd none) c.in_ok-check_named.ensures.kept)
+    (g.B.Rows.keeps_so _ (IsWriteOf (g.B.Rows.state c.args.rows.now) c.args.edit.now) _ _ _ (λ held write h is. subst (λ (s : State). IsWriteOf s c.args.edit.now held write) same is) c.in_err-written.ensures.kept) honest
     (g.B.Rows.fails_so _ _ _ _ why (λ held write is. subst (λ (s : State). IsWriteOf s c.args.edit.now held write) same is) by)) (c.in_err-written.ensures.caused honest)
+
+pub returns-in_err-check_named-clause-kept : goal.returns-in_err-check_named-clause-kept
+returns-in_err-check_named-clause-kept g c =
+    let p = err_from_is_err_and c.from_residual.result c.from_residual.ensures.1 in
+    rw p.1 (g.B.Rows.keeps_so _ _ _ _ _ (λ held write h none. absurd none) c.in_err-check_named.ensures.kept)
 
 pub returns-in_err-written-clause-kept : goal.returns-in_err-written-clause-kept
 returns-in_err-written-clause-kept g c =
+    let Is = IsWriteOf (g.B.Rows.state c.args.rows.now) c.args.edit.now in
     let p = err_from_is_err_and c.from_residual-in_err-written.result c.from_residual-in_err-written.ensures.1 in
-    rw p.1 (g.B.Rows.keeps_then _ _ _ _ c.in_ok-check_named.ensures.kept c.in_err-written.ensures.kept)
+    rw p.1
+    (g.B.Rows.keeps_then Is _ _ _ _ (g.B.Rows.keeps_so _ Is _ _ _ (λ held write h none. absurd none) c.in_ok-check_named.ensures.kept)
+    (g.B.Rows.keeps_so _ Is _ _ _
+    (λ held write honest is. subst (λ (s : State). IsWriteOf s c.args.edit.now held write) (c.in_ok-check_named.ensures.same (c.edit_in.ensures.was_honest honest)) is)
+    c.in_err-written.ensures.kept))
 
 pub returns-clause-kept : goal.returns-clause-kept
-returns-clause-kept g c = g.B.Rows.keeps_either _ _ _ (g.B.Rows.keeps_then _ _ _ _ c.in_ok-check_named.ensures.kept c.in_ok-written.ensures.kept)
+returns-clause-kept g c =
+    let Is = IsWriteOf (g.B.Rows.state c.args.rows.now) c.args.edit.now in
+    g.B.Rows.keeps_refused Is _ _ _
+    (g.B.Rows.keeps_then Is _ _ _ _ (g.B.Rows.keeps_so _ Is _ _ _ (λ held write h none. absurd none) c.in_ok-check_named.ensures.kept)
+    (g.B.Rows.keeps_so _ Is _ _ _
+    (λ held write honest is. subst (λ (s : State). IsWriteOf s c.args.edit.now held write) (c.in_ok-check_named.ensures.same (c.edit_in.ensures.was_honest honest)) is)
+    c.in_ok-written.ensures.kept))

@@ -3,6 +3,7 @@ use Rattle.std.proofs.Common.{refl}
 use Rattle.sqlite.specs.Held.{state}
 use Rattle.cs_access.specs.Failing.{Writes}
 use Rattle.cs_access.proofs.FailureLemmas.{caused_so, read_fails}
+use Rattle.cs_access.specs.Laws.{leads_so}
 use Rattle.cs_store.proofs.FailureLemmas.{accepted}
 use Rattle.cs_store.proofs.batch.SqlBatchRows.get.Goals as goal
 
@@ -11,4 +12,4 @@ returns-clause-caused g c clean =
     rw c.store.view_is at (caused_so c.find_row.result _ _ (read_fails (Writes (λ held write. ⊥)) (state g.S.Store c.store.inside.conn) (state g.S.Store c.find_row.new.conn)) (c.find_row.ensures.caused clean))
 
 pub returns-clause-kept : goal.returns-clause-kept
-returns-clause-kept g c = (refl, rw c.store.view_is at c.find_row.ensures.kept, λ is clean. rw c.store.view_is at (accepted c.find_row.result _ (c.find_row.ensures.leads clean) is))
+returns-clause-kept g c = (refl, rw c.store.view_is at c.find_row.ensures.kept, λ is clean. rw c.store.view_is at (leads_so (λ held statement. ⊥) (Writes (λ held write. ⊥)) (λ held statement none. absurd none) (accepted c.find_row.result _ (c.find_row.ensures.leads clean) is)))

@@ -2,10 +2,10 @@
 use Rattle.std.proofs.Common.{◌≡◌, Ok, IfErr, OnErr, subst, ◌∙◌, rules}
 use Rattle.std.proofs.lemmas.Result.{err_from_is_err_and}
 use Rattle.cs_value.specs.Table.{IsName}
-use Rattle.cs_value.specs.State.{SchemaData, IsSchema}
+use Rattle.cs_value.specs.State.{SchemaData, State, IsSchema}
 use Rattle.cs_rows.specs.Editing.{Declares, schema_of}
 use Rattle.cs_access.specs.Store.{AddsTable, tables_in}
-use Rattle.cs_store.proofs.CrashLemmas.{unmoved_atomic, idle_atomic, dropped_atomic, made_atomic, made_others, commit_left, refused_stands}
+use Rattle.cs_store.proofs.CrashLemmas.{begun_tables, unmoved_atomic, idle_atomic, dropped_atomic, made_atomic, made_others, commit_left, refused_stands}
 use Rattle.cs_store.proofs.DeclareLemmas.{added_declares, committed_declares, taken_declares}
 use Rattle.cs_access.proofs.WriteLemmas.{on_err_then, on_ok_both}
 use Rattle.sqlite.specs.Held.{state}
@@ -167,9 +167,11 @@ returns-in_err-declare-clause-caused g c clean =
     let same : c.drop-batch.new.self.0 ≡ c.self-in_err-declare-1.given.0 = search rules in
     let last_clean : HasCleanDisk last = rw same clean in
     let mid_clean = was_clean mid last c.drop-batch.ensures.survives last_clean in
-    let failed = subst (λ (s : SchemaData). IsCaused (BatchFails (IsDeclarationOf c.args.name.now s) begun mid) c.in_err-declare.field-0.0) c.in_ok-schema.ensures.made (c.in_err-declare.ensures.caused mid_clean) in
+    let tables = begun_tables old begun mid c.in_ok-batch.ensures.begun c.declare.ensures.kept mid_clean in
+    let failed = subst (λ (s : SchemaData). IsCaused (BatchFails (IsDeclarationOf (tables_in begun.now) c.args.name.now s) begun mid) c.in_err-declare.field-0.0) c.in_ok-schema.ensures.made (c.in_err-declare.ensures.caused mid_clean) in
+    let there = subst (λ (s : State). IsCaused (BatchFails (IsDeclarationOf s c.args.name.now (schema_of c.args.columns.now c.args.keys.now c.args.refuses.now)) begun mid) c.in_err-declare.field-0.0) tables failed in
     let p = err_from_is_err_and c.from_residual-in_err-declare.result c.from_residual-in_err-declare.ensures.1 in
-    rw (p.1, p.2, ← same) (so_caused _ _ c.in_err-declare.field-0.0 (work_fails _ old begun mid last c.in_ok-batch.ensures.begun c.in_ok-batch.ensures.survives c.declare.ensures.kept mid_clean c.drop-batch.ensures.survives) failed)
+    rw (p.1, p.2, ← same) (so_caused _ _ c.in_err-declare.field-0.0 (work_fails _ old begun mid last c.in_ok-batch.ensures.begun c.in_ok-batch.ensures.survives c.declare.ensures.kept mid_clean c.drop-batch.ensures.survives) there)
 
 pub returns-clause-caused : goal.returns-clause-caused
 returns-clause-caused g c clean =
@@ -181,5 +183,6 @@ returns-clause-caused g c clean =
     let last_clean : HasCleanDisk last = rw same clean in
     let survives = c.commit.ensures.atomic.survives in
     let mid_clean = was_clean mid last survives last_clean in
-    rw (← same) (caused_so c.commit.result _ _ (commit_fails _ old begun mid last c.in_ok-batch.ensures.begun c.in_ok-batch.ensures.survives c.declare.ensures.kept mid_clean survives.counts
-    (c.in_ok-declare.ensures.leads mid_clean)) (c.commit.ensures.caused last_clean))
+    let Is = IsDeclarationOf (tables_in old.now) c.args.name.now (schema_of c.args.columns.now c.args.keys.now c.args.refuses.now) in
+    rw (← same) (caused_so c.commit.result _ _ (commit_fails Is old begun mid last c.in_ok-batch.ensures.begun c.in_ok-batch.ensures.survives c.declare.ensures.kept mid_clean survives.counts
+    (c.in_ok-declare.ensures.leads mid_clean).inside) (c.commit.ensures.caused last_clean))

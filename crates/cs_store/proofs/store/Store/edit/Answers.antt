@@ -1,8 +1,8 @@
--- `store::Store::edit`: the clauses `caused`, `kept`, `others`, `atomic`, `left` and `stands`.
+-- `store::Store::edit`: the clauses `edited`, `caused`, `kept`, `others`, `atomic`, `left` and `stands`.
 use Rattle.std.proofs.Common.{◌≡◌, rules}
 use Rattle.std.specs.Prelude.{map, IfErr, OnErr}
 use Rattle.sqlite.specs.Held.{state}
-use Rattle.cs_rows.specs.Editing.{EditsInto, written_of}
+use Rattle.cs_rows.specs.Editing.{EditsInto, edited, written_of}
 use Rattle.sqlite.specs.State.{HasCleanDisk}
 use Rattle.cs_access.specs.Laws.{was_clean}
 use Rattle.cs_records.specs.Records.{KeepsContent, KeepsCrash}
@@ -11,7 +11,8 @@ use Rattle.cs_access.specs.Store.{tables_in}
 use Rattle.cs_store.proofs.CrashLemmas.{idle_atomic, dropped_atomic, made_atomic, made_others, left_new, refused_stands}
 use Rattle.cs_access.proofs.StoreLemmas.{undone_batch}
 use Rattle.cs_records.proofs.QueryLemmas.{on_err}
-use Rattle.std.proofs.Common.{refl, subst}
+use Rattle.std.proofs.Common.{Ok, refl, sym, subst, ap}
+use Rattle.sqlite.specs.Effect.{Database}
 use Rattle.std.proofs.lemmas.Result.{err_from_is_err_and}
 use Rattle.cs_value.specs.State.{State}
 use Rattle.cs_rows.specs.Editing.{IsWriteOf}
@@ -80,6 +81,20 @@ returns-clause-atomic g c =
     rw (← same) (made_atomic old begun mid last c.crash_law.ensures c.in_ok-batch.ensures.survives c.edit_in.ensures.kept.1 (λ before. EditsInto before c.args.edit.now) c.in_ok-batch.ensures.begun
     (λ clean. (map written_of c.in_ok-written.written.items, c.in_ok-written.ensures.edited clean)) c.commit.ensures.atomic.survives)
 
+pub returns-clause-edited : goal.returns-clause-edited
+returns-clause-edited g c clean =
+    let old = state g.S.Store c.args.self.now in
+    let begun = state g.S.Store c.in_ok-batch.batch.store.now in
+    let mid = state g.S.Store c.edit_in.new.rows.store.now in
+    let last = state g.S.Store c.commit.new.self.0 in
+    let same : c.commit.new.self.0 ≡ c.self-2-1.given.0 = search rules in
+    let last_clean : HasCleanDisk last = rw same clean in
+    let mid_clean = was_clean mid last c.commit.ensures.atomic.survives last_clean in
+    let begins = begun_tables old begun mid c.in_ok-batch.ensures.begun c.edit_in.ensures.kept.1 mid_clean in
+    let ends = ap (λ (db : Database). tables_in db) (c.in_ok-commit.ensures.committed last_clean).shown.now_is in
+    let Made = λ (before after : State). edited before c.args.edit.now ≡ Ok (record { state = after; written = map written_of c.in_ok-written.written.items }) in
+    rw (← same) (subst (λ (after : State). Made (tables_in old.now) after) (sym ends) (subst (λ (before : State). Made before (tables_in mid.now)) begins (c.in_ok-written.ensures.edited mid_clean)))
+
 pub returns-clause-others : goal.returns-clause-others
 returns-clause-others g c clean =
     let same : c.commit.new.self.0 ≡ c.self-2-1.given.0 = search rules in
@@ -142,5 +157,5 @@ returns-in_err-commit-clause-caused g c clean =
     let survives = c.commit.ensures.atomic.survives in
     let mid_clean = was_clean mid last survives last_clean in
     let p = err_from_is_err_and c.from_residual-in_err-commit.result c.from_residual-in_err-commit.ensures.1 in
-    rw (p.1, p.2, ← same) (so_caused _ _ c.in_err-commit.field-0.0 (commit_fails _ old begun mid last c.in_ok-batch.ensures.begun c.in_ok-batch.ensures.survives kept.1 mid_clean survives.counts (kept.2 refl mid_clean))
+    rw (p.1, p.2, ← same) (so_caused _ _ c.in_err-commit.field-0.0 (commit_fails _ old begun mid last c.in_ok-batch.ensures.begun c.in_ok-batch.ensures.survives kept.1 mid_clean survives.counts (kept.2 refl mid_clean).inside)
     (c.in_err-commit.ensures.caused last_clean))
