@@ -6,9 +6,9 @@ use Rattle.cs_store.specs.Crash.{CanBegin, IsAtomic}
 use Rattle.cs_store.proofs.CrashLemmas.{atomic_weaker}
 use Rattle.cs_group.specs.declared.conflict.Choice.{Choice}
 use Rattle.cs_group.specs.declared.conflict.Noop.{Noop}
-use Rattle.cs_run.specs.declared.conflict.Conflict.{Conflict}
-use Rattle.cs_run.specs.declared.running.Direction.{Direction}
-use Rattle.cs_run.specs.Running.{Handler}
+use Rattle.cs_apply_rows.specs.declared.conflict.Conflict.{Conflict}
+use Rattle.cs_apply_rows.specs.declared.running.Direction.{Direction}
+use Rattle.cs_apply_rows.specs.Running.{Handler}
 use Rattle.cs_apply.specs.Crash.{AppliesInto}
 use Rattle.cs_apply.proofs.RevertLemmas.{with_weaker}
 

@@ -18,17 +18,17 @@ use Rattle.cs_group.specs.declared.conflict.Noop.TheVariants.{Report as Reported
 use Rattle.cs_group.specs.Inverse.{IsInverse}
 use Rattle.cs_group.specs.Applying.{PlacedEntry, Choices, applicable, placed_kind, heeded, met_at, met_under, IsClean, IsApplied, AreApplied, omit_all}
 use Rattle.cs_group.proofs.ApplyLemmas.{none_met, applied_once, applied_reverts}
-use Rattle.cs_run.proofs.HeededLemmas.{heeded_all}
-use Rattle.cs_run.specs.declared.conflict.Conflict.{Conflict}
-use Rattle.cs_run.specs.declared.conflict.Met.{Met}
-use Rattle.cs_run.specs.declared.report.Report.{Report}
-use Rattle.cs_run.specs.declared.report.Summary.{Summary}
-use Rattle.cs_run.specs.declared.running.Direction.{Direction}
-use Rattle.cs_run.specs.declared.running.Direction.TheVariants.{Forward, Inverse}
-use Rattle.cs_run.specs.declared.fault.ApplyFault.{ApplyFault}
-use Rattle.cs_run.specs.declared.fault.ApplyFault.TheVariants as fault
-use Rattle.cs_run.specs.Report.{conflict_of, met_of}
-use Rattle.cs_run.specs.Running.{Handler, IsReadAs, GoesOn, Applies, AppliesCounted, AppliesWith, EndsAt, Refuses, AlwaysAborts, Leads, IsResource}
+use Rattle.cs_apply_rows.proofs.HeededLemmas.{heeded_all}
+use Rattle.cs_apply_rows.specs.declared.conflict.Conflict.{Conflict}
+use Rattle.cs_apply_rows.specs.declared.conflict.Met.{Met}
+use Rattle.cs_apply_rows.specs.declared.report.Report.{Report}
+use Rattle.cs_apply_rows.specs.declared.report.Summary.{Summary}
+use Rattle.cs_apply_rows.specs.declared.running.Direction.{Direction}
+use Rattle.cs_apply_rows.specs.declared.running.Direction.TheVariants.{Forward, Inverse}
+use Rattle.cs_apply_rows.specs.declared.fault.ApplyFault.{ApplyFault}
+use Rattle.cs_apply_rows.specs.declared.fault.ApplyFault.TheVariants as fault
+use Rattle.cs_apply_rows.specs.Report.{conflict_of, met_of}
+use Rattle.cs_apply_rows.specs.Running.{Handler, IsReadAs, GoesOn, Applies, AppliesCounted, AppliesWith, EndsAt, Refuses, AlwaysAborts, Leads, IsResource}
 
 -- ---- lists
 

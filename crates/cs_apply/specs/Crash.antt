@@ -2,9 +2,9 @@
 use Rattle.std.specs.Prelude.{ℕ, List}
 use Rattle.cs_value.specs.State.{State, WrittenData}
 use Rattle.cs_group.specs.declared.conflict.Noop.{Noop}
-use Rattle.cs_run.specs.declared.conflict.Met.{Met}
-use Rattle.cs_run.specs.declared.running.Direction.{Direction}
-use Rattle.cs_run.specs.Running.{Handler, AppliesWith}
+use Rattle.cs_apply_rows.specs.declared.conflict.Met.{Met}
+use Rattle.cs_apply_rows.specs.declared.running.Direction.{Direction}
+use Rattle.cs_apply_rows.specs.Running.{Handler, AppliesWith}
 
 -- an apply of the file makes this state
 pub record AppliesInto (chooses : Handler) (noop : Noop) (file : List ℕ) (direction : Direction) (before after : State) :

@@ -1,6 +1,6 @@
 pub mod Crash
-pub use Rattle.cs_run.specs.Faults
-pub use Rattle.cs_run.specs.Report
-pub use Rattle.cs_run.specs.Running
-pub use Rattle.cs_run.specs.Steps
-pub use Rattle.cs_run.specs.Tally
+pub use Rattle.cs_apply_rows.specs.Faults
+pub use Rattle.cs_apply_rows.specs.Report
+pub use Rattle.cs_apply_rows.specs.Running
+pub use Rattle.cs_apply_rows.specs.Steps
+pub use Rattle.cs_apply_rows.specs.Tally

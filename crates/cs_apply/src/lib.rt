@@ -8,13 +8,13 @@
 //! revert(alloc, &mut store, file)?;
 //! ```
 //!
-//! `store` applies a file to the rows of a batch, by `cs_run`, and commits the batch or drops it. The names of `cs_run`
+//! `store` applies a file to the rows of a batch, by `cs_apply_rows`, and commits the batch or drops it. The names of `cs_apply_rows`
 //! are passed on. `CALLING.md`, next to this folder, shows a caller.
 #![tactic(auto)]
 
 mod store;
 
-pub use cs_run::{
+pub use cs_apply_rows::{
     ApplyFault, Choice, Conflict, Direction, Kind, Met, Noop, Policy, Report, Summary,
     run_changeset_in, run_in,
 };

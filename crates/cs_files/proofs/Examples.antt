@@ -6,9 +6,9 @@ use Rattle.cs_value.specs.declared.value.OwnedValue.{OwnedValue}
 use Rattle.cs_value.specs.declared.value.OwnedValue.TheVariants.{Int, Null}
 use Rattle.cs_value.specs.Varint.{leading_digits, varint}
 use Rattle.cs_value.specs.Spelling.{counted, value_bytes, field_bytes}
-use Rattle.cs_entries.specs.declared.entry.Change.{Change}
-use Rattle.cs_entries.specs.declared.entry.Change.TheVariants.{Insert, Delete}
-use Rattle.cs_entries.specs.declared.fault.ReadFaultKind.TheVariants.{NotTable}
+use Rattle.cs_wire_entries.specs.declared.entry.Change.{Change}
+use Rattle.cs_wire_entries.specs.declared.entry.Change.TheVariants.{Insert, Delete}
+use Rattle.cs_wire_entries.specs.declared.fault.ReadFaultKind.TheVariants.{NotTable}
 use Rattle.cs_wire.specs.Entry.{entry_bytes}
 use Rattle.cs_wire.specs.Changeset.{ImageData, HeaderData, IsHeader, GroupData, IsChangeset, file_bytes}
 use Rattle.cs_wire.specs.Changeset.{flags_bytes, header_bytes, group_bytes}

@@ -3,13 +3,13 @@ use Rattle.std.proofs.Common.{◌≡◌, ℕ, List, [], ◌++◌, length, map, s
 use Rattle.std.specs.List.{flat_map}
 use Rattle.std.proofs.lemmas.List.Elements.{recursion_from_All}
 use Rattle.std.proofs.lemmas.List.Folds.{flat_map-map}
-use Rattle.cs_entries.specs.declared.entry.Entry.{Entry}
+use Rattle.cs_wire_entries.specs.declared.entry.Entry.{Entry}
 use Rattle.cs_wire.specs.Entry.{IsEntry, entry_bytes}
 use Rattle.cs_wire.specs.Changeset.{HeaderData, GroupData, IsFileOf, IsGroup, header_bytes, entries_bytes, group_bytes, file_bytes}
 use Rattle.cs_wire.specs.Inverse.{IsInverseEntry}
 use Rattle.cs_wire.specs.Items.{FlaggedEntry}
-use Rattle.cs_tables.specs.Tables.{TablesData, AreLeft, IsNextEntry, IsNextTable}
-use Rattle.cs_tables.specs.Visits.{IsVisited, group_text}
+use Rattle.cs_file_tables.specs.Tables.{TablesData, AreLeft, IsNextEntry, IsNextTable}
+use Rattle.cs_file_tables.specs.Visits.{IsVisited, group_text}
 use Rattle.cs_wire.specs.Views.{inverse_entry}
 use Rattle.cs_wire.specs.declared.header.HeaderRef.{HeaderRef}
 use Rattle.cs_wire.specs.Headers.{header_of}

@@ -3,13 +3,13 @@ use Rattle.std.proofs.Common.{◌≡◌, ℕ, ◌+◌, ◌<◌, ◌≤◌, List,
 use Rattle.std.specs.List.{flat_map}
 use Rattle.std.proofs.lemmas.List.{take_all}
 use Rattle.cs_value.proofs.ListLemmas.{flat_map_take_more_at}
-use Rattle.cs_entries.specs.declared.entry.Entry.{Entry}
+use Rattle.cs_wire_entries.specs.declared.entry.Entry.{Entry}
 use Rattle.cs_wire.specs.declared.header.HeaderRef.{HeaderRef}
 use Rattle.cs_wire.specs.Changeset.{GroupData}
 use Rattle.cs_wire.specs.Items.{FlaggedEntry}
-use Rattle.cs_tables.specs.Tables.{TablesData, AreLeft, IsNextEntry, IsNextTable}
-use Rattle.cs_tables.proofs.TablesLemmas.{PassedEntries, PassedEntries-next, PassedEntries-all}
-use Rattle.cs_tables.proofs.VisitLemmas.{more_written}
+use Rattle.cs_file_tables.specs.Tables.{TablesData, AreLeft, IsNextEntry, IsNextTable}
+use Rattle.cs_file_tables.proofs.TablesLemmas.{PassedEntries, PassedEntries-next, PassedEntries-all}
+use Rattle.cs_file_tables.proofs.VisitLemmas.{more_written}
 
 -- ---- things of a list
 

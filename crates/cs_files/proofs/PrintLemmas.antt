@@ -4,9 +4,9 @@ use Rattle.std.specs.Prelude.{IfErr}
 use Rattle.cs_wire.specs.Changeset.{GroupData, IsFileOf}
 use Rattle.cs_files.specs.declared.fault.PrintFault.{PrintFault}
 use Rattle.cs_files.specs.declared.fault.PrintFault.TheVariants.{Read, Output}
-use Rattle.cs_texts.specs.declared.told.Told.{Told}
-use Rattle.cs_texts.specs.Told.{known}
-use Rattle.cs_texts.specs.Calls.{AppendsFront}
+use Rattle.cs_file_texts.specs.declared.told.Told.{Told}
+use Rattle.cs_file_texts.specs.Told.{known}
+use Rattle.cs_file_texts.specs.Calls.{AppendsFront}
 use Rattle.cs_files.specs.Printing.{IfUnwritten, PrintsFrontTo}
 
 -- a front of what is printed of a file was written

@@ -4,7 +4,7 @@ use Rattle.std.specs.Prelude.{ℕ, List, codes}
 use Rattle.cs_value.specs.Refusals.{of_refusal}
 use Rattle.cs_value.specs.declared.refusal.OrNoMemory.{OrNoMemory}
 use Rattle.cs_value.specs.declared.refusal.OrNoMemory.TheVariants.{Fault, NoMemory}
-use Rattle.cs_entries.specs.declared.fault.ReadFault.{ReadFault}
+use Rattle.cs_wire_entries.specs.declared.fault.ReadFault.{ReadFault}
 use Rattle.cs_wire.specs.ReadFaults as read
 use Rattle.cs_files.specs.declared.fault.PrintFault.{PrintFault}
 use Rattle.cs_files.specs.declared.fault.PrintFault.TheVariants as print

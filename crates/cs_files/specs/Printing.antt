@@ -2,13 +2,13 @@
 use Rattle.std.specs.Prelude.{ℕ, List, Option}
 use Rattle.std.specs.Io.KnownBytes.{Appends}
 use Rattle.cs_value.specs.declared.refusal.OrNoMemory.{OrNoMemory}
-use Rattle.cs_entries.specs.declared.fault.ReadFault.{ReadFault}
+use Rattle.cs_wire_entries.specs.declared.fault.ReadFault.{ReadFault}
 use Rattle.cs_wire.specs.Changeset.{GroupData}
 use Rattle.cs_files.specs.declared.fault.PrintFault.{PrintFault}
 use Rattle.cs_files.specs.declared.fault.PrintFault.TheVariants.{Read, Output}
-use Rattle.cs_texts.specs.declared.told.Told.{Told}
-use Rattle.cs_texts.specs.Told.{known}
-use Rattle.cs_texts.specs.Calls.{AppendsFront}
+use Rattle.cs_file_texts.specs.declared.told.Told.{Told}
+use Rattle.cs_file_texts.specs.Told.{known}
+use Rattle.cs_file_texts.specs.Calls.{AppendsFront}
 use Rattle.cs_files.specs.Files.{Prints}
 
 -- this holds of why the file was not read, where it was not

@@ -4,8 +4,8 @@ ghost use Rattle.cs_files.specs.Faults.{code_of, class_of, name_of, of_first, of
 ghost use Rattle.cs_files.specs.Faults.{print_code_of, print_class_of, print_name_of, of_print};
 ghost use Rattle.cs_files.specs.declared.fault.PrintFault.TheVariants as print;
 
+use cs_file_texts::OutputFault;
 use cs_group::SchemaFault;
-use cs_texts::OutputFault;
 use cs_value::{Fault, OrNoMemory};
 use cs_wire::{ReadError, ReadFault};
 use thiserror::Error;

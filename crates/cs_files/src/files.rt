@@ -3,17 +3,17 @@ ghost use Rattle.std.specs.Prelude.{◌≡◌, ◌+◌, ◌≤◌, length, IfOk,
 ghost use Rattle.cs_value.specs.Refusals.{Refuses};
 ghost use Rattle.cs_wire.specs.ReadFaults.{ReadFails};
 ghost use Rattle.cs_files.specs.Files.{Inverts, Joins, Numbers, Prints, JoinFails, FirstFails};
-ghost use Rattle.cs_texts.specs.Told.{has_failed};
-ghost use Rattle.cs_texts.specs.Texts.{dump_of, sql_of};
-ghost use Rattle.cs_texts.specs.Forms.{form_text};
+ghost use Rattle.cs_file_texts.specs.Told.{has_failed};
+ghost use Rattle.cs_file_texts.specs.Texts.{dump_of, sql_of};
+ghost use Rattle.cs_file_texts.specs.Forms.{form_text};
 ghost use Rattle.cs_files.specs.Printing.{IfUnread, IfUnwritten, PrintsTo, PrintsFrontTo};
 
 use crate::fault::{PrintFault, ToolFault, first_fault, second_fault, text_fault};
 use crate::inverting::{Inverting, write_inverse};
 use crate::joining::join_tables;
 use crate::numbering::write_numbered;
-use cs_tables::{NamedTables, Tables};
-use cs_texts::{Form, Told, write_tables};
+use cs_file_tables::{NamedTables, Tables};
+use cs_file_texts::{Form, Told, write_tables};
 use cs_wire::ReadError;
 use std::alloc::Global;
 use std::io::Write;

@@ -1,13 +1,13 @@
 //! The inverse of a file, written as the file is checked, or table by table.
 ghost use Rattle.std.specs.Prelude.{◌≡◌, ◌≤◌, ◌++◌, [], List, OnOk, map};
-ghost use Rattle.cs_entries.specs.declared.entry.Entry.{Entry as EntryData};
+ghost use Rattle.cs_wire_entries.specs.declared.entry.Entry.{Entry as EntryData};
 ghost use Rattle.cs_wire.specs.Changeset.{GroupData, entries_bytes, file_bytes, header_bytes};
 ghost use Rattle.cs_wire.specs.Entry.{entry_bytes};
-ghost use Rattle.cs_tables.specs.Tables.{AreLeft};
+ghost use Rattle.cs_file_tables.specs.Tables.{AreLeft};
 ghost use Rattle.cs_wire.specs.Views.{inverse_entry};
 ghost use Rattle.cs_group.specs.Inverse.{inverse_group};
 
-use cs_tables::{Tables, Visit};
+use cs_file_tables::{Tables, Visit};
 use cs_value::NoMemory;
 use cs_wire::{EntryRef, HeaderRef};
 

@@ -2,7 +2,7 @@
 ghost use Rattle.std.specs.Prelude.{◌≡◌, List, IfErr, IfOk};
 ghost use Rattle.cs_value.specs.Refusals.{Refuses};
 ghost use Rattle.cs_wire.specs.Changeset.{GroupData, IsChangeset, file_bytes};
-ghost use Rattle.cs_tables.specs.Named.{AreListed};
+ghost use Rattle.cs_file_tables.specs.Named.{AreListed};
 ghost use Rattle.cs_group.specs.Joining.{AreJoinable, joined};
 ghost use Rattle.cs_files.specs.Files.{AreUnjoined};
 
@@ -13,8 +13,8 @@ pub(crate) mod tables;
 use crate::fault::{FileFault, ToolFault};
 use crate::joining::columns::first_clash;
 use crate::joining::tables::{write_kept_tables, write_new_tables};
+use cs_file_tables::NamedTables;
 use cs_group::SchemaFault;
-use cs_tables::NamedTables;
 use std::alloc::Global;
 
 /// Returns the concatenation of two files that were read. Its bytes are allocated once.

@@ -9,22 +9,27 @@
 //! ```
 //!
 //! `files` has the calls on files. `inverting` writes an inverse, `joining` a concatenation, and `numbering` a file
-//! whose key columns are numbered. `fault` has the faults.
+//! whose key columns are numbered. `selecting` keeps the tables that are named, and `chaining` concatenates many files:
+//! names and files come in one buffer each, since a list of slices does not cross to C. `fault` has the faults.
 //!
-//! The names of `cs_texts` are passed on: the texts of changesets, the streams that they are written to, and the pieces
+//! The names of `cs_file_texts` are passed on: the texts of changesets, the streams that they are written to, and the pieces
 //! of lines.
 #![tactic(auto)]
 
+mod chaining;
 mod fault;
 mod files;
 mod inverting;
 mod joining;
 mod numbering;
+mod selecting;
 
-pub use cs_texts::{
+pub use chaining::{ChainFault, concat_all_bytes};
+pub use cs_file_texts::{
     Gather, OutputFault, Piece, Told, add_pieces, dump_text, sql_text, write_whole,
 };
 pub use fault::{FileFault, PrintFault, ToolFault, first_fault};
 pub use files::{
     concat_bytes, dump_file, invert_bytes, number_keys_bytes, print_dump, print_sql, sql_file,
 };
+pub use selecting::select_bytes;

@@ -15,8 +15,8 @@ use Rattle.cs_value.specs.Spelling.{value_bytes, field_bytes}
 use Rattle.cs_value.specs.State.{SchemaData, IsColumnName, IsSchema, IsRowAt, TableData, State, IsState, schema_at, row_at}
 use Rattle.cs_value.proofs.StateLemmas.{empty_table, table_insert, empty_state, state_insert}
 use Rattle.cs_value.proofs.ByteMaps.{tied_bytes}
-use Rattle.cs_entries.specs.declared.entry.Change.{Change}
-use Rattle.cs_entries.specs.declared.entry.Change.TheVariants.{Insert, Delete, Update}
+use Rattle.cs_wire_entries.specs.declared.entry.Change.{Change}
+use Rattle.cs_wire_entries.specs.declared.entry.Change.TheVariants.{Insert, Delete, Update}
 use Rattle.cs_wire.specs.Entry.{key_of}
 use Rattle.cs_wire.specs.Changeset.{HeaderData, GroupData}
 use Rattle.cs_wire.proofs.Examples.{one, flags, flags_are, header, header_is, direct, group, one_change, one_change_of, x, y, row, row_is as row_has_values, row_is_keyed, update, idle_update, update_is_changeset}

@@ -8,7 +8,7 @@ use Rattle.std.proofs.lemmas.List.Elements.{recursion_from_All, All-from_recursi
 use Rattle.std.proofs.lemmas.Option.{none-some}
 use Rattle.cs_value.specs.State.{SchemaData, TableData, State, WrittenData, schema_at, row_at, written_at}
 use Rattle.cs_value.proofs.ByteMaps.{same_maps}
-use Rattle.cs_entries.specs.declared.entry.Entry.{Entry}
+use Rattle.cs_wire_entries.specs.declared.entry.Entry.{Entry}
 use Rattle.cs_wire.specs.Entry.{IsEntry, before_image}
 use Rattle.cs_wire.specs.Changeset.{HeaderData, GroupData, ImageData, IsGroup}
 use Rattle.cs_wire.specs.Inverse.{IsInverseEntry, IsInverseGroup}

@@ -17,8 +17,8 @@ use Rattle.cs_value.specs.declared.value.Field.{Field}
 use Rattle.cs_value.specs.declared.value.Field.TheVariants as borrowed
 use Rattle.cs_value.specs.Value.{value_of, field_of}
 use Rattle.cs_value.specs.contracts.value.OwnedValuePartialEq.TheImpl as value_eq
-use Rattle.cs_entries.specs.declared.entry.Change.{Change}
-use Rattle.cs_entries.specs.declared.entry.Change.TheVariants.{Insert, Delete, Update}
+use Rattle.cs_wire_entries.specs.declared.entry.Change.{Change}
+use Rattle.cs_wire_entries.specs.declared.entry.Change.TheVariants.{Insert, Delete, Update}
 use Rattle.cs_wire.specs.Entry.{IsKeyedUpdate, IsChange, with_key, before_image, after_image, key_of}
 use Rattle.cs_value.specs.Spelling.{value_bytes, field_bytes}
 use Rattle.cs_value.specs.Table.{IsKeyedRow}

@@ -9,11 +9,11 @@ use Rattle.cs_value.specs.declared.value.OwnedField.{OwnedField}
 use Rattle.cs_value.specs.declared.value.OwnedField.TheVariants.{Undefined, Defined}
 use Rattle.cs_value.specs.Table.{IsKeyedRow}
 use Rattle.cs_value.proofs.KeyedRows.{length-IsKeyedRow}
-use Rattle.cs_entries.specs.declared.entry.Change.{Change}
-use Rattle.cs_entries.specs.declared.entry.Change.TheVariants.{Insert, Delete, Update}
-use Rattle.cs_entries.specs.declared.entry.Entry.{Entry}
+use Rattle.cs_wire_entries.specs.declared.entry.Change.{Change}
+use Rattle.cs_wire_entries.specs.declared.entry.Change.TheVariants.{Insert, Delete, Update}
+use Rattle.cs_wire_entries.specs.declared.entry.Entry.{Entry}
 use Rattle.cs_wire.specs.Entry.{IsKeyedUpdate, IsChange, IsEntry, with_key, before_image, key_of}
-use Rattle.cs_entries.proofs.EntryLemmas.{length-IsKeyedUpdate}
+use Rattle.cs_wire_entries.proofs.EntryLemmas.{length-IsKeyedUpdate}
 use Rattle.cs_group.specs.declared.conflict.Kind.TheVariants.{NotFound, Conflict}
 use Rattle.cs_group.specs.Net.{is_same, unless_same, by_flag, old_record, new_record, values_of, net_change}
 use Rattle.cs_group.specs.Conflicts.{has_values, filled, kind_between, row_after}

@@ -7,9 +7,9 @@ use Rattle.cs_value.specs.declared.value.OwnedValue.TheVariants.{Int, Text, Null
 use Rattle.cs_value.specs.declared.value.OwnedField.{OwnedField}
 use Rattle.cs_value.specs.declared.value.OwnedField.TheVariants.{Undefined, Defined}
 use Rattle.cs_value.specs.Spelling.{value_bytes, field_bytes}
-use Rattle.cs_entries.specs.declared.entry.Change.{Change}
-use Rattle.cs_entries.specs.declared.entry.Change.TheVariants.{Insert, Delete}
-use Rattle.cs_entries.specs.declared.entry.Entry.{Entry}
+use Rattle.cs_wire_entries.specs.declared.entry.Change.{Change}
+use Rattle.cs_wire_entries.specs.declared.entry.Change.TheVariants.{Insert, Delete}
+use Rattle.cs_wire_entries.specs.declared.entry.Entry.{Entry}
 use Rattle.cs_wire.specs.Changeset.{HeaderData, GroupData}
 use Rattle.cs_wire.proofs.Examples.{flags, x, y, row, update, idle_update, one_change, one_change_of, group}
 use Rattle.cs_group.specs.declared.merging.Merged.{Merged}

@@ -15,8 +15,8 @@ use Rattle.cs_value.specs.Spelling.{value_bytes, field_bytes}
 use Rattle.cs_value.specs.State.{State, has_null, Obeys}
 use Rattle.cs_value.proofs.ListLemmas.{AllByRecursion-append, AllByRecursion-map, AllByRecursion-weaker, PairsByRecursion, recursion_from_AllPairs}
 use Rattle.cs_value.proofs.Spellings.{field_spellings}
-use Rattle.cs_entries.specs.declared.entry.Change.TheVariants.{Insert, Delete, Update}
-use Rattle.cs_entries.specs.declared.entry.Entry.{Entry}
+use Rattle.cs_wire_entries.specs.declared.entry.Change.TheVariants.{Insert, Delete, Update}
+use Rattle.cs_wire_entries.specs.declared.entry.Entry.{Entry}
 use Rattle.cs_wire.specs.Entry.{IsChange, IsKeyedUpdate, key_of, with_key}
 use Rattle.cs_wire.specs.Changeset.{HeaderData, GroupData, IsChangeset, IsGroup}
 use Rattle.cs_group.specs.declared.conflict.Kind.TheVariants.{Data}

@@ -3,13 +3,13 @@ use Rattle.std.proofs.Common.{◌≡◌, ℕ, ◌<◌, List, [], ◌∷◌, leng
 use Rattle.std.specs.List.{AllByRecursion}
 use Rattle.std.proofs.lemmas.List.{get_or-map, length-map}
 use Rattle.std.proofs.lemmas.List.Elements.{recursion_from_All, All-from_recursion}
-use Rattle.cs_entries.specs.declared.entry.Entry.{Entry}
+use Rattle.cs_wire_entries.specs.declared.entry.Entry.{Entry}
 use Rattle.cs_wire.specs.Entry.{IsEntry}
 use Rattle.cs_wire.specs.Changeset.{GroupData, IsGroup, IsChangeset}
 use Rattle.cs_wire.specs.Inverse.{IsInverseEntry}
 use Rattle.cs_wire.specs.Views.{inverse_entry}
 use Rattle.cs_wire.proofs.EntryInverses.{entry_inverses}
-use Rattle.cs_entries.proofs.InverseLemmas.{IsEntry-inverse, IsGroup-inverse, IsInverseGroup-is, inverse_entry_is}
+use Rattle.cs_wire_entries.proofs.InverseLemmas.{IsEntry-inverse, IsGroup-inverse, IsInverseGroup-is, inverse_entry_is}
 use Rattle.cs_group.specs.Inverse.{IsInverse, inverse_group}
 
 -- the entry that undoes another is the one that is written

@@ -3,15 +3,15 @@ use Rattle.std.proofs.Common.{◌≡◌, ℕ, zero, suc, ◌+◌, List, [], ◌�
 use Rattle.std.specs.List.{AllByRecursion, AllZip}
 use Rattle.std.proofs.lemmas.List.Elements.{recursion_from_All}
 use Rattle.cs_value.specs.declared.value.OwnedField.{OwnedField}
-use Rattle.cs_entries.specs.declared.entry.Change.{Change}
-use Rattle.cs_entries.specs.declared.entry.Change.TheVariants.{Insert, Delete, Update}
-use Rattle.cs_entries.specs.declared.entry.Entry.{Entry}
+use Rattle.cs_wire_entries.specs.declared.entry.Change.{Change}
+use Rattle.cs_wire_entries.specs.declared.entry.Change.TheVariants.{Insert, Delete, Update}
+use Rattle.cs_wire_entries.specs.declared.entry.Entry.{Entry}
 use Rattle.cs_wire.specs.Entry.{IsKeyedUpdate, IsChange, IsEntry, with_key, entry_bytes}
 use Rattle.cs_wire.specs.Changeset.{HeaderData, GroupData, IsGroup, IsChangeset, header_bytes, entries_bytes, group_bytes, file_bytes}
 use Rattle.cs_wire.specs.Inverse.{IsInverseEntry, IsInverseGroup}
 use Rattle.cs_wire.specs.Views.{inverse_change, inverse_entry}
 use Rattle.cs_wire.proofs.EntryInverses.{entry_inverses}
-use Rattle.cs_entries.proofs.InverseLemmas.{IsEntry-inverse, inverse_entry_is, each_entry}
+use Rattle.cs_wire_entries.proofs.InverseLemmas.{IsEntry-inverse, inverse_entry_is, each_entry}
 use Rattle.cs_group.specs.Inverse.{IsInverse}
 use Rattle.cs_group.proofs.EntryLengths.{record_length, record_more, change_length, update_length, entry_length_is}
 use Rattle.cs_group.proofs.JoinLengths.{group_length}

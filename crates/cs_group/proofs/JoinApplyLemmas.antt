@@ -3,7 +3,7 @@ use Rattle.std.proofs.Common.{◌≡◌, ℕ, Bool, true, false, List, [], ◌�
 use Rattle.std.specs.Prelude.{IfSome}
 use Rattle.cs_value.specs.declared.value.OwnedValue.{OwnedValue}
 use Rattle.cs_value.specs.State.{SchemaData, State, schema_at, row_at}
-use Rattle.cs_entries.specs.declared.entry.Entry.{Entry}
+use Rattle.cs_wire_entries.specs.declared.entry.Entry.{Entry}
 use Rattle.cs_wire.specs.Entry.{IsEntry}
 use Rattle.cs_wire.specs.Changeset.{HeaderData, GroupData, IsGroup, IsChangeset}
 use Rattle.cs_group.specs.Judging.{judged, is_compatible}

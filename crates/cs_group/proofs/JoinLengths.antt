@@ -5,7 +5,7 @@ use Rattle.std.specs.List.{cons_option, flat_map}
 use Rattle.std.specs.Cmp.Lexicographic.{pointwise, same_text, other_text, nat_list_eq_equiv}
 use Rattle.std.proofs.lemmas.Grind.{flat_map-append}
 use Rattle.std.proofs.lemmas.List.Elements.{All-head, All-tail}
-use Rattle.cs_entries.specs.declared.entry.Entry.{Entry}
+use Rattle.cs_wire_entries.specs.declared.entry.Entry.{Entry}
 use Rattle.cs_wire.specs.Entry.{key_of, entry_bytes}
 use Rattle.cs_wire.specs.Changeset.{HeaderData, GroupData, IsGroup, IsChangeset, header_bytes, entries_bytes, group_bytes, file_bytes}
 use Rattle.cs_value.proofs.ListLemmas.{AllPairs-head, AllPairs-tail}

@@ -10,8 +10,8 @@ use Rattle.cs_value.specs.Table.{IsKeyedRow}
 use Rattle.cs_value.specs.Value.{IsRow}
 use Rattle.cs_value.specs.Key.{key_columns, row_key}
 use Rattle.cs_value.specs.State.{SchemaData, IsRowAt}
-use Rattle.cs_entries.specs.declared.entry.Change.{Change}
-use Rattle.cs_entries.specs.declared.entry.Change.TheVariants.{Insert, Delete, Update}
+use Rattle.cs_wire_entries.specs.declared.entry.Change.{Change}
+use Rattle.cs_wire_entries.specs.declared.entry.Change.TheVariants.{Insert, Delete, Update}
 use Rattle.cs_wire.specs.Entry.{IsKeyedUpdate, IsChange, with_key, after_image, key_of}
 use Rattle.cs_group.specs.Net.{by_flag}
 use Rattle.cs_group.specs.Joining.{key_places}

@@ -11,14 +11,14 @@ use Rattle.cs_value.specs.Table.{IsKeyedRow}
 use Rattle.cs_value.specs.Spelling.{field_bytes}
 use Rattle.cs_value.specs.Key.{row_key, image_key}
 use Rattle.cs_value.proofs.RowImages.{IsRecord-map}
-use Rattle.cs_entries.specs.declared.entry.Change.{Change}
-use Rattle.cs_entries.specs.declared.entry.Change.TheVariants.{Insert, Delete, Update}
-use Rattle.cs_entries.specs.declared.entry.Entry.{Entry}
+use Rattle.cs_wire_entries.specs.declared.entry.Change.{Change}
+use Rattle.cs_wire_entries.specs.declared.entry.Change.TheVariants.{Insert, Delete, Update}
+use Rattle.cs_wire_entries.specs.declared.entry.Entry.{Entry}
 use Rattle.cs_wire.specs.Entry.{IsPaired, IsKeyPair, IsKeyedUpdate, IsChange, IsEntry, with_key, key_of}
-use Rattle.cs_entries.proofs.InverseLemmas.{IsRecord-with_key}
+use Rattle.cs_wire_entries.proofs.InverseLemmas.{IsRecord-with_key}
 use Rattle.cs_group.specs.Net.{is_same, old_record, new_record, values_of, net_between, net_change}
 use Rattle.cs_value.proofs.KeyedRows.{length-IsKeyedRow}
-use Rattle.cs_entries.proofs.EntryLemmas.{length-IsKeyedUpdate}
+use Rattle.cs_wire_entries.proofs.EntryLemmas.{length-IsKeyedUpdate}
 use Rattle.cs_group.specs.declared.merging.Merged.{Merged}
 use Rattle.cs_group.specs.declared.merging.Merged.TheVariants.{Keep}
 use Rattle.cs_group.specs.Joining.{over, laid_over, joint_image, follows, becomes, merged, IfBecomes, FitsKey}

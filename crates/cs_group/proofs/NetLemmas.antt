@@ -11,8 +11,8 @@ use Rattle.cs_value.specs.Key.{key_columns}
 use Rattle.cs_value.proofs.KeyedRows.{length-IsKeyedRow}
 use Rattle.cs_value.proofs.Spellings.{row_bytes_same}
 use Rattle.cs_value.proofs.RowImages.{IsRecord-map}
-use Rattle.cs_entries.specs.declared.entry.Change.{Change}
-use Rattle.cs_entries.specs.declared.entry.Change.TheVariants.{Update}
+use Rattle.cs_wire_entries.specs.declared.entry.Change.{Change}
+use Rattle.cs_wire_entries.specs.declared.entry.Change.TheVariants.{Update}
 use Rattle.cs_wire.specs.Entry.{IsChange, with_key, before_image, key_of}
 use Rattle.cs_group.specs.Net.{is_same, values_of, old_record, new_record, net_row_change}
 use Rattle.cs_group.specs.Conflicts.{has_values, filled, kind_between, row_after}

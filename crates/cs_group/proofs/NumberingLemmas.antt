@@ -12,7 +12,7 @@ use Rattle.cs_value.specs.Maps.{ByBytes}
 use Rattle.cs_value.specs.Varint.{varint}
 use Rattle.cs_value.specs.Table.{IsFlags}
 use Rattle.cs_value.specs.State.{SchemaData, State, schema_at, row_at}
-use Rattle.cs_entries.specs.declared.entry.Entry.{Entry}
+use Rattle.cs_wire_entries.specs.declared.entry.Entry.{Entry}
 use Rattle.cs_wire.specs.Entry.{IsEntry, key_of, after_image}
 use Rattle.cs_wire.specs.Changeset.{HeaderData, IsHeader, GroupData, ImageData, IsNewName, IsGroup, IsChangeset, flags_bytes, header_bytes, entries_bytes, group_bytes, file_bytes, image_of, group_images, images}
 use Rattle.cs_wire.specs.Inverse.{exchanged, IsInverseEntry}

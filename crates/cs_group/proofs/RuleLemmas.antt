@@ -13,10 +13,10 @@ use Rattle.cs_value.specs.State.{SchemaData, State, IsState, IsRowAt, schema_at,
 use Rattle.cs_value.proofs.KeyedRows.{length-IsKeyedRow}
 use Rattle.cs_value.proofs.ListLemmas.{IfSome-from_each}
 use Rattle.cs_value.proofs.StateLemmas.{row_at_fits}
-use Rattle.cs_entries.specs.declared.entry.Change.{Change}
-use Rattle.cs_entries.specs.declared.entry.Change.TheVariants.{Insert, Delete, Update}
+use Rattle.cs_wire_entries.specs.declared.entry.Change.{Change}
+use Rattle.cs_wire_entries.specs.declared.entry.Change.TheVariants.{Insert, Delete, Update}
 use Rattle.cs_wire.specs.Entry.{IsChange, with_key, before_image}
-use Rattle.cs_entries.proofs.EntryLemmas.{length-IsKeyedUpdate}
+use Rattle.cs_wire_entries.proofs.EntryLemmas.{length-IsKeyedUpdate}
 use Rattle.cs_group.specs.declared.conflict.Kind.TheVariants.{NotFound, Conflict}
 use Rattle.cs_group.specs.Net.{is_same}
 use Rattle.cs_group.specs.Conflicts.{has_values, filled, kind_between, is_refused, row_after}

@@ -6,7 +6,7 @@ use Rattle.std.proofs.lemmas.Option.{none-some}
 use Rattle.std.proofs.lemmas.List.Elements.{recursion_from_All, All-from_recursion}
 use Rattle.cs_value.specs.State.{State, Obeys, schema_at, row_at}
 use Rattle.cs_value.proofs.ListLemmas.{AllByRecursion-append, AllByRecursion-map}
-use Rattle.cs_entries.specs.declared.entry.Entry.{Entry}
+use Rattle.cs_wire_entries.specs.declared.entry.Entry.{Entry}
 use Rattle.cs_wire.specs.Entry.{IsEntry, before_image, after_image, key_of}
 use Rattle.cs_wire.specs.Changeset.{HeaderData, GroupData, IsChangeset}
 use Rattle.cs_group.specs.declared.conflict.Kind.TheVariants.{NotFound}

@@ -2,7 +2,7 @@
 use Rattle.std.specs.Prelude.{◌≡◌, ℕ, false, List, [], All, Option, Some, None, option_map}
 use Rattle.cs_value.specs.declared.value.OwnedValue.{OwnedValue}
 use Rattle.cs_value.specs.State.{SchemaData, State, IsState, schema_at, row_at}
-use Rattle.cs_entries.specs.declared.entry.Entry.{Entry}
+use Rattle.cs_wire_entries.specs.declared.entry.Entry.{Entry}
 use Rattle.cs_wire.specs.Changeset.{GroupData, IsChangeset}
 use Rattle.cs_group.specs.Inverse.{IsInverse}
 use Rattle.cs_group.specs.Joining.{entry_key, table_name, with_text, key_places, IsJoined}

@@ -7,8 +7,8 @@ use Rattle.std.specs.Prelude.{Option, None, Some, is_none}
 use Rattle.std.specs.Cmp.Lexicographic.{pointwise}
 use Rattle.cs_value.specs.declared.value.OwnedField.{OwnedField}
 use Rattle.cs_value.specs.declared.value.OwnedField.TheVariants.{Undefined, Defined}
-use Rattle.cs_entries.specs.declared.entry.Change.{Change}
-use Rattle.cs_entries.specs.declared.entry.Entry.{Entry}
+use Rattle.cs_wire_entries.specs.declared.entry.Change.{Change}
+use Rattle.cs_wire_entries.specs.declared.entry.Entry.{Entry}
 use Rattle.cs_wire.specs.Entry.{IsEntry, before_image, after_image, key_of}
 use Rattle.cs_wire.specs.Changeset.{HeaderData, GroupData, ImageData, IsChangeset}
 use Rattle.cs_group.specs.declared.merging.Merged.{Merged}

@@ -6,7 +6,7 @@ use Rattle.cs_value.specs.Key.{row_key, image_key}
 use Rattle.cs_value.specs.State.{State, IsState, Obeys, WrittenData, row_at}
 use Rattle.cs_value.specs.Table.{IsKeyedRow}
 use Rattle.cs_value.specs.Value.{IsRow}
-use Rattle.cs_entries.specs.declared.entry.Change.TheVariants.{Insert, Delete, Update}
+use Rattle.cs_wire_entries.specs.declared.entry.Change.TheVariants.{Insert, Delete, Update}
 use Rattle.cs_wire.specs.Entry.{IsChange}
 use Rattle.cs_wire.specs.Changeset.{GroupData, IsChangeset}
 use Rattle.cs_group.specs.Inverse.{IsInverse}

@@ -1,7 +1,7 @@
 //! The concatenation of the entries of two groups of one table.
 ghost use Rattle.std.specs.Prelude.{◌≡◌, ◌≢◌, ◌++◌, All, List, ℕ, IfOk, IfSome, IsTrue, OnOk};
 ghost use Rattle.std.specs.Prelude.{None, Some, false, filter, filter_map, if◌then◌else◌, is_none, length, option_to_list, replicate};
-ghost use Rattle.cs_entries.specs.declared.entry.Entry.{Entry as EntryData};
+ghost use Rattle.cs_wire_entries.specs.declared.entry.Entry.{Entry as EntryData};
 ghost use Rattle.cs_wire.specs.Entry.{IsEntry, key_of};
 ghost use Rattle.cs_wire.specs.Changeset.{IsGroup};
 ghost use Rattle.cs_wire.specs.Views.{IsPlaceOf, group_keys};

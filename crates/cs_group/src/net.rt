@@ -4,7 +4,7 @@ ghost use Rattle.std.specs.List.{AllByRecursion};
 ghost use Rattle.std.specs.Cmp.Lexicographic.{pointwise};
 ghost use Rattle.cs_value.specs.declared.value.OwnedField.TheVariants.{Undefined as UndefinedField};
 ghost use Rattle.cs_value.specs.Value.{field_of, FieldFits};
-ghost use Rattle.cs_entries.specs.declared.entry.Change.TheVariants.{Update};
+ghost use Rattle.cs_wire_entries.specs.declared.entry.Change.TheVariants.{Update};
 ghost use Rattle.cs_group.specs.Views.{IsImage, lent_image, image_in};
 ghost use Rattle.cs_group.specs.Net.{is_same, unless_same, by_flag, old_record, new_record, values_of, net_between};
 ghost use Rattle.cs_group.specs.Net.{image_of_row, net_row_change as change_between};

@@ -11,8 +11,8 @@ use Rattle.cs_value.specs.declared.value.OwnedValue.{OwnedValue}
 use Rattle.cs_value.specs.State.{SchemaData, State, IsState, IsRowAt, Obeys, schema_at, row_at, rows_at}
 use Rattle.cs_value.proofs.ListLemmas.{AllByRecursion-cons_option, PairsByRecursion, recursion_from_AllPairs, AllPairs-from_recursion}
 use Rattle.cs_value.proofs.StateLemmas.{row_at_fits}
-use Rattle.cs_entries.specs.declared.entry.Change.{Change}
-use Rattle.cs_entries.specs.declared.entry.Entry.{Entry}
+use Rattle.cs_wire_entries.specs.declared.entry.Change.{Change}
+use Rattle.cs_wire_entries.specs.declared.entry.Entry.{Entry}
 use Rattle.cs_wire.specs.Entry.{IsEntry, key_of, after_image}
 use Rattle.cs_wire.specs.Changeset.{HeaderData, GroupData, IsGroup, IsChangeset}
 use Rattle.cs_group.specs.declared.judging.Judgement.TheVariants.{Wider, Compatible}

@@ -10,8 +10,8 @@ use Rattle.cs_value.specs.declared.value.OwnedValue.{OwnedValue}
 use Rattle.cs_value.specs.State.{SchemaData, State, IsRowAt}
 use Rattle.cs_value.proofs.KeyedRows.{length-IsKeyedRow}
 use Rattle.cs_value.proofs.ListLemmas.{AllByRecursion-append_right, PairsByRecursion, recursion_from_AllPairs, cons_option-nil}
-use Rattle.cs_entries.specs.declared.entry.Change.{Change}
-use Rattle.cs_entries.specs.declared.entry.Entry.{Entry}
+use Rattle.cs_wire_entries.specs.declared.entry.Change.{Change}
+use Rattle.cs_wire_entries.specs.declared.entry.Entry.{Entry}
 use Rattle.cs_wire.specs.Entry.{IsChange, IsEntry, key_of}
 use Rattle.cs_group.specs.Net.{net_row_change}
 use Rattle.cs_group.proofs.KeyPlaceLemmas.{row_under}

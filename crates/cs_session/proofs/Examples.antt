@@ -4,7 +4,7 @@ use Rattle.std.proofs.Common.{◌≡◌, ◌≢◌, ℕ, pos, List, [], ◌∷�
 use Rattle.cs_value.specs.declared.value.OwnedValue.{OwnedValue}
 use Rattle.cs_value.specs.declared.value.OwnedValue.TheVariants.{Int}
 use Rattle.cs_value.specs.State.{SchemaData, State, marks, WrittenData, row_at, rows_at}
-use Rattle.cs_entries.specs.declared.entry.Change.TheVariants.{Insert, Delete}
+use Rattle.cs_wire_entries.specs.declared.entry.Change.TheVariants.{Insert, Delete}
 use Rattle.cs_wire.proofs.Examples.{flags, header, direct, x, y, row, update}
 use Rattle.cs_session.specs.FirstImages.{FirstImage, Notes, rewound, recorded, recorded_changes}
 

@@ -20,13 +20,13 @@ use Rattle.cs_group.specs.Judging.{judgement, judged}
 use Rattle.cs_group.specs.Applying.{omit_all, skipped}
 use Rattle.cs_value.proofs.ListLemmas.{recursion_from_AllPairs}
 use Rattle.cs_group.specs.declared.conflict.Noop.TheVariants as noop
-use Rattle.cs_run.specs.declared.conflict.Conflict.{Conflict}
-use Rattle.cs_run.specs.declared.fault.ApplyFault.{ApplyFault}
-use Rattle.cs_run.specs.declared.fault.ApplyFault.TheVariants as apply
-use Rattle.cs_run.specs.declared.report.Report.{Report}
-use Rattle.cs_run.specs.declared.running.Direction.TheVariants.{Inverse}
-use Rattle.cs_run.specs.Running as applying
-use Rattle.cs_run.specs.Running.{Handler, AlwaysAborts, Applies, Refuses, Leads}
+use Rattle.cs_apply_rows.specs.declared.conflict.Conflict.{Conflict}
+use Rattle.cs_apply_rows.specs.declared.fault.ApplyFault.{ApplyFault}
+use Rattle.cs_apply_rows.specs.declared.fault.ApplyFault.TheVariants as apply
+use Rattle.cs_apply_rows.specs.declared.report.Report.{Report}
+use Rattle.cs_apply_rows.specs.declared.running.Direction.TheVariants.{Inverse}
+use Rattle.cs_apply_rows.specs.Running as applying
+use Rattle.cs_apply_rows.specs.Running.{Handler, AlwaysAborts, Applies, Refuses, Leads}
 use Rattle.cs_apply.proofs.RevertLemmas.{reverts_ok, reverts_err, applies_weaker, refuses_weaker}
 use Rattle.cs_store.specs.Faults.{IsStoreFault}
 use Rattle.cs_session.specs.Faults.{apply_fault_of}

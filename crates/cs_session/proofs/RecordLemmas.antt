@@ -11,11 +11,11 @@ use Rattle.cs_store.specs.Store.{RefusesShut, tables_in}
 use Rattle.cs_group.specs.Laws.{TellsFormer}
 use Rattle.cs_group.proofs.ApplyLemmas.{written_tells}
 use Rattle.cs_group.specs.declared.conflict.Noop.{Noop}
-use Rattle.cs_run.specs.declared.fault.ApplyFault.{ApplyFault}
-use Rattle.cs_run.specs.declared.fault.ApplyFault.TheVariants.{Read, Wider, Abort, Misuse, Store, NoMemory}
-use Rattle.cs_run.specs.declared.report.Report.{Report}
-use Rattle.cs_run.specs.declared.running.Direction.TheVariants.{Forward}
-use Rattle.cs_run.specs.Running.{Handler, Applies, Refuses, Leads}
+use Rattle.cs_apply_rows.specs.declared.fault.ApplyFault.{ApplyFault}
+use Rattle.cs_apply_rows.specs.declared.fault.ApplyFault.TheVariants.{Read, Wider, Abort, Misuse, Store, NoMemory}
+use Rattle.cs_apply_rows.specs.declared.report.Report.{Report}
+use Rattle.cs_apply_rows.specs.declared.running.Direction.TheVariants.{Forward}
+use Rattle.cs_apply_rows.specs.Running.{Handler, Applies, Refuses, Leads}
 use Rattle.cs_apply.proofs.RevertLemmas.{leads_clean}
 use Rattle.cs_session.specs.declared.fault.SessionFault.{SessionFault}
 use Rattle.cs_session.specs.declared.fault.SessionFault.TheVariants.{NoMemory as OutOfMemory}

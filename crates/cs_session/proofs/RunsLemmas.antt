@@ -22,8 +22,8 @@ use Rattle.cs_group.specs.Laws.{TellsFormer}
 use Rattle.cs_group.specs.declared.conflict.Noop.{Noop}
 use Rattle.cs_group.specs.Applying.{written_under}
 use Rattle.cs_group.proofs.ApplyLemmas.{written_tells}
-use Rattle.cs_run.specs.declared.report.Report.{Report}
-use Rattle.cs_run.specs.Running.{Handler}
+use Rattle.cs_apply_rows.specs.declared.report.Report.{Report}
+use Rattle.cs_apply_rows.specs.Running.{Handler}
 use Rattle.cs_session.specs.FirstImages.{FirstImage, AttachedTable, Notes, HasAttached, first_at, put_all_back, rewound_rows, rewound, rewound_state, noted_in, recorded}
 use Rattle.cs_session.specs.Attaching.{Attaches}
 use Rattle.cs_session.specs.Recording.{Records, RecordsApply, table_of}

@@ -7,12 +7,12 @@ use Rattle.cs_rows.specs.declared.fault.StoreError.TheVariants.{DamagedStore}
 use Rattle.cs_rows.specs.Faults.{IsStoreFault}
 use Rattle.cs_store.specs.Editing.{written_of, edited}
 use Rattle.cs_store.specs.Faults as store
-use Rattle.cs_run.specs.declared.report.Report.{Report}
-use Rattle.cs_run.specs.declared.running.Direction.TheVariants.{Forward}
-use Rattle.cs_run.specs.declared.fault.ApplyFault.{ApplyFault}
-use Rattle.cs_run.specs.declared.fault.ApplyFault.TheVariants as apply_fault
+use Rattle.cs_apply_rows.specs.declared.report.Report.{Report}
+use Rattle.cs_apply_rows.specs.declared.running.Direction.TheVariants.{Forward}
+use Rattle.cs_apply_rows.specs.declared.fault.ApplyFault.{ApplyFault}
+use Rattle.cs_apply_rows.specs.declared.fault.ApplyFault.TheVariants as apply_fault
 use Rattle.cs_group.specs.declared.conflict.Noop.{Noop}
-use Rattle.cs_run.specs.Running.{Handler, Applies, Refuses}
+use Rattle.cs_apply_rows.specs.Running.{Handler, Applies, Refuses}
 use Rattle.cs_session.specs.declared.fault.SessionFault.{SessionFault}
 use Rattle.cs_session.specs.declared.fault.SessionFault.TheVariants.{Store, Apply, AlreadyAttached, WrongStore, NoMemory}
 use Rattle.cs_session.specs.FirstImages.{Notes, recorded}

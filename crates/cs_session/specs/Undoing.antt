@@ -3,10 +3,10 @@ use Rattle.std.specs.Prelude.{◌≡◌, List, [], map}
 use Rattle.cs_value.specs.State.{State, rows_at}
 use Rattle.cs_wire.specs.Changeset.{GroupData, file_bytes}
 use Rattle.cs_group.specs.Applying.{Choices, IsClean, IsApplied}
-use Rattle.cs_run.specs.declared.report.Report.{Report}
-use Rattle.cs_run.specs.declared.running.Direction.TheVariants.{Inverse}
+use Rattle.cs_apply_rows.specs.declared.report.Report.{Report}
+use Rattle.cs_apply_rows.specs.declared.running.Direction.TheVariants.{Inverse}
 use Rattle.cs_group.specs.declared.conflict.Noop.TheVariants as noop
-use Rattle.cs_run.specs.Running.{Applies, AlwaysAborts, IsNoReadFault}
+use Rattle.cs_apply_rows.specs.Running.{Applies, AlwaysAborts, IsNoReadFault}
 use Rattle.cs_session.specs.declared.fault.SessionFault.{SessionFault}
 use Rattle.cs_session.specs.declared.fault.SessionFault.TheVariants.{Apply}
 use Rattle.cs_session.specs.FirstImages.{Notes, rewound, rewound_state, recorded_changes}

@@ -15,10 +15,10 @@ ghost use Rattle.cs_session.specs.FirstImages.{AttachedTable, IsNotes, rewound, 
 ghost use Rattle.cs_session.specs.Attaching.{Attaches, RefusesAttach, IsAttachRefusal, IsNewTable};
 ghost use Rattle.cs_session.specs.Changes.{HasTables, IsCaused, IsChangesRefusal, IsResource, RefusesChanges};
 ghost use Rattle.cs_session.specs.Recording.{Records, RefusesEdit, IsEditRefusal, RecordsApply, RefusesApply, IsApplyRefusal};
-ghost use Rattle.cs_run.specs.declared.running.Direction.TheVariants.{Forward as ForwardRun, Inverse as InverseRun};
+ghost use Rattle.cs_apply_rows.specs.declared.running.Direction.TheVariants.{Forward as ForwardRun, Inverse as InverseRun};
 ghost use Rattle.cs_apply.specs.Crash.{AppliesInto};
-ghost use Rattle.cs_run.specs.Running.{Leads, directed};
-ghost use Rattle.cs_run.specs.Writes.{IsFileWrite, IsRunWrite};
+ghost use Rattle.cs_apply_rows.specs.Running.{Leads, directed};
+ghost use Rattle.cs_apply_rows.specs.Writes.{IsFileWrite, IsRunWrite};
 ghost use Rattle.cs_session.specs.Undoing.{LeadsBackTo, Undoes, UndoesInto, IsUndoRefusal};
 
 use crate::applying::apply_noted;

@@ -1,9 +1,9 @@
 //! The rows from before, given back.
 ghost use Rattle.std.specs.Prelude.{◌≡◌, map, IfOk, IfErr, is_ok};
 ghost use Rattle.cs_value.specs.State.{IsState};
-ghost use Rattle.cs_run.specs.declared.running.Direction.TheVariants.{Inverse as InverseRun};
-ghost use Rattle.cs_run.specs.Running.{directed};
-ghost use Rattle.cs_run.specs.Writes.{IsRunWrite};
+ghost use Rattle.cs_apply_rows.specs.declared.running.Direction.TheVariants.{Inverse as InverseRun};
+ghost use Rattle.cs_apply_rows.specs.Running.{directed};
+ghost use Rattle.cs_apply_rows.specs.Writes.{IsRunWrite};
 ghost use Rattle.cs_session.specs.FirstImages.{IsNotes, recorded_changes};
 ghost use Rattle.cs_session.specs.Changes.{RefusesChanges, IsCaused};
 ghost use Rattle.cs_session.specs.Undoing.{Undoes, IsUndoRefusal};

@@ -1,6 +1,4 @@
+pub mod CommandExamples
 pub mod CommandLemmas
-pub mod Examples
-pub mod LineLemmas
-pub mod ProgressLemmas
-pub mod RunLemmas
-pub mod SessionLawLemmas
+pub mod WordExamples
+pub mod WordsLemmas

@@ -2,21 +2,21 @@
 use Rattle.std.specs.Prelude.{◌≡◌, ◌⊎◌, ℕ, List, Option, Result, IsTrue}
 use Rattle.std.specs.FinMap as map
 use Rattle.std.specs.Io.KnownBytes.{Appends}
-use Rattle.cs_texts.specs.declared.told.Told.{Told}
+use Rattle.cs_file_texts.specs.declared.told.Told.{Told}
 use Rattle.cs_files.specs.Told.{has_failed, known}
-use Rattle.cs_texts.specs.declared.fault.OutputFault.{OutputFault as Fault}
+use Rattle.cs_file_texts.specs.declared.fault.OutputFault.{OutputFault as Fault}
 use Rattle.cs_files.specs.Calls.{AppendsFront, Writes}
-use Rattle.cs_words.specs.Words.{Asked, Shell, Refuses}
-use Rattle.cs_words.specs.declared.fault.WordsFault.TheVariants as fault
-use Rattle.cs_replies.specs.declared.refusal.Refusal.{Refusal}
-use Rattle.cs_replies.specs.declared.refusal.Refusal.TheVariants.{NoMemory, Input, Output}
-use Rattle.cs_shell.specs.declared.script.Status.{Status}
-use Rattle.cs_shell.specs.declared.script.Status.TheVariants.{Done, LinesRefused, TooLong, InputFault, OutputFault}
-use Rattle.cs_replies.specs.ErrorLines.{refusal_text}
-use Rattle.cs_shell.specs.Runs.{RunsInput}
-use Rattle.cs_machine.specs.Script.{IsResource}
-use Rattle.cs_shell.specs.Meant.{LineSays}
-use Rattle.cs_shell.specs.Stores.{beginning}
+use Rattle.cs_shell.specs.Words.{Asked, Shell, Refuses}
+use Rattle.cs_shell.specs.declared.fault.WordsFault.TheVariants as fault
+use Rattle.cs_shell_replies.specs.declared.refusal.Refusal.{Refusal}
+use Rattle.cs_shell_replies.specs.declared.refusal.Refusal.TheVariants.{NoMemory, Input, Output}
+use Rattle.cs_shell_script.specs.declared.script.Status.{Status}
+use Rattle.cs_shell_script.specs.declared.script.Status.TheVariants.{Done, LinesRefused, TooLong, InputFault, OutputFault}
+use Rattle.cs_shell_replies.specs.ErrorLines.{refusal_text}
+use Rattle.cs_shell_script.specs.Runs.{RunsInput}
+use Rattle.cs_shell_script.specs.Script.{IsResource}
+use Rattle.cs_shell_script.specs.Meant.{LineSays}
+use Rattle.cs_shell_script.specs.StoreRuns.{beginning}
 
 -- the error line of a refusal is written, or a prefix of it if a write fails
 abbrev pub Reports : {E : Type 0} → (E → Option (List ℕ)) → Refusal → Told E → Told E → Type 0

@@ -1,13 +1,13 @@
 -- How a command line ends that asks for a command.
 use Rattle.std.specs.Prelude.{◌≡◌, ℕ, List, Option, Result, Ok, Err, IfErr, OnOk, OnErr}
-use Rattle.cs_texts.specs.declared.told.Told.{Told}
-use Rattle.cs_texts.specs.Texts.{dump_of, sql_of}
+use Rattle.cs_file_texts.specs.declared.told.Told.{Told}
+use Rattle.cs_file_texts.specs.Texts.{dump_of, sql_of}
 use Rattle.cs_folder.specs.Files.{Files}
-use Rattle.cs_words.specs.Words.{Asked, Apply, Concat, Dump, Sql, Invert, Shell}
-use Rattle.cs_replies.specs.declared.refusal.Refusal.{Refusal}
-use Rattle.cs_commands.specs.Applies.{Applies}
-use Rattle.cs_commands.specs.Folders.{InvertsFile, JoinsFiles, PrintsFile}
-use Rattle.cs_commands.specs.Folders.{RefusesInvert, RefusesJoin, RefusesPrint}
+use Rattle.cs_shell.specs.Words.{Asked, Apply, Concat, Dump, Sql, Invert, Shell}
+use Rattle.cs_shell_replies.specs.declared.refusal.Refusal.{Refusal}
+use Rattle.cs_shell.specs.Applies.{Applies}
+use Rattle.cs_shell.specs.Folders.{InvertsFile, JoinsFiles, PrintsFile}
+use Rattle.cs_shell.specs.Folders.{RefusesInvert, RefusesJoin, RefusesPrint}
 use Rattle.cs_shell.specs.CommandLine.{Reports}
 
 -- A command that succeeds writes nothing to the error stream. A refused one writes its error line.

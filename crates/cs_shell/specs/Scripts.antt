@@ -2,16 +2,16 @@
 use Rattle.std.specs.Prelude.{◌≡◌, ◌⊎◌, ℕ, List, Option, Result, Ok, Err}
 use Rattle.cs_value.specs.State.{State}
 use Rattle.cs_rows.specs.declared.fault.StoreError.{StoreError}
-use Rattle.cs_texts.specs.declared.told.Told.{Told}
+use Rattle.cs_file_texts.specs.declared.told.Told.{Told}
 use Rattle.cs_folder.specs.Files.{Files}
-use Rattle.cs_stores.specs.Visits.{RefusesVisit, Visits}
-use Rattle.cs_machine.specs.ShellState.{ShellState}
-use Rattle.cs_replies.specs.ErrorLines.{of_store}
-use Rattle.cs_shell.specs.declared.script.Status.{Status}
+use Rattle.cs_store_folder.specs.Visits.{RefusesVisit, Visits}
+use Rattle.cs_shell_script.specs.ShellState.{ShellState}
+use Rattle.cs_shell_replies.specs.ErrorLines.{of_store}
+use Rattle.cs_shell_script.specs.declared.script.Status.{Status}
 use Rattle.cs_shell.specs.CommandLine.{Reports, ReportsStatus}
-use Rattle.cs_shell.specs.Meant.{LineSays}
-use Rattle.cs_shell.specs.Runs.{Runs, exit_of}
-use Rattle.cs_shell.specs.Stores.{beginning, HasReply}
+use Rattle.cs_shell_script.specs.Meant.{LineSays}
+use Rattle.cs_shell_script.specs.Runs.{Runs, exit_of}
+use Rattle.cs_shell_script.specs.StoreRuns.{beginning, HasReply}
 
 -- The input was run as a script, from these tables to those.
 pub record ScriptGives {R W : Type 0} (remaining : R → Option (List ℕ)) (contents : W → Option (List ℕ))

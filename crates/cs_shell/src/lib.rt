@@ -1,5 +1,4 @@
-//! The `changeset` tool as a library: scripts, and the command line. The names of [`cs_files`] and [`cs_lines`] are
-//! passed on.
+//! The `changeset` tool as a library: the command line. It passes on the names of lower crates that a program needs.
 //!
 //! ```rust
 //! // An INSERT of ('x') into the table t of one column, and the DELETE of that row.
@@ -11,32 +10,35 @@
 //! assert_eq!(rt; output, b"'x'\n");
 //! ```
 //!
-//! `script` reads lines by a `reader`, passes each to a machine, and prints the replies. `shell` is the machine over a
-//! store, by [`cs_machine`]. `meant` has the line that a line stands for. `words` has the command line, whose words
-//! [`cs_words`] reads, and `scripting` the script that it runs on the store in a file. [`cs_commands`] has the other
-//! commands. `laws` has what holds of whole scripts. [`cs_replies`] has the replies and how they are printed.
+//! `command_line` has the options and the operands as `clap` reads them. `parse` takes from its matches what is asked
+//! for: an `action`, or else a `fault`. `files` and `applying` have the commands, over a folder of [`cs_folder`] and
+//! [`cs_store_folder`], and `scripting` the script that a command line runs on the store in a file. `words` answers the
+//! words of a command line.
 #![tactic(auto)]
 
-mod laws;
-mod meant;
-mod reader;
-mod script;
+mod action;
+mod applying;
+mod command_line;
+mod fault;
+mod files;
+mod parse;
 mod scripting;
-mod shell;
 mod words;
 
+pub use action::Action;
+pub use applying::apply;
 pub use cs_files::{
     FileFault, OutputFault, PrintFault, Told, ToolFault, concat_bytes, dump_file, dump_text,
     first_fault, invert_bytes, number_keys_bytes, print_dump, print_sql, sql_file, sql_text,
 };
 pub use cs_folder::{Folder, FolderFault, HostFolder, MemoryFolder};
 pub use cs_group::SchemaFault;
-pub use cs_lines::{Assignment, Command, LineFault, SyntaxFault, parse_line};
-pub use cs_replies::report_text;
-pub use cs_stores::{StoreFolder, Visitor};
+pub use cs_shell_grammar::{Assignment, Command, LineFault, SyntaxFault, parse_line};
+pub use cs_shell_replies::report_text;
+pub use cs_shell_script::{Status, run_script, script_net_law};
+pub use cs_store_folder::{StoreFolder, Visitor};
 pub use cs_wire::{ReadError, ReadFault, ReadFaultKind};
-pub use cs_words::{Action, WordsFault, parse_words};
-pub use laws::script_net_law;
-pub use script::Status;
-pub use shell::run_script;
+pub use fault::WordsFault;
+pub use files::{concat, dump, invert, sql};
+pub use parse::parse_words;
 pub use words::{print_usage, run_words, run_words_in};

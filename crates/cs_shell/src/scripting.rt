@@ -1,11 +1,10 @@
 //! The script of a command line, which visits a store.
 ghost use Rattle.std.specs.Prelude.{◌≡◌};
 
-use crate::script::Status;
-use crate::shell::run_script;
 use cs_files::Told;
+use cs_shell_script::{Status, run_script};
 use cs_store::Store;
-use cs_stores::Visitor;
+use cs_store_folder::Visitor;
 use sqlite::Alter;
 use std::alloc::Global;
 use std::io::{Read, Write};
@@ -19,8 +18,8 @@ pub(crate) struct Scripting<'a, R: Read, W: Write> {
 }
 
 impl<R: Read, W: Write> Visitor for Scripting<'_, R, W> {
-    ghost use Rattle.cs_shell.specs.Runs.{Runs};
-    ghost use Rattle.cs_shell.specs.Stores.{HasReply};
+    ghost use Rattle.cs_shell_script.specs.Runs.{Runs};
+    ghost use Rattle.cs_shell_script.specs.StoreRuns.{HasReply};
     ghost use Rattle.cs_shell.specs.Scripts.{ScriptGives};
 
     ghost does = { λ a b. (b.input.ghost_name ≡ a.input.ghost_name) × (b.out.ghost_name ≡ a.out.ghost_name)

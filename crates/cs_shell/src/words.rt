@@ -3,24 +3,27 @@ ghost use Rattle.std.specs.Prelude.{◌≡◌, ◌≢◌, ◌≤◌, None, Some,
 ghost use Rattle.std.specs.Io.KnownBytes.{Appends};
 ghost use Rattle.cs_files.specs.Told.{has_failed, known};
 ghost use Rattle.cs_files.specs.Calls.{AppendsFront};
-ghost use Rattle.cs_words.specs.Words.{Asked, Refuses, Shell, asked, asked_of, in_memory};
-ghost use Rattle.cs_words.specs.declared.fault.WordsFault.TheVariants as fault;
-ghost use Rattle.cs_shell.specs.Runs.{exit_of};
+ghost use Rattle.cs_shell.specs.Words.{Asked, Refuses, Shell, asked, asked_of, in_memory};
+ghost use Rattle.cs_shell.specs.declared.fault.WordsFault.TheVariants as fault;
+ghost use Rattle.cs_shell_script.specs.Runs.{exit_of};
 ghost use Rattle.cs_shell.specs.Outcomes.{CarriesOut, EndsAs};
 ghost use Rattle.cs_shell.specs.Scripts.{EndsScript, Scripts};
 ghost use Rattle.cs_shell.specs.CommandLine.{EndsUnasked, Helps, IsCommand};
 ghost use Rattle.cs_shell.specs.CommandLine.{Reports, ReportsStatus, RunsInMemory};
 
-use crate::script::Status;
+use crate::action::{Action, IN_MEMORY};
+use crate::applying::apply;
+use crate::fault::WordsFault;
+use crate::files::{concat, dump, invert, sql};
+use crate::parse::parse_words;
 use crate::scripting::Scripting;
-use crate::shell::run_script;
 use cs_files::{OutputFault, Told, write_whole};
 use cs_folder::{Folder, HostFolder};
-use cs_memory::{memory_files_law, open_memory};
-use cs_replies::{Refusal, write_refusal};
+use cs_shell_replies::{Refusal, write_refusal};
+use cs_shell_script::{Status, run_script};
 use cs_store::StoreError;
-use cs_stores::StoreFolder;
-use cs_words::{Action, IN_MEMORY, WordsFault, parse_words};
+use cs_store_folder::StoreFolder;
+use cs_store_memory::{memory_files_law, open_memory};
 use std::alloc::Global;
 use std::io::{Read, Write};
 use std::rt::HostRuntime;
@@ -195,13 +198,11 @@ fn run_action<F: StoreFolder, R: Read, W: Write, E: Write>(
             store,
             policy,
             noop,
-        } => cs_commands::apply(alloc, folder, file, store, &policy, noop, out),
-        Action::Concat { file, second, out } => cs_commands::concat(
-            alloc, folder, file, second, out,
-        ),
-        Action::Dump { file } => cs_commands::dump(alloc, folder, file, out),
-        Action::Sql { file } => cs_commands::sql(alloc, folder, file, out),
-        Action::Invert { file, out } => cs_commands::invert(alloc, folder, file, out),
+        } => apply(alloc, folder, file, store, &policy, noop, out),
+        Action::Concat { file, second, out } => concat(alloc, folder, file, second, out),
+        Action::Dump { file } => dump(alloc, folder, file, out),
+        Action::Sql { file } => sql(alloc, folder, file, out),
+        Action::Invert { file, out } => invert(alloc, folder, file, out),
     };
     end_command(err, done)
 }

@@ -8,12 +8,12 @@ use Rattle.sqlite.specs.State.{State, HasCleanDisk, KeepsCommit, Shows, Survives
 use Rattle.sqlite.proofs.StateLemmas.{survives_then, survives_weaker}
 use Rattle.cs_value.specs.State as tables
 use Rattle.cs_rows.specs.declared.fault.StoreError.{StoreError}
-use Rattle.cs_records.specs.Records.{IsUndone, KeepsContent, KeepsCrash, KeepsOthers}
-use Rattle.cs_access.specs.Store.{HoldsState, HoldsTables, IsStore, IsSound, IsInside, KeepsStore, Begins, Ends, tables_in}
-use Rattle.cs_access.specs.Crash.{MayLeave, LeavesOnly, LeavesTakenOver, CanBegin, IsAtomic}
-use Rattle.cs_access.specs.Laws.{was_clean, keeps_itself}
-use Rattle.cs_records.proofs.ContentLemmas.{crash_then, crash_weaker}
-use Rattle.cs_access.proofs.WriteLemmas.{may_leave, shows_state}
+use Rattle.cs_store_records.specs.Records.{IsUndone, KeepsContent, KeepsCrash, KeepsOthers}
+use Rattle.cs_store_tables.specs.Store.{HoldsState, HoldsTables, IsStore, IsSound, IsInside, KeepsStore, Begins, Ends, tables_in}
+use Rattle.cs_store_tables.specs.Crash.{MayLeave, LeavesOnly, LeavesTakenOver, CanBegin, IsAtomic}
+use Rattle.cs_store_tables.specs.Laws.{was_clean, keeps_itself}
+use Rattle.cs_store_records.proofs.ContentLemmas.{crash_then, crash_weaker}
+use Rattle.cs_store_tables.proofs.WriteLemmas.{may_leave, shows_state}
 
 -- ---- what is committed
 
@@ -32,6 +32,14 @@ commits_tables old new sound commits =
 -- it begins with the tables that the store held
 pub begun_tables : (old begun mid : State) → (HasCleanDisk begun → Begins old begun) → KeepsStore begun mid → HasCleanDisk mid → tables_in begun.now ≡ tables_in old.now
 begun_tables old begun mid begins keeps clean = ap (λ (db : Database). tables_in db) (begins (was_clean begun mid keeps.crash clean)).shown.now_is
+
+-- what it makes of them, a call that ends with its commit makes of those that the store held
+pub made_tables : (old begun mid new : State) (Makes : tables.State → tables.State → Type 0) {May : Trees → Type 0} → (HasCleanDisk begun → Begins old begun) → KeepsStore begun mid → Survives mid new May
+    → (HasCleanDisk mid → Makes (tables_in begun.now) (tables_in mid.now)) → (HasCleanDisk new → Ends mid new) → HasCleanDisk new → Makes (tables_in old.now) (tables_in new.now)
+made_tables old begun mid new Makes begins keeps survives made ends clean =
+    let mid_clean = was_clean mid new survives clean in
+    subst (Makes (tables_in old.now)) (ap (λ (db : Database). tables_in db) (sym (ends clean).shown.now_is))
+    (subst (λ before. Makes before (tables_in mid.now)) (begun_tables old begun mid begins keeps mid_clean) (made mid_clean))
 
 -- and commits all else as it was
 pub made_others : (old begun mid new : State) {May : Trees → Type 0} → (HasCleanDisk begun → Begins old begun) → KeepsStore begun mid → Survives mid new May → HasCleanDisk new → Ends mid new → KeepsOthers mid.committed new.now

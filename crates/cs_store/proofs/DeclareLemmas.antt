@@ -8,7 +8,7 @@ use Rattle.cs_rows.specs.declared.fault.StoreError.TheVariants.{TableExists}
 use Rattle.cs_rows.specs.Faults.{IsResource}
 use Rattle.cs_rows.specs.Rows.{IsDeclared}
 use Rattle.cs_rows.specs.Editing.{IsDeclarable, Declares}
-use Rattle.cs_access.specs.Store.{AddsTable, Begins, Ends, KeepsStore, tables_in}
+use Rattle.cs_store_tables.specs.Store.{AddsTable, Begins, Ends, KeepsStore, tables_in}
 use Rattle.cs_store.proofs.CrashLemmas.{begun_tables}
 
 -- a table that is added was declared

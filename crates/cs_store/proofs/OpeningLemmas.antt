@@ -12,12 +12,12 @@ use Rattle.sqlite_wal.specs.Recovery.{Image}
 use Rattle.cs_rows.specs.declared.fault.StoreError.{StoreError}
 use Rattle.cs_rows.specs.declared.fault.StoreError.TheVariants.{DamagedStore}
 use Rattle.cs_rows.specs.Faults.{IsCaused, IsResource}
-use Rattle.cs_access.specs.Failing.{AdoptFails}
-use Rattle.cs_records.specs.Records.{KeepsContent, LacksRecords}
-use Rattle.cs_access.specs.Store.{HoldsTables, IsDamaged, Adopts, tables_in}
-use Rattle.cs_access.specs.Crash.{MayLeave, LeavesTakenOver}
+use Rattle.cs_store_tables.specs.Failing.{AdoptFails}
+use Rattle.cs_store_records.specs.Records.{KeepsContent, LacksRecords}
+use Rattle.cs_store_tables.specs.Store.{HoldsTables, IsDamaged, Adopts, tables_in}
+use Rattle.cs_store_tables.specs.Crash.{MayLeave, LeavesTakenOver}
 use Rattle.sqlite.proofs.ListingLemmas.{empty_is_sound}
-use Rattle.cs_adoption.proofs.AdoptionLemmas.{empty_lacks, nothing_held, nothing_damaged}
+use Rattle.cs_store.proofs.AdoptionLemmas.{empty_lacks, nothing_held, nothing_damaged}
 use Rattle.cs_store.specs.Opening.{IsFoundIn, OpensFiles, RefusesFound}
 use Rattle.cs_store.proofs.LeftLemmas.{listed_once}
 

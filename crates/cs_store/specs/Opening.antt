@@ -17,13 +17,13 @@ use Rattle.cs_value.specs.State as tables
 use Rattle.cs_rows.specs.declared.fault.StoreError.{StoreError}
 use Rattle.cs_rows.specs.declared.fault.StoreError.TheVariants.{DamagedStore}
 use Rattle.cs_rows.specs.Faults.{IsCaused, IsResource}
-use Rattle.cs_access.specs.Failing.{AdoptFails}
-use Rattle.cs_records.specs.Records.{KeepsOthers}
+use Rattle.cs_store_tables.specs.Failing.{AdoptFails}
+use Rattle.cs_store_records.specs.Records.{KeepsOthers}
 use Rattle.cs_store.specs.declared.opening.Unopened.{Unopened}
 use Rattle.cs_store.specs.declared.opening.Unopened.TheVariants as unopened
-use Rattle.cs_access.specs.Refusals.{refusal_for}
-use Rattle.cs_access.specs.Crash.{MayLeave}
-use Rattle.cs_access.specs.Store.{HoldsState, HoldsTables, IsAtRest, IsDamaged, tables_in}
+use Rattle.cs_store_tables.specs.Refusals.{refusal_for}
+use Rattle.cs_store_tables.specs.Crash.{MayLeave}
+use Rattle.cs_store_tables.specs.Store.{HoldsState, HoldsTables, IsAtRest, IsDamaged, tables_in}
 
 -- the contents of files hold a database that is what a crash left of these tables
 abbrev pub IsLeftIn : tables.State → Image → Type 0

@@ -5,16 +5,16 @@ ghost use Rattle.sqlite.specs.Held.{state};
 ghost use Rattle.cs_value.specs.Table.{IsName};
 ghost use Rattle.cs_rows.specs.declared.fault.StoreError.TheVariants.{TableExists as TakenName};
 ghost use Rattle.cs_rows.specs.Faults.{IsCaused, IsResource, IsReadRefusal};
-ghost use Rattle.cs_access.specs.Failing.{BatchFails, CommitFails, IsDeclarationOf, LeadsOn};
+ghost use Rattle.cs_store_tables.specs.Failing.{BatchFails, CommitFails, IsDeclarationOf, LeadsOn};
 ghost use Rattle.cs_rows.specs.Rows.{IsDeclared};
-ghost use Rattle.cs_records.specs.Records.{IsUndone, KeepsCrash, KeepsOthers};
-ghost use Rattle.cs_access.specs.Crash.{IsAtomic, LeavesOnly};
-ghost use Rattle.cs_access.specs.Store.{AddsTable, Ends, IsInside, KeepsStore, tables_in};
+ghost use Rattle.cs_store_records.specs.Records.{IsUndone, KeepsCrash, KeepsOthers};
+ghost use Rattle.cs_store_tables.specs.Crash.{IsAtomic, LeavesOnly};
+ghost use Rattle.cs_store_tables.specs.Store.{AddsTable, Ends, IsInside, KeepsStore, tables_in};
 
 use crate::store::Store;
-use cs_access::{commit, refused};
-use cs_records::transactions;
 use cs_rows::{Rows, Schema, StoreError};
+use cs_store_records::transactions;
+use cs_store_tables::{commit, refused};
 use cs_value::{Key, Row};
 use sqlite::{Alter, Connection};
 use std::alloc::Global;
@@ -49,7 +49,7 @@ impl<S: Alter> SqlBatch<'_, S> {
         ensures kept { KeepsStore (state S.Store self.old.store.now) (state S.Store self.new.store.now) }
     {
         let store = &mut *self.store;
-        cs_access::add_table(&mut store.conn, &mut store.known, alloc, name, schema)
+        cs_store_tables::add_table(&mut store.conn, &mut store.known, alloc, name, schema)
     }
 
     /// Commits the writes of the batch.
@@ -100,10 +100,10 @@ impl<S: Alter> Rows for SqlBatch<'_, S> {
     ghost use Rattle.std.proofs.Common.{◌≡◌, true, refl, ◌∙◌};
     ghost use Rattle.sqlite.specs.State.{HasCleanDisk};
     ghost use Rattle.sqlite.specs.Held.{state as shown};
-    ghost use Rattle.cs_access.specs.Crash.{LeavesOnly};
-    ghost use Rattle.cs_access.specs.Failing.{BatchFails, LeadsOn, Writes};
-    ghost use Rattle.cs_access.specs.Store.{KeepsStore, tables_in};
-    ghost use Rattle.cs_access.specs.Laws as laws;
+    ghost use Rattle.cs_store_tables.specs.Crash.{LeavesOnly};
+    ghost use Rattle.cs_store_tables.specs.Failing.{BatchFails, LeadsOn, Writes};
+    ghost use Rattle.cs_store_tables.specs.Store.{KeepsStore, tables_in};
+    ghost use Rattle.cs_store_tables.specs.Laws as laws;
 
     ghost state = { λ b. tables_in (shown S.Store b.store.now).now };
 
@@ -147,26 +147,26 @@ impl<S: Alter> Rows for SqlBatch<'_, S> {
 
     fn schema(&mut self, alloc: Global, table: &str) -> Result<Option<Schema>, StoreError> {
         let store = &mut *self.store;
-        cs_access::find_schema(&mut store.conn, &mut store.known, alloc, table)
+        cs_store_tables::find_schema(&mut store.conn, &mut store.known, alloc, table)
     }
 
     fn get(&mut self, alloc: Global, table: &str, key: &Key) -> Result<Option<Row>, StoreError> {
         let store = &mut *self.store;
-        cs_access::find_row(&mut store.conn, &mut store.known, alloc, table, key)
+        cs_store_tables::find_row(&mut store.conn, &mut store.known, alloc, table, key)
     }
 
     fn put(&mut self, alloc: Global, table: &str, key: &Key, row: &Row) -> Result<(), StoreError> {
         let store = &mut *self.store;
-        cs_access::put_row(&mut store.conn, &mut store.known, alloc, table, key, row)
+        cs_store_tables::put_row(&mut store.conn, &mut store.known, alloc, table, key, row)
     }
 
     fn remove(&mut self, _alloc: Global, table: &str, key: &Key) -> Result<(), StoreError> {
         let store = &mut *self.store;
-        cs_access::remove_row(&mut store.conn, &mut store.known, table, key)
+        cs_store_tables::remove_row(&mut store.conn, &mut store.known, table, key)
     }
 
     fn list(&mut self, alloc: Global, table: &str) -> Result<Vec<Row>, StoreError> {
         let store = &mut *self.store;
-        cs_access::list_rows(&mut store.conn, &mut store.known, alloc, table)
+        cs_store_tables::list_rows(&mut store.conn, &mut store.known, alloc, table)
     }
 }

@@ -8,11 +8,12 @@
 //! ```
 //!
 //! `store` has what a caller holds, and `batch` the rows of a store inside one transaction. `opening` opens the files
-//! of a database as a store.
+//! of a database as a store, and `adoption` takes one over in one transaction.
 //!
 //! The names of `cs_rows` are passed on.
 #![tactic(auto)]
 
+mod adoption;
 mod batch;
 mod laws;
 mod opening;

@@ -7,24 +7,25 @@ ghost use Rattle.cs_value.specs.State.{schema_at, row_at, rows_at};
 ghost use Rattle.cs_rows.specs.declared.fault.StoreError.TheVariants.{DamagedStore as Damaged, NoTable as NoSuchTable};
 ghost use Rattle.cs_rows.specs.declared.fault.StoreError.TheVariants.{BadSchema as NoSchema, TableExists as TakenName};
 ghost use Rattle.cs_rows.specs.Faults.{IsCaused, IsResource, IsReadRefusal, IsEditRefusal};
-ghost use Rattle.cs_access.specs.Failing.{AdoptFails, BeginFails, IsDeclarationOf, ReadFails};
-ghost use Rattle.cs_access.specs.Failing.{StoreFails, Writes};
+ghost use Rattle.cs_store_tables.specs.Failing.{AdoptFails, BeginFails, IsDeclarationOf, ReadFails};
+ghost use Rattle.cs_store_tables.specs.Failing.{StoreFails, Writes};
 ghost use Rattle.cs_rows.specs.Editing.{Declares, EditsInto, IsWriteOf, schema_of, edited, written_of};
-ghost use Rattle.cs_access.specs.Crash.{CanBegin, IsAtomic, IsLeftOf, LeavesOnly, LeavesTakenOver, MayLeave};
-ghost use Rattle.cs_records.specs.Records.{KeepsContent, KeepsCrash, KeepsOthers};
+ghost use Rattle.cs_store_tables.specs.Crash.{CanBegin, IsAtomic, IsLeftOf, LeavesOnly, LeavesTakenOver, MayLeave};
+ghost use Rattle.cs_store_records.specs.Records.{KeepsContent, KeepsCrash, KeepsOthers};
 ghost use Rattle.cs_rows.specs.Rows.{IsDeclared, Fits};
 ghost use Rattle.sqlite.specs.Effect.{IsDatabase};
 ghost use Rattle.sqlite.specs.State.{HasCleanDisk, Survives};
 ghost use Rattle.sqlite.specs.Held.{state};
 ghost use Rattle.sqlite_trees.specs.Tree.{Trees};
 ghost use Rattle.sqlite.specs.Steps.{over_memory};
-ghost use Rattle.cs_access.specs.Store.{Adopts, Begins, HoldsTables, IsAtRest, IsDamaged, KeepsStore};
-ghost use Rattle.cs_access.specs.Store.{RefusesShut, tables_in};
+ghost use Rattle.cs_store_tables.specs.Store.{Adopts, Begins, HoldsTables, IsAtRest, IsDamaged, KeepsStore};
+ghost use Rattle.cs_store_tables.specs.Store.{RefusesShut, tables_in};
 
+use crate::adoption::adopt;
 use crate::batch::SqlBatch;
-use cs_access::{KnownTable, refused};
-use cs_records::{RecordsError, transactions};
 use cs_rows::{Edit, Schema, StoreError, Written, edit_in};
+use cs_store_records::{RecordsError, transactions};
+use cs_store_tables::{KnownTable, refused};
 use cs_value::{Key, Row, is_table_name};
 use sqlite::{Alter, Connection, MemStore};
 use std::alloc::Global;
@@ -42,7 +43,7 @@ pub struct Store<S: Alter> {
 
 impl<S: Alter> Model for Store<S> {
     ghost use Rattle.sqlite.specs.Held.{Held, held_code, state};
-    ghost use Rattle.cs_access.specs.Store.{IsSound, Knows};
+    ghost use Rattle.cs_store_tables.specs.Store.{IsSound, Knows};
 
     ghost Value = { Held S };
 
@@ -116,7 +117,7 @@ impl<S: Alter> Store<S> {
         ensures leaves { MatchResult result (λ s. LeavesTakenOver (state S.Store conn) (state S.Store s))
             (λ e. LeavesTakenOver (state S.Store conn) (state S.Store e.1)) }
     {
-        match cs_adoption::adopt(&mut conn, alloc) {
+        match adopt(&mut conn, alloc) {
             Ok(()) => Ok(Store { conn, known: None }),
             Err(error) => Err((error, conn)),
         }
@@ -288,7 +289,7 @@ impl<S: Alter> Store<S> {
         ensures kept { KeepsStore (state S.Store self.old) (state S.Store self.new) }
     {
         self.known = None;
-        cs_access::list_tables(&mut self.conn, alloc)
+        cs_store_tables::list_tables(&mut self.conn, alloc)
     }
 
     /// Returns the schema of a table, or None if no table has the name.
@@ -309,7 +310,7 @@ impl<S: Alter> Store<S> {
         ensures named { IfErr result IsReadRefusal }
         ensures kept { KeepsStore (state S.Store self.old) (state S.Store self.new) }
     {
-        cs_access::find_schema(&mut self.conn, &mut self.known, alloc, name)
+        cs_store_tables::find_schema(&mut self.conn, &mut self.known, alloc, name)
     }
 
     /// Returns the rows of a table, in the order of the bytes of their keys.
@@ -334,7 +335,7 @@ impl<S: Alter> Store<S> {
         ensures named { IfErr result (λ e. (e ≡ NoSuchTable) ⊎ IsReadRefusal e) }
         ensures kept { KeepsStore (state S.Store self.old) (state S.Store self.new) }
     {
-        let listed = cs_access::list_rows(&mut self.conn, &mut self.known, alloc, name)?;
+        let listed = cs_store_tables::list_rows(&mut self.conn, &mut self.known, alloc, name)?;
         match &self.known {
             Some(_) => Ok(listed),
             None => Err(StoreError::NoTable),
@@ -364,7 +365,7 @@ impl<S: Alter> Store<S> {
         ensures named { IfErr result (λ e. (e ≡ NoSuchTable) ⊎ IsReadRefusal e) }
         ensures kept { KeepsStore (state S.Store self.old) (state S.Store self.new) }
     {
-        let found = cs_access::find_row(&mut self.conn, &mut self.known, alloc, name, key)?;
+        let found = cs_store_tables::find_row(&mut self.conn, &mut self.known, alloc, name, key)?;
         match &self.known {
             Some(_) => Ok(found),
             None => Err(StoreError::NoTable),

@@ -3,7 +3,7 @@ use Rattle.std.proofs.Common.{◌≡◌, ℕ, zero, suc, ◌<◌, List, [], ◌�
 use Rattle.cs_value.specs.declared.value.OwnedField.{OwnedField}
 use Rattle.cs_value.specs.declared.value.OwnedField.TheVariants.{Undefined}
 use Rattle.cs_value.specs.Value.{IsField, IsRecord}
-use Rattle.cs_entries.specs.Entry.{IsKeyedUpdate}
+use Rattle.cs_wire_entries.specs.Entry.{IsKeyedUpdate}
 
 -- the update of this column alone fits its flag
 pub record IsUpdateColumn (flags : List ℕ) (old new : List OwnedField) (column : ℕ) : Type 0 where

@@ -4,25 +4,25 @@ use Rattle.std.specs.Prelude.{All, slice_get, nat_eq, Option, Some, None, Result
 use Rattle.cs_value.specs.Refusals.{Refuses}
 use Rattle.cs_value.specs.declared.refusal.OrNoMemory.{OrNoMemory}
 use Rattle.cs_value.specs.declared.refusal.OrNoMemory.TheVariants.{Fault, NoMemory}
-use Rattle.cs_entries.specs.declared.fault.ReadFault.{ReadFault}
+use Rattle.cs_wire_entries.specs.declared.fault.ReadFault.{ReadFault}
 use Rattle.cs_wire.specs.declared.item.Item.{Item}
 use Rattle.std.proofs.lemmas.Bool.{ne_eqb, eqb-true}
 use Rattle.std.proofs.lemmas.List.{append-nil, drop_all, get_or_at, get_or_append_left, length-drop, map-append, nil_from_length}
 use Rattle.std.proofs.lemmas.List.Concat.{flat_map-append}
 use Rattle.std.proofs.lemmas.List.Elements.{All-push, All-nil}
 use Rattle.std.proofs.lemmas.List.Quantifiers.{all_pairs_push}
-use Rattle.cs_entries.specs.declared.entry.Entry.{Entry}
-use Rattle.cs_entries.specs.Entry.{IsEntry, key_of, entry_bytes}
-use Rattle.cs_entries.specs.Changeset.{HeaderData, GroupData, IsNewKey, IsNewName, IsHeader, IsGroup, IsChangeset, IsAccepted, IsFileOf, header_bytes, entries_bytes, group_bytes, file_bytes}
-use Rattle.cs_entries.specs.ReadFaults.{Stands, HasEntry, EntryStart, ReadFails}
-use Rattle.cs_entries.specs.declared.fault.ReadFaultKind.TheVariants.{EmptyGroup}
+use Rattle.cs_wire_entries.specs.declared.entry.Entry.{Entry}
+use Rattle.cs_wire_entries.specs.Entry.{IsEntry, key_of, entry_bytes}
+use Rattle.cs_wire_entries.specs.Changeset.{HeaderData, GroupData, IsNewKey, IsNewName, IsHeader, IsGroup, IsChangeset, IsAccepted, IsFileOf, header_bytes, entries_bytes, group_bytes, file_bytes}
+use Rattle.cs_wire_entries.specs.ReadFaults.{Stands, HasEntry, EntryStart, ReadFails}
+use Rattle.cs_wire_entries.specs.declared.fault.ReadFaultKind.TheVariants.{EmptyGroup}
 use Rattle.cs_wire.specs.Cursor.{IsBegun, IsEnd, IsOpen, Begins, ending_of, with_entry, last_flags}
-use Rattle.cs_entries.specs.Views.{group_keys, group_names}
+use Rattle.cs_wire_entries.specs.Views.{group_keys, group_names}
 use Rattle.cs_wire.specs.Walk.{WalkData, Knows, GoesOn, IsInTable, IsWalk}
 use Rattle.cs_wire.proofs.IndexLemmas.{Adds, Knows-again, Knows-none, Knows-push}
-use Rattle.cs_entries.proofs.ReadingLemmas.{Stands-then, Stands-moves, rest_is, flags_some}
+use Rattle.cs_wire_entries.proofs.ReadingLemmas.{Stands-then, Stands-moves, rest_is, flags_some}
 use Rattle.cs_wire.proofs.EntriesLemmas.{HasEntry-entry, not_ended}
-use Rattle.cs_entries.proofs.EntryLemmas.{entry_bytes_some}
+use Rattle.cs_wire_entries.proofs.EntryLemmas.{entry_bytes_some}
 use Rattle.cs_wire.proofs.GroupLemmas.{HasOtherKey, IsChangeset-push}
 use Rattle.cs_wire.proofs.GroupsLemmas.{group_bytes_some, group_first, EntryStart-none}
 

@@ -2,14 +2,14 @@
 use Rattle.std.proofs.Common.{◌≡◌, ◌≢◌, ℕ, ◌<◌, ◌≤◌, List, ◌++◌, length, drop, get_or, sym, ap, ◌∙◌, arith, inl, inr, add-zero}
 use Rattle.std.proofs.lemmas.List.{length-drop, get_or-drop}
 use Rattle.std.proofs.lemmas.Option.{get_or_from_slice_get}
-use Rattle.cs_entries.specs.declared.entry.Entry.{Entry}
-use Rattle.cs_entries.specs.declared.entry.Change.{Change}
-use Rattle.cs_entries.specs.declared.entry.Change.TheVariants.{Insert, Delete, Update}
-use Rattle.cs_entries.specs.Entry.{operation, entry_bytes}
-use Rattle.cs_entries.specs.ReadFaults.{HasEntry}
-use Rattle.cs_entries.specs.Reading.{EndsGroup}
-use Rattle.cs_entries.proofs.ReadingLemmas.{first_byte}
-use Rattle.cs_entries.proofs.EntryLemmas.{entry_bytes-append}
+use Rattle.cs_wire_entries.specs.declared.entry.Entry.{Entry}
+use Rattle.cs_wire_entries.specs.declared.entry.Change.{Change}
+use Rattle.cs_wire_entries.specs.declared.entry.Change.TheVariants.{Insert, Delete, Update}
+use Rattle.cs_wire_entries.specs.Entry.{operation, entry_bytes}
+use Rattle.cs_wire_entries.specs.ReadFaults.{HasEntry}
+use Rattle.cs_wire_entries.specs.Reading.{EndsGroup}
+use Rattle.cs_wire_entries.proofs.ReadingLemmas.{first_byte}
+use Rattle.cs_wire_entries.proofs.EntryLemmas.{entry_bytes-append}
 
 -- an entry begins with a byte that begins no header
 pub operation_no_header : (change : Change) → (operation change ≢ 0x54) × (operation change ≢ 0x50)

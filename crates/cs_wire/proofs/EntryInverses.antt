@@ -4,12 +4,12 @@ use Rattle.cs_value.specs.declared.value.OwnedValue.{OwnedValue}
 use Rattle.cs_value.specs.declared.value.OwnedField.{OwnedField}
 use Rattle.cs_value.specs.declared.value.OwnedField.TheVariants.{Undefined, Defined}
 use Rattle.cs_value.proofs.RowImages.{same_from_fields}
-use Rattle.cs_entries.specs.declared.entry.Change.{Change}
-use Rattle.cs_entries.specs.declared.entry.Change.TheVariants.{Insert, Delete, Update}
-use Rattle.cs_entries.specs.Entry.{IsKeyedUpdate, IsChange, with_key, before_image, after_image}
-use Rattle.cs_entries.specs.Changeset.{ImageData, image_of}
+use Rattle.cs_wire_entries.specs.declared.entry.Change.{Change}
+use Rattle.cs_wire_entries.specs.declared.entry.Change.TheVariants.{Insert, Delete, Update}
+use Rattle.cs_wire_entries.specs.Entry.{IsKeyedUpdate, IsChange, with_key, before_image, after_image}
+use Rattle.cs_wire_entries.specs.Changeset.{ImageData, image_of}
 use Rattle.cs_wire.specs.Laws.{EntryInverses}
-use Rattle.cs_entries.proofs.EntryLemmas.{same_entry}
+use Rattle.cs_wire_entries.proofs.EntryLemmas.{same_entry}
 
 abbrev Image : Type 0
 Image = Option (List OwnedField)

@@ -15,15 +15,15 @@ use Rattle.cs_value.specs.Spelling.{counted, value_bytes, field_bytes}
 use Rattle.cs_value.specs.declared.fault.FieldFaultKind.{FieldFaultKind}
 use Rattle.cs_value.specs.declared.fault.FieldFaultKind.TheVariants as field
 use Rattle.cs_value.specs.FieldFaults.{HasBadText, FieldFails}
-use Rattle.cs_entries.specs.declared.entry.Change.{Change}
-use Rattle.cs_entries.specs.declared.entry.Change.TheVariants.{Insert, Delete, Update}
-use Rattle.cs_entries.specs.declared.entry.Entry.{Entry}
-use Rattle.cs_entries.specs.declared.fault.ReadFaultKind.{ReadFaultKind}
-use Rattle.cs_entries.specs.declared.fault.ReadFaultKind.TheVariants.{Truncated, NotTable, Patchset, BadVarint, ColumnCount, NoKey, BadName, DuplicateTable, EmptyGroup, BadOp, BadFlag, BadType, RealValue, BadText, UndefinedField, Unpaired, NullKey, DuplicateKey}
+use Rattle.cs_wire_entries.specs.declared.entry.Change.{Change}
+use Rattle.cs_wire_entries.specs.declared.entry.Change.TheVariants.{Insert, Delete, Update}
+use Rattle.cs_wire_entries.specs.declared.entry.Entry.{Entry}
+use Rattle.cs_wire_entries.specs.declared.fault.ReadFaultKind.{ReadFaultKind}
+use Rattle.cs_wire_entries.specs.declared.fault.ReadFaultKind.TheVariants.{Truncated, NotTable, Patchset, BadVarint, ColumnCount, NoKey, BadName, DuplicateTable, EmptyGroup, BadOp, BadFlag, BadType, RealValue, BadText, UndefinedField, Unpaired, NullKey, DuplicateKey}
 use Rattle.cs_value.specs.Table.{IsName, IsFlags, IsKeyedRow}
-use Rattle.cs_entries.specs.Entry.{IsKeyedUpdate, IsEntry, IsChange, entry_bytes}
-use Rattle.cs_entries.specs.Changeset.{HeaderData, IsHeader, GroupData, IsGroup, IsChangeset, flags_bytes, header_bytes, group_bytes, file_bytes, IsAccepted}
-use Rattle.cs_entries.specs.ReadFaults.{Stands, TableStart, HeaderPart, EntryStart, FieldStart, IsOperation, HasNoField, ReadCase, ReadFails}
+use Rattle.cs_wire_entries.specs.Entry.{IsKeyedUpdate, IsEntry, IsChange, entry_bytes}
+use Rattle.cs_wire_entries.specs.Changeset.{HeaderData, IsHeader, GroupData, IsGroup, IsChangeset, flags_bytes, header_bytes, group_bytes, file_bytes, IsAccepted}
+use Rattle.cs_wire_entries.specs.ReadFaults.{Stands, TableStart, HeaderPart, EntryStart, FieldStart, IsOperation, HasNoField, ReadCase, ReadFails}
 use Rattle.cs_wire.proofs.GroupsLemmas.{EntryStart-none}
 
 computing : Unit {0}

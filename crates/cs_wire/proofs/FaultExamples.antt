@@ -15,13 +15,13 @@ use Rattle.cs_value.specs.Spelling.{value_bytes, field_bytes}
 use Rattle.cs_value.specs.FieldFaults.{HasContent, BeginsNoVarint, HasBadType}
 use Rattle.cs_value.proofs.Spellings.{varint_spellings}
 use Rattle.cs_value.proofs.VarintLoops.{last_digit}
-use Rattle.cs_entries.specs.declared.entry.Change.{Change}
-use Rattle.cs_entries.specs.declared.entry.Entry.{Entry}
-use Rattle.cs_entries.specs.declared.fault.ReadFaultKind.{ReadFaultKind}
-use Rattle.cs_entries.specs.declared.fault.ReadFaultKind.TheVariants.{Truncated, NotTable, Patchset, BadVarint, ColumnCount, NoKey, BadName, DuplicateTable, EmptyGroup, BadOp, BadFlag, BadType, RealValue, BadText, UndefinedField, Unpaired, NullKey, DuplicateKey}
-use Rattle.cs_entries.specs.Entry.{key_of, entry_bytes}
-use Rattle.cs_entries.specs.Changeset.{HeaderData, GroupData, IsHeader, IsNewKey, IsNewName, flags_bytes, header_bytes, entries_bytes, group_bytes, file_bytes}
-use Rattle.cs_entries.specs.ReadFaults.{Stands, TableStart, HeaderPart, EntryStart, FieldStart, ReadCase}
+use Rattle.cs_wire_entries.specs.declared.entry.Change.{Change}
+use Rattle.cs_wire_entries.specs.declared.entry.Entry.{Entry}
+use Rattle.cs_wire_entries.specs.declared.fault.ReadFaultKind.{ReadFaultKind}
+use Rattle.cs_wire_entries.specs.declared.fault.ReadFaultKind.TheVariants.{Truncated, NotTable, Patchset, BadVarint, ColumnCount, NoKey, BadName, DuplicateTable, EmptyGroup, BadOp, BadFlag, BadType, RealValue, BadText, UndefinedField, Unpaired, NullKey, DuplicateKey}
+use Rattle.cs_wire_entries.specs.Entry.{key_of, entry_bytes}
+use Rattle.cs_wire_entries.specs.Changeset.{HeaderData, GroupData, IsHeader, IsNewKey, IsNewName, flags_bytes, header_bytes, entries_bytes, group_bytes, file_bytes}
+use Rattle.cs_wire_entries.specs.ReadFaults.{Stands, TableStart, HeaderPart, EntryStart, FieldStart, ReadCase}
 use Rattle.cs_wire.proofs.GroupsLemmas.{group_bytes_some}
 use Rattle.cs_wire.proofs.Examples.{header_file, one_field, insert_file}
 

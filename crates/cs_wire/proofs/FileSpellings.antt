@@ -8,16 +8,16 @@ use Rattle.cs_value.specs.declared.value.OwnedField.TheVariants.{Defined}
 use Rattle.cs_value.specs.Value.{IsField, IsRecord}
 use Rattle.cs_value.specs.Varint.{varint}
 use Rattle.cs_value.specs.Spelling.{record_bytes}
-use Rattle.cs_entries.specs.declared.entry.Change.{Change}
-use Rattle.cs_entries.specs.declared.entry.Change.TheVariants.{Insert, Delete, Update}
-use Rattle.cs_entries.specs.declared.entry.Entry.{Entry}
+use Rattle.cs_wire_entries.specs.declared.entry.Change.{Change}
+use Rattle.cs_wire_entries.specs.declared.entry.Change.TheVariants.{Insert, Delete, Update}
+use Rattle.cs_wire_entries.specs.declared.entry.Entry.{Entry}
 use Rattle.cs_value.specs.Table.{IsFlags}
-use Rattle.cs_entries.specs.Entry.{IsChange, IsEntry, operation, fields_of, entry_bytes}
-use Rattle.cs_entries.specs.Changeset.{HeaderData, GroupData, IsHeader, IsGroup, IsChangeset, flags_bytes, header_bytes, entries_bytes, group_bytes, file_bytes}
-use Rattle.cs_entries.specs.Reading.{EndsGroup}
-use Rattle.cs_entries.proofs.ReadingLemmas.{flags_bytes-append, header_bytes-append, same_header}
+use Rattle.cs_wire_entries.specs.Entry.{IsChange, IsEntry, operation, fields_of, entry_bytes}
+use Rattle.cs_wire_entries.specs.Changeset.{HeaderData, GroupData, IsHeader, IsGroup, IsChangeset, flags_bytes, header_bytes, entries_bytes, group_bytes, file_bytes}
+use Rattle.cs_wire_entries.specs.Reading.{EndsGroup}
+use Rattle.cs_wire_entries.proofs.ReadingLemmas.{flags_bytes-append, header_bytes-append, same_header}
 use Rattle.cs_value.proofs.KeyedRows.{length-IsKeyedRow}
-use Rattle.cs_entries.proofs.EntryLemmas.{length-IsKeyedUpdate, entry_bytes-append, same_entry}
+use Rattle.cs_wire_entries.proofs.EntryLemmas.{length-IsKeyedUpdate, entry_bytes-append, same_entry}
 use Rattle.cs_value.proofs.RowImages.{IsRecord-map, same_from_fields}
 use Rattle.cs_wire.proofs.EntriesLemmas.{operation_no_header}
 use Rattle.cs_wire.proofs.GroupsLemmas.{group_bytes-append, group_bytes_some, same_group, ends_group}

@@ -2,9 +2,9 @@
 use Rattle.std.proofs.Common.{◌≢◌, ℕ, List, [], ◌∷◌, ◌++◌, arith, length-append}
 use Rattle.std.proofs.lemmas.List.Elements.{All-push, All-nil}
 use Rattle.std.proofs.lemmas.List.Quantifiers.{all_pairs_push}
-use Rattle.cs_entries.specs.Entry.{IsEntry, key_of}
-use Rattle.cs_entries.specs.declared.entry.Entry.{Entry}
-use Rattle.cs_entries.specs.Changeset.{HeaderData, GroupData, IsNewKey, IsNewName, IsHeader, IsGroup, IsChangeset}
+use Rattle.cs_wire_entries.specs.Entry.{IsEntry, key_of}
+use Rattle.cs_wire_entries.specs.declared.entry.Entry.{Entry}
+use Rattle.cs_wire_entries.specs.Changeset.{HeaderData, GroupData, IsNewKey, IsNewName, IsHeader, IsGroup, IsChangeset}
 
 -- two entries of one group have keys of their own
 abbrev pub HasOtherKey : List ℕ → Entry → Entry → Type 0

@@ -3,11 +3,11 @@ use Rattle.std.proofs.Common.{◌≡◌, ◌≢◌, ℕ, ◌<◌, List, [], ◌�
 use Rattle.std.specs.Prelude.{slice_get, Some}
 use Rattle.std.proofs.lemmas.List.{append-nil}
 use Rattle.std.proofs.lemmas.List.Elements.{All-nil}
-use Rattle.cs_entries.specs.Entry.{IsEntry}
-use Rattle.cs_entries.specs.Changeset.{HeaderData, GroupData, IsHeader, header_bytes, entries_bytes, group_bytes, file_bytes}
-use Rattle.cs_entries.specs.ReadFaults.{Stands, TableStart, EntryStart}
-use Rattle.cs_entries.specs.Reading.{EndsGroup}
-use Rattle.cs_entries.proofs.ReadingLemmas.{Stands-then}
+use Rattle.cs_wire_entries.specs.Entry.{IsEntry}
+use Rattle.cs_wire_entries.specs.Changeset.{HeaderData, GroupData, IsHeader, header_bytes, entries_bytes, group_bytes, file_bytes}
+use Rattle.cs_wire_entries.specs.ReadFaults.{Stands, TableStart, EntryStart}
+use Rattle.cs_wire_entries.specs.Reading.{EndsGroup}
+use Rattle.cs_wire_entries.proofs.ReadingLemmas.{Stands-then}
 
 -- the header of a group, and what follows it
 pub group_bytes-append : (group : GroupData) (rest : List ℕ) → group_bytes group ++ rest ≡ header_bytes group.header ++ (entries_bytes group.entries ++ rest)

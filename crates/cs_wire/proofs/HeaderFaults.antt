@@ -7,9 +7,9 @@ use Rattle.std.proofs.lemmas.List.{length-drop, length-take, get_or_default, nil
 use Rattle.std.proofs.lemmas.List.Elements.{recursion_from_All}
 use Rattle.cs_value.specs.Varint.{varint}
 use Rattle.cs_value.specs.Table.{IsFlags}
-use Rattle.cs_entries.specs.Changeset.{GroupData, flags_bytes}
-use Rattle.cs_entries.specs.ReadFaults.{Stands, TableStart, HeaderPart, IsColumnCount, HasNoKey, HasBadName}
-use Rattle.cs_entries.proofs.ReadingLemmas.{Stands-then, Stands-take, Stands-ended, no_zero_before}
+use Rattle.cs_wire_entries.specs.Changeset.{GroupData, flags_bytes}
+use Rattle.cs_wire_entries.specs.ReadFaults.{Stands, TableStart, HeaderPart, IsColumnCount, HasNoKey, HasBadName}
+use Rattle.cs_wire_entries.proofs.ReadingLemmas.{Stands-then, Stands-take, Stands-ended, no_zero_before}
 
 -- behind more of a header
 pub HeaderPart-more : (file : List ℕ) (at to : ℕ) (text : List ℕ) → HeaderPart file [] at → Stands file at text to → HeaderPart file text to

@@ -10,10 +10,10 @@ use Rattle.cs_value.specs.declared.value.OwnedField.TheVariants.{Undefined, Defi
 use Rattle.cs_value.specs.Spelling.{field_bytes}
 use Rattle.cs_value.specs.Key.{row_key, HasValues}
 use Rattle.cs_value.specs.Maps.{ByBytes}
-use Rattle.cs_entries.specs.declared.entry.Change.{Change}
-use Rattle.cs_entries.specs.declared.entry.Change.TheVariants.{Insert, Delete}
-use Rattle.cs_entries.specs.Entry.{before_image, after_image, key_of}
-use Rattle.cs_entries.specs.Changeset.{ImageData, image_of, group_images, images}
+use Rattle.cs_wire_entries.specs.declared.entry.Change.{Change}
+use Rattle.cs_wire_entries.specs.declared.entry.Change.TheVariants.{Insert, Delete}
+use Rattle.cs_wire_entries.specs.Entry.{before_image, after_image, key_of}
+use Rattle.cs_wire_entries.specs.Changeset.{ImageData, image_of, group_images, images}
 use Rattle.cs_wire.proofs.Examples.{flags, direct, group, one_change, x, y, row, update, idle_update}
 
 abbrev Images : Type 0

@@ -10,7 +10,7 @@ use Rattle.std.proofs.lemmas.List.Elements.{All-push, All-nil, All-map}
 use Rattle.std.proofs.lemmas.List.{map-append, take_more, length-take-le, get_or-map, get_or_at, get_or_append_left, length-map, length-append}
 use Rattle.std.proofs.lemmas.Option.{none-some, same_Some, slice_get_within, slice_get-get_or, get_or_from_slice_get}
 use Rattle.cs_value.specs.Maps.{ByBytes}
-use Rattle.cs_entries.specs.Views.{IsPlaceOf, IsIndex}
+use Rattle.cs_wire_entries.specs.Views.{IsPlaceOf, IsIndex}
 use Rattle.cs_wire.specs.Walk.{Knows}
 
 -- whether two texts are one

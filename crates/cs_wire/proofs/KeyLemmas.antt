@@ -5,9 +5,9 @@ use Rattle.cs_value.specs.declared.value.OwnedField.{OwnedField}
 use Rattle.cs_value.specs.declared.value.OwnedField.TheVariants.{Undefined, Defined}
 use Rattle.cs_value.specs.Spelling.{field_bytes}
 use Rattle.cs_value.specs.Key.{row_key, image_key, HasValues}
-use Rattle.cs_entries.specs.declared.entry.Change.TheVariants.{Insert, Delete, Update}
+use Rattle.cs_wire_entries.specs.declared.entry.Change.TheVariants.{Insert, Delete, Update}
 use Rattle.cs_wire.specs.Laws.{RowKeys}
-use Rattle.cs_entries.specs.Entry.{IsKeyedUpdate, with_key}
+use Rattle.cs_wire_entries.specs.Entry.{IsKeyedUpdate, with_key}
 
 -- a row that has the values of a whole row is that row
 same_row : (row whole : List OwnedValue) → HasValues row (map Defined whole) → row ≡ whole

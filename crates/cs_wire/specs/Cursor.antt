@@ -5,14 +5,14 @@ use Rattle.cs_value.specs.declared.refusal.OrNoMemory.TheVariants as refusal
 use Rattle.cs_wire.specs.declared.ending.Ending.{Ending}
 use Rattle.cs_wire.specs.declared.ending.Ending.TheVariants.{Done, Fault, NoMemory}
 use Rattle.cs_value.specs.Table.{IsFlags}
-use Rattle.cs_entries.specs.declared.entry.Entry.{Entry}
-use Rattle.cs_entries.specs.declared.fault.ReadFault.{ReadFault}
+use Rattle.cs_wire_entries.specs.declared.entry.Entry.{Entry}
+use Rattle.cs_wire_entries.specs.declared.fault.ReadFault.{ReadFault}
 use Rattle.cs_wire.specs.declared.item.Item.{Item}
 use Rattle.cs_wire.specs.declared.item.Item.TheVariants as item
-use Rattle.cs_entries.specs.Entry.{IsEntry, key_of}
-use Rattle.cs_entries.specs.Changeset.{GroupData, IsFileOf, IsHeader, IsNewName, file_bytes}
+use Rattle.cs_wire_entries.specs.Entry.{IsEntry, key_of}
+use Rattle.cs_wire_entries.specs.Changeset.{GroupData, IsFileOf, IsHeader, IsNewName, file_bytes}
 use Rattle.cs_wire.specs.Headers.{header_of}
-use Rattle.cs_entries.specs.ReadFaults.{Stands, ReadFails}
+use Rattle.cs_wire_entries.specs.ReadFaults.{Stands, ReadFails}
 
 -- the changes of a table, of which there may be none yet
 pub record IsBegun (group : GroupData) : Type 0 where

@@ -1,6 +1,6 @@
 -- What is seen of a header where it stands in a file; this project's own.
 use Rattle.cs_wire.specs.declared.header.HeaderRef.{HeaderRef}
-use Rattle.cs_entries.specs.Changeset.{HeaderData}
+use Rattle.cs_wire_entries.specs.Changeset.{HeaderData}
 
 -- the header that is shown
 abbrev pub header_of : HeaderRef → HeaderData

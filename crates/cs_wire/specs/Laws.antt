@@ -3,11 +3,11 @@ use Rattle.std.specs.Prelude.{◌≡◌, ℕ, List, Option, Some, None}
 use Rattle.cs_value.specs.declared.value.OwnedValue.{OwnedValue}
 use Rattle.cs_value.specs.declared.value.OwnedField.{OwnedField}
 use Rattle.cs_value.specs.Key.{row_key, HasValues}
-use Rattle.cs_entries.specs.declared.entry.Change.{Change}
-use Rattle.cs_entries.specs.declared.entry.Entry.{Entry}
-use Rattle.cs_entries.specs.Entry.{IsChange, IsEntry, before_image, after_image, key_of}
-use Rattle.cs_entries.specs.Changeset.{GroupData, IsChangeset, file_bytes}
-use Rattle.cs_entries.specs.Inverse.{IsInverseEntry}
+use Rattle.cs_wire_entries.specs.declared.entry.Change.{Change}
+use Rattle.cs_wire_entries.specs.declared.entry.Entry.{Entry}
+use Rattle.cs_wire_entries.specs.Entry.{IsChange, IsEntry, before_image, after_image, key_of}
+use Rattle.cs_wire_entries.specs.Changeset.{GroupData, IsChangeset, file_bytes}
+use Rattle.cs_wire_entries.specs.Inverse.{IsInverseEntry}
 
 -- changesets with one file are equal
 abbrev pub ChangesetFiles : Type 0

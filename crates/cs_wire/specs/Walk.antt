@@ -1,10 +1,10 @@
 -- What a walk through a file knows. No public contract names this.
 use Rattle.std.specs.Prelude.{◌≡◌, ◌≢◌, ◌↔◌, ℕ, ◌≤◌, ◌==◌, ◌⊎◌, Bool, false, List, [], ◌∷◌, ◌++◌, length, All}
-use Rattle.cs_entries.specs.declared.entry.Entry.{Entry}
-use Rattle.cs_entries.specs.Changeset.{HeaderData, GroupData}
+use Rattle.cs_wire_entries.specs.declared.entry.Entry.{Entry}
+use Rattle.cs_wire_entries.specs.Changeset.{HeaderData, GroupData}
 use Rattle.cs_wire.specs.Cursor.{Begins}
-use Rattle.cs_entries.specs.ReadFaults.{EntryStart}
-use Rattle.cs_entries.specs.Views.{group_keys, group_names}
+use Rattle.cs_wire_entries.specs.ReadFaults.{EntryStart}
+use Rattle.cs_wire_entries.specs.Views.{group_keys, group_names}
 
 -- its file and its place, the flags of the table that is open, none before the first, and whether that has no entry yet
 pub record WalkData : Type 0 where

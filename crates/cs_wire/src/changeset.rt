@@ -1,7 +1,7 @@
 //! Changesets: the changes of several tables.
 ghost use Rattle.std.specs.Prelude.{◌≡◌, ◌++◌, ◌∷◌, [], ◌↔◌, IfOk, IfSome, IsTrue, OnOk, OnErr, is_none};
-ghost use Rattle.cs_entries.specs.Views.{IsPlaceOf, IsIndex, group_names};
-ghost use Rattle.cs_entries.specs.Changeset.{IsNewName, IsChangeset};
+ghost use Rattle.cs_wire_entries.specs.Views.{IsPlaceOf, IsIndex, group_names};
+ghost use Rattle.cs_wire_entries.specs.Changeset.{IsNewName, IsChangeset};
 
 use crate::group::Group;
 use crate::places::Places;
@@ -19,8 +19,8 @@ pub struct Changeset {
 
 impl Model for Changeset {
     ghost use Rattle.std.specs.Prelude.{List};
-    ghost use Rattle.cs_entries.specs.Changeset.{GroupData, IsGroup, IsChangeset};
-    ghost use Rattle.cs_entries.specs.Views.{group_names, IsIndex};
+    ghost use Rattle.cs_wire_entries.specs.Changeset.{GroupData, IsGroup, IsChangeset};
+    ghost use Rattle.cs_wire_entries.specs.Views.{group_names, IsIndex};
 
     ghost Value = { List GroupData };
 

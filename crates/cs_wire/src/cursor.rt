@@ -1,13 +1,13 @@
 //! A changeset's file, one item after another.
 ghost use Rattle.std.specs.Prelude.{◌≡◌, ◌<◌, ◌≤◌, [], length, IfErr, IfOk, IfSome, List, Ok, None};
 ghost use Rattle.cs_value.specs.Refusals.{Refuses};
-ghost use Rattle.cs_entries.specs.Changeset.{GroupData};
-ghost use Rattle.cs_entries.specs.ReadFaults.{ReadFails};
+ghost use Rattle.cs_wire_entries.specs.Changeset.{GroupData};
+ghost use Rattle.cs_wire_entries.specs.ReadFaults.{ReadFails};
 
 use crate::ending::{Ending, ending_of};
 use crate::item::Item;
 use crate::walk::Walk;
-use cs_entries::ReadError;
+use cs_wire_entries::ReadError;
 use std::alloc::Global;
 use std::marker::Model;
 
@@ -32,7 +32,7 @@ impl<'a> Model for Cursor<'a> {
 
 impl<'a> Cursor<'a> {
     ghost use Rattle.cs_wire.specs.Cursor.{Begins, IsItem, IsNext, answer_of, ending_of as ending_in, with_item};
-    ghost use Rattle.cs_entries.specs.Changeset.{IsFileOf};
+    ghost use Rattle.cs_wire_entries.specs.Changeset.{IsFileOf};
 
     /// Returns a cursor before the first item of a file. It allocates nothing.
     pub fn new(alloc: Global, file: &'a [u8]) -> Cursor<'a>

@@ -1,16 +1,16 @@
 //! The tables of a file, item by item.
 ghost use Rattle.std.specs.Prelude.{◌≡◌, IfErr, IfOk, OnOk};
 ghost use Rattle.cs_value.specs.Refusals.{Refuses};
-ghost use Rattle.cs_entries.specs.Changeset.{IsChangeset, IsFileOf};
-ghost use Rattle.cs_entries.specs.ReadFaults.{ReadFails};
+ghost use Rattle.cs_wire_entries.specs.Changeset.{IsChangeset, IsFileOf};
+ghost use Rattle.cs_wire_entries.specs.ReadFaults.{ReadFails};
 ghost use Rattle.cs_wire.specs.Cursor.{IsItem, IsNext, with_item};
 
 use crate::cursor::Cursor;
 use crate::group::Group;
 use crate::header::Header;
 use crate::item::Item;
-use cs_entries::{Entry, ReadError};
 use cs_value::NoMemory;
+use cs_wire_entries::{Entry, ReadError};
 use std::alloc::Global;
 use std::marker::Model;
 
@@ -22,7 +22,7 @@ pub(crate) struct Draft {
 }
 
 impl Model for Draft {
-    ghost use Rattle.cs_entries.specs.Changeset.{GroupData};
+    ghost use Rattle.cs_wire_entries.specs.Changeset.{GroupData};
 
     ghost Value = { GroupData };
 

@@ -3,7 +3,7 @@ ghost use Rattle.std.specs.Prelude.{◌≡◌};
 ghost use Rattle.cs_wire.specs.Cursor.{answer_of, ending_of as ending_of_answer};
 
 use crate::item::Item;
-use cs_entries::{ReadError, ReadFault};
+use cs_wire_entries::{ReadError, ReadFault};
 
 /// Why a cursor has no next item.
 #[derive(Clone, Copy, Debug)]

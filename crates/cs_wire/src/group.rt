@@ -1,12 +1,12 @@
 //! The changes of a table.
 ghost use Rattle.std.specs.Prelude.{◌≡◌, ◌++◌, ◌∷◌, [], ◌↔◌, IfOk, IfSome, IsTrue, OnOk, OnErr, is_none};
-ghost use Rattle.cs_entries.specs.Changeset.{IsGroup};
-ghost use Rattle.cs_entries.specs.Views.{group_keys, IsIndex};
+ghost use Rattle.cs_wire_entries.specs.Changeset.{IsGroup};
+ghost use Rattle.cs_wire_entries.specs.Views.{group_keys, IsIndex};
 
 use crate::header::Header;
 use crate::places::Places;
-use cs_entries::{Entry, invert_entries};
 use cs_value::{Key, NoMemory};
+use cs_wire_entries::{Entry, invert_entries};
 use std::alloc::Global;
 use std::marker::Model;
 
@@ -20,8 +20,8 @@ pub struct Group {
 }
 
 impl Model for Group {
-    ghost use Rattle.cs_entries.specs.Changeset.{GroupData, IsGroup};
-    ghost use Rattle.cs_entries.specs.Views.{group_keys, IsIndex};
+    ghost use Rattle.cs_wire_entries.specs.Changeset.{GroupData, IsGroup};
+    ghost use Rattle.cs_wire_entries.specs.Views.{group_keys, IsIndex};
 
     ghost Value = { GroupData };
 
@@ -32,10 +32,10 @@ impl Model for Group {
 }
 
 impl Group {
-    ghost use Rattle.cs_entries.specs.Entry.{IsEntry, key_of};
-    ghost use Rattle.cs_entries.specs.Changeset.{IsNewKey};
-    ghost use Rattle.cs_entries.specs.Inverse.{IsInverseGroup};
-    ghost use Rattle.cs_entries.specs.Views.{IsPlaceOf};
+    ghost use Rattle.cs_wire_entries.specs.Entry.{IsEntry, key_of};
+    ghost use Rattle.cs_wire_entries.specs.Changeset.{IsNewKey};
+    ghost use Rattle.cs_wire_entries.specs.Inverse.{IsInverseGroup};
+    ghost use Rattle.cs_wire_entries.specs.Views.{IsPlaceOf};
 
     /// Returns the group of one entry, which fits the header's flags ([`Header::admits`]).
     pub fn new(alloc: Global, header: Header, first: Entry) -> Result<Group, NoMemory>
@@ -203,7 +203,7 @@ impl PartialEq for Group {
     ghost use Rattle.std.specs.Cmp.Lexicographic.{pointwise};
     ghost use Rattle.std.specs.Cmp.Rules.{comparing};
     ghost use Rattle.std.proofs.Common.{rules};
-    ghost use Rattle.cs_entries.specs.contracts.entry.EntryPartialEq.TheImpl.Laws.{laws-law};
+    ghost use Rattle.cs_wire_entries.specs.contracts.entry.EntryPartialEq.TheImpl.Laws.{laws-law};
     ghost use Rattle.cs_wire.specs.contracts.header.HeaderPartialEq.TheImpl.Laws.{laws-law as header_laws};
 
     ghost eq = { eq_of_both (on (λ g. g.header) ⟦<Header as PartialEq>⟧.eq)
@@ -219,7 +219,7 @@ impl PartialEq for Group {
 impl Eq for Group {
     ghost use Rattle.std.specs.Cmp.Rules.{comparing};
     ghost use Rattle.std.proofs.Common.{rules};
-    ghost use Rattle.cs_entries.specs.contracts.entry.EntryEq.TheImpl.Laws.{laws-law};
+    ghost use Rattle.cs_wire_entries.specs.contracts.entry.EntryEq.TheImpl.Laws.{laws-law};
     ghost use Rattle.cs_wire.specs.contracts.header.HeaderEq.TheImpl.Laws.{laws-law as header_laws};
 
     ghost laws = { Prim.search (comparing, laws-law, header_laws, rules) };

@@ -2,12 +2,12 @@
 ghost use Rattle.std.specs.Prelude.{◌≡◌, ◌<◌, ◌↔◌, ◌∷◌, [], IfOk, IsTrue, Any, string_bytes};
 ghost use Rattle.cs_value.specs.Value.{IsValue, IsField, IsRow, IsRecord};
 ghost use Rattle.cs_value.specs.Table.{IsKeyedRow};
-ghost use Rattle.cs_entries.specs.Entry.{IsKeyedUpdate};
-ghost use Rattle.cs_entries.specs.Changeset.{HeaderData, IsHeader};
+ghost use Rattle.cs_wire_entries.specs.Entry.{IsKeyedUpdate};
+ghost use Rattle.cs_wire_entries.specs.Changeset.{HeaderData, IsHeader};
 
 use crate::writer::write_header;
-use cs_entries::{Change, Entry, undo_refused};
 use cs_value::{Field, Key, MAX_COLUMNS, NoMemory, OwnedField, Value, is_table_name};
+use cs_wire_entries::{Change, Entry, undo_refused};
 use std::alloc::Global;
 use std::marker::Model;
 
@@ -21,7 +21,7 @@ pub struct Header {
 
 impl Model for Header {
     ghost use Rattle.std.specs.Prelude.{string_bytes};
-    ghost use Rattle.cs_entries.specs.Changeset.{HeaderData, IsHeader};
+    ghost use Rattle.cs_wire_entries.specs.Changeset.{HeaderData, IsHeader};
 
     ghost Value = { HeaderData };
 
@@ -31,7 +31,7 @@ impl Model for Header {
 }
 
 impl Header {
-    ghost use Rattle.cs_entries.specs.Entry.{IsEntry, key_of};
+    ghost use Rattle.cs_wire_entries.specs.Entry.{IsEntry, key_of};
 
     /// Returns whether a name and flags make a header. The name has at least one byte, and none that is zero. There are
     /// 1 to 32767 flags, and at least one is not 0. It allocates nothing.
@@ -134,7 +134,7 @@ pub struct HeaderRef<'a> {
 
 impl HeaderRef<'_> {
     ghost use Rattle.std.specs.Prelude.{◌++◌, OnErr, OnOk};
-    ghost use Rattle.cs_entries.specs.Changeset.{header_bytes};
+    ghost use Rattle.cs_wire_entries.specs.Changeset.{header_bytes};
     ghost use Rattle.cs_wire.specs.Headers.{header_of};
 
     /// Returns a copy of the header. Its name and its flags make one ([`Header::fits`]).

@@ -1,7 +1,7 @@
 //! The items of a cursor.
 
 use crate::header::HeaderRef;
-use cs_entries::EntryRef;
+use cs_wire_entries::EntryRef;
 
 /// A part of a changeset, borrowed from the file.
 #[derive(Debug, Drop)]

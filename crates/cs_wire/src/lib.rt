@@ -22,13 +22,13 @@
 //! }
 //! ```
 //!
-//! `header`, `group` and `changeset` have the parts of a file, besides its entries, which `cs_entries` has. `reader`
+//! `header`, `group` and `changeset` have the parts of a file, besides its entries, which `cs_wire_entries` has. `reader`
 //! reads files, and `writer` writes them. A `cursor` goes through a file by a `walk`, until its `ending`, and returns
 //! each `item`, borrowed from the file. A name or a key that it has `seen` before is a fault. `draft` collects the
 //! tables that `reader` reads. `places` indexes entries and groups, and `laws` has the laws of all changesets. The
-//! names of `cs_entries` are passed on. `CALLING.md`, next to this folder, shows a caller.
+//! names of `cs_wire_entries` are passed on. `CALLING.md`, next to this folder, shows a caller.
 //!
-//! `read_header`, `has_entry`, `read_entry`, `KeyColumns` and `word_of` are for the crate above, `cs_tables`.
+//! `read_header`, `has_entry`, `read_entry`, `KeyColumns` and `word_of` are for the crate above, `cs_file_tables`.
 #![tactic(auto)]
 
 mod changeset;
@@ -46,7 +46,7 @@ mod walk;
 mod writer;
 
 pub use changeset::Changeset;
-pub use cs_entries::{
+pub use cs_wire_entries::{
     Change, Entry, EntryRef, Fields, KeyColumns, ReadError, ReadFault, ReadFaultKind, has_entry,
     read_entry,
 };

@@ -3,8 +3,8 @@
 //! Each reader takes the file and a byte offset, and returns what is read there and the offset after
 //! it. A fault has the offset that section "Read faults" of `docs/FORMAT.md` defines.
 ghost use Rattle.std.specs.Prelude.{◌≡◌, Err, IfOk, IfErr};
-ghost use Rattle.cs_entries.specs.Changeset.{IsChangeset, file_bytes};
-ghost use Rattle.cs_entries.specs.ReadFaults.{ReadFails};
+ghost use Rattle.cs_wire_entries.specs.Changeset.{IsChangeset, file_bytes};
+ghost use Rattle.cs_wire_entries.specs.ReadFaults.{ReadFails};
 ghost use Rattle.cs_value.specs.declared.refusal.OrNoMemory.TheVariants as tool;
 ghost use Rattle.cs_value.specs.Refusals.{Refuses};
 
@@ -12,7 +12,7 @@ pub(crate) mod header;
 
 use crate::changeset::Changeset;
 use crate::draft::{groups_of, read_drafts};
-use cs_entries::{ReadError, ReadFaultKind, fault_at};
+use cs_wire_entries::{ReadError, ReadFaultKind, fault_at};
 use std::alloc::Global;
 
 /// Returns the changeset of a file.

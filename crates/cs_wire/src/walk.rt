@@ -1,17 +1,17 @@
 //! The steps of a cursor from one item of a file to the next.
 ghost use Rattle.std.specs.Prelude.{◌≡◌, ◌↔◌, ◌<◌, ◌≤◌, ◌++◌, ◌∷◌, [], false, length, IfErr, IfOk, IfSome, IsTrue, List, Ok, None};
 ghost use Rattle.cs_value.specs.Refusals.{Refuses};
-ghost use Rattle.cs_entries.specs.Entry.{IsEntry};
-ghost use Rattle.cs_entries.specs.Changeset.{GroupData, IsFileOf, IsHeader, IsNewName};
+ghost use Rattle.cs_wire_entries.specs.Entry.{IsEntry};
+ghost use Rattle.cs_wire_entries.specs.Changeset.{GroupData, IsFileOf, IsHeader, IsNewName};
 ghost use Rattle.cs_value.specs.Table.{IsFlags};
-ghost use Rattle.cs_entries.specs.ReadFaults.{HasEntry, ReadFails};
+ghost use Rattle.cs_wire_entries.specs.ReadFaults.{HasEntry, ReadFails};
 
 use crate::header::HeaderRef;
 use crate::item::Item;
 use crate::reader::header::read_header;
 use crate::reader::refuse;
 use crate::seen::Seen;
-use cs_entries::{EntryRef, ReadError, ReadFaultKind, has_entry, read_entry};
+use cs_wire_entries::{EntryRef, ReadError, ReadFaultKind, has_entry, read_entry};
 use std::alloc::Global;
 use std::borrow::CowSlice;
 use std::marker::Model;

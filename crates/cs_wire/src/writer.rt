@@ -1,11 +1,11 @@
 //! Writing the files of changesets.
 ghost use Rattle.std.specs.Prelude.{◌≡◌, ◌++◌, IfOk, OnErr, OnOk, length, take};
-ghost use Rattle.cs_entries.specs.Changeset.{IsHeader, header_bytes, group_bytes, file_bytes};
+ghost use Rattle.cs_wire_entries.specs.Changeset.{IsHeader, header_bytes, group_bytes, file_bytes};
 
 use crate::changeset::Changeset;
 use crate::group::Group;
-use cs_entries::{EntryRef, TABLE};
 use cs_value::{NoMemory, varint_write};
+use cs_wire_entries::{EntryRef, TABLE};
 use std::alloc::Global;
 
 /// Returns the file of a changeset.
@@ -33,7 +33,7 @@ fn write_group(out: &mut Vec<u8>, group: &Group) -> Result<(), NoMemory>
     Ok(())
 }
 
-#[tactic(auto, unfolding(cs_entries::specs::Changeset::header_bytes, cs_entries::specs::Changeset::flags_bytes))]
+#[tactic(auto, unfolding(cs_wire_entries::specs::Changeset::header_bytes, cs_wire_entries::specs::Changeset::flags_bytes))]
 pub(crate) fn write_header(out: &mut Vec<u8>, name: &str, flags: &[u8]) -> Result<(), NoMemory>
     requires { IsHeader (record { name = name.now; flags = flags.now }) }
     ensures ok { OnOk result (out.new.items ≡ out.old.items ++ header_bytes (record { name = name.now; flags = flags.now })) }

@@ -2,8 +2,8 @@
 
 use crate::DELETE;
 use crate::faults::{expect_named, expect_text};
+use cs_apply_rows::{ApplyFault, Choice, Conflict, Direction, Noop, run_in};
 use cs_rows::{Cause, MemRows, StoreError};
-use cs_run::{ApplyFault, Choice, Conflict, Direction, Noop, run_in};
 use std::process::Abort;
 
 /// An INSERT of (1, NULL) into the table t.

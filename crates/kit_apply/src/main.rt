@@ -25,7 +25,7 @@ fn scan<S: Alter>(conn: &mut Connection<S>) -> Result<(), Error> {
     Ok(())
 }
 
-/// Reads the version and the declarations, and then each record, in a transaction, as `cs_adoption` opens a store.
+/// Reads the version and the declarations, and then each record, in a transaction, as `cs_store` opens a store.
 fn adopt<S: Alter>(conn: &mut Connection<S>) -> Result<(), Error> {
     conn.execute("BEGIN", &[])?;
     let _listed = conn.query_all(texts::LIST, params![""])?;

@@ -2,7 +2,7 @@
 use Rattle.std.proofs.Common.{◌≡◌, [], ◌∷◌, refl, arith}
 use Rattle.std.specs.Prelude.{pos}
 use Rattle.cs_value.specs.declared.refusal.OrNoMemory.TheVariants.{Fault, NoMemory}
-use Rattle.cs_entries.specs.declared.fault.ReadFaultKind.TheVariants.{Truncated}
+use Rattle.cs_wire_entries.specs.declared.fault.ReadFaultKind.TheVariants.{Truncated}
 use Rattle.cs_files.specs.declared.fault.FileFault.TheVariants.{First, Second, Schema}
 use Rattle.vollikash.specs.Answers.{Gives, Lacks, report_of}
 

@@ -1,10 +1,10 @@
 -- What a caller in C sees of a step of the iterator, and of a value.
 use Rattle.std.specs.Prelude.{◌≡◌, ◌⊎◌, ℤ, pos}
 use Rattle.cs_value.specs.declared.refusal.OrNoMemory.TheVariants.{Fault}
-use Rattle.cs_entries.specs.declared.fault.ReadFault.{ReadFault}
+use Rattle.cs_wire_entries.specs.declared.fault.ReadFault.{ReadFault}
 use Rattle.cs_files.specs.declared.fault.FileFault.TheVariants.{First}
-use Rattle.cs_iterator.specs.declared.value.Side.{Side}
-use Rattle.cs_iterator.specs.declared.value.Side.TheVariants.{Old, New}
+use Rattle.cs_file_changes.specs.declared.value.Side.{Side}
+use Rattle.cs_file_changes.specs.declared.value.Side.TheVariants.{Old, New}
 use Rattle.vollikash.specs.declared.answer.FaultReport.{FaultReport}
 use Rattle.vollikash.specs.declared.answer.TheConstants.{OK, DONE}
 use Rattle.vollikash.specs.Answers.{report_of}

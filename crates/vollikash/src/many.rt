@@ -1,14 +1,13 @@
 //! The tables of a file that are named, and many files.
 ghost use Rattle.std.specs.Prelude.{◌≡◌, ◌≢◌, ◌≤◌, length};
 ghost use Rattle.cs_files.specs.Files.{FirstFails};
-ghost use Rattle.cs_many.specs.Chaining.{AreLengths, ChainFails, Chains, files_in};
-ghost use Rattle.cs_many.specs.Selecting.{Selects};
+ghost use Rattle.cs_files.specs.Chaining.{AreLengths, ChainFails, Chains, files_in};
+ghost use Rattle.cs_files.specs.Selecting.{Selects};
 ghost use Rattle.vollikash.specs.declared.answer.TheConstants.{OK, NO_ROOM};
 ghost use Rattle.vollikash.specs.Answers.{Gives, Lacks, Tells, TellsFile, IsMadeCode, IsRefusal, file_number, no_fault};
 
 use crate::answer::{FaultReport, RANGE, hand_out, report, report_plain};
-use cs_files::{ToolFault, first_fault};
-use cs_many::{ChainFault, concat_all_bytes, select_bytes};
+use cs_files::{ChainFault, ToolFault, concat_all_bytes, first_fault, select_bytes};
 use std::alloc::Global;
 
 /// Puts the file of the tables that are named into `out`, and its length, which is at most that of the file, into

@@ -1,19 +1,19 @@
 //! The entries of a table of a concatenation.
 ghost use Rattle.std.specs.Prelude.{◌≡◌, ◌≢◌, ◌<◌, ◌++◌, [], ℕ, All, IfOk, IfSome, IsTrue, List, OnOk, false, filter};
 ghost use Rattle.std.specs.Prelude.{filter_map, if◌then◌else◌, is_none, length, replicate};
-ghost use Rattle.cs_entries.specs.declared.entry.Entry.{Entry as EntryData};
+ghost use Rattle.cs_wire_entries.specs.declared.entry.Entry.{Entry as EntryData};
 ghost use Rattle.cs_wire.specs.Entry.{entry_bytes, key_of};
 ghost use Rattle.cs_wire.specs.Changeset.{GroupData, entries_bytes};
-ghost use Rattle.cs_tables.specs.KeyedFile.{AreKeyed, count_of};
-ghost use Rattle.cs_tables.specs.Tables.{AreLeft};
+ghost use Rattle.cs_file_tables.specs.KeyedFile.{AreKeyed, count_of};
+ghost use Rattle.cs_file_tables.specs.Tables.{AreLeft};
 ghost use Rattle.cs_wire.specs.Views.{IsPlaceOf};
 ghost use Rattle.cs_group.specs.Joining.{entry_key, is_new, joined_entries, joined_entry, key_places, left_of, merged};
 ghost use Rattle.cs_group.specs.Joining.{outcome};
 ghost use Rattle.cs_group.specs.Marks.{AreApart, AreMet};
 ghost use Rattle.cs_files.specs.Writing.{some_bytes};
 
+use cs_file_tables::{KeyedEntries, Tables};
 use cs_group::{Merged, merge_refs};
-use cs_tables::{KeyedEntries, Tables};
 use cs_value::NoMemory;
 use cs_wire::EntryRef;
 use std::alloc::Global;

@@ -5,14 +5,16 @@ ghost use Rattle.cs_value.specs.declared.TheConstants.{MAX_CONTENT_LEN};
 ghost use Rattle.cs_value.specs.Varint.{varint};
 ghost use Rattle.cs_value.specs.Table.{IsFlags};
 ghost use Rattle.cs_value.specs.Table.{IsName};
-ghost use Rattle.cs_entries.specs.Changeset.{HeaderData, GroupData, IsHeader, flags_bytes, header_bytes};
+ghost use Rattle.cs_wire_entries.specs.Changeset.{HeaderData, GroupData, IsHeader, flags_bytes, header_bytes};
 ghost use Rattle.cs_wire.specs.Headers.{header_of};
-ghost use Rattle.cs_entries.specs.ReadFaults.{FaultIs, Stands, HasEntry, TableStart, HeaderPart, ReadCase};
-ghost use Rattle.cs_entries.specs.Reading.{CountFails};
+ghost use Rattle.cs_wire_entries.specs.ReadFaults.{FaultIs, Stands, HasEntry, TableStart, HeaderPart, ReadCase};
+ghost use Rattle.cs_wire_entries.specs.Reading.{CountFails};
 
 use crate::header::{HeaderRef, has_key};
-use cs_entries::{PATCHSET, ReadFault, ReadFaultKind, TABLE, fault_at, fault_behind, rest_from};
 use cs_value::{MAX_COLUMNS, varint_read};
+use cs_wire_entries::{
+    PATCHSET, ReadFault, ReadFaultKind, TABLE, fault_at, fault_behind, rest_from,
+};
 use std::str;
 
 /// Returns the header of a table at an offset, and the offset after it.

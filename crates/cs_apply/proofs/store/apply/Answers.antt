@@ -3,7 +3,7 @@ use Rattle.std.specs.Fn.{FnReturnsAt}
 use Rattle.std.proofs.lemmas.Result.{err_from_is_err_and}
 use Rattle.sqlite.specs.Held.{state}
 use Rattle.cs_store.specs.Laws.{was_clean}
-use Rattle.cs_run.proofs.OutcomeLemmas.{told_reports}
+use Rattle.cs_apply_rows.proofs.OutcomeLemmas.{told_reports}
 use Rattle.cs_apply.proofs.RevertLemmas.{done_state, leads_clean}
 use Rattle.cs_apply.proofs.store.apply.Goals as goal
 

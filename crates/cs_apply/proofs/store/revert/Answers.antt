@@ -2,9 +2,9 @@
 use Rattle.std.proofs.Common.{rules}
 use Rattle.std.proofs.lemmas.Result.{err_from_is_err_and}
 use Rattle.cs_group.specs.declared.conflict.Noop.TheVariants.{Report as Reported}
-use Rattle.cs_run.specs.declared.running.Direction.TheVariants.{Inverse}
-use Rattle.cs_run.specs.Running.{AlwaysAborts}
-use Rattle.cs_run.proofs.OutcomeLemmas.{told_reports}
+use Rattle.cs_apply_rows.specs.declared.running.Direction.TheVariants.{Inverse}
+use Rattle.cs_apply_rows.specs.Running.{AlwaysAborts}
+use Rattle.cs_apply_rows.proofs.OutcomeLemmas.{told_reports}
 use Rattle.cs_apply.proofs.RevertLemmas.{reverts_ok, reverts_err, refuses_weaker, applies_weaker}
 use Rattle.cs_apply.proofs.CrashLemmas.{revert_atomic}
 use Rattle.cs_apply.proofs.store.revert.Goals as goal

@@ -9,15 +9,15 @@ use Rattle.cs_store.specs.Records.{KeepsContent, KeepsCrash}
 use Rattle.cs_store.proofs.CrashLemmas.{idle_atomic, dropped_atomic, made_atomic, made_others, left_new, refused_stands}
 use Rattle.cs_value.specs.State as tables
 use Rattle.cs_group.specs.declared.conflict.Noop.{Noop}
-use Rattle.cs_run.specs.declared.running.Direction.{Direction}
-use Rattle.cs_run.specs.declared.tally.Tally.{Tally}
-use Rattle.cs_run.specs.Running.{Handler, AppliesTold}
+use Rattle.cs_apply_rows.specs.declared.running.Direction.{Direction}
+use Rattle.cs_apply_rows.specs.declared.tally.Tally.{Tally}
+use Rattle.cs_apply_rows.specs.Running.{Handler, AppliesTold}
 use Rattle.cs_apply.specs.Crash.{AppliesInto}
 use Rattle.cs_store.proofs.FailureLemmas.{begin_fails, commit_fails, work_fails}
 use Rattle.cs_store.specs.Failing.{BeginFails}
 use Rattle.cs_store.specs.Faults as stores
 use Rattle.cs_store.specs.Laws.{was_clean}
-use Rattle.cs_run.proofs.CauseLemmas.{caused_on, rows_caused_on}
+use Rattle.cs_apply_rows.proofs.CauseLemmas.{caused_on, rows_caused_on}
 use Rattle.cs_apply.proofs.store.run.Goals as goal
 
 -- what a tally has is what the state was made with

@@ -1,5 +1,5 @@
 -- `files::print_dump`: the clauses `printed` and `interrupted`.
-use Rattle.cs_texts.specs.Texts.{group_text}
+use Rattle.cs_file_texts.specs.Texts.{group_text}
 use Rattle.cs_files.proofs.files.print_dump.Goals as goal
 
 pub returns-clause-printed : goal.returns-clause-printed

@@ -1,5 +1,5 @@
 -- `files::print_file`: the clause `interrupted`.
-use Rattle.cs_texts.specs.Forms.{form_text}
+use Rattle.cs_file_texts.specs.Forms.{form_text}
 use Rattle.cs_files.proofs.PrintLemmas.{front_printed}
 use Rattle.cs_files.proofs.files.print_file.Goals as goal
 

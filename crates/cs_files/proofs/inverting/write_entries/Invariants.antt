@@ -1,9 +1,9 @@
 -- Of the entries that are left some are undone.
 use Rattle.std.proofs.Common.{◌≡◌, ◌≤◌, ◌-◌, List, length}
-use Rattle.cs_entries.specs.declared.entry.Entry.{Entry}
+use Rattle.cs_wire_entries.specs.declared.entry.Entry.{Entry}
 use Rattle.cs_wire.specs.Entry.{entry_bytes}
 use Rattle.cs_wire.specs.Changeset.{GroupData}
-use Rattle.cs_tables.specs.Tables.{AreLeft}
+use Rattle.cs_file_tables.specs.Tables.{AreLeft}
 use Rattle.cs_wire.specs.Views.{inverse_entry}
 use Rattle.cs_files.proofs.PassLemmas.{WritesEntries}
 use Rattle.cs_files.proofs.inverting.write_entries.Given as goal

@@ -3,7 +3,7 @@ use Rattle.std.proofs.Common.{◌<◌, ◌≤◌, false, List, length, get_or, r
 use Rattle.std.specs.Prelude.{None, Some, if◌then◌else◌}
 use Rattle.std.proofs.lemmas.List.{get_or-map, length-drop, length-map, take_all}
 use Rattle.cs_value.proofs.ListLemmas.{filter_more_behind}
-use Rattle.cs_entries.specs.declared.entry.Entry.{Entry}
+use Rattle.cs_wire_entries.specs.declared.entry.Entry.{Entry}
 use Rattle.cs_wire.specs.Entry.{key_of}
 use Rattle.cs_wire.specs.Views.{group_keys}
 use Rattle.cs_group.specs.Joining.{is_new, key_places}

@@ -1,7 +1,7 @@
 -- The entries so far that are not marked are there, and the keys of the others are left.
 use Rattle.std.proofs.Common.{◌≡◌, ◌++◌, List, take, drop}
 use Rattle.std.specs.Prelude.{filter}
-use Rattle.cs_entries.specs.declared.entry.Entry.{Entry}
+use Rattle.cs_wire_entries.specs.declared.entry.Entry.{Entry}
 use Rattle.cs_wire.specs.Entry.{key_of}
 use Rattle.cs_wire.specs.Views.{group_keys}
 use Rattle.cs_group.specs.Joining.{is_new}

@@ -1,7 +1,7 @@
 -- `entries::join_entry`: what `merge_entry` asks for, what it ensures.
 use Rattle.std.proofs.Common.{◌≡◌, ◌≢◌, ◌++◌, [], ◌∷◌, All, List, Option, get_or, ap, sym, ◌∙◌, rules}
 use Rattle.std.specs.Prelude.{option_to_list}
-use Rattle.cs_entries.specs.declared.entry.Entry.{Entry}
+use Rattle.cs_wire_entries.specs.declared.entry.Entry.{Entry}
 use Rattle.cs_wire.specs.Entry.{key_of}
 use Rattle.cs_wire.specs.Changeset.{GroupData}
 use Rattle.cs_wire.specs.Views.{IsPlaceOf}

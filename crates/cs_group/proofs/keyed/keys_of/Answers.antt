@@ -1,7 +1,7 @@
 -- `keyed::keys_of`: the invariant of the loop at `entry`.
 use Rattle.std.proofs.Common.{ℕ, List, sym, ◌∙◌}
 use Rattle.std.proofs.lemmas.List.{map-id}
-use Rattle.cs_entries.specs.declared.entry.Entry.{Entry}
+use Rattle.cs_wire_entries.specs.declared.entry.Entry.{Entry}
 use Rattle.cs_wire.specs.Entry.{key_of}
 use Rattle.cs_group.proofs.SetLemmas.{text_listed}
 use Rattle.cs_group.proofs.keyed.keys_of.Goals as goal

@@ -3,7 +3,7 @@ use Rattle.std.proofs.Common.{◌≡◌, OnErr, rules, IfErr, refl}
 use Rattle.std.specs.Fn.{FnReturnsAt}
 use Rattle.sqlite.specs.Held.{state}
 use Rattle.sqlite.specs.State.{HasCleanDisk}
-use Rattle.cs_run.specs.declared.running.Direction.TheVariants.{Forward}
+use Rattle.cs_apply_rows.specs.declared.running.Direction.TheVariants.{Forward}
 use Rattle.cs_store.specs.Crash.{CanBegin}
 use Rattle.cs_store.specs.Records.{KeepsContent, KeepsCrash}
 use Rattle.cs_store.specs.Store.{tables_in}

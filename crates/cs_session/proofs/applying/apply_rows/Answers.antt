@@ -2,8 +2,8 @@
 use Rattle.std.proofs.Common.{map}
 use Rattle.std.specs.Fn.{FnReturnsAt}
 use Rattle.std.proofs.lemmas.Result.{err_from_is_err_and}
-use Rattle.cs_run.specs.declared.running.Direction.TheVariants.{Forward}
-use Rattle.cs_run.specs.Writes.{IsFileWrite}
+use Rattle.cs_apply_rows.specs.declared.running.Direction.TheVariants.{Forward}
+use Rattle.cs_apply_rows.specs.Writes.{IsFileWrite}
 use Rattle.cs_session.specs.Views.{attached_of}
 use Rattle.cs_session.proofs.CauseLemmas.{caused_on, run_caused_on}
 use Rattle.cs_session.proofs.NotesLemmas.{recorded_are}

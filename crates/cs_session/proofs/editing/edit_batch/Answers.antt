@@ -1,5 +1,5 @@
--- `editing::edit_batch`: what `edit_rows` asks for, the clauses `named`, `caused`, `others`, `atomic`, `left` and `stands`.
-use Rattle.std.proofs.Common.{◌≡◌, OnErr, rules, IfErr, refl, subst}
+-- `editing::edit_batch`: what `edit_rows` asks for, the clauses `recorded`, `named`, `caused`, `others`, `atomic`, `left` and `stands`.
+use Rattle.std.proofs.Common.{◌≡◌, OnErr, rules, IfErr, map, refl, subst}
 use Rattle.std.proofs.lemmas.Result.{err_from_is_err_and}
 use Rattle.sqlite.specs.Held.{state}
 use Rattle.sqlite.specs.State.{HasCleanDisk}
@@ -8,7 +8,7 @@ use Rattle.cs_store.specs.Laws.{was_clean}
 use Rattle.cs_store.specs.Crash.{CanBegin}
 use Rattle.cs_store.specs.Records.{KeepsContent, KeepsCrash}
 use Rattle.cs_store.specs.Store.{tables_in}
-use Rattle.cs_store.proofs.CrashLemmas.{idle_atomic, dropped_atomic, begun_tables, made_atomic, made_others, left_new, refused_stands}
+use Rattle.cs_store.proofs.CrashLemmas.{idle_atomic, dropped_atomic, begun_tables, made_atomic, made_tables, made_others, left_new, refused_stands}
 use Rattle.cs_session.proofs.OutcomeLemmas.{begun_state}
 use Rattle.cs_store.specs.Failing.{BatchFails, BeginFails, Writes}
 use Rattle.cs_store.specs.Faults as stores
@@ -17,6 +17,8 @@ use Rattle.cs_session.proofs.CauseLemmas.{caused_on, rows_caused_on}
 use Rattle.cs_value.specs.State.{State}
 use Rattle.cs_rows.specs.Editing.{IsWriteOf}
 use Rattle.cs_session.specs.Changes.{IsCaused}
+use Rattle.cs_session.specs.Recording.{Records}
+use Rattle.cs_session.specs.Views.{attached_of}
 use Rattle.cs_session.proofs.editing.edit_batch.Goals as goal
 
 pub edit_rows-requires-clause-state : goal.edit_rows-requires-clause-state
@@ -63,6 +65,16 @@ pub returns-in_err-edit_rows-clause-kept : goal.returns-in_err-edit_rows-clause-
 returns-in_err-edit_rows-clause-kept g c = λ clean.
     let p = err_from_is_err_and c.from_residual-in_err-edit_rows.result c.from_residual-in_err-edit_rows.ensures.1 in
     rw p.1 (search rules)
+
+pub returns-clause-recorded : goal.returns-clause-recorded
+returns-clause-recorded g c =
+    let old = state g.S.Store c.args.store.now in
+    let begun = state g.S.Store c.in_ok-batch.batch.store.now in
+    let mid = state g.S.Store c.edit_rows.new.rows.store.now in
+    let last = state g.S.Store c.commit.new.self.0 in
+    let same : c.commit.new.self.0 ≡ c.store-2-1.given.0 = search rules in
+    rw (← same) (made_tables old begun mid last (λ before after. Records before c.args.edit.now (map attached_of c.args.tables.now) after (map attached_of c.edit_rows.new.tables))
+    c.in_ok-batch.ensures.begun c.edit_rows.ensures.kept.1 c.commit.ensures.atomic.survives c.in_ok-edit_rows.ensures.recorded c.in_ok-commit.ensures.committed)
 
 pub returns-clause-others : goal.returns-clause-others
 returns-clause-others g c clean =

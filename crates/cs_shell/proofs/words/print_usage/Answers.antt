@@ -1,5 +1,5 @@
 -- `words::print_usage`: the clause `front`.
-use Rattle.cs_texts.proofs.WriteLemmas.{Writes-front}
+use Rattle.cs_file_texts.proofs.WriteLemmas.{Writes-front}
 use Rattle.cs_shell.proofs.words.print_usage.Goals as goal
 
 pub returns-clause-front : goal.returns-clause-front

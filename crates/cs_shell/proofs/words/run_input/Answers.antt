@@ -3,10 +3,10 @@ use Rattle.std.proofs.Common.{inl, inr, refl, subst}
 use Rattle.sqlite.specs.Files.{file_state}
 use Rattle.cs_value.specs.State.{State}
 use Rattle.cs_store.specs.Store.{tables_in}
-use Rattle.cs_shell.specs.Runs.{Runs}
-use Rattle.cs_shell.specs.Meant.{LineSays}
-use Rattle.cs_machine.proofs.TurnLemmas.{resource_of_store}
-use Rattle.cs_shell.specs.Stores.{RunsScript, beginning}
+use Rattle.cs_shell_script.specs.Runs.{Runs}
+use Rattle.cs_shell_script.specs.Meant.{LineSays}
+use Rattle.cs_shell_script.proofs.TurnLemmas.{resource_of_store}
+use Rattle.cs_shell_script.specs.StoreRuns.{RunsScript, beginning}
 use Rattle.cs_shell.proofs.words.run_input.Goals as goal
 
 pub returns-in-Ok-clause-ran : goal.returns-in-Ok-clause-ran

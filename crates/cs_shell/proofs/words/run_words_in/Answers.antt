@@ -1,7 +1,7 @@
 -- `words::run_words_in`: the clauses `command` and `scripts`, where memory runs out.
 use Rattle.std.proofs.Common.{Err, refl, inr}
 use Rattle.cs_rows.specs.declared.fault.StoreError.TheVariants as store
-use Rattle.cs_replies.specs.declared.refusal.Refusal.TheVariants as refusal
+use Rattle.cs_shell_replies.specs.declared.refusal.Refusal.TheVariants as refusal
 use Rattle.cs_shell.proofs.CommandLemmas.{works_unable, visit_unable}
 use Rattle.cs_shell.proofs.words.run_words_in.Goals as goal
 

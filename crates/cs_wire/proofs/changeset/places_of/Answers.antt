@@ -1,7 +1,7 @@
 -- `changeset::places_of`: the invariant of the loop at `place`.
 use Rattle.std.proofs.Common.{ap, ◌∙◌}
 use Rattle.std.specs.FinMap.{insert}
-use Rattle.cs_entries.specs.Changeset.{HeaderData, GroupData}
+use Rattle.cs_wire_entries.specs.Changeset.{HeaderData, GroupData}
 use Rattle.cs_wire.proofs.IndexLemmas.{IsIndex-none, IsIndex-more}
 use Rattle.cs_wire.proofs.changeset.places_of.Goals as goal
 

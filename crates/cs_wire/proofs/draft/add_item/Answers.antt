@@ -1,7 +1,7 @@
 -- `draft::add_item`: what it ensures of an entry.
 use Rattle.std.proofs.Common.{ap, ◌∙◌, ◌∷◌, [], ◌++◌, List, arith}
-use Rattle.cs_entries.specs.declared.entry.Entry.{Entry}
-use Rattle.cs_entries.specs.Changeset.{GroupData}
+use Rattle.cs_wire_entries.specs.declared.entry.Entry.{Entry}
+use Rattle.cs_wire_entries.specs.Changeset.{GroupData}
 use Rattle.cs_wire.proofs.CursorLemmas.{set_last}
 use Rattle.cs_wire.proofs.draft.add_item.Goals as goal
 

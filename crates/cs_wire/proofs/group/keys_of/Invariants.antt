@@ -1,6 +1,6 @@
 -- The keys of the entries so far are there.
 use Rattle.std.proofs.Common.{◌≡◌, take}
-use Rattle.cs_entries.specs.Views.{group_keys}
+use Rattle.cs_wire_entries.specs.Views.{group_keys}
 use Rattle.cs_wire.proofs.group.keys_of.Given as goal
 
 abbrev pub invariant-loop-entry : goal.invariant-loop-entry

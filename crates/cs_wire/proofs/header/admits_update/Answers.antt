@@ -2,7 +2,7 @@
 use Rattle.std.proofs.Common.{inl, inr, arith}
 use Rattle.std.proofs.lemmas.List.{get_or_read}
 use Rattle.cs_value.specs.declared.value.OwnedField.TheVariants.{Undefined}
-use Rattle.cs_entries.proofs.EntryLemmas.{length-IsKeyedUpdate}
+use Rattle.cs_wire_entries.proofs.EntryLemmas.{length-IsKeyedUpdate}
 use Rattle.cs_wire.proofs.AdmitLemmas.{update_of_columns, update_column}
 use Rattle.cs_wire.proofs.header.admits_update.Goals as goal
 

@@ -1,7 +1,7 @@
 -- `writer::write_group`: what it ensures.
 use Rattle.std.proofs.Common.{append_assoc}
 use Rattle.std.proofs.lemmas.List.{take_all}
-use Rattle.cs_entries.specs.Changeset.{group_bytes}
+use Rattle.cs_wire_entries.specs.Changeset.{group_bytes}
 use Rattle.cs_wire.proofs.writer.write_group.Goals as goal
 
 pub returns : goal.returns

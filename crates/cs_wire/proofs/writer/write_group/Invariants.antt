@@ -1,5 +1,5 @@
 use Rattle.std.proofs.Common.{◌≡◌, ◌++◌, take}
-use Rattle.cs_entries.specs.Changeset.{header_bytes, entries_bytes}
+use Rattle.cs_wire_entries.specs.Changeset.{header_bytes, entries_bytes}
 use Rattle.cs_wire.proofs.writer.write_group.Given as goal
 
 abbrev pub invariant-loop-entry : goal.invariant-loop-entry

@@ -1,7 +1,7 @@
 -- `inverting::Inverting::visit_entry`: what it ensures.
 use Rattle.std.proofs.Common.{◌++◌, ap, ◌∙◌}
 use Rattle.std.proofs.lemmas.Result.{on_ok_weaker}
-use Rattle.cs_entries.specs.declared.entry.Entry.{Entry}
+use Rattle.cs_wire_entries.specs.declared.entry.Entry.{Entry}
 use Rattle.cs_wire.specs.Entry.{entry_bytes}
 use Rattle.cs_group.proofs.InverseGroups.{inverse_is}
 use Rattle.cs_files.proofs.inverting.InvertingVisit.visit_entry.Goals as goal

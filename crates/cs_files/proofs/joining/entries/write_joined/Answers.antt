@@ -1,7 +1,7 @@
 -- `joining::entries::write_joined`: what it ensures.
 use Rattle.std.proofs.Common.{◌≢◌, AllPairs}
 use Rattle.std.specs.Prelude.{filter, filter_map}
-use Rattle.cs_entries.specs.declared.entry.Entry.{Entry}
+use Rattle.cs_wire_entries.specs.declared.entry.Entry.{Entry}
 use Rattle.cs_wire.specs.Entry.{entry_bytes, key_of}
 use Rattle.cs_group.specs.Joining.{is_new, joined_entry, outcome}
 use Rattle.cs_group.specs.Marks.{AreMet}

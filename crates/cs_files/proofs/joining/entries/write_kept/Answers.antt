@@ -2,13 +2,13 @@
 use Rattle.std.proofs.Common.{◌≡◌, ◌≢◌, ◌++◌, All, true, false, length, replicate, refl, ap, ◌∙◌, rules}
 use Rattle.std.specs.Prelude.{IsTrue, is_none}
 use Rattle.std.proofs.lemmas.List.{length-replicate, length-set}
-use Rattle.cs_entries.specs.declared.entry.Entry.{Entry}
+use Rattle.cs_wire_entries.specs.declared.entry.Entry.{Entry}
 use Rattle.cs_wire.specs.Entry.{entry_bytes, key_of}
 use Rattle.cs_wire.specs.Views.{IsPlaceOf}
 use Rattle.cs_group.specs.Joining.{joined_entry, outcome}
 use Rattle.cs_files.specs.Writing.{some_bytes}
-use Rattle.cs_tables.proofs.KeyedLemmas.{as_many}
-use Rattle.cs_tables.proofs.TablesLemmas.{PassedEntries-all}
+use Rattle.cs_file_tables.proofs.KeyedLemmas.{as_many}
+use Rattle.cs_file_tables.proofs.TablesLemmas.{PassedEntries-all}
 use Rattle.cs_group.specs.Marks.{AreMet}
 use Rattle.cs_group.proofs.MarkLemmas.{AreMet-none, AreMet-other, AreMet-marked, apart_of, keys_of, place_of}
 use Rattle.cs_files.proofs.JoiningLemmas.{some_flat}

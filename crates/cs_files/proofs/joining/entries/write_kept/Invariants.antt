@@ -1,10 +1,10 @@
 -- Of the entries that are left some have become what they become.
 use Rattle.std.proofs.Common.{◌≡◌, ◌-◌, List, length}
-use Rattle.cs_entries.specs.declared.entry.Entry.{Entry}
+use Rattle.cs_wire_entries.specs.declared.entry.Entry.{Entry}
 use Rattle.cs_wire.specs.Entry.{entry_bytes, key_of}
 use Rattle.cs_wire.specs.Changeset.{GroupData}
-use Rattle.cs_tables.specs.KeyedFile.{AreKeyed, count_of}
-use Rattle.cs_tables.specs.Tables.{AreLeft}
+use Rattle.cs_file_tables.specs.KeyedFile.{AreKeyed, count_of}
+use Rattle.cs_file_tables.specs.Tables.{AreLeft}
 use Rattle.cs_group.specs.Joining.{joined_entry, outcome}
 use Rattle.cs_group.specs.Marks.{AreApart, AreMet}
 use Rattle.cs_files.specs.Writing.{some_bytes}

@@ -1,10 +1,10 @@
 -- Of the entries so far those that are not marked are written.
 use Rattle.std.proofs.Common.{◌≡◌, ◌++◌, List, ℕ, take}
 use Rattle.std.specs.List.{flat_map}
-use Rattle.cs_entries.specs.declared.entry.Entry.{Entry}
+use Rattle.cs_wire_entries.specs.declared.entry.Entry.{Entry}
 use Rattle.cs_wire.specs.Changeset.{GroupData}
 use Rattle.cs_wire.specs.Entry.{entry_bytes, key_of}
-use Rattle.cs_tables.specs.KeyedFile.{AreKeyed}
+use Rattle.cs_file_tables.specs.KeyedFile.{AreKeyed}
 use Rattle.cs_group.specs.Joining.{if_new}
 use Rattle.cs_group.specs.Marks.{AreMet}
 use Rattle.cs_files.specs.Writing.{some_bytes}

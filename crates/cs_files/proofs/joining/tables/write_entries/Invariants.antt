@@ -1,9 +1,9 @@
 -- Of the remaining entries some are written.
 use Rattle.std.proofs.Common.{◌≡◌, ◌≤◌, ◌-◌, List, length}
-use Rattle.cs_entries.specs.declared.entry.Entry.{Entry}
+use Rattle.cs_wire_entries.specs.declared.entry.Entry.{Entry}
 use Rattle.cs_wire.specs.Entry.{entry_bytes}
 use Rattle.cs_wire.specs.Changeset.{GroupData}
-use Rattle.cs_tables.specs.Tables.{AreLeft}
+use Rattle.cs_file_tables.specs.Tables.{AreLeft}
 use Rattle.cs_files.proofs.PassLemmas.{WritesEntries}
 use Rattle.cs_files.proofs.joining.tables.write_entries.Given as goal
 

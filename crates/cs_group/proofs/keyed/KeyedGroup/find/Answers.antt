@@ -1,7 +1,7 @@
 -- `keyed::KeyedGroup::find`: the clauses `found` and `absent`.
 use Rattle.std.proofs.Common.{ℕ, List, ◌∙◌}
 use Rattle.std.proofs.lemmas.List.{map-id}
-use Rattle.cs_entries.specs.declared.entry.Entry.{Entry}
+use Rattle.cs_wire_entries.specs.declared.entry.Entry.{Entry}
 use Rattle.cs_wire.specs.Entry.{key_of}
 use Rattle.cs_group.proofs.SetLemmas.{place_found, place_absent}
 use Rattle.cs_group.proofs.keyed.KeyedGroup.find.Goals as goal

@@ -15,9 +15,9 @@ use Rattle.cs_store.specs.Faults as stores
 use Rattle.cs_store.proofs.FailureLemmas.{begin_fails, commit_fails, work_fails}
 use Rattle.cs_session.proofs.CauseLemmas.{caused_on, rows_caused_on}
 use Rattle.cs_value.specs.State.{State}
-use Rattle.cs_run.specs.declared.running.Direction.TheVariants.{Inverse}
-use Rattle.cs_run.specs.Running.{directed}
-use Rattle.cs_run.specs.Writes.{IsRunWrite}
+use Rattle.cs_apply_rows.specs.declared.running.Direction.TheVariants.{Inverse}
+use Rattle.cs_apply_rows.specs.Running.{directed}
+use Rattle.cs_apply_rows.specs.Writes.{IsRunWrite}
 use Rattle.cs_session.specs.Changes.{IsCaused}
 use Rattle.cs_session.specs.FirstImages.{recorded_changes}
 use Rattle.cs_session.proofs.session.Session.undo.Goals as goal

@@ -1,7 +1,7 @@
 -- `batch::SqlBatch::commit`: the invariant of `store`, the clauses `others`, `atomic`, `left` and `stands`.
 use Rattle.sqlite.specs.Held.{state}
-use Rattle.cs_access.specs.Laws.{was_clean}
-use Rattle.cs_access.proofs.StoreLemmas.{ended_store}
+use Rattle.cs_store_tables.specs.Laws.{was_clean}
+use Rattle.cs_store_tables.proofs.StoreLemmas.{ended_store}
 use Rattle.cs_store.proofs.CrashLemmas.{ended_atomic, ended_left, ended_others, leaves_commit, undone_stands}
 use Rattle.cs_store.proofs.batch.SqlBatch.commit.Goals as goal
 

@@ -1,6 +1,6 @@
 -- `batch::SqlBatch::drop`: the invariant of the store.
 use Rattle.sqlite.specs.Held.{state}
-use Rattle.cs_access.proofs.StoreLemmas.{dropped_sound}
+use Rattle.cs_store_tables.proofs.StoreLemmas.{dropped_sound}
 use Rattle.cs_store.proofs.batch.SqlBatch.drop.Goals as goal
 
 pub invariant_of-store : goal.invariant_of-store

@@ -1,7 +1,7 @@
 -- `batch::SqlBatchRows::remove`: the clauses `caused` and `kept`.
 use Rattle.std.proofs.Common.{refl}
 use Rattle.sqlite.specs.Held.{state}
-use Rattle.cs_access.proofs.FailureLemmas.{caused_so, remove_fails}
+use Rattle.cs_store_tables.proofs.FailureLemmas.{caused_so, remove_fails}
 use Rattle.cs_store.proofs.FailureLemmas.{accepted}
 use Rattle.cs_store.proofs.batch.SqlBatchRows.remove.Goals as goal
 

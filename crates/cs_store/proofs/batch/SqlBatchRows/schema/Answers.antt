@@ -1,9 +1,9 @@
 -- `batch::SqlBatchRows::schema`: the clauses `caused` and `kept`.
 use Rattle.std.proofs.Common.{refl}
 use Rattle.sqlite.specs.Held.{state}
-use Rattle.cs_access.specs.Failing.{Writes}
-use Rattle.cs_access.proofs.FailureLemmas.{caused_so, read_fails}
-use Rattle.cs_access.specs.Laws.{leads_so}
+use Rattle.cs_store_tables.specs.Failing.{Writes}
+use Rattle.cs_store_tables.proofs.FailureLemmas.{caused_so, read_fails}
+use Rattle.cs_store_tables.specs.Laws.{leads_so}
 use Rattle.cs_store.proofs.FailureLemmas.{accepted}
 use Rattle.cs_store.proofs.batch.SqlBatchRows.schema.Goals as goal
 

@@ -1,6 +1,6 @@
 -- `opening::Store+FileStore+D::close_files`: the clauses `closed` and `refused`.
 use Rattle.std.proofs.Common.{ap, ◌∙◌}
-use Rattle.cs_access.specs.Refusals.{refusal_of}
+use Rattle.cs_store_tables.specs.Refusals.{refusal_of}
 use Rattle.cs_store.proofs.opening.Store+FileStore+D.close_files.Goals as goal
 
 pub returns-in-Ok-clause-closed : goal.returns-in-Ok-clause-closed

@@ -2,7 +2,7 @@
 use Rattle.std.proofs.Common.{◌≡◌, arith}
 use Rattle.sqlite.specs.Files.{file_state}
 use Rattle.sqlite.specs.State.{HasCleanDisk}
-use Rattle.cs_access.specs.Crash.{LeavesOnly}
+use Rattle.cs_store_tables.specs.Crash.{LeavesOnly}
 use Rattle.cs_store.proofs.LeftLemmas.{left_in}
 use Rattle.cs_store.proofs.opening.Store+FileStore+D.into_files.Goals as goal
 

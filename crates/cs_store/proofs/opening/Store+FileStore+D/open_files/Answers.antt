@@ -1,6 +1,6 @@
 -- `opening::Store+FileStore+D::open_files`: the clauses `opened`, `refused`, `recovers` and `new`.
 use Rattle.sqlite.specs.Files.{file_state, image_of}
-use Rattle.cs_access.specs.Laws.{was_clean}
+use Rattle.cs_store_tables.specs.Laws.{was_clean}
 use Rattle.cs_store.proofs.OpeningLemmas.{opens_files, refuses_found, new_opens, new_refuses}
 use Rattle.cs_store.proofs.LeftLemmas.{left_opens, left_refuses}
 use Rattle.cs_store.proofs.opening.Store+FileStore+D.open_files.Goals as goal

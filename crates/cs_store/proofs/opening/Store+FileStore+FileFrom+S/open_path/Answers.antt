@@ -2,8 +2,8 @@
 use Rattle.std.proofs.Common.{◌≡◌, ap, ◌∙◌}
 use Rattle.sqlite.specs.Files.{file_state}
 use Rattle.sqlite_wal.specs.Files.{image_at}
-use Rattle.cs_access.specs.Laws.{was_clean}
-use Rattle.cs_access.specs.Refusals.{refusal_of, refusal_for}
+use Rattle.cs_store_tables.specs.Laws.{was_clean}
+use Rattle.cs_store_tables.specs.Refusals.{refusal_of, refusal_for}
 use Rattle.cs_store.proofs.OpeningLemmas.{opens_files, refuses_found, new_opens, new_refuses}
 use Rattle.cs_store.proofs.LeftLemmas.{left_opens, left_refuses}
 use Rattle.cs_store.proofs.opening.Store+FileStore+FileFrom+S.open_path.Goals as goal

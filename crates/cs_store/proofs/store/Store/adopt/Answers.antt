@@ -1,7 +1,7 @@
 -- `store::Store::adopt`: the invariant of the store, the clauses `found`, `recovers` and `leaves`.
 use Rattle.sqlite.specs.Held.{state}
 use Rattle.cs_store.proofs.CrashLemmas.{taken_over}
-use Rattle.cs_access.proofs.StoreLemmas.{adopted_sound}
+use Rattle.cs_store_tables.proofs.StoreLemmas.{adopted_sound}
 use Rattle.cs_store.proofs.LeftLemmas.{held_adopts, held_refused, left_adopts, left_refused}
 use Rattle.cs_store.proofs.store.Store.adopt.Goals as goal
 

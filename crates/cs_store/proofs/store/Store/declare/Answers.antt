@@ -4,20 +4,20 @@ use Rattle.std.proofs.lemmas.Result.{err_from_is_err_and}
 use Rattle.cs_value.specs.Table.{IsName}
 use Rattle.cs_value.specs.State.{SchemaData, State, IsSchema}
 use Rattle.cs_rows.specs.Editing.{Declares, schema_of}
-use Rattle.cs_access.specs.Store.{AddsTable, tables_in}
+use Rattle.cs_store_tables.specs.Store.{AddsTable, tables_in}
 use Rattle.cs_store.proofs.CrashLemmas.{begun_tables, unmoved_atomic, idle_atomic, dropped_atomic, made_atomic, made_others, commit_left, refused_stands}
 use Rattle.cs_store.proofs.DeclareLemmas.{added_declares, committed_declares, taken_declares}
-use Rattle.cs_access.proofs.WriteLemmas.{on_err_then, on_ok_both}
+use Rattle.cs_store_tables.proofs.WriteLemmas.{on_err_then, on_ok_both}
 use Rattle.sqlite.specs.Held.{state}
 use Rattle.sqlite.specs.State.{HasCleanDisk}
-use Rattle.cs_access.specs.Laws.{was_clean}
-use Rattle.cs_records.specs.Records.{KeepsContent, KeepsCrash}
-use Rattle.cs_access.specs.Crash.{CanBegin}
-use Rattle.cs_access.proofs.StoreLemmas.{undone_batch}
-use Rattle.cs_records.proofs.QueryLemmas.{on_err}
+use Rattle.cs_store_tables.specs.Laws.{was_clean}
+use Rattle.cs_store_records.specs.Records.{KeepsContent, KeepsCrash}
+use Rattle.cs_store_tables.specs.Crash.{CanBegin}
+use Rattle.cs_store_tables.proofs.StoreLemmas.{undone_batch}
+use Rattle.cs_store_records.proofs.QueryLemmas.{on_err}
 use Rattle.cs_rows.specs.Faults.{IsCaused}
-use Rattle.cs_access.specs.Failing.{BatchFails, BeginFails, IsDeclarationOf}
-use Rattle.cs_access.proofs.FailureLemmas.{caused_so, so_caused}
+use Rattle.cs_store_tables.specs.Failing.{BatchFails, BeginFails, IsDeclarationOf}
+use Rattle.cs_store_tables.proofs.FailureLemmas.{caused_so, so_caused}
 use Rattle.cs_store.proofs.FailureLemmas.{begin_fails, commit_fails, work_fails}
 use Rattle.cs_store.proofs.store.Store.declare.Goals as goal
 

@@ -4,21 +4,20 @@ use Rattle.std.specs.Prelude.{map, IfErr, OnErr}
 use Rattle.sqlite.specs.Held.{state}
 use Rattle.cs_rows.specs.Editing.{EditsInto, edited, written_of}
 use Rattle.sqlite.specs.State.{HasCleanDisk}
-use Rattle.cs_access.specs.Laws.{was_clean}
-use Rattle.cs_records.specs.Records.{KeepsContent, KeepsCrash}
-use Rattle.cs_access.specs.Crash.{CanBegin}
-use Rattle.cs_access.specs.Store.{tables_in}
-use Rattle.cs_store.proofs.CrashLemmas.{idle_atomic, dropped_atomic, made_atomic, made_others, left_new, refused_stands}
-use Rattle.cs_access.proofs.StoreLemmas.{undone_batch}
-use Rattle.cs_records.proofs.QueryLemmas.{on_err}
-use Rattle.std.proofs.Common.{Ok, refl, sym, subst, ap}
-use Rattle.sqlite.specs.Effect.{Database}
+use Rattle.cs_store_tables.specs.Laws.{was_clean}
+use Rattle.cs_store_records.specs.Records.{KeepsContent, KeepsCrash}
+use Rattle.cs_store_tables.specs.Crash.{CanBegin}
+use Rattle.cs_store_tables.specs.Store.{tables_in}
+use Rattle.cs_store.proofs.CrashLemmas.{idle_atomic, dropped_atomic, made_atomic, made_tables, made_others, left_new, refused_stands}
+use Rattle.cs_store_tables.proofs.StoreLemmas.{undone_batch}
+use Rattle.cs_store_records.proofs.QueryLemmas.{on_err}
+use Rattle.std.proofs.Common.{Ok, refl, subst}
 use Rattle.std.proofs.lemmas.Result.{err_from_is_err_and}
 use Rattle.cs_value.specs.State.{State}
 use Rattle.cs_rows.specs.Editing.{IsWriteOf}
 use Rattle.cs_rows.specs.Faults.{IsCaused}
-use Rattle.cs_access.specs.Failing.{BatchFails, BeginFails, Writes}
-use Rattle.cs_access.proofs.FailureLemmas.{so_caused}
+use Rattle.cs_store_tables.specs.Failing.{BatchFails, BeginFails, Writes}
+use Rattle.cs_store_tables.proofs.FailureLemmas.{so_caused}
 use Rattle.cs_store.proofs.CrashLemmas.{begun_tables}
 use Rattle.cs_store.proofs.FailureLemmas.{begin_fails, commit_fails, work_fails}
 use Rattle.cs_store.proofs.store.Store.edit.Goals as goal
@@ -82,18 +81,14 @@ returns-clause-atomic g c =
     (λ clean. (map written_of c.in_ok-written.written.items, c.in_ok-written.ensures.edited clean)) c.commit.ensures.atomic.survives)
 
 pub returns-clause-edited : goal.returns-clause-edited
-returns-clause-edited g c clean =
+returns-clause-edited g c =
     let old = state g.S.Store c.args.self.now in
     let begun = state g.S.Store c.in_ok-batch.batch.store.now in
     let mid = state g.S.Store c.edit_in.new.rows.store.now in
     let last = state g.S.Store c.commit.new.self.0 in
     let same : c.commit.new.self.0 ≡ c.self-2-1.given.0 = search rules in
-    let last_clean : HasCleanDisk last = rw same clean in
-    let mid_clean = was_clean mid last c.commit.ensures.atomic.survives last_clean in
-    let begins = begun_tables old begun mid c.in_ok-batch.ensures.begun c.edit_in.ensures.kept.1 mid_clean in
-    let ends = ap (λ (db : Database). tables_in db) (c.in_ok-commit.ensures.committed last_clean).shown.now_is in
-    let Made = λ (before after : State). edited before c.args.edit.now ≡ Ok (record { state = after; written = map written_of c.in_ok-written.written.items }) in
-    rw (← same) (subst (λ (after : State). Made (tables_in old.now) after) (sym ends) (subst (λ (before : State). Made before (tables_in mid.now)) begins (c.in_ok-written.ensures.edited mid_clean)))
+    rw (← same) (made_tables old begun mid last (λ before after. edited before c.args.edit.now ≡ Ok (record { state = after; written = map written_of c.in_ok-written.written.items }))
+    c.in_ok-batch.ensures.begun c.edit_in.ensures.kept.1 c.commit.ensures.atomic.survives c.in_ok-written.ensures.edited c.in_ok-commit.ensures.committed)
 
 pub returns-clause-others : goal.returns-clause-others
 returns-clause-others g c clean =

@@ -1,7 +1,7 @@
 -- `changeset::Changeset::find`: the clauses `found` and `absent`.
 use Rattle.std.proofs.Common.{ap, ◌∙◌}
 use Rattle.std.specs.FinMap.{get}
-use Rattle.cs_entries.specs.Changeset.{GroupData}
+use Rattle.cs_wire_entries.specs.Changeset.{GroupData}
 use Rattle.cs_wire.proofs.IndexLemmas.{is_found, is_new}
 use Rattle.cs_wire.proofs.changeset.Changeset.find.Goals as goal
 

@@ -1,7 +1,7 @@
 -- `changeset::Changeset::new`: the invariant of `result`.
 use Rattle.std.proofs.Common.{arith}
 use Rattle.std.proofs.lemmas.List.Elements.{All-nil}
-use Rattle.cs_entries.specs.Changeset.{IsGroup}
+use Rattle.cs_wire_entries.specs.Changeset.{IsGroup}
 use Rattle.cs_wire.proofs.IndexLemmas.{IsIndex-none}
 use Rattle.cs_wire.proofs.changeset.Changeset.new.Goals as goal
 

@@ -1,6 +1,6 @@
 -- `changeset::Changeset::push`: the invariant of `self`, the clause `well_formed`.
 use Rattle.std.proofs.Common.{◌≡◌, arith, rules}
-use Rattle.cs_entries.specs.Changeset.{GroupData, IsGroup}
+use Rattle.cs_wire_entries.specs.Changeset.{GroupData, IsGroup}
 use Rattle.cs_wire.proofs.GroupLemmas.{IsChangeset-push}
 use Rattle.cs_wire.proofs.IndexLemmas.{IsIndex-grown}
 use Rattle.cs_wire.proofs.changeset.Changeset.push.Goals as goal

@@ -1,8 +1,8 @@
 -- `group::Group::find`: the clauses `found` and `absent`.
 use Rattle.std.proofs.Common.{ap, ◌∙◌}
 use Rattle.std.specs.FinMap.{get}
-use Rattle.cs_entries.specs.declared.entry.Entry.{Entry}
-use Rattle.cs_entries.specs.Entry.{key_of}
+use Rattle.cs_wire_entries.specs.declared.entry.Entry.{Entry}
+use Rattle.cs_wire_entries.specs.Entry.{key_of}
 use Rattle.cs_wire.proofs.IndexLemmas.{is_found, is_new}
 use Rattle.cs_wire.proofs.group.Group.find.Goals as goal
 

@@ -2,9 +2,9 @@
 use Rattle.std.proofs.Common.{ℕ, List, length, map, ap, ◌∙◌, arith}
 use Rattle.std.proofs.lemmas.List.{length-map}
 use Rattle.cs_value.proofs.ListLemmas.{written_whole}
-use Rattle.cs_entries.specs.Changeset.{GroupData}
-use Rattle.cs_entries.specs.Views.{inverse_entry}
-use Rattle.cs_entries.proofs.InverseLemmas.{IsGroup-inverse, IsInverseGroup-is, index-inverse}
+use Rattle.cs_wire_entries.specs.Changeset.{GroupData}
+use Rattle.cs_wire_entries.specs.Views.{inverse_entry}
+use Rattle.cs_wire_entries.proofs.InverseLemmas.{IsGroup-inverse, IsInverseGroup-is, index-inverse}
 use Rattle.cs_wire.proofs.group.Group.invert.Goals as goal
 
 pub invariant_of-self : goal.invariant_of-self

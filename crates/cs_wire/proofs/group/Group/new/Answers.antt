@@ -1,6 +1,6 @@
 -- `group::Group::new`: what `from_entries` asks for.
 use Rattle.std.proofs.Common.{rules}
-use Rattle.cs_entries.specs.Changeset.{IsHeader}
+use Rattle.cs_wire_entries.specs.Changeset.{IsHeader}
 use Rattle.cs_wire.proofs.GroupLemmas.{IsGroup-one}
 use Rattle.cs_wire.proofs.group.Group.new.Goals as goal
 

@@ -1,8 +1,8 @@
 -- `group::Group::push_with_key`: the invariant of `self`.
 use Rattle.std.proofs.Common.{ℕ, List, ap, ◌∙◌, sym, arith}
 use Rattle.std.specs.FinMap.{insert}
-use Rattle.cs_entries.specs.declared.entry.Entry.{Entry}
-use Rattle.cs_entries.specs.Entry.{key_of}
+use Rattle.cs_wire_entries.specs.declared.entry.Entry.{Entry}
+use Rattle.cs_wire_entries.specs.Entry.{key_of}
 use Rattle.cs_wire.proofs.GroupLemmas.{IsGroup-push}
 use Rattle.cs_wire.proofs.IndexLemmas.{IsIndex-grown}
 use Rattle.cs_wire.proofs.group.Group.push_with_key.Goals as goal

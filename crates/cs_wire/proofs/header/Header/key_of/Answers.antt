@@ -3,7 +3,7 @@ use Rattle.std.proofs.Common.{◌∙◌, ap}
 use Rattle.std.proofs.lemmas.Result.{IfOk-weaker}
 use Rattle.std.proofs.Common.{ℕ, List}
 use Rattle.cs_value.specs.Key.{row_key}
-use Rattle.cs_entries.proofs.EntryLemmas.{length-IsOf, key_of-IsOf, length-Update}
+use Rattle.cs_wire_entries.proofs.EntryLemmas.{length-IsOf, key_of-IsOf, length-Update}
 use Rattle.cs_wire.proofs.header.Header.key_of.Goals as goal
 
 pub of_image-requires : goal.of_image-requires

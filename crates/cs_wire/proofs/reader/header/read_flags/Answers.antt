@@ -3,7 +3,7 @@ use Rattle.std.proofs.Common.{◌≡◌, ◌+◌, ◌≤◌, ◌++◌, length, t
 use Rattle.std.proofs.lemmas.List.{length-drop}
 use Rattle.std.proofs.lemmas.Bool.{iff_false}
 use Rattle.cs_wire.proofs.HeaderFaults.{no_key}
-use Rattle.cs_entries.proofs.ReadingLemmas.{IsFlags-read, flags_some, flags_bytes-append, flags_counted, flags_taken, Stands-flags}
+use Rattle.cs_wire_entries.proofs.ReadingLemmas.{IsFlags-read, flags_some, flags_bytes-append, flags_counted, flags_taken, Stands-flags}
 use Rattle.cs_wire.proofs.reader.header.read_flags.Goals as goal
 
 pub returns-in_err-count-clause-only : goal.returns-in_err-count-clause-only

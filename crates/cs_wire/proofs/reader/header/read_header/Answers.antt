@@ -1,10 +1,10 @@
 -- `reader::header::read_header`: what it ensures.
 use Rattle.std.proofs.Common.{◌+◌, [], ◌∷◌, ◌∙◌, arith}
 use Rattle.std.proofs.lemmas.Result.{err_from_is_err_and}
-use Rattle.cs_entries.specs.Changeset.{flags_bytes}
-use Rattle.cs_entries.specs.ReadFaults.{Stands}
+use Rattle.cs_wire_entries.specs.Changeset.{flags_bytes}
+use Rattle.cs_wire_entries.specs.ReadFaults.{Stands}
 use Rattle.cs_wire.proofs.HeaderFaults.{HeaderPart-more, HeaderPart-first}
-use Rattle.cs_entries.proofs.ReadingLemmas.{behind_byte, rest_is, first_byte, Stands-byte, header_bytes-append, Stands-header, same_header}
+use Rattle.cs_wire_entries.proofs.ReadingLemmas.{behind_byte, rest_is, first_byte, Stands-byte, header_bytes-append, Stands-header, same_header}
 use Rattle.cs_wire.proofs.reader.header.read_header.Goals as goal
 
 pub returns-then-file-at-eq-PATCHSET-clause-only : goal.returns-then-file-at-eq-PATCHSET-clause-only

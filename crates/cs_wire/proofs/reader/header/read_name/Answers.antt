@@ -2,7 +2,7 @@
 use Rattle.std.proofs.Common.{◌<◌, length, take, drop, sym, ◌∙◌, arith}
 use Rattle.std.proofs.lemmas.Bool.{eqb-false, eqb-true}
 use Rattle.cs_wire.proofs.HeaderFaults.{empty_name, bad_name}
-use Rattle.cs_entries.proofs.ReadingLemmas.{name_has_end, IsName-read, name_taken, Stands-ended}
+use Rattle.cs_wire_entries.proofs.ReadingLemmas.{name_has_end, IsName-read, name_taken, Stands-ended}
 use Rattle.cs_wire.proofs.reader.header.read_name.Goals as goal
 
 pub returns-in_default-clause-only : goal.returns-in_default-clause-only

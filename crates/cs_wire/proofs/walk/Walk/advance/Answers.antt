@@ -3,8 +3,8 @@ use Rattle.std.proofs.Common.{◌<◌, length, sym, subst, arith}
 use Rattle.std.specs.Prelude.{IfErr}
 use Rattle.std.proofs.lemmas.Bool.{iff_false}
 use Rattle.cs_value.specs.Refusals.{Refuses}
-use Rattle.cs_entries.specs.ReadFaults.{HasEntry, ReadFails}
-use Rattle.cs_entries.specs.Changeset.{IsFileOf}
+use Rattle.cs_wire_entries.specs.ReadFaults.{HasEntry, ReadFails}
+use Rattle.cs_wire_entries.specs.Changeset.{IsFileOf}
 use Rattle.cs_wire.specs.Cursor.{Begins}
 use Rattle.cs_wire.specs.Walk.{WalkData}
 use Rattle.cs_wire.proofs.CursorLemmas.{bare_fails, ends_whole}

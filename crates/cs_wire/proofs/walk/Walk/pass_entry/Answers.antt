@@ -5,15 +5,15 @@ use Rattle.std.proofs.lemmas.Bool.{iff_false}
 use Rattle.std.specs.Cow.{cow_slice_items}
 use Rattle.std.proofs.lemmas.Result.{err_from_is_err_and}
 use Rattle.cs_value.specs.Refusals.{Refuses}
-use Rattle.cs_entries.specs.declared.entry.Entry.{Entry}
-use Rattle.cs_entries.specs.Entry.{key_of}
-use Rattle.cs_entries.specs.ReadFaults.{HasEntry, ReadFails}
+use Rattle.cs_wire_entries.specs.declared.entry.Entry.{Entry}
+use Rattle.cs_wire_entries.specs.Entry.{key_of}
+use Rattle.cs_wire_entries.specs.ReadFaults.{HasEntry, ReadFails}
 use Rattle.cs_wire.specs.Cursor.{Begins}
 use Rattle.cs_wire.specs.Walk.{WalkData}
 use Rattle.cs_wire.proofs.IndexLemmas.{Knows-is, Knows-new}
 use Rattle.cs_wire.proofs.CursorLemmas.{in_table, key_again, pass_entry, passed_entry, entry_refused, entry_again}
-use Rattle.cs_entries.proofs.ReadingLemmas.{Stands-moves}
-use Rattle.cs_entries.proofs.EntryLemmas.{entry_bytes_some}
+use Rattle.cs_wire_entries.proofs.ReadingLemmas.{Stands-moves}
+use Rattle.cs_wire_entries.proofs.EntryLemmas.{entry_bytes_some}
 use Rattle.cs_wire.proofs.walk.Walk.pass_entry.Goals as goal
 
 pub returns-in_err-seen-clause-fault : goal.returns-in_err-seen-clause-fault

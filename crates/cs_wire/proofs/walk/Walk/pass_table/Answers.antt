@@ -4,9 +4,9 @@ use Rattle.std.specs.Prelude.{IfErr}
 use Rattle.std.proofs.lemmas.Bool.{iff_false}
 use Rattle.std.proofs.lemmas.Result.{err_from_is_err_and}
 use Rattle.cs_value.specs.Refusals.{Refuses}
-use Rattle.cs_entries.specs.Changeset.{GroupData, IsNewName}
+use Rattle.cs_wire_entries.specs.Changeset.{GroupData, IsNewName}
 use Rattle.cs_wire.specs.Headers.{header_of}
-use Rattle.cs_entries.specs.ReadFaults.{HasEntry, ReadFails}
+use Rattle.cs_wire_entries.specs.ReadFaults.{HasEntry, ReadFails}
 use Rattle.cs_wire.specs.Cursor.{Begins}
 use Rattle.cs_wire.specs.Walk.{WalkData}
 use Rattle.cs_wire.proofs.IndexLemmas.{Knows-is, Knows-new}

@@ -1,2 +1,0 @@
-pub mod AdoptionLemmas
-pub mod FailureLemmas

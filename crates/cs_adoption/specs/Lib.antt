@@ -1,9 +1,0 @@
-pub use Rattle.cs_access.specs.Store
-pub use Rattle.cs_access.specs.Crash
-pub use Rattle.cs_access.specs.Laws
-pub use Rattle.cs_access.specs.Refusals
-pub use Rattle.cs_stored.specs.Stored
-pub use Rattle.cs_stored.specs.Valid
-pub use Rattle.cs_records.specs.Records
-pub use Rattle.cs_rows.specs.Faults
-pub use Rattle.cs_value.specs.State

@@ -1,0 +1,39 @@
+//! How a run ends at a conflict.
+ghost use Rattle.std.specs.Prelude.{◌≡◌};
+ghost use Rattle.cs_apply_rows.specs.Steps.{ending_by, refusal_of};
+
+use crate::conflict::Conflict;
+use crate::fault::ApplyFault;
+use cs_group::Choice;
+
+/// How a run ended at an entry.
+#[derive(Debug, Drop)]
+pub(crate) enum Ending {
+    /// The handler chose to abort at this conflict.
+    Aborted(Conflict),
+    /// The handler chose to replace a row that is not there, or to carry out an entry that its table refuses.
+    Misused(Conflict),
+}
+
+impl Ending {
+    /// Returns how a run ends at a conflict, by what the handler chose.
+    pub(crate) fn at(conflict: Conflict, choice: Choice) -> Ending
+        ensures { result ≡ ending_by conflict choice }
+    {
+        if choice == Choice::Abort {
+            Ending::Aborted(conflict)
+        } else {
+            Ending::Misused(conflict)
+        }
+    }
+
+    /// Returns the fault of a run that ended so.
+    pub(crate) fn into_fault(self) -> ApplyFault
+        ensures { result ≡ refusal_of self }
+    {
+        match self {
+            Ending::Aborted(conflict) => ApplyFault::Abort(conflict),
+            Ending::Misused(conflict) => ApplyFault::Misuse(conflict),
+        }
+    }
+}

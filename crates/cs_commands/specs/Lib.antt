@@ -1,2 +1,0 @@
-pub mod Folders
-pub mod Applies

@@ -1,5 +1,0 @@
-use Rattle.cs_entries.proofs.RunLemmas.{Skips}
-use Rattle.cs_entries.proofs.spelled.skip_fields.Given as goal
-
-abbrev pub invariant-loop : goal.invariant-loop
-invariant-loop l = Skips l.bytes l.count l.counter l.rest

@@ -1,0 +1,16 @@
+-- The end of a chain of the key's bucket, from which on no entry has the key.
+use Rattle.std.proofs.Common.{◌≡◌, ◌+◌, ◌≤◌, ℕ, List}
+use Rattle.cs_wire_entries.specs.declared.entry.Entry.{Entry}
+use Rattle.cs_wire.specs.Changeset.{GroupData}
+use Rattle.cs_file_tables.specs.Chains.{bucket_at, bucket_of}
+use Rattle.cs_file_tables.specs.KeyedFile.{AreKeyed, count_of}
+use Rattle.cs_file_tables.proofs.KeyedLemmas.{NoneFrom}
+use Rattle.cs_file_tables.proofs.keyed.KeyedEntries.find.Given as goal
+
+abbrev pub invariant-places : goal.invariant-places
+invariant-places l =
+    (l.end ≤ count_of l.self) × ((place : ℕ) → l.end ≡ place + 1 → bucket_at l.self.chains place ≡ bucket_of l.self.chains l.number)
+    × ((entries : List Entry) (groups : List GroupData) → AreKeyed l.self entries groups → NoneFrom l.self entries l.key l.end)
+
+abbrev pub decreases-places : goal.decreases-places
+decreases-places l = l.end

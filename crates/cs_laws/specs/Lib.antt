@@ -1,2 +1,0 @@
-pub mod Laws
-pub use Rattle.cs_entries.specs.ReadFaults

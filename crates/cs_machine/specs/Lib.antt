@@ -1,5 +1,0 @@
-pub mod Net
-pub mod ShellState
-pub mod Script
-pub mod Stores
-pub mod Turns

@@ -1,3 +1,0 @@
-pub mod ChainLemmas
-pub mod Examples
-pub mod SelectLemmas

@@ -1,7 +1,0 @@
--- `print::write_refusal`: what it ensures.
-use Rattle.std.proofs.Common.{refl}
-use Rattle.cs_texts.proofs.GatherLemmas.{Writes-flushed}
-use Rattle.cs_replies.proofs.print.write_refusal.Goals as goal
-
-pub returns : goal.returns
-returns g c = Writes-flushed _ refl c.new-gather.ensures c.in_ok-add_refusal.ensures.gathered c.flush.ensures.written

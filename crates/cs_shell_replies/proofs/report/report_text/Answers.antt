@@ -1,0 +1,7 @@
+-- `report::report_text`: what it ensures.
+use Rattle.std.proofs.Common.{refl}
+use Rattle.cs_file_texts.proofs.GatherLemmas.{Writes-flushed}
+use Rattle.cs_shell_replies.proofs.report.report_text.Goals as goal
+
+pub returns : goal.returns
+returns g c = Writes-flushed _ refl c.new-gather.ensures c.in_ok-add_report.ensures.gathered c.flush.ensures.written

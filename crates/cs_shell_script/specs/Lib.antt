@@ -1,0 +1,11 @@
+pub mod Net
+pub mod ShellState
+pub mod Script
+pub mod Works
+pub mod Shells
+pub mod Laws
+pub mod StoreRuns
+pub mod Meant
+pub mod Runs
+pub mod SessionLaw
+pub mod Progress

@@ -1,7 +1,0 @@
-use Rattle.cs_statements.specs.Names.{texts_of}
-use Rattle.cs_statements.proofs.ColumnLemmas.{TakenSoFar}
-use Rattle.cs_statements.proofs.columns.without.Given as goal
-
--- the names so far are columns, and the set has the others
-abbrev pub invariant-loop-name : goal.invariant-loop-name
-invariant-loop-name l = TakenSoFar (texts_of l.columns) (texts_of l.names) l.name-index l.others

@@ -1,0 +1,63 @@
+//! The transactions of a connection, by the texts that begin and end them.
+ghost use Rattle.std.specs.Prelude.{◌≡◌, ◌⊎◌, true, false, IsTrue, IfErr, OnOk, OnErr};
+ghost use Rattle.sqlite.specs.State.{HasCleanDisk, Shows, Survives};
+ghost use Rattle.sqlite.specs.Held.{state};
+ghost use Rattle.cs_store_records.specs.Failing.{HasDiskFailed, IsFailure, IsMisplaced};
+ghost use Rattle.cs_store_records.specs.Records.{IsUndone, KeepsContent, KeepsCrash};
+
+use crate::fault::RecordsError;
+use sqlite::{Alter, Connection, Error, ErrorCode};
+
+/// Begins a transaction. It is refused if one is open.
+pub fn begin<S: Alter>(conn: &mut Connection<S>) -> Result<(), RecordsError>
+    ensures begun { HasCleanDisk (state S.Store conn.new)
+        → OnOk result (((state S.Store conn.old).in_transaction ≡ false)
+        × Shows (state S.Store conn.old) (state S.Store conn.new)
+        (state S.Store conn.old).now (state S.Store conn.old).committed true) }
+    ensures settled { HasCleanDisk (state S.Store conn.new)
+        → OnOk result ((state S.Store conn.old).now ≡ (state S.Store conn.old).committed) }
+    ensures kept { HasCleanDisk (state S.Store conn.new)
+        → OnErr result (KeepsContent (state S.Store conn.old) (state S.Store conn.new)) }
+    ensures failed { HasCleanDisk (state S.Store conn.new)
+        → IfErr result (IsFailure (λ error. IsMisplaced (IsTrue (state S.Store conn.old).in_transaction) error
+        ⊎ HasDiskFailed (state S.Store conn.old) (state S.Store conn.new) error)) }
+    ensures survives { KeepsCrash (state S.Store conn.old) (state S.Store conn.new) }
+{
+    if !conn.is_autocommit() {
+        return Err(RecordsError::Database(Error::SqliteFailure(ErrorCode::TransactionState)));
+    }
+    conn.execute("BEGIN", &[])?;
+    Ok(())
+}
+
+/// Commits the transaction. It is refused if none is open. If it fails, the transaction is rolled back.
+pub fn commit<S: Alter>(conn: &mut Connection<S>) -> Result<(), RecordsError>
+    ensures committed { HasCleanDisk (state S.Store conn.new)
+        → OnOk result (IsTrue (state S.Store conn.old).in_transaction
+        × Shows (state S.Store conn.old) (state S.Store conn.new)
+        (state S.Store conn.old).now (state S.Store conn.old).now false) }
+    ensures undone { HasCleanDisk (state S.Store conn.new)
+        → OnErr result (IsUndone (state S.Store conn.old) (state S.Store conn.new)) }
+    ensures failed { HasCleanDisk (state S.Store conn.new)
+        → IfErr result (IsFailure (λ error. IsMisplaced ((state S.Store conn.old).in_transaction ≡ false) error
+        ⊎ HasDiskFailed (state S.Store conn.old) (state S.Store conn.new) error)) }
+    ensures survives { Survives (state S.Store conn.old) (state S.Store conn.new)
+        (λ db. (db ≡ (state S.Store conn.old).now.trees) × IsTrue (state S.Store conn.old).in_transaction) }
+{
+    if conn.is_autocommit() {
+        return Err(RecordsError::Database(Error::SqliteFailure(ErrorCode::TransactionState)));
+    }
+    conn.execute("COMMIT", &[])?;
+    Ok(())
+}
+
+/// Takes the database back to the last commit if a transaction is open.
+pub fn roll_back<S: Alter>(conn: &mut Connection<S>)
+    ensures undone { HasCleanDisk (state S.Store conn.new)
+        → IsUndone (state S.Store conn.old) (state S.Store conn.new) }
+    ensures survives { KeepsCrash (state S.Store conn.old) (state S.Store conn.new) }
+{
+    if !conn.is_autocommit() {
+        let _ = conn.execute("ROLLBACK", &[]);
+    }
+}

@@ -1,0 +1,148 @@
+-- For which causes a call on a store fails.
+use Rattle.std.proofs.Common.{◌≡◌, inl, inr, ℕ, [], false, Result, Ok, Err, IfErr, OnOk, sym, subst, MatchResult, IsErrAnd, IsTrue, refl, List, None, true, Bool}
+use Rattle.cs_store_tables.specs.Failing.{IsMade, LeadsOn, WriteFails, BatchFails, IsDeclarationOf, IsCauseOf, ReadFails, IsApt, PutFails, RemoveFails, Writes}
+use Rattle.cs_store_records.specs.Failing.{Statement, CannotWrite, FailsAt, IsFailure, CannotRead, puts, EndsAs, LeadsTo, itself, by_each, removes}
+use Rattle.cs_store_records.proofs.WriteFailures.{write_fails}
+use Rattle.sqlite.specs.Effect.{Database as Shown}
+use Rattle.sqlite.specs.State.{State, HasCleanDisk, IsUnchanged}
+use Rattle.sqlite.specs.declared.error.Error.{Error}
+use Rattle.cs_rows.specs.declared.fault.Cause.{Cause}
+use Rattle.cs_rows.specs.declared.fault.StoreError.{StoreError}
+use Rattle.cs_rows.specs.Faults.{IsCaused}
+use Rattle.cs_store_records.specs.declared.fault.RecordsError.{RecordsError}
+use Rattle.cs_store_records.specs.declared.fault.RecordsError.TheVariants.{NoMemory, Database}
+use Rattle.cs_store_records.specs.Records.{DeclaresRecords, HoldsRecords, KeepsCrash, records_in, GoesOn}
+use Rattle.cs_value.specs.declared.value.OwnedValue.{OwnedValue}
+use Rattle.cs_value.specs.Spelling.{row_bytes}
+use Rattle.cs_store_bytes.specs.Declaration.{declaration_bytes}
+use Rattle.cs_store_tables.specs.Refusals.{refusal_of}
+use Rattle.cs_store_tables.specs.Store.{IsSound, tables_in}
+use Rattle.cs_store_tables.specs.Laws.{leads_so, was_clean}
+use Rattle.cs_rows.specs.declared.fault.StoreError.TheVariants as store
+pub use Rattle.cs_rows.proofs.CauseLemmas.{so_caused, caused_so}
+use Rattle.cs_value.specs.State as tables
+use Rattle.cs_rows.specs.Rows.{puts_row, removes_row}
+
+-- where a call on records fails with such errors, the store refuses for such causes
+pub caused : (Fails : Error → Type 0) (f : RecordsError) → IsFailure Fails f → IsCaused (IsCauseOf Fails) (refusal_of f)
+caused Fails NoMemory h = tt
+caused Fails (Database e) h = (e, h.0, h.1, refl)
+
+-- a write that fails is refused, or the disk failed
+cannot_write : (old new : State) (statement : Statement) → (IsTrue old.is_open → DeclaresRecords old.now.schema) → (f : RecordsError) → IsFailure (FailsAt old new statement) f
+    → IsFailure (CannotWrite old new statement) f
+cannot_write old new statement declared NoMemory h = tt
+cannot_write old new statement declared (Database e) h = (h.0, write_fails statement old new e declared h.0 h.1)
+
+-- a sound store declares the table of records
+pub declared : (s : State) → IsSound s → HasCleanDisk s → IsTrue s.is_open → DeclaresRecords s.now.schema
+declared s sound clean is = ((sound clean).now is).records.declares
+
+-- and so where its refusal is that of the store
+pub caused_write : {X : Type 0} (Q : RecordsError → StoreError → Type 0) (old new : State) (statement : Statement) (answer : Result X RecordsError) (result : Result X StoreError)
+    → MatchResult answer (λ x. result ≡ Ok x) (λ f. IsErrAnd result (Q f)) → ((f : RecordsError) (e : StoreError) → Q f e → e ≡ refusal_of f) → (IsTrue old.is_open → DeclaresRecords old.now.schema) → IsApt old.now statement
+    → IfErr answer (IsFailure (FailsAt old new statement)) → IfErr result (IsCaused (WriteFails old new statement))
+caused_write Q old new statement (Ok x) result is so known apt fails = subst (λ r. IfErr r (IsCaused (WriteFails old new statement))) (sym is) tt
+caused_write Q old new statement (Err f) (Ok x) is so known apt fails = tt
+caused_write Q old new statement (Err f) (Err e) is so known apt fails =
+    subst (IsCaused (WriteFails old new statement)) (sym (so f e is)) (so_caused (IsCauseOf (CannotWrite old new statement)) (WriteFails old new statement) (refusal_of f) (λ why by. (apt, by))
+    (caused (CannotWrite old new statement) f (cannot_write old new statement known f fails)))
+
+-- a refusal that is none of the database has each cause
+pub never_caused : (Fails : Cause → Type 0) (e : StoreError) → IsCaused (λ _. ⊥) e → IsCaused Fails e
+never_caused Fails (store.StoreFault c) none = absurd none
+never_caused Fails e h = tt
+
+-- a read of a store that is sound fails as one of its records
+pub read_caused : (old new : State) (f : RecordsError) → IsSound old → KeepsCrash old new → HasCleanDisk new → ((IsTrue old.is_open → HoldsRecords old.now) → IsFailure (CannotRead old new) f)
+    → IsCaused (ReadFails old new) (refusal_of f)
+read_caused old new f sound crash clean fails = caused (CannotRead old new) f (fails (λ is. ((sound (was_clean old new crash clean)).now is).records))
+
+-- a record that is new is put as one
+pub apt : (db : Shown) (is_new : Bool) (tab key value : List ℕ) → (IsTrue is_new → records_in db tab key ≡ None) → IsApt db (puts is_new tab key value)
+apt db true tab key value new = new refl
+apt db false tab key value new = tt
+
+-- ---- of a batch
+
+-- a write to rows that fails
+pub put_fails : (old new : State) (name key : List ℕ) (row : List OwnedValue) (why : Cause) → PutFails old new name key row why
+    → BatchFails (Writes (λ held write. (held ≡ tables_in old.now) × (write ≡ puts_row name key row))) old new why
+put_fails old new name key row why (inl outside) = inl outside
+put_fails old new name key row why (inr (is_new, (apt, (e, other, inl failed, is)))) = inr (e, other, inl (inl failed), is)
+put_fails old new name key row why (inr (is_new, (apt, (e, other, inr refused, is)))) = inr (
+  e,
+  other,
+  inr (record {
+    at = old.now;
+    leads = itself;
+    statement = puts is_new name key (row_bytes row);
+    is = ((puts_row name key row, (refl, refl, refl), (refl, refl)), apt);
+    refused = refused;
+  }),
+  is,
+)
+
+pub remove_fails : (old new : State) (name key : List ℕ) (why : Cause) → RemoveFails old new name key why
+    → BatchFails (Writes (λ held write. (held ≡ tables_in old.now) × (write ≡ removes_row name key))) old new why
+remove_fails old new name key why (inl outside) = inl outside
+remove_fails old new name key why (inr (apt, (e, other, inl failed, is))) = inr (e, other, inl (inl failed), is)
+remove_fails old new name key why (inr (apt, (e, other, inr refused, is))) = inr (
+  e,
+  other,
+  inr (record {
+    at = old.now;
+    leads = itself;
+    statement = removes name key;
+    is = ((removes_row name key, (refl, refl), (refl, refl)), apt);
+    refused = refused;
+  }),
+  is,
+)
+
+-- a declaration
+pub declare_fails : (old new : State) (name : List ℕ) (schema : tables.SchemaData) (why : Cause) → WriteFails old new (puts false [] name (declaration_bytes schema)) why
+    → BatchFails (IsDeclarationOf (tables_in old.now) name schema) old new why
+declare_fails old new name schema why (apt, (e, other, inl failed, is)) = inr (e, other, inl (inl failed), is)
+declare_fails old new name schema why (apt, (e, other, inr refused, is)) = inr (
+  e,
+  other,
+  inr (record {
+    at = old.now;
+    leads = itself;
+    statement = puts false [] name (declaration_bytes schema);
+    is = ((refl, refl), apt);
+    refused = refused;
+  }),
+  is,
+)
+
+-- a read
+pub read_fails : (Is : tables.State → Statement → Type 0) (old new : State) (why : Cause) → ReadFails old new why → BatchFails Is old new why
+read_fails Is old new why (e, other, cannot, is) = inr (e, other, inl cannot, is)
+
+-- ---- accepted calls
+
+pub read_leads : {Is : tables.State → Statement → Type 0} (old new : State) → IsUnchanged old new → LeadsOn Is old new
+read_leads {Is} old new same = record {
+  inside = λ is. subst IsTrue (sym same.0.mode) is;
+  leads = subst (λ (db : Shown). LeadsTo (IsMade Is) old.step_limit old.now db) (sym same.0.now_is) itself;
+}
+
+pub write_leads : (Is : tables.State → Statement → Type 0) (old new : State) (statement : Statement) → IsMade Is old.now statement → EndsAs old statement new → GoesOn old new → LeadsOn Is old new
+write_leads Is old new statement is ends on = record { inside = λ was. on.mode; leads = by_each old.now new.now statement ends.0 itself is ends.1 }
+
+-- a row is put, or removed
+pub put_leads : (old new : State) (is_new : Bool) (name key : List ℕ) (row : List OwnedValue) → LeadsOn (λ held statement. (held ≡ tables_in old.now) × (statement ≡ puts is_new name key (row_bytes row))) old new
+    → LeadsOn (Writes (λ held write. (held ≡ tables_in old.now) × (write ≡ puts_row name key row))) old new
+put_leads old new is_new name key row = leads_so _ _ (λ held statement is.
+    subst (λ (s : Statement). Writes (λ held write. (held ≡ tables_in old.now) × (write ≡ puts_row name key row)) held s) (sym is.1) (puts_row name key row, (refl, refl, refl), (is.0, refl)))
+
+pub remove_leads : (old new : State) (name key : List ℕ) → LeadsOn (λ held statement. (held ≡ tables_in old.now) × (statement ≡ removes name key)) old new
+    → LeadsOn (Writes (λ held write. (held ≡ tables_in old.now) × (write ≡ removes_row name key))) old new
+remove_leads old new name key = leads_so _ _ (λ held statement is.
+    subst (λ (s : Statement). Writes (λ held write. (held ≡ tables_in old.now) × (write ≡ removes_row name key)) held s) (sym is.1) (removes_row name key, (refl, refl), (is.0, refl)))
+
+pub on_ok : {X E : Type 0} (r : Result X E) (P : Type 0) → P → OnOk r P
+on_ok (Ok x) P p = p
+on_ok (Err e) P p = tt

@@ -1,0 +1,147 @@
+-- For which causes the database of a store fails.
+use Rattle.std.specs.Prelude.{◌≡◌, ◌≢◌, ◌⊎◌, ℕ, Bool, true, false, IsTrue, Option, List, [], None}
+use Rattle.sqlite_trees.specs.declared.store.Store.{Ghosts}
+use Rattle.sqlite.specs.declared.error.Error.{Error}
+use Rattle.sqlite.specs.declared.error.Error.TheVariants.{SqliteFailure}
+use Rattle.sqlite.specs.declared.error.ErrorCode.TheVariants.{OutOfMemory}
+use Rattle.sqlite.specs.Effect.{Database}
+use Rattle.sqlite.specs.Held.{Held, state}
+use Rattle.sqlite.specs.State.{State}
+use Rattle.cs_value.specs.declared.value.OwnedValue.{OwnedValue}
+use Rattle.cs_value.specs.Spelling.{row_bytes}
+use Rattle.cs_rows.specs.declared.fault.Cause.{Cause}
+use Rattle.cs_rows.specs.declared.fault.Cause.TheVariants.{Other}
+use Rattle.cs_store_records.specs.Records.{records_in, record_rows, HoldsRecords, IsUnsupported, KeepsCrash, KeepsOthers, LacksRecords}
+use Rattle.cs_rows.specs.Rows.{Write, puts_row, removes_row}
+use Rattle.cs_value.specs.State as tables
+use Rattle.cs_store_bytes.specs.Declaration.{declaration_bytes}
+use Rattle.cs_store_bytes.specs.Stored.{version}
+use Rattle.cs_store_records.specs.Failing.{Statement, puts, removes, FailsAt, CannotMake, CannotRead, CannotWrite}
+use Rattle.cs_store_records.specs.Failing.{HasDiskFailed, IsMisplaced, LeadsTo, Refuses}
+use Rattle.cs_store_tables.specs.Refusals.{cause_of}
+use Rattle.cs_store_tables.specs.Store.{tables_in}
+
+-- The cause is that of such an error, and not memory.
+abbrev pub IsCauseOf : (Error → Type 0) → Cause → Type 0
+IsCauseOf Fails cause = (error : Error) × (error ≢ SqliteFailure OutOfMemory) × Fails error × (cause ≡ cause_of error)
+
+-- The statement is one that a store makes: a record is put as a new one only where none is there.
+abbrev pub IsApt : Database → Statement → Type 0
+IsApt db (puts true tab key value) = records_in db tab key ≡ None
+IsApt db (puts false tab key value) = Unit {0}
+IsApt db (removes tab key) = Unit {0}
+
+-- A read fails for this cause, and a write.
+abbrev pub ReadFails : State → State → Cause → Type 0
+ReadFails old new = IsCauseOf (CannotRead old new)
+
+abbrev pub WriteFails : State → State → Statement → Cause → Type 0
+WriteFails old new statement cause = IsApt old.now statement × IsCauseOf (CannotWrite old new statement) cause
+
+-- No transaction is open to write in.
+abbrev pub IsOutside : State → Cause → Type 0
+IsOutside s cause = (s.in_transaction ≡ false) × (cause ≡ Other)
+
+-- A row is not put, as a new one or in place of another, and a row is not removed.
+abbrev pub PutFails : State → State → List ℕ → List ℕ → List OwnedValue → Cause → Type 0
+PutFails old new name key row cause = IsOutside old cause
+    ⊎ ((is_new : Bool) × WriteFails old new (puts is_new name key (row_bytes row)) cause)
+
+abbrev pub RemoveFails : State → State → List ℕ → List ℕ → Cause → Type 0
+RemoveFails old new name key cause = IsOutside old cause ⊎ WriteFails old new (removes name key) cause
+
+-- A transaction does not begin, where one is open or the disk failed, and does not end, where none is or the disk failed.
+abbrev pub BeginFails : State → State → Cause → Type 0
+BeginFails old new = IsCauseOf (λ error. IsMisplaced (IsTrue old.in_transaction) error ⊎ HasDiskFailed old new error)
+
+abbrev pub CommitFails : State → State → Cause → Type 0
+CommitFails old new = IsCauseOf (λ error. IsMisplaced (old.in_transaction ≡ false) error ⊎ HasDiskFailed old new error)
+
+-- ---- calls that make several statements
+
+-- The statement writes the record of such a write to rows.
+abbrev pub IsStatementOf : Write → Statement → Type 0
+IsStatementOf (puts_row name key row) (puts is_new tab k value) = (tab ≡ name) × (k ≡ key) × (value ≡ row_bytes row)
+IsStatementOf (puts_row name key row) (removes tab k) = ⊥
+IsStatementOf (removes_row name key) (puts is_new tab k value) = ⊥
+IsStatementOf (removes_row name key) (removes tab k) = (tab ≡ name) × (k ≡ key)
+
+-- The statement writes the record of a write to rows of which `Is` holds, with the tables as they are then.
+abbrev pub Writes : (tables.State → Write → Type 0) → tables.State → Statement → Type 0
+Writes Is held statement = (write : Write) × IsStatementOf write statement × Is held write
+
+-- The statement declares this table, with these tables before.
+abbrev pub IsDeclarationOf : tables.State → List ℕ → tables.SchemaData → tables.State → Statement → Type 0
+IsDeclarationOf old name schema held statement = (held ≡ old) × (statement ≡ puts false [] name (declaration_bytes schema))
+
+-- The statement holds of the tables as they are then, and is one that a store makes.
+abbrev pub IsMade : (tables.State → Statement → Type 0) → Database → Statement → Type 0
+IsMade Is db statement = Is (tables_in db) statement × IsApt db statement
+
+-- An accepted call goes on: a transaction that was open still is, and statements of which `Is` holds lead from the
+-- database that was shown to the one that is.
+pub record LeadsOn (Is : tables.State → Statement → Type 0) (old new : State) : Type 0 where
+  pub inside : IsTrue old.in_transaction → IsTrue new.in_transaction
+  pub leads : LeadsTo (IsMade Is) old.step_limit old.now new.now
+
+-- The database `at`, to which statements of which `Is` holds lead, refuses another.
+pub record IsRefused (Is : tables.State → Statement → Type 0) (limit : Option ℕ) (from : Database) (error : Error) :
+    Type 0 where
+  pub at : Database
+  pub leads : LeadsTo (IsMade Is) limit from at
+  pub statement : Statement
+  pub is : IsMade Is at statement
+  pub refused : Refuses limit at statement error
+
+-- The disk failed between the ends of a call, or the connection limits the steps of a query, or a statement of which
+-- `Is` holds is refused.
+abbrev pub CallFails : (tables.State → Statement → Type 0) → State → State → Error → Type 0
+CallFails Is old new error = CannotRead old new error ⊎ IsRefused Is old.step_limit old.now error
+
+-- A call inside a transaction fails for this cause: no transaction is open, or `CallFails` holds of the error.
+abbrev pub BatchFails : (tables.State → Statement → Type 0) → State → State → Cause → Type 0
+BatchFails Is old new cause = IsOutside old cause ⊎ IsCauseOf (CallFails Is old new) cause
+
+-- A call that begins and ends its own transaction fails for this cause: one is open, or `CallFails` holds of the error.
+abbrev pub StoreFails : (tables.State → Statement → Type 0) → State → State → Cause → Type 0
+StoreFails Is old new = IsCauseOf (λ error. IsMisplaced (IsTrue old.in_transaction) error ⊎ CallFails Is old new error)
+
+-- ---- adoption
+
+-- The database is the one that was found, with the table of records, which was made and is empty.
+pub record HasMade (found now : Database) : Type 0 where
+  pub lacked : LacksRecords found.schema
+  pub holds : HoldsRecords now
+  pub empty : record_rows now ≡ []
+  pub others : KeepsOthers found now
+
+-- Inside the transaction of an adoption, the connection shows a database of which this holds. No fault is forgotten, and
+-- the limit on the steps of a query is as it was.
+pub record IsInside (found was : State) (Shown : Database → Type 0) : Type 0 where
+  pub inside : IsTrue was.in_transaction
+  pub shows : Shown was.now
+  pub crash : KeepsCrash found was
+
+-- The version is not written.
+abbrev pub VersionFails : State → State → Cause → Type 0
+VersionFails old new = IsCauseOf (FailsAt old new (puts false [] [] version))
+
+-- A database is not set up as a store. A read fails; or the statements on records cannot be used under its schema; or
+-- it lacks the table of records, and that is not made; or it has that table, or gets it, and the version is not written.
+-- No fault that the statement counts is forgotten.
+pub data SetUpFails {S : Type 0} (g : Ghosts S) (found last : Held S) : Cause → Type 0 where
+  by_read : (cause : Cause) → ReadFails (state g found) (state g last) cause → SetUpFails g found last cause
+  unsupported : IsUnsupported (state g found).now.schema → SetUpFails g found last Other
+  by_making : (was now : Held S) (cause : Cause) → LacksRecords (state g found).now.schema
+      → IsInside (state g found) (state g was) (λ db. db ≡ (state g found).now)
+      → IsCauseOf (CannotMake (state g was) (state g now)) cause → KeepsCrash (state g now) (state g last)
+      → SetUpFails g found last cause
+  by_version : (was now : Held S) (cause : Cause)
+      → IsInside (state g found) (state g was) (λ db. HoldsRecords db × ((db ≡ (state g found).now) ⊎ HasMade (state g found).now db))
+      → VersionFails (state g was) (state g now) cause → KeepsCrash (state g now) (state g last)
+      → SetUpFails g found last cause
+
+-- A database is not adopted: a transaction is open, or the disk failed, also at the commit; or it is not set up as a
+-- store.
+abbrev pub AdoptFails : {S : Type 0} → Ghosts S → Held S → Held S → Cause → Type 0
+AdoptFails g old new cause = BeginFails (state g old) (state g new) cause ⊎ SetUpFails g old new cause

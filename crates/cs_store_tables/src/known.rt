@@ -1,0 +1,376 @@
+//! What is read and written through a store. The table that was looked up last is known: inside a transaction, where
+//! nobody else writes, its schema is not read again. So is the key that was looked up last, where no row has it: a row
+//! that is put there is new, and none is looked for to be replaced.
+ghost use Rattle.std.specs.Prelude.{◌≡◌, ◌⊎◌, IsTrue, IfOk, IfErr, OnOk, IfSome, None, Some, option_map};
+ghost use Rattle.std.specs.FinMap as map;
+ghost use Rattle.cs_value.specs.Table.{IsName};
+ghost use Rattle.cs_value.specs.State.{schema_at, row_at, rows_at, with_row, without_row};
+ghost use Rattle.cs_rows.specs.declared.fault.StoreError.TheVariants.{TableExists as TakenName};
+ghost use Rattle.cs_rows.specs.Faults.{IsCaused, IsResource, IsReadRefusal};
+ghost use Rattle.cs_rows.specs.Rows.{IsDeclared, Fits, puts_row, removes_row};
+ghost use Rattle.cs_store_tables.specs.Failing.{BatchFails, IsDeclarationOf, LeadsOn, PutFails, ReadFails, RemoveFails, Writes};
+ghost use Rattle.cs_store_tables.specs.Store.{AddsTable, IsFreeKey, IsSound, KeepsStore, Knows, RefusesShut};
+ghost use Rattle.cs_store_tables.specs.Store.{tables_in, without_free_key};
+ghost use Rattle.sqlite.specs.State.{HasCleanDisk};
+ghost use Rattle.sqlite.specs.Held.{state};
+
+use crate::tables;
+use cs_rows::{Cause, Schema, StoreError};
+use cs_value::{Key, Row};
+use sqlite::{Alter, Connection};
+use std::alloc::Global;
+use std::marker::Model;
+
+/// A table whose schema is known.
+#[derive(Drop)]
+pub struct KnownTable {
+    name: String,
+    schema: Schema,
+    // A key that no row of the table has.
+    free: Option<Key>,
+}
+
+impl Model for KnownTable {
+    ghost use Rattle.std.specs.Prelude.{string_bytes};
+    ghost use Rattle.cs_store_tables.specs.Store.{KnownData};
+
+    ghost Value = { KnownData };
+
+    ghost view = { λ t. (string_bytes t.name, t.schema, t.free) };
+}
+
+/// The schema of a table, and none where no table has the name.
+pub fn find_schema<S: Alter>(
+    conn: &mut Connection<S>,
+    known: &mut Option<KnownTable>,
+    alloc: Global,
+    name: &str,
+) -> Result<Option<Schema>, StoreError>
+    requires sound { IsSound (state S.Store conn.old) }
+    requires knows { Knows (state S.Store conn.old) known.old }
+    ensures found { HasCleanDisk (state S.Store conn.new)
+        → IfOk result (λ o. o ≡ schema_at (tables_in (state S.Store conn.old).now) name.now) }
+    ensures same { HasCleanDisk (state S.Store conn.new) → OnOk result ((state S.Store conn.new).now
+        ≡ (state S.Store conn.old).now) }
+    ensures refused { HasCleanDisk (state S.Store conn.new)
+        → IfErr result IsResource }
+    ensures shut { HasCleanDisk (state S.Store conn.new) → RefusesShut (state S.Store conn.old) IsResource result }
+    ensures caused { HasCleanDisk (state S.Store conn.new)
+        → IfErr result (IsCaused (ReadFails (state S.Store conn.old) (state S.Store conn.new))) }
+    ensures named { IfErr result IsReadRefusal }
+    ensures knows { Knows (state S.Store conn.new) known.new }
+    ensures leads { HasCleanDisk (state S.Store conn.new)
+        → OnOk result (LeadsOn (λ _ _. ⊥) (state S.Store conn.old) (state S.Store conn.new)) }
+    ensures kept { KeepsStore (state S.Store conn.old) (state S.Store conn.new) }
+{
+    look_up(conn, known, alloc, name)?;
+    match known {
+        Some(table) => Ok(Some(table.schema.copy(alloc)?)),
+        None => Ok(None),
+    }
+}
+
+/// The row of a table under a key, and none where no row has the key or no table the name. A table is known then,
+/// if one has the name.
+pub fn find_row<S: Alter>(
+    conn: &mut Connection<S>,
+    known: &mut Option<KnownTable>,
+    alloc: Global,
+    name: &str,
+    key: &Key,
+) -> Result<Option<Row>, StoreError>
+    requires sound { IsSound (state S.Store conn.old) }
+    requires knows { Knows (state S.Store conn.old) known.old }
+    ensures found { HasCleanDisk (state S.Store conn.new)
+        → IfOk result (λ o. o ≡ row_at (tables_in (state S.Store conn.old).now) name.now key.now) }
+    ensures fits { HasCleanDisk (state S.Store conn.new)
+        → IfOk result (λ o. IfSome o (Fits (tables_in (state S.Store conn.old).now) name.now key.now)) }
+    ensures tells { HasCleanDisk (state S.Store conn.new) → OnOk result (option_map (λ t. t.1) known.new
+        ≡ schema_at (tables_in (state S.Store conn.old).now) name.now) }
+    ensures same { HasCleanDisk (state S.Store conn.new) → OnOk result ((state S.Store conn.new).now
+        ≡ (state S.Store conn.old).now) }
+    ensures refused { HasCleanDisk (state S.Store conn.new) → IfErr result IsResource }
+    ensures shut { HasCleanDisk (state S.Store conn.new) → RefusesShut (state S.Store conn.old) IsResource result }
+    ensures caused { HasCleanDisk (state S.Store conn.new)
+        → IfErr result (IsCaused (ReadFails (state S.Store conn.old) (state S.Store conn.new))) }
+    ensures named { IfErr result IsReadRefusal }
+    ensures knows { Knows (state S.Store conn.new) known.new }
+    ensures leads { HasCleanDisk (state S.Store conn.new)
+        → OnOk result (LeadsOn (λ _ _. ⊥) (state S.Store conn.old) (state S.Store conn.new)) }
+    ensures kept { KeepsStore (state S.Store conn.old) (state S.Store conn.new) }
+{
+    look_up(conn, known, alloc, name)?;
+    match known {
+        Some(table) => match tables::find_row(conn, alloc, name, &table.schema, key) {
+            Ok(None) if !conn.is_autocommit() => {
+                table.free = Some(key.copy(alloc)?);
+                Ok(None)
+            }
+            Ok(found) => Ok(found),
+            Err(error) => {
+                *known = None;
+                Err(error)
+            }
+        },
+        None => Ok(None),
+    }
+}
+
+/// The rows of a table by the bytes of their keys, and none where no table has the name. A table is known then, if
+/// one has the name.
+pub fn list_rows<S: Alter>(
+    conn: &mut Connection<S>,
+    known: &mut Option<KnownTable>,
+    alloc: Global,
+    name: &str,
+) -> Result<Vec<Row>, StoreError>
+    requires sound { IsSound (state S.Store conn.old) }
+    requires knows { Knows (state S.Store conn.old) known.old }
+    ensures listed { HasCleanDisk (state S.Store conn.new)
+        → IfOk result (λ rows. rows.items ≡ map.values (rows_at (tables_in (state S.Store conn.old).now) name.now)) }
+    ensures tells { HasCleanDisk (state S.Store conn.new) → OnOk result (option_map (λ t. t.1) known.new
+        ≡ schema_at (tables_in (state S.Store conn.old).now) name.now) }
+    ensures same { HasCleanDisk (state S.Store conn.new) → OnOk result ((state S.Store conn.new).now
+        ≡ (state S.Store conn.old).now) }
+    ensures refused { HasCleanDisk (state S.Store conn.new) → IfErr result IsResource }
+    ensures shut { HasCleanDisk (state S.Store conn.new) → RefusesShut (state S.Store conn.old) IsResource result }
+    ensures caused { HasCleanDisk (state S.Store conn.new)
+        → IfErr result (IsCaused (ReadFails (state S.Store conn.old) (state S.Store conn.new))) }
+    ensures named { IfErr result IsReadRefusal }
+    ensures knows { Knows (state S.Store conn.new) known.new }
+    ensures leads { HasCleanDisk (state S.Store conn.new)
+        → OnOk result (LeadsOn (λ _ _. ⊥) (state S.Store conn.old) (state S.Store conn.new)) }
+    ensures kept { KeepsStore (state S.Store conn.old) (state S.Store conn.new) }
+{
+    look_up(conn, known, alloc, name)?;
+    match known {
+        Some(table) => match tables::list_rows(conn, alloc, name, &table.schema) {
+            Ok(listed) => Ok(listed),
+            Err(error) => {
+                *known = None;
+                Err(error)
+            }
+        },
+        None => Ok(Vec::new(alloc)),
+    }
+}
+
+/// Puts a row under its key in a table that it fits. It is refused outside a transaction.
+pub fn put_row<S: Alter>(
+    conn: &mut Connection<S>,
+    known: &mut Option<KnownTable>,
+    alloc: Global,
+    name: &str,
+    key: &Key,
+    row: &Row,
+) -> Result<(), StoreError>
+    requires sound { IsSound (state S.Store conn.old) }
+    requires knows { Knows (state S.Store conn.old) known.old }
+    requires fits { HasCleanDisk (state S.Store conn.old)
+        → Fits (tables_in (state S.Store conn.old).now) name.now key.now row.now }
+    ensures put { HasCleanDisk (state S.Store conn.new) → OnOk result (tables_in (state S.Store conn.new).now
+        ≡ with_row (tables_in (state S.Store conn.old).now) name.now key.now row.now) }
+    ensures refused { IfErr result IsResource }
+    ensures caused { HasCleanDisk (state S.Store conn.new) → IfErr result
+        (IsCaused (PutFails (state S.Store conn.old) (state S.Store conn.new) name.now key.now row.now)) }
+    ensures knows { Knows (state S.Store conn.new) known.new }
+    ensures leads { HasCleanDisk (state S.Store conn.new)
+        → OnOk result (LeadsOn (Writes (λ held write. (held ≡ tables_in (state S.Store conn.old).now)
+        × (write ≡ puts_row name.now key.now row.now))) (state S.Store conn.old) (state S.Store conn.new)) }
+    ensures kept { KeepsStore (state S.Store conn.old) (state S.Store conn.new) }
+{
+    if conn.is_autocommit() {
+        return Err(StoreError::StoreFault(Cause::Other));
+    }
+    let is_new = is_free(known, name, key);
+    match tables::put_row(conn, alloc, name, key, row, is_new) {
+        Ok(()) => {
+            forget_key(known);
+            Ok(())
+        }
+        Err(error) => {
+            *known = None;
+            Err(error)
+        }
+    }
+}
+
+/// Removes the row under a key of a declared table, if there is one. It is refused outside a transaction.
+pub fn remove_row<S: Alter>(
+    conn: &mut Connection<S>,
+    known: &mut Option<KnownTable>,
+    name: &str,
+    key: &Key,
+) -> Result<(), StoreError>
+    requires sound { IsSound (state S.Store conn.old) }
+    requires knows { Knows (state S.Store conn.old) known.old }
+    requires declared { HasCleanDisk (state S.Store conn.old)
+        → IsDeclared (tables_in (state S.Store conn.old).now) name.now }
+    ensures removed { HasCleanDisk (state S.Store conn.new) → OnOk result (tables_in (state S.Store conn.new).now
+        ≡ without_row (tables_in (state S.Store conn.old).now) name.now key.now) }
+    ensures refused { IfErr result IsResource }
+    ensures caused { HasCleanDisk (state S.Store conn.new) → IfErr result
+        (IsCaused (RemoveFails (state S.Store conn.old) (state S.Store conn.new) name.now key.now)) }
+    ensures knows { Knows (state S.Store conn.new) known.new }
+    ensures leads { HasCleanDisk (state S.Store conn.new)
+        → OnOk result (LeadsOn (Writes (λ held write. (held ≡ tables_in (state S.Store conn.old).now)
+        × (write ≡ removes_row name.now key.now))) (state S.Store conn.old) (state S.Store conn.new)) }
+    ensures kept { KeepsStore (state S.Store conn.old) (state S.Store conn.new) }
+{
+    if conn.is_autocommit() {
+        return Err(StoreError::StoreFault(Cause::Other));
+    }
+    match tables::remove_row(conn, name, key) {
+        Ok(()) => {
+            forget_key(known);
+            Ok(())
+        }
+        Err(error) => {
+            *known = None;
+            Err(error)
+        }
+    }
+}
+
+/// Adds a table without rows, where none has the name. It is refused outside a transaction.
+pub fn add_table<S: Alter>(
+    conn: &mut Connection<S>,
+    known: &mut Option<KnownTable>,
+    alloc: Global,
+    name: &str,
+    schema: &Schema,
+) -> Result<(), StoreError>
+    requires sound { IsSound (state S.Store conn.old) }
+    requires knows { Knows (state S.Store conn.old) known.old }
+    requires named { IsName name.now }
+    ensures declared { HasCleanDisk (state S.Store conn.new)
+        → OnOk result (AddsTable (tables_in (state S.Store conn.old).now) name.now schema.now
+        (tables_in (state S.Store conn.new).now)) }
+    ensures refused { HasCleanDisk (state S.Store conn.new) → IfErr result (λ e. ((e ≡ TakenName)
+        × IsDeclared (tables_in (state S.Store conn.old).now) name.now) ⊎ IsResource e) }
+    ensures caused { HasCleanDisk (state S.Store conn.new) → IfErr result (IsCaused
+        (BatchFails (IsDeclarationOf (tables_in (state S.Store conn.old).now) name.now schema.now)
+        (state S.Store conn.old) (state S.Store conn.new))) }
+    ensures named { IfErr result (λ e. (e ≡ TakenName) ⊎ IsReadRefusal e) }
+    ensures knows { Knows (state S.Store conn.new) known.new }
+    ensures leads { HasCleanDisk (state S.Store conn.new)
+        → OnOk result (LeadsOn (IsDeclarationOf (tables_in (state S.Store conn.old).now) name.now schema.now) (state S.Store conn.old) (state S.Store conn.new)) }
+    ensures kept { KeepsStore (state S.Store conn.old) (state S.Store conn.new) }
+{
+    match find_schema(conn, known, alloc, name) {
+        Ok(Some(_)) => Err(StoreError::TableExists),
+        Ok(None) => put_table(conn, known, alloc, name, schema),
+        Err(error) => Err(error),
+    }
+}
+
+/// Puts a table without rows under a name that no table has. It is refused outside a transaction.
+fn put_table<S: Alter>(
+    conn: &mut Connection<S>,
+    known: &mut Option<KnownTable>,
+    alloc: Global,
+    name: &str,
+    schema: &Schema,
+) -> Result<(), StoreError>
+    requires sound { IsSound (state S.Store conn.old) }
+    requires named { IsName name.now }
+    requires free { HasCleanDisk (state S.Store conn.old)
+        → schema_at (tables_in (state S.Store conn.old).now) name.now ≡ None }
+    ensures declared { HasCleanDisk (state S.Store conn.new)
+        → OnOk result (AddsTable (tables_in (state S.Store conn.old).now) name.now schema.now
+        (tables_in (state S.Store conn.new).now)) }
+    ensures refused { IfErr result IsResource }
+    ensures caused { HasCleanDisk (state S.Store conn.new) → IfErr result (IsCaused
+        (BatchFails (IsDeclarationOf (tables_in (state S.Store conn.old).now) name.now schema.now)
+        (state S.Store conn.old) (state S.Store conn.new))) }
+    ensures knows { Knows (state S.Store conn.new) known.new }
+    ensures leads { HasCleanDisk (state S.Store conn.new)
+        → OnOk result (LeadsOn (IsDeclarationOf (tables_in (state S.Store conn.old).now) name.now schema.now) (state S.Store conn.old) (state S.Store conn.new)) }
+    ensures kept { KeepsStore (state S.Store conn.old) (state S.Store conn.new) }
+{
+    *known = None;
+    if conn.is_autocommit() {
+        return Err(StoreError::StoreFault(Cause::Other));
+    }
+    tables::put_table(conn, alloc, name, schema)
+}
+
+/// Makes the table of this name the known one, and none where no table has the name.
+fn look_up<S: Alter>(
+    conn: &mut Connection<S>,
+    known: &mut Option<KnownTable>,
+    alloc: Global,
+    name: &str,
+) -> Result<(), StoreError>
+    requires sound { IsSound (state S.Store conn.old) }
+    requires knows { Knows (state S.Store conn.old) known.old }
+    ensures found { HasCleanDisk (state S.Store conn.new)
+        → OnOk result (option_map (λ t. t.1) known.new
+        ≡ schema_at (tables_in (state S.Store conn.old).now) name.now) }
+    ensures is_it { OnOk result (IfSome known.new (λ t. t.0 ≡ name.now)) }
+    ensures same { HasCleanDisk (state S.Store conn.new) → OnOk result ((state S.Store conn.new).now
+        ≡ (state S.Store conn.old).now) }
+    ensures refused { HasCleanDisk (state S.Store conn.new)
+        → IfErr result IsResource }
+    ensures shut { HasCleanDisk (state S.Store conn.new) → RefusesShut (state S.Store conn.old) IsResource result }
+    ensures caused { HasCleanDisk (state S.Store conn.new)
+        → IfErr result (IsCaused (ReadFails (state S.Store conn.old) (state S.Store conn.new))) }
+    ensures named { IfErr result IsReadRefusal }
+    ensures knows { Knows (state S.Store conn.new) known.new }
+    ensures leads { HasCleanDisk (state S.Store conn.new)
+        → OnOk result (LeadsOn (λ _ _. ⊥) (state S.Store conn.old) (state S.Store conn.new)) }
+    ensures kept { KeepsStore (state S.Store conn.old) (state S.Store conn.new) }
+{
+    if !conn.is_autocommit() && has_name(known, name) {
+        return Ok(());
+    }
+    *known = None;
+    if let Some(schema) = tables::find_schema(conn, alloc, name)? {
+        let name = String::from_str(alloc, name)?;
+        *known = Some(KnownTable {
+            name,
+            schema,
+            free: None,
+        });
+    }
+    Ok(())
+}
+
+/// Whether a table is known, and has this name.
+fn has_name(known: &Option<KnownTable>, name: &str) -> bool
+    ensures { IsTrue result → option_map (λ t. t.0) known.now ≡ Some name.now }
+{
+    match known {
+        Some(table) => table.name.as_str() == name,
+        None => false,
+    }
+}
+
+/// Whether it is known that no row of this table has this key.
+fn is_free(known: &Option<KnownTable>, name: &str, key: &Key) -> bool
+    ensures { IsTrue result → IsFreeKey known.now name.now key.now }
+{
+    match known {
+        Some(table) if has_name(known, name) => has_free(table, key),
+        _ => false,
+    }
+}
+
+/// Whether this is the key that no row of a table has.
+fn has_free(table: &KnownTable, key: &Key) -> bool
+    ensures { IsTrue result → table.now.2 ≡ Some key.now }
+{
+    match &table.free {
+        Some(free) => free.bytes() == key.bytes(),
+        None => false,
+    }
+}
+
+/// Forgets which key no row has.
+fn forget_key(known: &mut Option<KnownTable>)
+    ensures { known.new ≡ without_free_key known.old }
+{
+    if let Some(table) = known {
+        table.free = None;
+    }
+}

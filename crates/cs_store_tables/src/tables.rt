@@ -1,0 +1,303 @@
+//! The tables of a store, one call at a time, by its records.
+ghost use Rattle.std.specs.FinMap as map;
+ghost use Rattle.cs_rows.specs.declared.fault.StoreError.TheVariants.{DamagedStore as Damaged};
+ghost use Rattle.std.specs.Prelude.{◌≡◌, ◌⊎◌, map as map_list, IsTrue, OnOk, IfOk};
+ghost use Rattle.std.specs.Prelude.{IfErr, IfSome, Option, Some, None, ℕ, List, [], ◌∷◌, false, option_map, string_bytes};
+ghost use Rattle.std.specs.List.{AllByRecursion};
+ghost use Rattle.cs_value.specs.Table.{IsName};
+ghost use Rattle.cs_value.specs.declared.value.OwnedValue.{OwnedValue};
+ghost use Rattle.cs_value.specs.Spelling.{row_bytes};
+ghost use Rattle.cs_value.specs.State.{SchemaData, IsSchema, schema_at, row_at, rows_at};
+ghost use Rattle.cs_value.specs.State.{with_row, without_row};
+ghost use Rattle.cs_store_bytes.specs.Declaration.{declaration_bytes};
+ghost use Rattle.sqlite.specs.State.{HasCleanDisk};
+ghost use Rattle.sqlite.specs.Held.{state};
+ghost use Rattle.cs_rows.specs.Faults.{IsCaused, IsResource, IsReadRefusal};
+ghost use Rattle.cs_store_records.specs.Failing.{puts, removes};
+ghost use Rattle.cs_store_tables.specs.Failing.{IsDeclarationOf, LeadsOn, ReadFails, WriteFails};
+ghost use Rattle.cs_rows.specs.Rows.{IsDeclared, Fits, IsRowIn};
+ghost use Rattle.cs_store_tables.specs.Store.{IsSound, KeepsStore, Recovers, RecoversList, RefusesShut};
+ghost use Rattle.cs_store_tables.specs.Store.{AddsTable, AreNamed, AreStored, HoldsState, tables_in};
+
+use crate::refusal::refused;
+use cs_rows::{Schema, StoreError};
+use cs_store_bytes::{read_declaration, read_name, read_row, write_declaration};
+use cs_store_records::{Keyed, find_record, list_records, put_record, remove_record};
+use cs_value::{Key, Row, row_write};
+use sqlite::{Alter, Connection};
+use std::alloc::Global;
+
+/// The schema of a table, and none where no table has the name.
+pub fn find_schema<S: Alter>(
+    conn: &mut Connection<S>,
+    alloc: Global,
+    name: &str,
+) -> Result<Option<Schema>, StoreError>
+    ensures found { IsSound (state S.Store conn.old) → HasCleanDisk (state S.Store conn.new)
+        → IfOk result (λ o. o ≡ schema_at (tables_in (state S.Store conn.old).now) name.now) }
+    ensures same { HasCleanDisk (state S.Store conn.new) → OnOk result ((state S.Store conn.new).now
+        ≡ (state S.Store conn.old).now) }
+    ensures refused { IsSound (state S.Store conn.old) → HasCleanDisk (state S.Store conn.new)
+        → IfErr result IsResource }
+    ensures shut { HasCleanDisk (state S.Store conn.new) → RefusesShut (state S.Store conn.old) IsResource result }
+    ensures caused { IsSound (state S.Store conn.old) → HasCleanDisk (state S.Store conn.new)
+        → IfErr result (IsCaused (ReadFails (state S.Store conn.old) (state S.Store conn.new))) }
+    ensures named { IfErr result IsReadRefusal }
+    ensures leads { HasCleanDisk (state S.Store conn.new)
+        → OnOk result (LeadsOn (λ _ _. ⊥) (state S.Store conn.old) (state S.Store conn.new)) }
+    ensures kept { KeepsStore (state S.Store conn.old) (state S.Store conn.new) }
+{
+    match find_record(conn, "", name.as_bytes()) {
+        // the record under the empty name is the version of the format
+        Ok(found) => {
+            if name.is_empty() {
+                Ok(None)
+            } else {
+                schema_in(alloc, found)
+            }
+        }
+        Err(error) => Err(refused(error)),
+    }
+}
+
+/// The schema whose declaration is stored, if one is.
+fn schema_in(alloc: Global, stored: Option<Vec<u8>>) -> Result<Option<Schema>, StoreError>
+    ensures found { (o : Option SchemaData) → IfSome o IsSchema
+        → option_map (λ v. v.items) stored ≡ option_map declaration_bytes o
+        → Recovers result o }
+    ensures caused { IfErr result (IsCaused (λ _. ⊥)) }
+    ensures named { IfErr result IsReadRefusal }
+{
+    match stored {
+        Some(bytes) => Ok(Some(read_declaration(alloc, &bytes)?)),
+        None => Ok(None),
+    }
+}
+
+/// The row under a key of the table of this name, which has this schema.
+pub fn find_row<S: Alter>(
+    conn: &mut Connection<S>,
+    alloc: Global,
+    name: &str,
+    schema: &Schema,
+    key: &Key,
+) -> Result<Option<Row>, StoreError>
+    ensures found { IsSound (state S.Store conn.old) → HasCleanDisk (state S.Store conn.new)
+        → schema_at (tables_in (state S.Store conn.old).now) name.now ≡ Some schema.now
+        → Recovers result (row_at (tables_in (state S.Store conn.old).now) name.now key.now) }
+    ensures same { HasCleanDisk (state S.Store conn.new) → OnOk result ((state S.Store conn.new).now
+        ≡ (state S.Store conn.old).now) }
+    ensures fits { IsSound (state S.Store conn.old) → HasCleanDisk (state S.Store conn.new)
+        → schema_at (tables_in (state S.Store conn.old).now) name.now ≡ Some schema.now
+        → IfOk result (λ o. IfSome o (Fits (tables_in (state S.Store conn.old).now) name.now key.now)) }
+    ensures caused { IsSound (state S.Store conn.old) → HasCleanDisk (state S.Store conn.new)
+        → IfErr result (IsCaused (ReadFails (state S.Store conn.old) (state S.Store conn.new))) }
+    ensures named { IfErr result IsReadRefusal }
+    ensures leads { HasCleanDisk (state S.Store conn.new)
+        → OnOk result (LeadsOn (λ _ _. ⊥) (state S.Store conn.old) (state S.Store conn.new)) }
+    ensures kept { KeepsStore (state S.Store conn.old) (state S.Store conn.new) }
+{
+    match find_record(conn, name, key.bytes()) {
+        Ok(found) => row_in(alloc, schema, found),
+        Err(error) => Err(refused(error)),
+    }
+}
+
+/// The row that is stored, if one is.
+fn row_in(
+    alloc: Global,
+    schema: &Schema,
+    stored: Option<Vec<u8>>,
+) -> Result<Option<Row>, StoreError>
+    ensures found { (o : Option (List OwnedValue)) → IfSome o (IsRowIn schema.now)
+        → option_map (λ v. v.items) stored ≡ option_map row_bytes o → Recovers result o }
+    ensures caused { IfErr result (IsCaused (λ _. ⊥)) }
+    ensures named { IfErr result IsReadRefusal }
+{
+    match stored {
+        Some(bytes) => Ok(Some(read_row(alloc, schema, &bytes)?)),
+        None => Ok(None),
+    }
+}
+
+/// The rows of the table of this name, which has this schema.
+pub fn list_rows<S: Alter>(
+    conn: &mut Connection<S>,
+    alloc: Global,
+    name: &str,
+    schema: &Schema,
+) -> Result<Vec<Row>, StoreError>
+    ensures listed { IsSound (state S.Store conn.old) → HasCleanDisk (state S.Store conn.new)
+        → schema_at (tables_in (state S.Store conn.old).now) name.now ≡ Some schema.now
+        → RecoversList result (map.values (rows_at (tables_in (state S.Store conn.old).now) name.now)) }
+    ensures same { HasCleanDisk (state S.Store conn.new) → OnOk result ((state S.Store conn.new).now
+        ≡ (state S.Store conn.old).now) }
+    ensures caused { IsSound (state S.Store conn.old) → HasCleanDisk (state S.Store conn.new)
+        → IfErr result (IsCaused (ReadFails (state S.Store conn.old) (state S.Store conn.new))) }
+    ensures named { IfErr result IsReadRefusal }
+    ensures leads { HasCleanDisk (state S.Store conn.new)
+        → OnOk result (LeadsOn (λ _ _. ⊥) (state S.Store conn.old) (state S.Store conn.new)) }
+    ensures kept { KeepsStore (state S.Store conn.old) (state S.Store conn.new) }
+{
+    match list_records(conn, alloc, name) {
+        Ok(listed) => rows_in(alloc, schema, &listed),
+        Err(error) => Err(refused(error)),
+    }
+}
+
+/// The rows that are stored.
+fn rows_in(alloc: Global, schema: &Schema, listed: &[Keyed]) -> Result<Vec<Row>, StoreError>
+    ensures read { IfOk result (λ rows. AreStored schema.now (map_list (λ e. e.1) listed.now) rows.items) }
+    ensures refused { IfErr result (λ e. ((e ≡ Damaged) × ((rows : List (List OwnedValue))
+        → ¬ (AreStored schema.now (map_list (λ e. e.1) listed.now) rows))) ⊎ IsResource e) }
+    ensures caused { IfErr result (IsCaused (λ _. ⊥)) }
+{
+    let mut rows = Vec::new(alloc);
+    for record in listed {
+        match read_row(alloc, schema, &record.value) {
+            Ok(row) => rows.push(row)?,
+            Err(error) => return Err(error),
+        }
+    }
+    Ok(rows)
+}
+
+/// Puts a row under its key in a table that it fits, inside a transaction: a new row, where it is known that none has
+/// the key.
+pub fn put_row<S: Alter>(
+    conn: &mut Connection<S>,
+    alloc: Global,
+    name: &str,
+    key: &Key,
+    row: &Row,
+    is_new: bool,
+) -> Result<(), StoreError>
+    requires fits { HasCleanDisk (state S.Store conn.old)
+        → Fits (tables_in (state S.Store conn.old).now) name.now key.now row.now }
+    requires new { IsTrue is_new → HasCleanDisk (state S.Store conn.old) → HoldsState (state S.Store conn.old).now
+        × (row_at (tables_in (state S.Store conn.old).now) name.now key.now ≡ None) }
+    ensures put { IsSound (state S.Store conn.old) → IsTrue (state S.Store conn.old).in_transaction
+        → HasCleanDisk (state S.Store conn.new)
+        → OnOk result (tables_in (state S.Store conn.new).now
+        ≡ with_row (tables_in (state S.Store conn.old).now) name.now key.now row.now) }
+    ensures refused { IfErr result IsResource }
+    ensures caused { IsSound (state S.Store conn.old) → IsTrue (state S.Store conn.old).in_transaction
+        → HasCleanDisk (state S.Store conn.new) → IfErr result
+        (IsCaused (WriteFails (state S.Store conn.old) (state S.Store conn.new) (puts is_new name.now key.now (row_bytes row.now)))) }
+    ensures leads { IsSound (state S.Store conn.old) → IsTrue (state S.Store conn.old).in_transaction
+        → HasCleanDisk (state S.Store conn.new)
+        → OnOk result (LeadsOn (λ held statement. (held ≡ tables_in (state S.Store conn.old).now)
+        × (statement ≡ puts is_new name.now key.now (row_bytes row.now))) (state S.Store conn.old) (state S.Store conn.new)) }
+    ensures kept { IsSound (state S.Store conn.old) → IsTrue (state S.Store conn.old).in_transaction
+        → KeepsStore (state S.Store conn.old) (state S.Store conn.new) }
+{
+    let mut bytes = Vec::new(alloc);
+    row_write(&mut bytes, row)?;
+    put_record(conn, name, key.bytes(), &bytes, is_new).map_err(refused)
+}
+
+/// Removes the row under a key of a declared table, if there is one, inside a transaction.
+pub fn remove_row<S: Alter>(
+    conn: &mut Connection<S>,
+    name: &str,
+    key: &Key,
+) -> Result<(), StoreError>
+    requires { HasCleanDisk (state S.Store conn.old) → IsDeclared (tables_in (state S.Store conn.old).now) name.now }
+    ensures removed { IsSound (state S.Store conn.old) → IsTrue (state S.Store conn.old).in_transaction
+        → HasCleanDisk (state S.Store conn.new)
+        → OnOk result (tables_in (state S.Store conn.new).now
+        ≡ without_row (tables_in (state S.Store conn.old).now) name.now key.now) }
+    ensures refused { IfErr result IsResource }
+    ensures caused { IsSound (state S.Store conn.old) → IsTrue (state S.Store conn.old).in_transaction
+        → HasCleanDisk (state S.Store conn.new) → IfErr result
+        (IsCaused (WriteFails (state S.Store conn.old) (state S.Store conn.new) (removes name.now key.now))) }
+    ensures leads { IsSound (state S.Store conn.old) → IsTrue (state S.Store conn.old).in_transaction
+        → HasCleanDisk (state S.Store conn.new)
+        → OnOk result (LeadsOn (λ held statement. (held ≡ tables_in (state S.Store conn.old).now)
+        × (statement ≡ removes name.now key.now)) (state S.Store conn.old) (state S.Store conn.new)) }
+    ensures kept { IsSound (state S.Store conn.old) → IsTrue (state S.Store conn.old).in_transaction
+        → KeepsStore (state S.Store conn.old) (state S.Store conn.new) }
+{
+    remove_record(conn, name, key.bytes()).map_err(refused)
+}
+
+/// The names of the tables, by their bytes.
+pub fn list_tables<S: Alter>(
+    conn: &mut Connection<S>,
+    alloc: Global,
+) -> Result<Vec<String>, StoreError>
+    ensures listed { IsSound (state S.Store conn.old) → HasCleanDisk (state S.Store conn.new)
+        → IfOk result (λ names. map_list string_bytes names.items ≡ map.keys (tables_in (state S.Store conn.old).now)) }
+    ensures same { HasCleanDisk (state S.Store conn.new) → OnOk result ((state S.Store conn.new).now
+        ≡ (state S.Store conn.old).now) }
+    ensures refused { IsSound (state S.Store conn.old) → HasCleanDisk (state S.Store conn.new)
+        → IfErr result IsResource }
+    ensures shut { HasCleanDisk (state S.Store conn.new) → RefusesShut (state S.Store conn.old) IsResource result }
+    ensures caused { IsSound (state S.Store conn.old) → HasCleanDisk (state S.Store conn.new)
+        → IfErr result (IsCaused (ReadFails (state S.Store conn.old) (state S.Store conn.new))) }
+    ensures named { IfErr result IsReadRefusal }
+    ensures kept { KeepsStore (state S.Store conn.old) (state S.Store conn.new) }
+{
+    match list_records(conn, alloc, "") {
+        Ok(listed) => names_behind(alloc, &listed),
+        Err(error) => Err(refused(error)),
+    }
+}
+
+/// Returns the names that the records under the empty name are of. The first record is the version's.
+fn names_behind(alloc: Global, listed: &[Keyed]) -> Result<Vec<String>, StoreError>
+    ensures read { (names : List (List ℕ)) → map_list (λ e. e.0) listed.now ≡ [] ∷ names → AllByRecursion IsName names
+        → AreNamed result names }
+    ensures caused { IfErr result (IsCaused (λ _. ⊥)) }
+    ensures named { IfErr result IsReadRefusal }
+{
+    match listed {
+        [_version, declared @ ..] => names_of(alloc, declared),
+        [] => Ok(Vec::new(alloc)),
+    }
+}
+
+/// The names that the records are of.
+fn names_of(alloc: Global, listed: &[Keyed]) -> Result<Vec<String>, StoreError>
+    ensures read { IfOk result (λ names. map_list string_bytes names.items ≡ map_list (λ e. e.0) listed.now) }
+    ensures refused { IfErr result (λ e. ((e ≡ Damaged) × (¬ AllByRecursion IsName (map_list (λ e. e.0) listed.now)))
+        ⊎ IsResource e) }
+    ensures caused { IfErr result (IsCaused (λ _. ⊥)) }
+{
+    let mut names = Vec::new(alloc);
+    for record in listed {
+        match read_name(alloc, &record.key) {
+            Ok(name) => names.push(name)?,
+            Err(error) => return Err(error),
+        }
+    }
+    Ok(names)
+}
+
+/// Declares a table without rows under a name that no table has, inside a transaction.
+pub fn put_table<S: Alter>(
+    conn: &mut Connection<S>,
+    alloc: Global,
+    name: &str,
+    schema: &Schema,
+) -> Result<(), StoreError>
+    requires named { IsName name.now }
+    requires free { HasCleanDisk (state S.Store conn.old)
+        → schema_at (tables_in (state S.Store conn.old).now) name.now ≡ None }
+    ensures declared { IsSound (state S.Store conn.old) → IsTrue (state S.Store conn.old).in_transaction
+        → HasCleanDisk (state S.Store conn.new)
+        → OnOk result (AddsTable (tables_in (state S.Store conn.old).now) name.now schema.now
+        (tables_in (state S.Store conn.new).now)) }
+    ensures refused { IfErr result IsResource }
+    ensures caused { IsSound (state S.Store conn.old) → IsTrue (state S.Store conn.old).in_transaction
+        → HasCleanDisk (state S.Store conn.new) → IfErr result
+        (IsCaused (WriteFails (state S.Store conn.old) (state S.Store conn.new) (puts false [] name.now (declaration_bytes schema.now)))) }
+    ensures leads { IsSound (state S.Store conn.old) → IsTrue (state S.Store conn.old).in_transaction
+        → HasCleanDisk (state S.Store conn.new)
+        → OnOk result (LeadsOn (IsDeclarationOf (tables_in (state S.Store conn.old).now) name.now schema.now) (state S.Store conn.old) (state S.Store conn.new)) }
+    ensures kept { IsSound (state S.Store conn.old) → IsTrue (state S.Store conn.old).in_transaction
+        → KeepsStore (state S.Store conn.old) (state S.Store conn.new) }
+{
+    let bytes = write_declaration(alloc, schema)?;
+    put_record(conn, "", name.as_bytes(), &bytes, false).map_err(refused)
+}

@@ -1,7 +1,0 @@
--- `texts::write_groups`: what it ensures.
-use Rattle.std.proofs.Common.{refl}
-use Rattle.cs_texts.proofs.GatherLemmas.{Writes-flushed}
-use Rattle.cs_texts.proofs.texts.write_groups.Goals as goal
-
-pub returns : goal.returns
-returns g c = Writes-flushed _ refl c.new-gather.ensures c.in_ok-add_groups.ensures.gathered c.flush.ensures.written

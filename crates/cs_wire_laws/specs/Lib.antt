@@ -1,0 +1,2 @@
+pub mod Laws
+pub use Rattle.cs_wire_entries.specs.ReadFaults

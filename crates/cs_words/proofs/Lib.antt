@@ -1,2 +1,0 @@
-pub mod WordsLemmas
-pub mod Examples
