@@ -6,7 +6,9 @@ use Rattle.cs_group.specs.Applying.{Choices, IsClean, IsApplied}
 use Rattle.cs_apply_rows.specs.declared.report.Report.{Report}
 use Rattle.cs_apply_rows.specs.declared.running.Direction.TheVariants.{Inverse}
 use Rattle.cs_group.specs.declared.conflict.Noop.TheVariants as noop
-use Rattle.cs_apply_rows.specs.Running.{Applies, AlwaysAborts, IsNoReadFault}
+use Rattle.cs_apply_rows.specs.Running.{Applies, AlwaysAborts, IsNoReadFault, directed}
+use Rattle.cs_apply_rows.specs.Writes.{IsRunWrite}
+use Rattle.cs_rows.specs.Rows.{Write}
 use Rattle.cs_session.specs.declared.fault.SessionFault.{SessionFault}
 use Rattle.cs_session.specs.declared.fault.SessionFault.TheVariants.{Apply}
 use Rattle.cs_session.specs.FirstImages.{Notes, rewound, rewound_state, recorded_changes}
@@ -31,6 +33,10 @@ pub record Undoes (notes : Notes) (old : State) (report : Report) (new : State) 
 -- an undo makes this state: the attached tables have the rows from before
 abbrev pub UndoesInto : Notes → State → State → Type 0
 UndoesInto notes old left = left ≡ rewound_state notes old
+
+-- an entry of the inverse of the net changeset would make this write, where each table is there as it was attached
+abbrev pub IsUndoWrite : Notes → State → State → Write → Type 0
+IsUndoWrite notes old held write = HasTables old notes × IsRunWrite (directed Inverse (recorded_changes notes old)) held write
 
 -- what it may be refused with, whatever the disk returns
 abbrev pub IsUndoRefusal : SessionFault → Type 0

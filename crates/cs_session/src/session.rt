@@ -15,11 +15,11 @@ ghost use Rattle.cs_session.specs.FirstImages.{AttachedTable, IsNotes, rewound, 
 ghost use Rattle.cs_session.specs.Attaching.{Attaches, RefusesAttach, IsAttachRefusal, IsNewTable};
 ghost use Rattle.cs_session.specs.Changes.{HasTables, IsCaused, IsChangesRefusal, IsResource, RefusesChanges};
 ghost use Rattle.cs_session.specs.Recording.{Records, RefusesEdit, IsEditRefusal, RecordsApply, RefusesApply, IsApplyRefusal};
-ghost use Rattle.cs_apply_rows.specs.declared.running.Direction.TheVariants.{Forward as ForwardRun, Inverse as InverseRun};
+ghost use Rattle.cs_apply_rows.specs.declared.running.Direction.TheVariants.{Forward as ForwardRun};
 ghost use Rattle.cs_apply.specs.Crash.{AppliesInto};
-ghost use Rattle.cs_apply_rows.specs.Running.{Leads, directed};
-ghost use Rattle.cs_apply_rows.specs.Writes.{IsFileWrite, IsRunWrite};
-ghost use Rattle.cs_session.specs.Undoing.{LeadsBackTo, Undoes, UndoesInto, IsUndoRefusal};
+ghost use Rattle.cs_apply_rows.specs.Running.{Leads};
+ghost use Rattle.cs_apply_rows.specs.Writes.{IsFileWrite};
+ghost use Rattle.cs_session.specs.Undoing.{LeadsBackTo, Undoes, UndoesInto, IsUndoRefusal, IsUndoWrite};
 
 use crate::applying::apply_noted;
 use crate::attached::are_unwritten;
@@ -268,8 +268,8 @@ impl Session {
         ensures shut { HasCleanDisk (state S.Store store.new)
             → RefusesShut (state S.Store store.old) IsResource result }
         ensures caused { HasCleanDisk (state S.Store store.new) → IfErr result (IsCaused
-            (StoreFails (Writes (IsRunWrite (directed InverseRun (recorded_changes self.now
-            (tables_in (state S.Store store.old).now))))) (state S.Store store.old) (state S.Store store.new))) }
+            (StoreFails (Writes (IsUndoWrite self.now (tables_in (state S.Store store.old).now)))
+            (state S.Store store.old) (state S.Store store.new))) }
         ensures named { IfErr result IsUndoRefusal }
         ensures at_rest { HasCleanDisk (state S.Store store.new) → OnOk result (IsAtRest (state S.Store store.new)) }
         ensures others { HasCleanDisk (state S.Store store.new)

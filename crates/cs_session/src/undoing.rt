@@ -1,12 +1,9 @@
 //! The rows from before, given back.
 ghost use Rattle.std.specs.Prelude.{◌≡◌, map, IfOk, IfErr, is_ok};
 ghost use Rattle.cs_value.specs.State.{IsState};
-ghost use Rattle.cs_apply_rows.specs.declared.running.Direction.TheVariants.{Inverse as InverseRun};
-ghost use Rattle.cs_apply_rows.specs.Running.{directed};
-ghost use Rattle.cs_apply_rows.specs.Writes.{IsRunWrite};
-ghost use Rattle.cs_session.specs.FirstImages.{IsNotes, recorded_changes};
+ghost use Rattle.cs_session.specs.FirstImages.{IsNotes};
 ghost use Rattle.cs_session.specs.Changes.{RefusesChanges, IsCaused};
-ghost use Rattle.cs_session.specs.Undoing.{Undoes, IsUndoRefusal};
+ghost use Rattle.cs_session.specs.Undoing.{Undoes, IsUndoRefusal, IsUndoWrite};
 ghost use Rattle.cs_session.specs.Views.{attached_of};
 
 use crate::attached::Attached;
@@ -30,12 +27,10 @@ pub(crate) fn undo_rows<B: Rows>(
     ensures refused { B.is_honest rows.new
         → IfErr result (RefusesChanges (B.state rows.old) (map attached_of tables.now)) }
     ensures named { IfErr result IsUndoRefusal }
-    ensures caused { B.is_honest rows.new → IfErr result (IsCaused (B.fails (IsRunWrite
-        (directed InverseRun (recorded_changes (map attached_of tables.now) (B.state rows.old))))
-        rows.old rows.new)) }
+    ensures caused { B.is_honest rows.new → IfErr result (IsCaused (B.fails
+        (IsUndoWrite (map attached_of tables.now) (B.state rows.old)) rows.old rows.new)) }
     ensures was_honest { B.is_honest rows.new → B.is_honest rows.old }
-    ensures kept { B.keeps
-        (IsRunWrite (directed InverseRun (recorded_changes (map attached_of tables.now) (B.state rows.old))))
+    ensures kept { B.keeps (IsUndoWrite (map attached_of tables.now) (B.state rows.old))
         (is_ok result) rows.old rows.new }
 {
     changeset_files_law();

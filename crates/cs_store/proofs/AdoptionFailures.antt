@@ -38,17 +38,17 @@ module _ {S : Type 0} (g : Ghosts S) (found mid last : Held S) where
       → (cause : Cause) → SetUpFails g mid last cause → SetUpFails g found last cause
   set_up_from same keeps clean later _ (by_read cause fails) = by_read cause (read_then (state g found) (state g mid) (state g last) cause keeps clean later fails)
   set_up_from same keeps clean later _ (unsupported is) = unsupported (subst (λ (db : Database). IsUnsupported db.schema) same is)
-  set_up_from same keeps clean later _ (by_making was now cause lacks it fails after) =
-      by_making was now cause (subst (λ (db : Database). LacksRecords db.schema) same lacks) (inside_from (state g found) (state g mid) (state g was) _ _ keeps (λ db is. is ∙ same) it) fails after
-  set_up_from same keeps clean later _ (by_version was now cause it fails after) =
+  set_up_from same keeps clean later _ (by_making was now cause lacks it ran fails after) =
+      by_making was now cause (subst (λ (db : Database). LacksRecords db.schema) same lacks) (inside_from (state g found) (state g mid) (state g was) _ _ keeps (λ db is. is ∙ same) it) ran fails after
+  set_up_from same keeps clean later _ (by_version was now cause it ran fails after) =
       by_version was now cause (inside_from (state g found) (state g mid) (state g was) _ _ keeps
-      (λ db shown. (shown.0, subst (λ (d : Database). (db ≡ d) ⊎ HasMade d db) same shown.1)) it) fails after
+      (λ db shown. (shown.0, subst (λ (d : Database). (db ≡ d) ⊎ HasMade d db) same shown.1)) it) ran fails after
 
   pub set_up_to : KeepsCrash (state g mid) (state g last) → (cause : Cause) → SetUpFails g found mid cause → SetUpFails g found last cause
   set_up_to later _ (by_read cause fails) = by_read cause (reads_to (state g found) (state g mid) (state g last) cause later fails)
   set_up_to later _ (unsupported is) = unsupported is
-  set_up_to later _ (by_making was now cause lacks it fails after) = by_making was now cause lacks it fails (crash_then (state g now) (state g mid) (state g last) after later)
-  set_up_to later _ (by_version was now cause it fails after) = by_version was now cause it fails (crash_then (state g now) (state g mid) (state g last) after later)
+  set_up_to later _ (by_making was now cause lacks it ran fails after) = by_making was now cause lacks it ran fails (crash_then (state g now) (state g mid) (state g last) after later)
+  set_up_to later _ (by_version was now cause it ran fails after) = by_version was now cause it ran fails (crash_then (state g now) (state g mid) (state g last) after later)
 
 -- ---- the refusals of the steps
 
@@ -57,13 +57,13 @@ module _ {S : Type 0} (g : Ghosts S) (found last : Held S) where
   read_refused f fails =
       so_caused (ReadFails (state g found) (state g last)) (SetUpFails g found last) (refusal_of f) (λ cause why. by_read cause why) (caused (CannotRead (state g found) (state g last)) f fails)
 
-  pub making_refused : LacksRecords (state g found).now.schema → IsTrue (state g found).in_transaction → (f : RecordsError) → IsFailure (CannotMake (state g found) (state g last)) f
+  pub making_refused : LacksRecords (state g found).now.schema → IsTrue (state g found).in_transaction → KeepsCrash (state g found) (state g last) → (f : RecordsError) → IsFailure (CannotMake (state g found) (state g last)) f
       → IsCaused (SetUpFails g found last) (refusal_of f)
-  making_refused lacks inside f fails =
-      so_caused _ (SetUpFails g found last) (refusal_of f) (λ cause why. by_making found last cause lacks (record { inside = inside; shows = refl; crash = crash_itself }) why crash_itself)
+  making_refused lacks inside ran f fails =
+      so_caused _ (SetUpFails g found last) (refusal_of f) (λ cause why. by_making found last cause lacks (record { inside = inside; shows = refl; crash = crash_itself }) ran why crash_itself)
       (caused (CannotMake (state g found) (state g last)) f fails)
 
   pub version_refused : {X : Type 0} (was : Held S) (result : Result X StoreError)
       → IsInside (state g found) (state g was) (λ db. HoldsRecords db × ((db ≡ (state g found).now) ⊎ HasMade (state g found).now db))
-      → IfErr result (IsCaused (VersionFails (state g was) (state g last))) → IfErr result (IsCaused (SetUpFails g found last))
-  version_refused was result it = caused_so result (VersionFails (state g was) (state g last)) (SetUpFails g found last) (λ cause why. by_version was last cause it why crash_itself)
+      → KeepsCrash (state g was) (state g last) → IfErr result (IsCaused (VersionFails (state g was) (state g last))) → IfErr result (IsCaused (SetUpFails g found last))
+  version_refused was result it ran = caused_so result (VersionFails (state g was) (state g last)) (SetUpFails g found last) (λ cause why. by_version was last cause it ran why crash_itself)

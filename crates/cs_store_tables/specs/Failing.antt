@@ -38,7 +38,7 @@ ReadFails old new = IsCauseOf (CannotRead old new)
 abbrev pub WriteFails : State → State → Statement → Cause → Type 0
 WriteFails old new statement cause = IsApt old.now statement × IsCauseOf (CannotWrite old new statement) cause
 
--- No transaction is open to write in.
+-- No transaction is open to write in. The cause is Other.
 abbrev pub IsOutside : State → Cause → Type 0
 IsOutside s cause = (s.in_transaction ≡ false) × (cause ≡ Other)
 
@@ -66,7 +66,7 @@ IsStatementOf (puts_row name key row) (removes tab k) = ⊥
 IsStatementOf (removes_row name key) (puts is_new tab k value) = ⊥
 IsStatementOf (removes_row name key) (removes tab k) = (tab ≡ name) × (k ≡ key)
 
--- The statement writes the record of a write to rows of which `Is` holds, with the tables as they are then.
+-- The statement writes the record of a write to rows, and `Is` holds of the write and of the tables as they are then.
 abbrev pub Writes : (tables.State → Write → Type 0) → tables.State → Statement → Type 0
 Writes Is held statement = (write : Write) × IsStatementOf write statement × Is held write
 
@@ -78,13 +78,13 @@ IsDeclarationOf old name schema held statement = (held ≡ old) × (statement �
 abbrev pub IsMade : (tables.State → Statement → Type 0) → Database → Statement → Type 0
 IsMade Is db statement = Is (tables_in db) statement × IsApt db statement
 
--- An accepted call goes on: a transaction that was open still is, and statements of which `Is` holds lead from the
--- database that was shown to the one that is.
+-- An accepted call goes on: a transaction that was open still is, and statements lead from the database that was shown
+-- to the one that is. `Is` holds of each.
 pub record LeadsOn (Is : tables.State → Statement → Type 0) (old new : State) : Type 0 where
   pub inside : IsTrue old.in_transaction → IsTrue new.in_transaction
   pub leads : LeadsTo (IsMade Is) old.step_limit old.now new.now
 
--- The database `at`, to which statements of which `Is` holds lead, refuses another.
+-- Statements lead to the database `at`, and it refuses one more. `Is` holds of each of them, also of that one.
 pub record IsRefused (Is : tables.State → Statement → Type 0) (limit : Option ℕ) (from : Database) (error : Error) :
     Type 0 where
   pub at : Database
@@ -93,8 +93,8 @@ pub record IsRefused (Is : tables.State → Statement → Type 0) (limit : Optio
   pub is : IsMade Is at statement
   pub refused : Refuses limit at statement error
 
--- The disk failed between the ends of a call, or the connection limits the steps of a query, or a statement of which
--- `Is` holds is refused.
+-- The disk failed between the ends of a call, or the connection was shut or limits the steps of a query, or a database
+-- to which statements lead refuses one more (`IsRefused`).
 abbrev pub CallFails : (tables.State → Statement → Type 0) → State → State → Error → Type 0
 CallFails Is old new error = CannotRead old new error ⊎ IsRefused Is old.step_limit old.now error
 
@@ -115,8 +115,8 @@ pub record HasMade (found now : Database) : Type 0 where
   pub empty : record_rows now ≡ []
   pub others : KeepsOthers found now
 
--- Inside the transaction of an adoption, the connection shows a database of which this holds. No fault is forgotten, and
--- the limit on the steps of a query is as it was.
+-- Inside the transaction of an adoption, `Shown` holds of the database that the connection shows. No fault is forgotten,
+-- and the limit on the steps of a query is as it was.
 pub record IsInside (found was : State) (Shown : Database → Type 0) : Type 0 where
   pub inside : IsTrue was.in_transaction
   pub shows : Shown was.now
@@ -128,17 +128,19 @@ VersionFails old new = IsCauseOf (FailsAt old new (puts false [] [] version))
 
 -- A database is not set up as a store. A read fails; or the statements on records cannot be used under its schema; or
 -- it lacks the table of records, and that is not made; or it has that table, or gets it, and the version is not written.
--- No fault that the statement counts is forgotten.
+-- No fault is forgotten from the database that was found to the last one.
 pub data SetUpFails {S : Type 0} (g : Ghosts S) (found last : Held S) : Cause → Type 0 where
   by_read : (cause : Cause) → ReadFails (state g found) (state g last) cause → SetUpFails g found last cause
   unsupported : IsUnsupported (state g found).now.schema → SetUpFails g found last Other
   by_making : (was now : Held S) (cause : Cause) → LacksRecords (state g found).now.schema
       → IsInside (state g found) (state g was) (λ db. db ≡ (state g found).now)
-      → IsCauseOf (CannotMake (state g was) (state g now)) cause → KeepsCrash (state g now) (state g last)
+      → KeepsCrash (state g was) (state g now) → IsCauseOf (CannotMake (state g was) (state g now)) cause
+      → KeepsCrash (state g now) (state g last)
       → SetUpFails g found last cause
   by_version : (was now : Held S) (cause : Cause)
       → IsInside (state g found) (state g was) (λ db. HoldsRecords db × ((db ≡ (state g found).now) ⊎ HasMade (state g found).now db))
-      → VersionFails (state g was) (state g now) cause → KeepsCrash (state g now) (state g last)
+      → KeepsCrash (state g was) (state g now) → VersionFails (state g was) (state g now) cause
+      → KeepsCrash (state g now) (state g last)
       → SetUpFails g found last cause
 
 -- A database is not adopted: a transaction is open, or the disk failed, also at the commit; or it is not set up as a

@@ -5,7 +5,7 @@ use Rattle.cs_wire.specs.Changeset.{GroupData, file_bytes}
 use Rattle.cs_apply_rows.specs.declared.running.Direction.TheVariants.{Inverse}
 use Rattle.cs_apply_rows.specs.Running.{directed}
 use Rattle.cs_apply_rows.specs.Writes.{IsRunWrite}
-use Rattle.cs_session.specs.FirstImages.{recorded_changes}
+use Rattle.cs_session.specs.Undoing.{IsUndoWrite}
 use Rattle.cs_session.specs.Views.{attached_of}
 use Rattle.cs_session.proofs.CauseLemmas.{caused_on, run_caused_on}
 use Rattle.cs_session.proofs.OutcomeLemmas.{undoes, refuses_undo}
@@ -38,13 +38,15 @@ returns-in_err-changeset-clause-caused g c = λ honest.
 
 pub returns-in_err-run_changeset_in-clause-caused : goal.returns-in_err-run_changeset_in-clause-caused
 returns-in_err-run_changeset_in-clause-caused g c = λ honest.
-    let Is = IsRunWrite (directed Inverse (recorded_changes (map attached_of c.args.tables.now) (g.B.Rows.state c.args.rows.now))) in
-    let made = c.in_ok-changeset.ensures.made (c.run_changeset_in.ensures.was_honest honest) in
+    let Is = IsUndoWrite (map attached_of c.args.tables.now) (g.B.Rows.state c.args.rows.now) in
+    let before = c.run_changeset_in.ensures.was_honest honest in
+    let made = c.in_ok-changeset.ensures.made before in
+    let has = c.in_ok-changeset.ensures.attached before in
     run_caused_on c.from_residual-in_err-run_changeset_in.result _ _ c.in_err-run_changeset_in.field-0.0 c.from_residual-in_err-run_changeset_in.ensures.1
     (λ why by. g.B.Rows.fails_then Is _ _ _ _ why (g.B.Rows.keeps_so _ Is _ _ _ (λ held write h none. absurd none) c.in_ok-changeset.ensures.kept)
-    (g.B.Rows.keeps_so _ Is _ _ _ (λ held write h is. subst (λ (groups : List GroupData). IsRunWrite (directed Inverse groups) held write) made is)
+    (g.B.Rows.keeps_so _ Is _ _ _ (λ held write h is. (has, subst (λ (groups : List GroupData). IsRunWrite (directed Inverse groups) held write) made is))
     c.in_err-run_changeset_in.ensures.kept) honest
-    (g.B.Rows.fails_so _ _ _ _ why (λ held write is. subst (λ (groups : List GroupData). IsRunWrite (directed Inverse groups) held write) made is) by)) (c.in_err-run_changeset_in.ensures.caused honest)
+    (g.B.Rows.fails_so _ _ _ _ why (λ held write is. (has, subst (λ (groups : List GroupData). IsRunWrite (directed Inverse groups) held write) made is)) by)) (c.in_err-run_changeset_in.ensures.caused honest)
 
 pub returns-in_err-changeset-clause-kept : goal.returns-in_err-changeset-clause-kept
 returns-in_err-changeset-clause-kept g c =
@@ -53,18 +55,22 @@ returns-in_err-changeset-clause-kept g c =
 
 pub returns-in_err-run_changeset_in-clause-kept : goal.returns-in_err-run_changeset_in-clause-kept
 returns-in_err-run_changeset_in-clause-kept g c =
-    let Is = IsRunWrite (directed Inverse (recorded_changes (map attached_of c.args.tables.now) (g.B.Rows.state c.args.rows.now))) in
+    let Is = IsUndoWrite (map attached_of c.args.tables.now) (g.B.Rows.state c.args.rows.now) in
     let p = err_from_is_err_and c.from_residual-in_err-run_changeset_in.result c.from_residual-in_err-run_changeset_in.ensures.1 in
     rw p.1
     (g.B.Rows.keeps_then Is _ _ _ _ (g.B.Rows.keeps_so _ Is _ _ _ (λ held write h none. absurd none) c.in_ok-changeset.ensures.kept)
     (g.B.Rows.keeps_so _ Is _ _ _
-    (λ held write honest is. subst (λ (groups : List GroupData). IsRunWrite (directed Inverse groups) held write) (c.in_ok-changeset.ensures.made (c.run_changeset_in.ensures.was_honest honest)) is)
+    (λ held write honest is.
+    let before = c.run_changeset_in.ensures.was_honest honest in
+    (c.in_ok-changeset.ensures.attached before, subst (λ (groups : List GroupData). IsRunWrite (directed Inverse groups) held write) (c.in_ok-changeset.ensures.made before) is))
     c.in_err-run_changeset_in.ensures.kept))
 
 pub returns-clause-kept : goal.returns-clause-kept
 returns-clause-kept g c =
-    let Is = IsRunWrite (directed Inverse (recorded_changes (map attached_of c.args.tables.now) (g.B.Rows.state c.args.rows.now))) in
+    let Is = IsUndoWrite (map attached_of c.args.tables.now) (g.B.Rows.state c.args.rows.now) in
     g.B.Rows.keeps_then Is _ _ _ _ (g.B.Rows.keeps_so _ Is _ _ _ (λ held write h none. absurd none) c.in_ok-changeset.ensures.kept)
     (g.B.Rows.keeps_so _ Is _ _ _
-    (λ held write honest is. subst (λ (groups : List GroupData). IsRunWrite (directed Inverse groups) held write) (c.in_ok-changeset.ensures.made (c.run_changeset_in.ensures.was_honest honest)) is)
+    (λ held write honest is.
+    let before = c.run_changeset_in.ensures.was_honest honest in
+    (c.in_ok-changeset.ensures.attached before, subst (λ (groups : List GroupData). IsRunWrite (directed Inverse groups) held write) (c.in_ok-changeset.ensures.made before) is))
     c.in_ok-run_changeset_in.ensures.kept)

@@ -38,7 +38,7 @@ returns-in-Ok-true-clause-caused g c clean =
     let same = (c.in-Ok-true.ensures.reads read_clean).0 in
     let holds = scanned_holds old.now _ declared.0 declared.1 (c.in-Ok-true.ensures.passed read_clean declared.0 c.in-Ok-true.field-0-test) in
     version_refused g.S.Store c.args.conn.now c.write_version.new.conn c.all_pass.new.conn c.write_version.result
-    (record { inside = same.mode ∙ inside.inside; shows = (subst HoldsRecords (sym same.now_is) holds, inl same.now_is); crash = c.all_pass.ensures.keeps_crash }) (c.write_version.ensures.caused clean)
+    (record { inside = same.mode ∙ inside.inside; shows = (subst HoldsRecords (sym same.now_is) holds, inl same.now_is); crash = c.all_pass.ensures.keeps_crash }) c.write_version.ensures.survives (c.write_version.ensures.caused clean)
 
 pub returns-in-Err-clause-caused : goal.returns-in-Err-clause-caused
 returns-in-Err-clause-caused g c clean =

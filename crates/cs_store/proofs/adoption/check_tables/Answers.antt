@@ -64,7 +64,7 @@ returns-in-Ok-true-clause-caused g c clean =
     let same = (c.in-Ok-true.ensures.reads read_clean).0 in
     let holds = scanned_holds old.now _ declared.0 declared.1 (c.in-Ok-true.ensures.passed read_clean declared.0 c.in-Ok-true.field-0-test) in
     version_refused g.S.Store c.args.conn.now c.renew_version.new.conn c.all_pass.new.conn c.renew_version.result
-    (record { inside = same.mode ∙ inside.inside; shows = (subst HoldsRecords (sym same.now_is) holds, inl same.now_is); crash = c.all_pass.ensures.keeps_crash }) (c.renew_version.ensures.caused clean)
+    (record { inside = same.mode ∙ inside.inside; shows = (subst HoldsRecords (sym same.now_is) holds, inl same.now_is); crash = c.all_pass.ensures.keeps_crash }) c.renew_version.ensures.survives (c.renew_version.ensures.caused clean)
 
 pub returns-clause-caused : goal.returns-clause-caused
 returns-clause-caused g c clean =

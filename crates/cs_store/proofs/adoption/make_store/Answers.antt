@@ -22,7 +22,7 @@ returns-in-Err-clause-caused g c clean =
     let old = state g.S.Store c.args.conn.now in
     let inside = c.requires.inside (was_clean old (state g.S.Store c.make_table.new.conn) c.make_table.ensures.survives clean) in
     subst (IsCaused (SetUpFails g.S.Store c.args.conn.now c.make_table.new.conn)) (sym c.refused.ensures.is)
-    (making_refused g.S.Store c.args.conn.now c.make_table.new.conn c.requires.lacks inside.inside c.in-Err.error (c.in-Err.ensures.failed clean))
+    (making_refused g.S.Store c.args.conn.now c.make_table.new.conn c.requires.lacks inside.inside c.make_table.ensures.survives c.in-Err.error (c.in-Err.ensures.failed clean))
 
 pub returns-in-Ok-clause-caused : goal.returns-in-Ok-clause-caused
 returns-in-Ok-clause-caused g c clean =
@@ -32,4 +32,4 @@ returns-in-Ok-clause-caused g c clean =
     let made = c.in-Ok.ensures.made made_clean c.requires.lacks in
     let made_in : HasMade old.now mid.now = record { lacked = c.requires.lacks; holds = made.0; empty = made.1; others = c.in-Ok.ensures.others made_clean } in
     version_refused g.S.Store c.args.conn.now c.write_version.new.conn c.make_table.new.conn c.write_version.result
-    (record { inside = (c.in-Ok.ensures.goes_on made_clean).mode; shows = (made.0, inr made_in); crash = c.make_table.ensures.survives }) (c.write_version.ensures.caused clean)
+    (record { inside = (c.in-Ok.ensures.goes_on made_clean).mode; shows = (made.0, inr made_in); crash = c.make_table.ensures.survives }) c.write_version.ensures.survives (c.write_version.ensures.caused clean)

@@ -1,4 +1,4 @@
--- `session::Session::undo`: what `undo_rows` asks for, the clauses `caused`, `others`, `atomic`, `left` and `stands`.
+-- `session::Session::undo`: what `undo_rows` asks for, the clauses `undone`, `caused`, `others`, `atomic`, `left` and `stands`.
 use Rattle.std.proofs.Common.{◌≡◌, map, OnErr, rules, IfErr, refl, subst}
 use Rattle.sqlite.specs.Held.{state}
 use Rattle.sqlite.specs.State.{HasCleanDisk}
@@ -6,8 +6,8 @@ use Rattle.cs_store.specs.Laws.{was_clean}
 use Rattle.cs_store.specs.Crash.{CanBegin}
 use Rattle.cs_store.specs.Records.{KeepsContent, KeepsCrash}
 use Rattle.cs_store.specs.Store.{tables_in}
-use Rattle.cs_store.proofs.CrashLemmas.{idle_atomic, dropped_atomic, begun_tables, made_atomic, made_others, left_new, refused_stands}
-use Rattle.cs_session.specs.Undoing.{UndoesInto}
+use Rattle.cs_store.proofs.CrashLemmas.{idle_atomic, dropped_atomic, begun_tables, made_atomic, made_tables, made_others, left_new, refused_stands}
+use Rattle.cs_session.specs.Undoing.{IsUndoWrite, Undoes, UndoesInto}
 use Rattle.cs_session.specs.Views.{attached_of}
 use Rattle.cs_session.proofs.OutcomeLemmas.{begun_state}
 use Rattle.cs_store.specs.Failing.{BatchFails, BeginFails, Writes}
@@ -15,11 +15,7 @@ use Rattle.cs_store.specs.Faults as stores
 use Rattle.cs_store.proofs.FailureLemmas.{begin_fails, commit_fails, work_fails}
 use Rattle.cs_session.proofs.CauseLemmas.{caused_on, rows_caused_on}
 use Rattle.cs_value.specs.State.{State}
-use Rattle.cs_apply_rows.specs.declared.running.Direction.TheVariants.{Inverse}
-use Rattle.cs_apply_rows.specs.Running.{directed}
-use Rattle.cs_apply_rows.specs.Writes.{IsRunWrite}
 use Rattle.cs_session.specs.Changes.{IsCaused}
-use Rattle.cs_session.specs.FirstImages.{recorded_changes}
 use Rattle.cs_session.proofs.session.Session.undo.Goals as goal
 
 pub undo_rows-requires-clause-state : goal.undo_rows-requires-clause-state
@@ -63,6 +59,18 @@ returns-clause-atomic g c =
     let notes : map attached_of c.as_slice.result.now ≡ c.args.self.now = search rules in
     rw (← same) (made_atomic old begun mid last c.crash_law.ensures c.in_ok-batch.ensures.survives c.undo_rows.ensures.kept.1 (UndoesInto c.args.self.now)
     c.in_ok-batch.ensures.begun (λ clean. rw notes at ((c.in_ok-report.ensures.undone clean).rewound)) c.commit.ensures.atomic.survives)
+
+pub returns-clause-undone : goal.returns-clause-undone
+returns-clause-undone g c =
+    let old = state g.S.Store c.args.store.now in
+    let begun = state g.S.Store c.in_ok-batch.batch.store.now in
+    let mid = state g.S.Store c.undo_rows.new.rows.store.now in
+    let last = state g.S.Store c.commit.new.self.0 in
+    let same : c.commit.new.self.0 ≡ c.store-2-1.given.0 = search rules in
+    let notes : map attached_of c.as_slice.result.now ≡ c.args.self.now = search rules in
+    let undone = rw notes at c.in_ok-report.ensures.undone in
+    rw (← same) (made_tables old begun mid last (λ before after. Undoes c.args.self.now before c.in_ok-report.report after)
+    c.in_ok-batch.ensures.begun c.undo_rows.ensures.kept.1 c.commit.ensures.atomic.survives undone c.in_ok-commit.ensures.committed)
 
 pub returns-clause-others : goal.returns-clause-others
 returns-clause-others g c clean =
@@ -112,7 +120,7 @@ returns-in_err-report-clause-caused g c clean =
     let mid_clean = was_clean mid last c.drop-batch.ensures.survives last_clean in
     let tables = begun_tables old begun mid c.in_ok-batch.ensures.begun keeps mid_clean in
     let notes : map attached_of c.as_slice.result.now ≡ c.args.self.now = search rules in
-    let failed = subst (λ (s : State). IsCaused (BatchFails (Writes (IsRunWrite (directed Inverse (recorded_changes (map attached_of c.as_slice.result.now) s)))) begun mid) c.in_err-report.field-0.0) tables
+    let failed = subst (λ (s : State). IsCaused (BatchFails (Writes (IsUndoWrite (map attached_of c.as_slice.result.now) s)) begun mid) c.in_err-report.field-0.0) tables
     (c.in_err-report.ensures.caused mid_clean) in
     rw (← same) (caused_on c.from_residual-in_err-report.result _ _ c.in_err-report.field-0.0 c.from_residual-in_err-report.ensures.1
     (work_fails _ old begun mid last c.in_ok-batch.ensures.begun c.in_ok-batch.ensures.survives keeps mid_clean c.drop-batch.ensures.survives) (rw notes at failed))
