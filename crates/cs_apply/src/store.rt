@@ -7,6 +7,7 @@ ghost use Rattle.cs_value.specs.State.{State};
 ghost use Rattle.cs_store.specs.Crash.{CanBegin, IsAtomic, LeavesOnly};
 ghost use Rattle.cs_store.specs.Failing.{StoreFails, Writes};
 ghost use Rattle.cs_store.specs.Records.{KeepsContent, KeepsOthers};
+ghost use Rattle.cs_store.specs.Transacts.{Transacts};
 ghost use Rattle.cs_store.specs.Store.{IsAtRest, RefusesShut, tables_in};
 ghost use Rattle.cs_group.specs.declared.conflict.Choice.TheVariants.{Abort as AbortChoice};
 ghost use Rattle.cs_group.specs.declared.conflict.Noop.TheVariants.{Report as Reported};
@@ -52,17 +53,8 @@ pub fn apply<S: Alter, H: Fn(&Conflict) -> Choice>(
     ensures caused { HasCleanDisk (state S.Store store.new) → IfErr result (IsCaused (StoreFails
         (Writes (IsFileWrite ForwardRun file.now)) (state S.Store store.old) (state S.Store store.new))) }
     ensures named { IfErr result IsNamed }
-    ensures at_rest { HasCleanDisk (state S.Store store.new) → OnOk result (IsAtRest (state S.Store store.new)) }
-    ensures others { HasCleanDisk (state S.Store store.new)
-        → OnOk result (KeepsOthers (state S.Store store.old).now (state S.Store store.new).now) }
-    ensures kept { HasCleanDisk (state S.Store store.new)
-        → OnErr result (KeepsContent (state S.Store store.old) (state S.Store store.new)) }
-    ensures atomic { IsAtomic CanBegin (AppliesInto (FnReturnsAt H.Fn handler.now) noop file.now ForwardRun (tables_in (state S.Store store.old).now))
-        (state S.Store store.old) (state S.Store store.new) }
-    ensures left { OnOk result (LeavesOnly (λ left. left ≡ tables_in (state S.Store store.new).now)
-        (state S.Store store.new)) }
-    ensures stands { OnErr result (IsTrue (state S.Store store.new).is_open → LeavesOnly
-        (λ left. left ≡ tables_in (state S.Store store.old).committed) (state S.Store store.new)) }
+    ensures transacts { Transacts (AppliesInto (FnReturnsAt H.Fn handler.now) noop file.now ForwardRun (tables_in (state S.Store store.old).now))
+        (state S.Store store.old) (state S.Store store.new) result }
 {
     store.tables_law();
     let written = Writings::Listed(Vec::new(alloc));
@@ -103,17 +95,8 @@ pub fn apply_counted<S: Alter, H: Fn(&Conflict) -> Choice>(
     ensures caused { HasCleanDisk (state S.Store store.new) → IfErr result (IsCaused (StoreFails
         (Writes (IsFileWrite ForwardRun file.now)) (state S.Store store.old) (state S.Store store.new))) }
     ensures named { IfErr result IsNamed }
-    ensures at_rest { HasCleanDisk (state S.Store store.new) → OnOk result (IsAtRest (state S.Store store.new)) }
-    ensures others { HasCleanDisk (state S.Store store.new)
-        → OnOk result (KeepsOthers (state S.Store store.old).now (state S.Store store.new).now) }
-    ensures kept { HasCleanDisk (state S.Store store.new)
-        → OnErr result (KeepsContent (state S.Store store.old) (state S.Store store.new)) }
-    ensures atomic { IsAtomic CanBegin (AppliesInto (FnReturnsAt H.Fn handler.now) noop file.now ForwardRun (tables_in (state S.Store store.old).now))
-        (state S.Store store.old) (state S.Store store.new) }
-    ensures left { OnOk result (LeavesOnly (λ left. left ≡ tables_in (state S.Store store.new).now)
-        (state S.Store store.new)) }
-    ensures stands { OnErr result (IsTrue (state S.Store store.new).is_open → LeavesOnly
-        (λ left. left ≡ tables_in (state S.Store store.old).committed) (state S.Store store.new)) }
+    ensures transacts { Transacts (AppliesInto (FnReturnsAt H.Fn handler.now) noop file.now ForwardRun (tables_in (state S.Store store.old).now))
+        (state S.Store store.old) (state S.Store store.new) result }
 {
     store.tables_law();
     let written = Writings::Counted(0);
@@ -155,17 +138,8 @@ pub fn revert<S: Alter>(
     ensures caused { HasCleanDisk (state S.Store store.new) → IfErr result (IsCaused (StoreFails
         (Writes (IsFileWrite InverseRun file.now)) (state S.Store store.old) (state S.Store store.new))) }
     ensures named { IfErr result IsNamed }
-    ensures at_rest { HasCleanDisk (state S.Store store.new) → OnOk result (IsAtRest (state S.Store store.new)) }
-    ensures others { HasCleanDisk (state S.Store store.new)
-        → OnOk result (KeepsOthers (state S.Store store.old).now (state S.Store store.new).now) }
-    ensures kept { HasCleanDisk (state S.Store store.new)
-        → OnErr result (KeepsContent (state S.Store store.old) (state S.Store store.new)) }
-    ensures atomic { IsAtomic CanBegin (AppliesInto AlwaysAborts Reported file.now InverseRun (tables_in (state S.Store store.old).now))
-        (state S.Store store.old) (state S.Store store.new) }
-    ensures left { OnOk result (LeavesOnly (λ left. left ≡ tables_in (state S.Store store.new).now)
-        (state S.Store store.new)) }
-    ensures stands { OnErr result (IsTrue (state S.Store store.new).is_open → LeavesOnly
-        (λ left. left ≡ tables_in (state S.Store store.old).committed) (state S.Store store.new)) }
+    ensures transacts { Transacts (AppliesInto AlwaysAborts Reported file.now InverseRun (tables_in (state S.Store store.old).now))
+        (state S.Store store.old) (state S.Store store.new) result }
 {
     changeset_files_law();
     let written = Writings::Listed(Vec::new(alloc));
@@ -203,17 +177,8 @@ fn run<S: Alter, H: Fn(&Conflict) -> Choice>(
     ensures caused { HasCleanDisk (state S.Store store.new) → IfErr result (IsCaused (StoreFails
         (Writes (IsFileWrite direction file.now)) (state S.Store store.old) (state S.Store store.new))) }
     ensures named { IfErr result IsNamed }
-    ensures at_rest { HasCleanDisk (state S.Store store.new) → OnOk result (IsAtRest (state S.Store store.new)) }
-    ensures others { HasCleanDisk (state S.Store store.new)
-        → OnOk result (KeepsOthers (state S.Store store.old).now (state S.Store store.new).now) }
-    ensures kept { HasCleanDisk (state S.Store store.new)
-        → OnErr result (KeepsContent (state S.Store store.old) (state S.Store store.new)) }
-    ensures atomic { IsAtomic CanBegin (AppliesInto (FnReturnsAt H.Fn handler.now) noop file.now direction (tables_in (state S.Store store.old).now))
-        (state S.Store store.old) (state S.Store store.new) }
-    ensures left { OnOk result (LeavesOnly (λ left. left ≡ tables_in (state S.Store store.new).now)
-        (state S.Store store.new)) }
-    ensures stands { OnErr result (IsTrue (state S.Store store.new).is_open → LeavesOnly
-        (λ left. left ≡ tables_in (state S.Store store.old).committed) (state S.Store store.new)) }
+    ensures transacts { Transacts (AppliesInto (FnReturnsAt H.Fn handler.now) noop file.now direction (tables_in (state S.Store store.old).now))
+        (state S.Store store.old) (state S.Store store.new) result }
 {
     store.crash_law();
     let mut batch = store.begin()?;

@@ -8,6 +8,7 @@ ghost use Rattle.cs_value.specs.State.{IsState};
 ghost use Rattle.cs_store.specs.Crash.{CanBegin, IsAtomic, LeavesOnly};
 ghost use Rattle.cs_store.specs.Failing.{StoreFails, Writes};
 ghost use Rattle.cs_store.specs.Records.{KeepsContent, KeepsOthers};
+ghost use Rattle.cs_store.specs.Transacts.{Transacts};
 ghost use Rattle.cs_store.specs.Store.{IsAtRest, RefusesShut, tables_in};
 ghost use Rattle.cs_apply_rows.specs.declared.running.Direction.TheVariants.{Forward as ForwardRun};
 ghost use Rattle.cs_apply_rows.specs.Writes.{IsFileWrite};
@@ -49,17 +50,8 @@ pub(crate) fn apply_noted<S: Alter, H: Fn(&Conflict) -> Choice>(
     ensures caused { HasCleanDisk (state S.Store store.new) → IfErr result (IsCaused
         (StoreFails (Writes (IsFileWrite ForwardRun file.now)) (state S.Store store.old) (state S.Store store.new))) }
     ensures named { IfErr result IsApplyRefusal }
-    ensures at_rest { HasCleanDisk (state S.Store store.new) → OnOk result (IsAtRest (state S.Store store.new)) }
-    ensures others { HasCleanDisk (state S.Store store.new)
-        → OnOk result (KeepsOthers (state S.Store store.old).now (state S.Store store.new).now) }
-    ensures kept { HasCleanDisk (state S.Store store.new)
-        → OnErr result (KeepsContent (state S.Store store.old) (state S.Store store.new)) }
-    ensures atomic { IsAtomic CanBegin (AppliesInto (FnReturnsAt H.Fn handler.now) noop file.now ForwardRun (tables_in (state S.Store store.old).now))
-        (state S.Store store.old) (state S.Store store.new) }
-    ensures left { OnOk result (LeavesOnly (λ left. left ≡ tables_in (state S.Store store.new).now)
-        (state S.Store store.new)) }
-    ensures stands { OnErr result (IsTrue (state S.Store store.new).is_open → LeavesOnly
-        (λ left. left ≡ tables_in (state S.Store store.old).committed) (state S.Store store.new)) }
+    ensures transacts { Transacts (AppliesInto (FnReturnsAt H.Fn handler.now) noop file.now ForwardRun (tables_in (state S.Store store.old).now))
+        (state S.Store store.old) (state S.Store store.new) result }
 {
     match apply_batch(alloc, tables, store, file, noop, handler) {
         Ok(report) => {
@@ -96,17 +88,8 @@ fn apply_batch<S: Alter, H: Fn(&Conflict) -> Choice>(
     ensures caused { HasCleanDisk (state S.Store store.new) → IfErr result (IsCaused
         (StoreFails (Writes (IsFileWrite ForwardRun file.now)) (state S.Store store.old) (state S.Store store.new))) }
     ensures named { IfErr result IsApplyRefusal }
-    ensures at_rest { HasCleanDisk (state S.Store store.new) → OnOk result (IsAtRest (state S.Store store.new)) }
-    ensures others { HasCleanDisk (state S.Store store.new)
-        → OnOk result (KeepsOthers (state S.Store store.old).now (state S.Store store.new).now) }
-    ensures kept { HasCleanDisk (state S.Store store.new)
-        → OnErr result (KeepsContent (state S.Store store.old) (state S.Store store.new)) }
-    ensures atomic { IsAtomic CanBegin (AppliesInto (FnReturnsAt H.Fn handler.now) noop file.now ForwardRun (tables_in (state S.Store store.old).now))
-        (state S.Store store.old) (state S.Store store.new) }
-    ensures left { OnOk result (LeavesOnly (λ left. left ≡ tables_in (state S.Store store.new).now)
-        (state S.Store store.new)) }
-    ensures stands { OnErr result (IsTrue (state S.Store store.new).is_open → LeavesOnly
-        (λ left. left ≡ tables_in (state S.Store store.old).committed) (state S.Store store.new)) }
+    ensures transacts { Transacts (AppliesInto (FnReturnsAt H.Fn handler.now) noop file.now ForwardRun (tables_in (state S.Store store.old).now))
+        (state S.Store store.old) (state S.Store store.new) result }
 {
     store.tables_law();
     store.crash_law();

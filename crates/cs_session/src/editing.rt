@@ -9,6 +9,7 @@ ghost use Rattle.cs_store.specs.Crash.{CanBegin, IsAtomic, LeavesOnly};
 ghost use Rattle.cs_store.specs.Failing.{StoreFails, Writes};
 ghost use Rattle.cs_store.specs.Editing.{EditsInto};
 ghost use Rattle.cs_store.specs.Records.{KeepsContent, KeepsOthers};
+ghost use Rattle.cs_store.specs.Transacts.{Transacts};
 ghost use Rattle.cs_store.specs.Store.{IsAtRest, RefusesShut, tables_in};
 ghost use Rattle.cs_session.specs.Changes.{IsCaused, IsResource};
 ghost use Rattle.cs_session.specs.FirstImages.{IsNotes};
@@ -44,17 +45,8 @@ pub(crate) fn edit_noted<S: Alter>(
         (StoreFails (Writes (IsWriteOf (tables_in (state S.Store store.old).now) edit.now))
         (state S.Store store.old) (state S.Store store.new))) }
     ensures named { IfErr result IsEditRefusal }
-    ensures at_rest { HasCleanDisk (state S.Store store.new) → OnOk result (IsAtRest (state S.Store store.new)) }
-    ensures others { HasCleanDisk (state S.Store store.new)
-        → OnOk result (KeepsOthers (state S.Store store.old).now (state S.Store store.new).now) }
-    ensures kept { HasCleanDisk (state S.Store store.new)
-        → OnErr result (KeepsContent (state S.Store store.old) (state S.Store store.new)) }
-    ensures atomic { IsAtomic CanBegin (EditsInto (tables_in (state S.Store store.old).now) edit.now)
-        (state S.Store store.old) (state S.Store store.new) }
-    ensures left { OnOk result (LeavesOnly (λ left. left ≡ tables_in (state S.Store store.new).now)
-        (state S.Store store.new)) }
-    ensures stands { OnErr result (IsTrue (state S.Store store.new).is_open → LeavesOnly
-        (λ left. left ≡ tables_in (state S.Store store.old).committed) (state S.Store store.new)) }
+    ensures transacts { Transacts (EditsInto (tables_in (state S.Store store.old).now) edit.now)
+        (state S.Store store.old) (state S.Store store.new) result }
 {
     match edit_batch(alloc, tables, store, edit) {
         Ok(()) => {
@@ -89,17 +81,8 @@ fn edit_batch<S: Alter>(
         (StoreFails (Writes (IsWriteOf (tables_in (state S.Store store.old).now) edit.now))
         (state S.Store store.old) (state S.Store store.new))) }
     ensures named { IfErr result IsEditRefusal }
-    ensures at_rest { HasCleanDisk (state S.Store store.new) → OnOk result (IsAtRest (state S.Store store.new)) }
-    ensures others { HasCleanDisk (state S.Store store.new)
-        → OnOk result (KeepsOthers (state S.Store store.old).now (state S.Store store.new).now) }
-    ensures kept { HasCleanDisk (state S.Store store.new)
-        → OnErr result (KeepsContent (state S.Store store.old) (state S.Store store.new)) }
-    ensures atomic { IsAtomic CanBegin (EditsInto (tables_in (state S.Store store.old).now) edit.now)
-        (state S.Store store.old) (state S.Store store.new) }
-    ensures left { OnOk result (LeavesOnly (λ left. left ≡ tables_in (state S.Store store.new).now)
-        (state S.Store store.new)) }
-    ensures stands { OnErr result (IsTrue (state S.Store store.new).is_open → LeavesOnly
-        (λ left. left ≡ tables_in (state S.Store store.old).committed) (state S.Store store.new)) }
+    ensures transacts { Transacts (EditsInto (tables_in (state S.Store store.old).now) edit.now)
+        (state S.Store store.old) (state S.Store store.new) result }
 {
     store.tables_law();
     store.crash_law();

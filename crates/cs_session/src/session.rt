@@ -7,6 +7,7 @@ ghost use Rattle.cs_store.specs.Crash.{CanBegin, IsAtomic, LeavesOnly};
 ghost use Rattle.cs_store.specs.Editing.{EditsInto, IsWriteOf};
 ghost use Rattle.cs_store.specs.Failing.{ReadFails, StoreFails, Writes};
 ghost use Rattle.cs_store.specs.Records.{KeepsContent, KeepsCrash, KeepsOthers};
+ghost use Rattle.cs_store.specs.Transacts.{Transacts};
 ghost use Rattle.cs_store.specs.Store.{IsAtRest, KeepsStore, RefusesShut, tables_in};
 ghost use Rattle.cs_value.specs.Table.{IsName};
 ghost use Rattle.cs_value.specs.State.{rows_at};
@@ -150,17 +151,8 @@ impl Session {
             (state S.Store store.old) (state S.Store store.new))) }
         ensures named { IfErr result IsEditRefusal }
         ensures same { OnErr result (self.new ≡ self.old) }
-        ensures at_rest { HasCleanDisk (state S.Store store.new) → OnOk result (IsAtRest (state S.Store store.new)) }
-        ensures others { HasCleanDisk (state S.Store store.new)
-            → OnOk result (KeepsOthers (state S.Store store.old).now (state S.Store store.new).now) }
-        ensures kept { HasCleanDisk (state S.Store store.new)
-            → OnErr result (KeepsContent (state S.Store store.old) (state S.Store store.new)) }
-        ensures atomic { IsAtomic CanBegin (EditsInto (tables_in (state S.Store store.old).now) edit.now)
-            (state S.Store store.old) (state S.Store store.new) }
-        ensures left { OnOk result (LeavesOnly (λ left. left ≡ tables_in (state S.Store store.new).now)
-            (state S.Store store.new)) }
-        ensures stands { OnErr result (IsTrue (state S.Store store.new).is_open → LeavesOnly
-            (λ left. left ≡ tables_in (state S.Store store.old).committed) (state S.Store store.new)) }
+        ensures transacts { Transacts (EditsInto (tables_in (state S.Store store.old).now) edit.now)
+            (state S.Store store.old) (state S.Store store.new) result }
     {
         edit_noted(alloc, &mut self.tables, store, edit)
     }
@@ -199,17 +191,8 @@ impl Session {
             (state S.Store store.new))) }
         ensures named { IfErr result IsApplyRefusal }
         ensures same { OnErr result (self.new ≡ self.old) }
-        ensures at_rest { HasCleanDisk (state S.Store store.new) → OnOk result (IsAtRest (state S.Store store.new)) }
-        ensures others { HasCleanDisk (state S.Store store.new)
-            → OnOk result (KeepsOthers (state S.Store store.old).now (state S.Store store.new).now) }
-        ensures kept { HasCleanDisk (state S.Store store.new)
-            → OnErr result (KeepsContent (state S.Store store.old) (state S.Store store.new)) }
-        ensures atomic { IsAtomic CanBegin (AppliesInto (FnReturnsAt H.Fn handler.now) noop file.now ForwardRun (tables_in (state S.Store store.old).now))
-            (state S.Store store.old) (state S.Store store.new) }
-        ensures left { OnOk result (LeavesOnly (λ left. left ≡ tables_in (state S.Store store.new).now)
-            (state S.Store store.new)) }
-        ensures stands { OnErr result (IsTrue (state S.Store store.new).is_open → LeavesOnly
-            (λ left. left ≡ tables_in (state S.Store store.old).committed) (state S.Store store.new)) }
+        ensures transacts { Transacts (AppliesInto (FnReturnsAt H.Fn handler.now) noop file.now ForwardRun (tables_in (state S.Store store.old).now))
+            (state S.Store store.old) (state S.Store store.new) result }
     {
         store.tables_law();
         apply_noted(alloc, &mut self.tables, store, file, noop, handler)
@@ -271,17 +254,8 @@ impl Session {
             (StoreFails (Writes (IsUndoWrite self.now (tables_in (state S.Store store.old).now)))
             (state S.Store store.old) (state S.Store store.new))) }
         ensures named { IfErr result IsUndoRefusal }
-        ensures at_rest { HasCleanDisk (state S.Store store.new) → OnOk result (IsAtRest (state S.Store store.new)) }
-        ensures others { HasCleanDisk (state S.Store store.new)
-            → OnOk result (KeepsOthers (state S.Store store.old).now (state S.Store store.new).now) }
-        ensures kept { HasCleanDisk (state S.Store store.new)
-            → OnErr result (KeepsContent (state S.Store store.old) (state S.Store store.new)) }
-        ensures atomic { IsAtomic CanBegin (UndoesInto self.now (tables_in (state S.Store store.old).now))
-            (state S.Store store.old) (state S.Store store.new) }
-        ensures left { OnOk result (LeavesOnly (λ left. left ≡ tables_in (state S.Store store.new).now)
-            (state S.Store store.new)) }
-        ensures stands { OnErr result (IsTrue (state S.Store store.new).is_open → LeavesOnly
-            (λ left. left ≡ tables_in (state S.Store store.old).committed) (state S.Store store.new)) }
+        ensures transacts { Transacts (UndoesInto self.now (tables_in (state S.Store store.old).now))
+            (state S.Store store.old) (state S.Store store.new) result }
     {
         store.tables_law();
         store.crash_law();

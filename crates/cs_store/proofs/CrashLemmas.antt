@@ -11,7 +11,7 @@ use Rattle.cs_rows.specs.declared.fault.StoreError.{StoreError}
 use Rattle.cs_store_records.specs.Records.{IsUndone, KeepsContent, KeepsCrash, KeepsOthers}
 use Rattle.cs_store_tables.specs.Store.{HoldsState, HoldsTables, IsStore, IsSound, IsInside, KeepsStore, Begins, Ends, tables_in}
 use Rattle.cs_store_tables.specs.Crash.{MayLeave, LeavesOnly, LeavesTakenOver, CanBegin, IsAtomic}
-use Rattle.cs_store_tables.specs.Laws.{was_clean, keeps_itself}
+use Rattle.cs_store_tables.specs.Laws.{was_clean}
 use Rattle.cs_store_records.proofs.ContentLemmas.{crash_then, crash_weaker}
 use Rattle.cs_store_tables.proofs.WriteLemmas.{may_leave, shows_state}
 
@@ -91,12 +91,6 @@ pub left_new : (mid new : State) → (HasCleanDisk new → Ends mid new) → Lea
 left_new mid new ends leaves clean trees may =
     leaves_weaker (λ left. left ≡ tables_in mid.now) (λ left. left ≡ tables_in new.now) (λ t same. same ∙ ap (λ (db : Database). tables_in db) (sym (ends clean).shown.now_is)) trees (leaves clean trees may)
 
--- and so does a call that ends with its commit
-pub commit_left : {X : Type 0} (result : Result X StoreError) (mid new : State) → (HasCleanDisk new → OnOk result (Ends mid new)) → OnOk result (LeavesOnly (λ left. left ≡ tables_in mid.now) new)
-    → OnOk result (LeavesOnly (λ left. left ≡ tables_in new.now) new)
-commit_left (Ok x) mid new ends leaves = left_new mid new ends leaves
-commit_left (Err e) mid new ends leaves = tt
-
 -- ---- what is left at the end of a call that commits
 
 module _ (old new : State) (last : IsTrue old.is_open → LeavesOnly (λ left. left ≡ tables_in old.committed) old) (Starts : State → Type 0) (Commits : tables.State → Type 0) where
@@ -114,10 +108,6 @@ module _ (old new : State) (last : IsTrue old.is_open → LeavesOnly (λ left. l
   -- only that, if it commits nothing
   pub idle_atomic : KeepsCrash old new → IsAtomic Starts Commits old new
   idle_atomic keeps = commit_atomic (crash_weaker old new (MayLeave Commits) keeps) (λ none. keeps)
-
--- so does one that does nothing
-pub unmoved_atomic : (s : State) → (IsTrue s.is_open → LeavesOnly (λ left. left ≡ tables_in s.committed) s) → (Starts : State → Type 0) (Commits : tables.State → Type 0) → IsAtomic Starts Commits s s
-unmoved_atomic s last Starts Commits = idle_atomic s s last Starts Commits (keeps_itself {s = s}).crash
 
 -- of what is committed something else holds
 pub atomic_weaker : (Starts : State → Type 0) (P Q : tables.State → Type 0) (old new : State) → ((t : tables.State) → P t → Q t) → IsAtomic Starts P old new → IsAtomic Starts Q old new

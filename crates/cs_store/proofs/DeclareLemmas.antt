@@ -1,14 +1,13 @@
 -- What a declaration in a batch makes of the tables that a store held.
-use Rattle.std.proofs.Common.{◌≡◌, ◌⊎◌, ℕ, List, Result, Ok, Err, OnOk, inl, inr, sym, subst}
+use Rattle.std.proofs.Common.{◌≡◌, ◌⊎◌, ℕ, List, Ok, Err, inl, inr, sym, subst}
 use Rattle.cs_value.specs.State as tables
-use Rattle.sqlite.specs.Effect.{Database}
 use Rattle.sqlite.specs.State.{State, HasCleanDisk}
 use Rattle.cs_rows.specs.declared.fault.StoreError.{StoreError}
 use Rattle.cs_rows.specs.declared.fault.StoreError.TheVariants.{TableExists}
 use Rattle.cs_rows.specs.Faults.{IsResource}
 use Rattle.cs_rows.specs.Rows.{IsDeclared}
 use Rattle.cs_rows.specs.Editing.{IsDeclarable, Declares}
-use Rattle.cs_store_tables.specs.Store.{AddsTable, Begins, Ends, KeepsStore, tables_in}
+use Rattle.cs_store_tables.specs.Store.{AddsTable, Begins, KeepsStore, tables_in}
 use Rattle.cs_store.proofs.CrashLemmas.{begun_tables}
 
 -- a table that is added was declared
@@ -19,15 +18,7 @@ module _ (old begun mid : State) (begins : HasCleanDisk begun → Begins old beg
   same_tables : tables_in begun.now ≡ tables_in old.now
   same_tables = begun_tables old begun mid begins keeps clean
 
-  -- a table that a batch added is declared once the batch is committed
-  pub committed_declares : (last : State) (name : List ℕ) (schema : tables.SchemaData) {X E : Type 0} (r : Result X E) → IsDeclarable name schema
-      → AddsTable (tables_in begun.now) name schema (tables_in mid.now) → OnOk r (Ends mid last) → OnOk r (Declares (tables_in old.now) name schema (Ok (tables_in last.now)))
-  committed_declares last name schema (Err e) may added ends = tt
-  committed_declares last name schema (Ok x) may added ends =
-      added_declares (tables_in old.now) (tables_in last.now) name schema may (subst (λ s. AddsTable s name schema (tables_in last.now)) same_tables
-      (subst (λ (db : Database). AddsTable (tables_in begun.now) name schema (tables_in db)) (sym ends.shown.now_is) added))
-
-  -- and a name that it found taken is refused
+  -- a name that a batch found taken is refused
   pub taken_declares : (name : List ℕ) (schema : tables.SchemaData) (e : StoreError) → IsDeclarable name schema → ((e ≡ TableExists) × IsDeclared (tables_in begun.now) name) ⊎ IsResource e
       → Declares (tables_in old.now) name schema (Err e) ⊎ IsResource e
   taken_declares name schema e may (inl taken) = inl (subst (λ x. Declares (tables_in old.now) name schema (Err x)) (sym taken.0) (may, subst (λ s. IsDeclared s name) same_tables taken.1))

@@ -5,4 +5,5 @@ pub mod DeclareLemmas
 pub mod FailureLemmas
 pub mod LeftLemmas
 pub mod OpeningLemmas
+pub mod TransactLemmas
 pub mod TurnLemmas

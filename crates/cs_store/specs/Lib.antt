@@ -1,4 +1,5 @@
 pub mod Opening
+pub mod Transacts
 pub mod Turns
 pub use Rattle.cs_store_tables.specs.Refusals
 pub use Rattle.cs_store_tables.specs.Store

@@ -20,6 +20,7 @@ ghost use Rattle.sqlite_trees.specs.Tree.{Trees};
 ghost use Rattle.sqlite.specs.Steps.{over_memory};
 ghost use Rattle.cs_store_tables.specs.Store.{Adopts, Begins, HoldsTables, IsAtRest, IsDamaged, KeepsStore};
 ghost use Rattle.cs_store_tables.specs.Store.{RefusesShut, tables_in};
+ghost use Rattle.cs_store.specs.Transacts.{Transacts};
 
 use crate::adoption::adopt;
 use crate::batch::SqlBatch;
@@ -247,17 +248,9 @@ impl<S: Alter> Store<S> {
             (IsDeclarationOf (tables_in (state S.Store self.old).now) name.now
             (schema_of columns.now keys.now refuses.now)) (state S.Store self.old) (state S.Store self.new))) }
         ensures named { IfErr result (λ e. (e ≡ NoSchema) ⊎ (e ≡ TakenName) ⊎ IsReadRefusal e) }
-        ensures at_rest { HasCleanDisk (state S.Store self.new) → OnOk result (IsAtRest (state S.Store self.new)) }
-        ensures others { HasCleanDisk (state S.Store self.new)
-            → OnOk result (KeepsOthers (state S.Store self.old).now (state S.Store self.new).now) }
-        ensures kept { HasCleanDisk (state S.Store self.new)
-            → OnErr result (KeepsContent (state S.Store self.old) (state S.Store self.new)) }
-        ensures atomic { IsAtomic CanBegin (λ left. Declares (tables_in (state S.Store self.old).now) name.now
-            (schema_of columns.now keys.now refuses.now) (Ok left)) (state S.Store self.old) (state S.Store self.new) }
-        ensures left { OnOk result (LeavesOnly (λ left. left ≡ tables_in (state S.Store self.new).now)
-            (state S.Store self.new)) }
-        ensures stands { OnErr result (IsTrue (state S.Store self.new).is_open → LeavesOnly
-            (λ left. left ≡ tables_in (state S.Store self.old).committed) (state S.Store self.new)) }
+        ensures transacts { Transacts (λ left. Declares (tables_in (state S.Store self.old).now) name.now
+            (schema_of columns.now keys.now refuses.now) (Ok left))
+            (state S.Store self.old) (state S.Store self.new) result }
     {
         self.crash_law();
         if !is_table_name(name) {
@@ -266,7 +259,8 @@ impl<S: Alter> Store<S> {
         let schema = Schema::new(alloc, columns, keys, refuses)?;
         let mut batch = self.begin()?;
         batch.declare(alloc, name, &schema)?;
-        batch.commit()
+        batch.commit()?;
+        Ok(())
     }
 
     /// Returns the names of the tables, in the order of their bytes.
@@ -392,17 +386,8 @@ impl<S: Alter> Store<S> {
             (Writes (IsWriteOf (tables_in (state S.Store self.old).now) edit.now)) (state S.Store self.old)
             (state S.Store self.new))) }
         ensures named { IfErr result IsEditRefusal }
-        ensures at_rest { HasCleanDisk (state S.Store self.new) → OnOk result (IsAtRest (state S.Store self.new)) }
-        ensures others { HasCleanDisk (state S.Store self.new)
-            → OnOk result (KeepsOthers (state S.Store self.old).now (state S.Store self.new).now) }
-        ensures kept { HasCleanDisk (state S.Store self.new)
-            → OnErr result (KeepsContent (state S.Store self.old) (state S.Store self.new)) }
-        ensures atomic { IsAtomic CanBegin (EditsInto (tables_in (state S.Store self.old).now) edit.now)
-            (state S.Store self.old) (state S.Store self.new) }
-        ensures left { OnOk result (LeavesOnly (λ left. left ≡ tables_in (state S.Store self.new).now)
-            (state S.Store self.new)) }
-        ensures stands { OnErr result (IsTrue (state S.Store self.new).is_open → LeavesOnly
-            (λ left. left ≡ tables_in (state S.Store self.old).committed) (state S.Store self.new)) }
+        ensures transacts { Transacts (EditsInto (tables_in (state S.Store self.old).now) edit.now)
+            (state S.Store self.old) (state S.Store self.new) result }
     {
         self.crash_law();
         let mut batch = self.begin()?;

@@ -1,12 +1,13 @@
--- `store::revert`: the clauses `applied`, `refused`, `reverts`, `atomic` and `stands`.
-use Rattle.std.proofs.Common.{rules}
+-- `store::revert`: the clauses `applied`, `refused`, `reverts` and `transacts`.
+use Rattle.std.proofs.Common.{Ok, Err, refl, rules}
 use Rattle.std.proofs.lemmas.Result.{err_from_is_err_and}
 use Rattle.cs_group.specs.declared.conflict.Noop.TheVariants.{Report as Reported}
 use Rattle.cs_apply_rows.specs.declared.running.Direction.TheVariants.{Inverse}
 use Rattle.cs_apply_rows.specs.Running.{AlwaysAborts}
 use Rattle.cs_apply_rows.proofs.OutcomeLemmas.{told_reports}
 use Rattle.cs_apply.proofs.RevertLemmas.{reverts_ok, reverts_err, refuses_weaker, applies_weaker}
-use Rattle.cs_apply.proofs.CrashLemmas.{revert_atomic}
+use Rattle.cs_apply.proofs.CrashLemmas.{revert_transacts}
+use Rattle.cs_store.proofs.TransactLemmas.{transacts_on}
 use Rattle.cs_apply.proofs.store.revert.Goals as goal
 
 pub returns-clause-applied : goal.returns-clause-applied
@@ -30,15 +31,13 @@ returns-in_err-tally-clause-reverts g c = λ clean before leads.
     rw (p.1, p.2)
     (reverts_err c.changeset_files_law.ensures c.args.file.now before _ _ leads (refuses_weaker _ AlwaysAborts (λ k chosen given. search rules) Reported c.args.file.now Inverse _ _ (c.in_err-tally.ensures.refused clean)))
 
-pub returns-in_err-tally-clause-stands : goal.returns-in_err-tally-clause-stands
-returns-in_err-tally-clause-stands g c =
+pub returns-in_err-tally-clause-transacts : goal.returns-in_err-tally-clause-transacts
+returns-in_err-tally-clause-transacts g c =
     let p = err_from_is_err_and c.from_residual.result c.from_residual.ensures.1 in
-    rw p.1 c.in_err-tally.ensures.stands
+    rw p.1 (revert_transacts _ AlwaysAborts (λ k chosen given. search rules) Reported c.args.file.now Inverse _ _ _ (Err _)
+    (transacts_on _ _ _ (Err c.in_err-tally.field-0.0) (Err _) refl c.in_err-tally.ensures.transacts))
 
-pub returns-clause-atomic : goal.returns-clause-atomic
-returns-clause-atomic g c =
-    revert_atomic _ AlwaysAborts (λ k chosen given. search rules) Reported c.args.file.now Inverse _ _ _ c.run.ensures.atomic
-
-pub returns-in_err-tally-clause-atomic : goal.returns-in_err-tally-clause-atomic
-returns-in_err-tally-clause-atomic g c =
-    revert_atomic _ AlwaysAborts (λ k chosen given. search rules) Reported c.args.file.now Inverse _ _ _ c.run.ensures.atomic
+pub returns-clause-transacts : goal.returns-clause-transacts
+returns-clause-transacts g c =
+    revert_transacts _ AlwaysAborts (λ k chosen given. search rules) Reported c.args.file.now Inverse _ _ _ (Ok c.into_report.result)
+    (transacts_on _ _ _ (Ok c.in_ok-tally.tally) (Ok c.into_report.result) refl c.in_ok-tally.ensures.transacts)

@@ -1,12 +1,12 @@
--- `store::run`: the clauses `caused`, `others`, `atomic`, `left` and `stands`.
-use Rattle.std.proofs.Common.{◌≡◌, ℕ, List, IfErr, OnErr, refl, rules}
+-- `store::run`: the clauses `refused`, `transacts` and `caused`.
+use Rattle.std.proofs.Common.{◌≡◌, ℕ, List, IfErr, refl, rules}
+use Rattle.std.proofs.lemmas.Result.{err_from_is_err_and}
 use Rattle.std.specs.Fn.{FnReturnsAt}
 use Rattle.sqlite.specs.Held.{state}
 use Rattle.sqlite.specs.State.{HasCleanDisk}
 use Rattle.cs_store.specs.Store.{tables_in}
-use Rattle.cs_store.specs.Crash.{CanBegin}
 use Rattle.cs_store.specs.Records.{KeepsContent, KeepsCrash}
-use Rattle.cs_store.proofs.CrashLemmas.{idle_atomic, dropped_atomic, made_atomic, made_others, left_new, refused_stands}
+use Rattle.cs_store.proofs.TransactLemmas.{unbegun_transacts, dropped_transacts, uncommitted_transacts, committed_transacts}
 use Rattle.cs_value.specs.State as tables
 use Rattle.cs_group.specs.declared.conflict.Noop.{Noop}
 use Rattle.cs_apply_rows.specs.declared.running.Direction.{Direction}
@@ -24,70 +24,41 @@ use Rattle.cs_apply.proofs.store.run.Goals as goal
 into : {chooses : Handler} {noop : Noop} {file : List ℕ} {direction : Direction} {before after : tables.State} (tally : Tally) → AppliesTold chooses noop file direction before tally after → AppliesInto chooses noop file direction before after
 into tally told = record { met = tally.conflicts.items; skips = _; writes = told.writes; passed = tally.ignored; applies = told.applies }
 
-pub returns-in_err-batch-clause-atomic : goal.returns-in_err-batch-clause-atomic
-returns-in_err-batch-clause-atomic g c =
+pub returns-in_err-batch-clause-transacts : goal.returns-in_err-batch-clause-transacts
+returns-in_err-batch-clause-transacts g c =
     let old = state g.S.Store c.args.store.now in
     let new = state g.S.Store c.begin.follows.lender-at-none in
     let keeps : KeepsCrash old new = search rules in
-    idle_atomic old new c.crash_law.ensures CanBegin (AppliesInto (FnReturnsAt g.H.Fn c.args.handler.now) c.args.noop c.args.file.now c.args.direction (tables_in old.now)) keeps
+    let kept : HasCleanDisk new → KeepsContent old new = search rules in
+    let p = err_from_is_err_and c.from_residual.result c.from_residual.ensures.1 in
+    rw p.1 (unbegun_transacts g.S.Store g.met.S.Store.settled g.met.S.Store.stays c.args.store.now c.begin.follows.lender-at-none c.crash_law.ensures _ (AppliesInto (FnReturnsAt g.H.Fn c.args.handler.now) c.args.noop c.args.file.now c.args.direction (tables_in old.now)) keeps kept)
 
-pub returns-in_err-tally-clause-atomic : goal.returns-in_err-tally-clause-atomic
-returns-in_err-tally-clause-atomic g c =
+pub returns-in_err-tally-clause-transacts : goal.returns-in_err-tally-clause-transacts
+returns-in_err-tally-clause-transacts g c =
     let old = state g.S.Store c.args.store.now in
     let begun = state g.S.Store c.in_ok-batch.batch.store.now in
     let mid = state g.S.Store c.tally_in.new.rows.store.now in
-    let last = state g.S.Store c.drop-batch.new.self.0 in
     let same : c.drop-batch.new.self.0 ≡ c.store-in_err-tally-1.given.0 = search rules in
-    let may = AppliesInto (FnReturnsAt g.H.Fn c.args.handler.now) c.args.noop c.args.file.now c.args.direction (tables_in old.now) in
-    rw (← same) (dropped_atomic old begun mid last c.crash_law.ensures c.in_ok-batch.ensures.survives c.tally_in.ensures.kept.1 may c.drop-batch.ensures.survives)
+    let p = err_from_is_err_and c.from_residual-in_err-tally.result c.from_residual-in_err-tally.ensures.1 in
+    rw (p.1, ← same) (dropped_transacts g.S.Store g.met.S.Store.settled g.met.S.Store.stays c.args.store.now c.drop-batch.new.self.0 c.crash_law.ensures begun mid c.in_ok-batch.ensures.begun c.in_ok-batch.ensures.survives c.tally_in.ensures.kept.1
+    _ (AppliesInto (FnReturnsAt g.H.Fn c.args.handler.now) c.args.noop c.args.file.now c.args.direction (tables_in old.now)) c.drop-batch.ensures.survives c.drop-batch.ensures.undone)
 
-pub returns-in_err-commit-clause-atomic : goal.returns-in_err-commit-clause-atomic
-returns-in_err-commit-clause-atomic g c =
-    let old = state g.S.Store c.args.store.now in
+pub returns-in_err-commit-clause-transacts : goal.returns-in_err-commit-clause-transacts
+returns-in_err-commit-clause-transacts g c =
     let begun = state g.S.Store c.in_ok-batch.batch.store.now in
     let mid = state g.S.Store c.tally_in.new.rows.store.now in
-    let last = state g.S.Store c.commit.new.self.0 in
     let same : c.commit.new.self.0 ≡ c.store-2-1.given.0 = search rules in
-    rw (← same) (made_atomic old begun mid last c.crash_law.ensures c.in_ok-batch.ensures.survives c.tally_in.ensures.kept.1 (AppliesInto (FnReturnsAt g.H.Fn c.args.handler.now) c.args.noop c.args.file.now c.args.direction)
-    c.in_ok-batch.ensures.begun (λ clean. into c.in_ok-tally.tally (c.in_ok-tally.ensures.applied clean)) c.commit.ensures.atomic.survives)
+    let p = err_from_is_err_and c.from_residual-in_err-commit.result c.from_residual-in_err-commit.ensures.1 in
+    rw (p.1, ← same) (uncommitted_transacts g.S.Store g.met.S.Store.settled g.met.S.Store.stays c.args.store.now c.commit.new.self.0 c.crash_law.ensures begun mid c.in_ok-batch.ensures.begun c.in_ok-batch.ensures.survives c.tally_in.ensures.kept.1
+    (AppliesInto (FnReturnsAt g.H.Fn c.args.handler.now) c.args.noop c.args.file.now c.args.direction) (λ clean. into c.in_ok-tally.tally (c.in_ok-tally.ensures.applied clean)) c.commit.ensures.atomic.survives _ c.in_err-commit.ensures.undone)
 
-pub returns-clause-atomic : goal.returns-clause-atomic
-returns-clause-atomic g c =
-    let old = state g.S.Store c.args.store.now in
+pub returns-clause-transacts : goal.returns-clause-transacts
+returns-clause-transacts g c =
     let begun = state g.S.Store c.in_ok-batch.batch.store.now in
     let mid = state g.S.Store c.tally_in.new.rows.store.now in
-    let last = state g.S.Store c.commit.new.self.0 in
     let same : c.commit.new.self.0 ≡ c.store-2-1.given.0 = search rules in
-    rw (← same) (made_atomic old begun mid last c.crash_law.ensures c.in_ok-batch.ensures.survives c.tally_in.ensures.kept.1 (AppliesInto (FnReturnsAt g.H.Fn c.args.handler.now) c.args.noop c.args.file.now c.args.direction)
-    c.in_ok-batch.ensures.begun (λ clean. into c.in_ok-tally.tally (c.in_ok-tally.ensures.applied clean)) c.commit.ensures.atomic.survives)
-
-pub returns-clause-others : goal.returns-clause-others
-returns-clause-others g c clean =
-    let same : c.commit.new.self.0 ≡ c.store-2-1.given.0 = search rules in
-    let last : HasCleanDisk (state g.S.Store c.commit.new.self.0) = rw same clean in
-    rw (← same) (made_others _ _ _ _ c.in_ok-batch.ensures.begun c.tally_in.ensures.kept.1 c.commit.ensures.atomic.survives last (c.in_ok-commit.ensures.committed last) (c.in_ok-commit.ensures.others last))
-
-pub returns-clause-left : goal.returns-clause-left
-returns-clause-left g c =
-    let mid = state g.S.Store c.tally_in.new.rows.store.now in
-    let last = state g.S.Store c.commit.new.self.0 in
-    let same : c.commit.new.self.0 ≡ c.store-2-1.given.0 = search rules in
-    rw (← same) (left_new mid last c.in_ok-commit.ensures.committed c.in_ok-commit.ensures.left)
-
-pub returns-in_err-batch-clause-stands : goal.returns-in_err-batch-clause-stands
-returns-in_err-batch-clause-stands g c =
-    let kept : HasCleanDisk (state g.S.Store c.begin.follows.lender-at-none) → OnErr c.from_residual.result (KeepsContent (state g.S.Store c.args.store.now) (state g.S.Store c.begin.follows.lender-at-none)) = search rules in
-    refused_stands g.S.Store g.met.S.Store.settled g.met.S.Store.stays c.args.store.now c.begin.follows.lender-at-none c.crash_law.ensures c.from_residual.result _ _ (returns-in_err-batch-clause-atomic g c) kept
-
-pub returns-in_err-tally-clause-stands : goal.returns-in_err-tally-clause-stands
-returns-in_err-tally-clause-stands g c =
-    let kept : HasCleanDisk (state g.S.Store c.store-in_err-tally-1.given.0) → OnErr c.from_residual-in_err-tally.result (KeepsContent (state g.S.Store c.args.store.now) (state g.S.Store c.store-in_err-tally-1.given.0)) = search rules in
-    refused_stands g.S.Store g.met.S.Store.settled g.met.S.Store.stays c.args.store.now c.store-in_err-tally-1.given.0 c.crash_law.ensures c.from_residual-in_err-tally.result _ _ (returns-in_err-tally-clause-atomic g c) kept
-
-pub returns-in_err-commit-clause-stands : goal.returns-in_err-commit-clause-stands
-returns-in_err-commit-clause-stands g c =
-    let kept : HasCleanDisk (state g.S.Store c.store-2-1.given.0) → OnErr c.from_residual-in_err-commit.result (KeepsContent (state g.S.Store c.args.store.now) (state g.S.Store c.store-2-1.given.0)) = search rules in
-    refused_stands g.S.Store g.met.S.Store.settled g.met.S.Store.stays c.args.store.now c.store-2-1.given.0 c.crash_law.ensures c.from_residual-in_err-commit.result _ _ (returns-in_err-commit-clause-atomic g c) kept
+    rw (← same) (committed_transacts g.S.Store g.met.S.Store.settled g.met.S.Store.stays c.args.store.now c.commit.new.self.0 c.crash_law.ensures begun mid c.in_ok-batch.ensures.begun c.in_ok-batch.ensures.survives c.tally_in.ensures.kept.1
+    (AppliesInto (FnReturnsAt g.H.Fn c.args.handler.now) c.args.noop c.args.file.now c.args.direction) (λ clean. into c.in_ok-tally.tally (c.in_ok-tally.ensures.applied clean)) c.commit.ensures.atomic.survives _ c.in_ok-commit.ensures.committed c.in_ok-commit.ensures.others c.in_ok-commit.ensures.left)
 
 pub returns-in_err-tally-clause-refused : goal.returns-in_err-tally-clause-refused
 returns-in_err-tally-clause-refused g c clean =

@@ -1,14 +1,14 @@
--- `editing::edit_batch`: what `edit_rows` asks for, the clauses `recorded`, `named`, `caused`, `others`, `atomic`, `left` and `stands`.
-use Rattle.std.proofs.Common.{◌≡◌, OnErr, rules, IfErr, map, refl, subst}
+-- `editing::edit_batch`: what `edit_rows` asks for, the clauses `recorded`, `named`, `caused`, `transacts`.
+use Rattle.std.proofs.Common.{◌≡◌, rules, IfErr, map, refl, subst}
 use Rattle.std.proofs.lemmas.Result.{err_from_is_err_and}
 use Rattle.sqlite.specs.Held.{state}
 use Rattle.sqlite.specs.State.{HasCleanDisk}
 use Rattle.cs_store.specs.Editing.{EditsInto}
 use Rattle.cs_store.specs.Laws.{was_clean}
-use Rattle.cs_store.specs.Crash.{CanBegin}
 use Rattle.cs_store.specs.Records.{KeepsContent, KeepsCrash}
 use Rattle.cs_store.specs.Store.{tables_in}
-use Rattle.cs_store.proofs.CrashLemmas.{idle_atomic, dropped_atomic, begun_tables, made_atomic, made_tables, made_others, left_new, refused_stands}
+use Rattle.cs_store.proofs.CrashLemmas.{begun_tables, made_tables}
+use Rattle.cs_store.proofs.TransactLemmas.{unbegun_transacts, dropped_transacts, uncommitted_transacts, committed_transacts}
 use Rattle.cs_session.proofs.OutcomeLemmas.{begun_state}
 use Rattle.cs_store.specs.Failing.{BatchFails, BeginFails, Writes}
 use Rattle.cs_store.specs.Faults as stores
@@ -25,46 +25,41 @@ pub edit_rows-requires-clause-state : goal.edit_rows-requires-clause-state
 edit_rows-requires-clause-state g c =
     begun_state (state g.S.Store c.args.store.now) (state g.S.Store c.in_ok-batch.batch.store.now) c.in_ok-batch.ensures.survives c.in_ok-batch.ensures.begun c.tables_law.ensures
 
-pub returns-in_err-batch-clause-atomic : goal.returns-in_err-batch-clause-atomic
-returns-in_err-batch-clause-atomic g c =
+pub returns-in_err-batch-clause-transacts : goal.returns-in_err-batch-clause-transacts
+returns-in_err-batch-clause-transacts g c =
     let old = state g.S.Store c.args.store.now in
     let new = state g.S.Store c.begin.follows.lender-at-none in
     let keeps : KeepsCrash old new = search rules in
-    idle_atomic old new c.crash_law.ensures CanBegin (EditsInto (tables_in old.now) c.args.edit.now) keeps
+    let kept : HasCleanDisk new → KeepsContent old new = search rules in
+    let p = err_from_is_err_and c.from_residual.result c.from_residual.ensures.1 in
+    rw p.1 (unbegun_transacts g.S.Store g.met.S.Store.settled g.met.S.Store.stays c.args.store.now c.begin.follows.lender-at-none c.crash_law.ensures _ (EditsInto (tables_in old.now) c.args.edit.now) keeps kept)
 
-pub returns-in_err-edit_rows-clause-atomic : goal.returns-in_err-edit_rows-clause-atomic
-returns-in_err-edit_rows-clause-atomic g c =
+pub returns-in_err-edit_rows-clause-transacts : goal.returns-in_err-edit_rows-clause-transacts
+returns-in_err-edit_rows-clause-transacts g c =
     let old = state g.S.Store c.args.store.now in
     let begun = state g.S.Store c.in_ok-batch.batch.store.now in
     let mid = state g.S.Store c.edit_rows.new.rows.store.now in
-    let last = state g.S.Store c.drop-batch.new.self.0 in
     let same : c.drop-batch.new.self.0 ≡ c.store-in_err-edit_rows-1.given.0 = search rules in
-    rw (← same) (dropped_atomic old begun mid last c.crash_law.ensures c.in_ok-batch.ensures.survives c.edit_rows.ensures.kept.1 (EditsInto (tables_in old.now) c.args.edit.now) c.drop-batch.ensures.survives)
-
-pub returns-in_err-commit-clause-atomic : goal.returns-in_err-commit-clause-atomic
-returns-in_err-commit-clause-atomic g c =
-    let old = state g.S.Store c.args.store.now in
-    let begun = state g.S.Store c.in_ok-batch.batch.store.now in
-    let mid = state g.S.Store c.edit_rows.new.rows.store.now in
-    let last = state g.S.Store c.commit.new.self.0 in
-    let same : c.commit.new.self.0 ≡ c.store-2-1.given.0 = search rules in
-    rw (← same) (made_atomic old begun mid last c.crash_law.ensures c.in_ok-batch.ensures.survives c.edit_rows.ensures.kept.1 (λ before. EditsInto before c.args.edit.now)
-    c.in_ok-batch.ensures.begun (λ clean. let done = c.in_ok-edit_rows.ensures.recorded clean in (done.written, done.edited)) c.commit.ensures.atomic.survives)
-
-pub returns-clause-atomic : goal.returns-clause-atomic
-returns-clause-atomic g c =
-    let old = state g.S.Store c.args.store.now in
-    let begun = state g.S.Store c.in_ok-batch.batch.store.now in
-    let mid = state g.S.Store c.edit_rows.new.rows.store.now in
-    let last = state g.S.Store c.commit.new.self.0 in
-    let same : c.commit.new.self.0 ≡ c.store-2-1.given.0 = search rules in
-    rw (← same) (made_atomic old begun mid last c.crash_law.ensures c.in_ok-batch.ensures.survives c.edit_rows.ensures.kept.1 (λ before. EditsInto before c.args.edit.now)
-    c.in_ok-batch.ensures.begun (λ clean. let done = c.in_ok-edit_rows.ensures.recorded clean in (done.written, done.edited)) c.commit.ensures.atomic.survives)
-
-pub returns-in_err-edit_rows-clause-kept : goal.returns-in_err-edit_rows-clause-kept
-returns-in_err-edit_rows-clause-kept g c = λ clean.
     let p = err_from_is_err_and c.from_residual-in_err-edit_rows.result c.from_residual-in_err-edit_rows.ensures.1 in
-    rw p.1 (search rules)
+    rw (p.1, ← same) (dropped_transacts g.S.Store g.met.S.Store.settled g.met.S.Store.stays c.args.store.now c.drop-batch.new.self.0 c.crash_law.ensures begun mid c.in_ok-batch.ensures.begun c.in_ok-batch.ensures.survives c.edit_rows.ensures.kept.1
+    _ (EditsInto (tables_in old.now) c.args.edit.now) c.drop-batch.ensures.survives c.drop-batch.ensures.undone)
+
+pub returns-in_err-commit-clause-transacts : goal.returns-in_err-commit-clause-transacts
+returns-in_err-commit-clause-transacts g c =
+    let begun = state g.S.Store c.in_ok-batch.batch.store.now in
+    let mid = state g.S.Store c.edit_rows.new.rows.store.now in
+    let same : c.commit.new.self.0 ≡ c.store-2-1.given.0 = search rules in
+    let p = err_from_is_err_and c.from_residual-in_err-commit.result c.from_residual-in_err-commit.ensures.1 in
+    rw (p.1, ← same) (uncommitted_transacts g.S.Store g.met.S.Store.settled g.met.S.Store.stays c.args.store.now c.commit.new.self.0 c.crash_law.ensures begun mid c.in_ok-batch.ensures.begun c.in_ok-batch.ensures.survives c.edit_rows.ensures.kept.1
+    (λ before. EditsInto before c.args.edit.now) (λ clean. let done = c.in_ok-edit_rows.ensures.recorded clean in (done.written, done.edited)) c.commit.ensures.atomic.survives _ c.in_err-commit.ensures.undone)
+
+pub returns-clause-transacts : goal.returns-clause-transacts
+returns-clause-transacts g c =
+    let begun = state g.S.Store c.in_ok-batch.batch.store.now in
+    let mid = state g.S.Store c.edit_rows.new.rows.store.now in
+    let same : c.commit.new.self.0 ≡ c.store-2-1.given.0 = search rules in
+    rw (← same) (committed_transacts g.S.Store g.met.S.Store.settled g.met.S.Store.stays c.args.store.now c.commit.new.self.0 c.crash_law.ensures begun mid c.in_ok-batch.ensures.begun c.in_ok-batch.ensures.survives c.edit_rows.ensures.kept.1
+    (λ before. EditsInto before c.args.edit.now) (λ clean. let done = c.in_ok-edit_rows.ensures.recorded clean in (done.written, done.edited)) c.commit.ensures.atomic.survives _ c.in_ok-commit.ensures.committed c.in_ok-commit.ensures.others c.in_ok-commit.ensures.left)
 
 pub returns-clause-recorded : goal.returns-clause-recorded
 returns-clause-recorded g c =
@@ -75,33 +70,6 @@ returns-clause-recorded g c =
     let same : c.commit.new.self.0 ≡ c.store-2-1.given.0 = search rules in
     rw (← same) (made_tables old begun mid last (λ before after. Records before c.args.edit.now (map attached_of c.args.tables.now) after (map attached_of c.edit_rows.new.tables))
     c.in_ok-batch.ensures.begun c.edit_rows.ensures.kept.1 c.commit.ensures.atomic.survives c.in_ok-edit_rows.ensures.recorded c.in_ok-commit.ensures.committed)
-
-pub returns-clause-others : goal.returns-clause-others
-returns-clause-others g c clean =
-    let same : c.commit.new.self.0 ≡ c.store-2-1.given.0 = search rules in
-    let last : HasCleanDisk (state g.S.Store c.commit.new.self.0) = rw same clean in
-    rw (← same) (made_others _ _ _ _ c.in_ok-batch.ensures.begun c.edit_rows.ensures.kept.1 c.commit.ensures.atomic.survives last (c.in_ok-commit.ensures.committed last) (c.in_ok-commit.ensures.others last))
-
-pub returns-clause-left : goal.returns-clause-left
-returns-clause-left g c =
-    let mid = state g.S.Store c.edit_rows.new.rows.store.now in
-    let last = state g.S.Store c.commit.new.self.0 in
-    let same : c.commit.new.self.0 ≡ c.store-2-1.given.0 = search rules in
-    rw (← same) (left_new mid last c.in_ok-commit.ensures.committed c.in_ok-commit.ensures.left)
-
-pub returns-in_err-batch-clause-stands : goal.returns-in_err-batch-clause-stands
-returns-in_err-batch-clause-stands g c =
-    let kept : HasCleanDisk (state g.S.Store c.begin.follows.lender-at-none) → OnErr c.from_residual.result (KeepsContent (state g.S.Store c.args.store.now) (state g.S.Store c.begin.follows.lender-at-none)) = search rules in
-    refused_stands g.S.Store g.met.S.Store.settled g.met.S.Store.stays c.args.store.now c.begin.follows.lender-at-none c.crash_law.ensures c.from_residual.result _ _ (returns-in_err-batch-clause-atomic g c) (kept)
-
-pub returns-in_err-edit_rows-clause-stands : goal.returns-in_err-edit_rows-clause-stands
-returns-in_err-edit_rows-clause-stands g c =
-    refused_stands g.S.Store g.met.S.Store.settled g.met.S.Store.stays c.args.store.now c.store-in_err-edit_rows-1.given.0 c.crash_law.ensures c.from_residual-in_err-edit_rows.result _ _ (returns-in_err-edit_rows-clause-atomic g c) (returns-in_err-edit_rows-clause-kept g c)
-
-pub returns-in_err-commit-clause-stands : goal.returns-in_err-commit-clause-stands
-returns-in_err-commit-clause-stands g c =
-    let kept : HasCleanDisk (state g.S.Store c.store-2-1.given.0) → OnErr c.from_residual-in_err-commit.result (KeepsContent (state g.S.Store c.args.store.now) (state g.S.Store c.store-2-1.given.0)) = search rules in
-    refused_stands g.S.Store g.met.S.Store.settled g.met.S.Store.stays c.args.store.now c.store-2-1.given.0 c.crash_law.ensures c.from_residual-in_err-commit.result _ _ (returns-in_err-commit-clause-atomic g c) (kept)
 
 pub returns-in_err-batch-clause-caused : goal.returns-in_err-batch-clause-caused
 returns-in_err-batch-clause-caused g c clean =

@@ -8,7 +8,7 @@ pub returns-in_err-summary-clause-works : goal.returns-in_err-summary-clause-wor
 returns-in_err-summary-clause-works g c =
     let p = err_from_is_err_and c.from_residual.result c.from_residual.ensures.1 in
     rw (p.1, p.2)
-    (works_unapplied _ _ (λ k chosen given. search rules) _ _ _ _ _ _ c.in_err-summary.ensures.atomic.survives c.in_err-summary.ensures.kept c.in_err-summary.ensures.shut c.in_err-summary.ensures.refused)
+    (works_unapplied _ _ (λ k chosen given. search rules) _ _ _ _ _ _ c.in_err-summary.ensures.transacts.atomic.survives c.in_err-summary.ensures.transacts.kept c.in_err-summary.ensures.shut c.in_err-summary.ensures.refused)
 
 pub returns-in_err-summary-clause-named : goal.returns-in_err-summary-clause-named
 returns-in_err-summary-clause-named g c =
@@ -17,4 +17,4 @@ returns-in_err-summary-clause-named g c =
 
 pub returns-clause-works : goal.returns-clause-works
 returns-clause-works g c =
-    works_applied _ _ (λ k chosen given. search rules) _ _ _ _ _ _ c.in_ok-summary.ensures.atomic.survives c.in_ok-summary.ensures.at_rest c.in_ok-summary.ensures.shut c.database_law.ensures c.in_ok-summary.ensures.others c.in_ok-summary.ensures.applied
+    works_applied _ _ (λ k chosen given. search rules) _ _ _ _ _ _ c.in_ok-summary.ensures.transacts.atomic.survives c.in_ok-summary.ensures.transacts.at_rest c.in_ok-summary.ensures.shut c.database_law.ensures c.in_ok-summary.ensures.transacts.others c.in_ok-summary.ensures.applied

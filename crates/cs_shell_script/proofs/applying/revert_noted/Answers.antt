@@ -16,10 +16,10 @@ returns-in_err-report g c =
     let inverts = subst (λ (bytes : List ℕ). Inverts c.args.file.now bytes) (sym c.deref.ensures.value) c.in_ok-inverse.ensures.inverted in
     rw (p.1, p.2)
     (works_inverse _ c.deref.result.now _ _ _ _ _ inverts
-    (works_unrecorded _ _ (λ k chosen given. search rules) _ _ _ _ _ _ _ c.in_err-report.ensures.atomic.survives c.in_err-report.ensures.kept c.in_err-report.ensures.shut c.in_err-report.ensures.refused c.in_err-report.ensures.same))
+    (works_unrecorded _ _ (λ k chosen given. search rules) _ _ _ _ _ _ _ c.in_err-report.ensures.transacts.atomic.survives c.in_err-report.ensures.transacts.kept c.in_err-report.ensures.shut c.in_err-report.ensures.refused c.in_err-report.ensures.same))
 
 pub returns : goal.returns
 returns g c =
     let inverts = subst (λ (bytes : List ℕ). Inverts c.args.file.now bytes) (sym c.deref.ensures.value) c.in_ok-inverse.ensures.inverted in
     works_inverse _ c.deref.result.now _ _ _ _ _ inverts
-    (works_recorded _ _ (λ k chosen given. search rules) _ _ _ _ _ _ _ c.into_summary.result c.into_summary.ensures c.in_ok-report.ensures.atomic.survives c.in_ok-report.ensures.at_rest c.in_ok-report.ensures.shut c.database_law.ensures c.in_ok-report.ensures.others c.in_ok-report.ensures.recorded c.in_ok-report.ensures.rewound)
+    (works_recorded _ _ (λ k chosen given. search rules) _ _ _ _ _ _ _ c.into_summary.result c.into_summary.ensures c.in_ok-report.ensures.transacts.atomic.survives c.in_ok-report.ensures.transacts.at_rest c.in_ok-report.ensures.shut c.database_law.ensures c.in_ok-report.ensures.transacts.others c.in_ok-report.ensures.recorded c.in_ok-report.ensures.rewound)

@@ -24,13 +24,13 @@ returns-in_err-declare g c = λ session.
     let is = c.deref.ensures.value ∙ c.in_ok-marks.ensures.marked in
     rw (p.1, p.2)
     (works_refused (λ old. CreateGives old c.args.name.now (map string_bytes c.args.columns.now) c.args.refuses.now (map string_bytes c.args.keys.now)) session _ (state g.S.Store c.args.store.now) (state g.S.Store c.declare.new.self)
-    c.declare.ensures.atomic.survives (λ clean. c.in_err-declare.ensures.kept clean)
+    c.declare.ensures.transacts.atomic.survives (λ clean. c.in_err-declare.ensures.transacts.kept clean)
     (λ clean shut old. create_refused old c.args.name.now c.args.columns.now c.args.refuses.now (map string_bytes c.args.keys.now) c.deref.result.now c.in_err-declare.field-0.0 is c.in_ok-marks.ensures.known (c.in_err-declare.ensures.shut clean shut old.tables))
     (λ clean here slots. create_refused _ c.args.name.now c.args.columns.now c.args.refuses.now (map string_bytes c.args.keys.now) c.deref.result.now c.in_err-declare.field-0.0 is c.in_ok-marks.ensures.known (c.in_err-declare.ensures.refused clean)))
 
 pub returns : goal.returns
 returns g c = λ session.
     turns_done (Gave session session (λ old. CreateGives old c.args.name.now (map string_bytes c.args.columns.now) c.args.refuses.now (map string_bytes c.args.keys.now)) Silent)
-    (state g.S.Store c.args.store.now) (state g.S.Store c.declare.new.self) c.declare.ensures.atomic.survives (λ clean. c.in_ok-declare.ensures.at_rest clean) (λ clean shut. c.in_ok-declare.ensures.shut clean shut) c.database_law.ensures (λ clean. c.in_ok-declare.ensures.others clean)
+    (state g.S.Store c.args.store.now) (state g.S.Store c.declare.new.self) c.declare.ensures.transacts.atomic.survives (λ clean. c.in_ok-declare.ensures.transacts.at_rest clean) (λ clean shut. c.in_ok-declare.ensures.shut clean shut) c.database_law.ensures (λ clean. c.in_ok-declare.ensures.transacts.others clean)
     (λ clean rest. create_declares (tables_in (state g.S.Store c.args.store.now).now) (tables_in (state g.S.Store c.declare.new.self).now) c.args.name.now c.args.columns.now c.args.refuses.now (map string_bytes c.args.keys.now) c.deref.result.now session
     (c.deref.ensures.value ∙ c.in_ok-marks.ensures.marked) c.in_ok-marks.ensures.known (c.in_ok-declare.ensures.declared clean))

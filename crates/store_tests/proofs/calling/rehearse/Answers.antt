@@ -45,9 +45,9 @@ module _ (chooses : Handler) (noop : Noop) (file name : List ℕ) (edit : Edit) 
 
 pub returns : goal.returns
 returns g c = λ clean.
-    let applied : HasCleanDisk (state g.S.Store c.apply_recorded.new.store) = omega (arith, c.in_ok-undo.ensures.atomic.survives.clean) in
-    let edited : HasCleanDisk (state g.S.Store c.edit.new.store) = omega (arith, c.in_ok-report.ensures.atomic.survives.clean) in
-    let attached : HasCleanDisk (state g.S.Store c.attach.new.store) = omega (arith, c.in_ok-edit.ensures.atomic.survives.clean) in
+    let applied : HasCleanDisk (state g.S.Store c.apply_recorded.new.store) = omega (arith, c.in_ok-undo.ensures.transacts.atomic.survives.clean) in
+    let edited : HasCleanDisk (state g.S.Store c.edit.new.store) = omega (arith, c.in_ok-report.ensures.transacts.atomic.survives.clean) in
+    let attached : HasCleanDisk (state g.S.Store c.attach.new.store) = omega (arith, c.in_ok-edit.ensures.transacts.atomic.survives.clean) in
     let attaches = rw c.new-session.ensures at (c.in_ok-attach.ensures.attached attached) in
     let same = ap (λ (db : Database). tables_in db) (c.in_ok-attach.ensures.read attached) in
     given_back _ _ _ _ _ _ _ _ _ _ _ _ _ _ _ c.runs_law.ensures attaches same (c.in_ok-edit.ensures.recorded edited)

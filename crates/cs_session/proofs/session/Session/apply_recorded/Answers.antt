@@ -17,5 +17,5 @@ pub returns-clause-clean : goal.returns-clause-clean
 returns-clause-clean g c = λ clean.
     let old = state g.S.Store c.args.store.now in
     let new = state g.S.Store c.apply_noted.new.store in
-    recorded_leads old new c.apply_noted.result (was_clean old new c.apply_noted.ensures.atomic.survives) (c.apply_noted.ensures.shut clean) c.tables_law.ensures clean (FnReturnsAt g.H.Fn c.args.handler.now) c.args.noop c.args.file.now _ _ _
+    recorded_leads old new c.apply_noted.result (was_clean old new c.apply_noted.ensures.transacts.atomic.survives) (c.apply_noted.ensures.shut clean) c.tables_law.ensures clean (FnReturnsAt g.H.Fn c.args.handler.now) c.args.noop c.args.file.now _ _ _
     (c.apply_noted.ensures.recorded clean)

@@ -1,16 +1,14 @@
--- `store::Store::edit`: the clauses `edited`, `caused`, `kept`, `others`, `atomic`, `left` and `stands`.
+-- `store::Store::edit`: the clauses `edited`, `transacts` and `caused`.
 use Rattle.std.proofs.Common.{◌≡◌, rules}
-use Rattle.std.specs.Prelude.{map, IfErr, OnErr}
+use Rattle.std.specs.Prelude.{map, IfErr}
 use Rattle.sqlite.specs.Held.{state}
 use Rattle.cs_rows.specs.Editing.{EditsInto, edited, written_of}
 use Rattle.sqlite.specs.State.{HasCleanDisk}
 use Rattle.cs_store_tables.specs.Laws.{was_clean}
 use Rattle.cs_store_records.specs.Records.{KeepsContent, KeepsCrash}
-use Rattle.cs_store_tables.specs.Crash.{CanBegin}
 use Rattle.cs_store_tables.specs.Store.{tables_in}
-use Rattle.cs_store.proofs.CrashLemmas.{idle_atomic, dropped_atomic, made_atomic, made_tables, made_others, left_new, refused_stands}
-use Rattle.cs_store_tables.proofs.StoreLemmas.{undone_batch}
-use Rattle.cs_store_records.proofs.QueryLemmas.{on_err}
+use Rattle.cs_store.proofs.CrashLemmas.{made_tables}
+use Rattle.cs_store.proofs.TransactLemmas.{unbegun_transacts, dropped_transacts, uncommitted_transacts, committed_transacts}
 use Rattle.std.proofs.Common.{Ok, refl, subst}
 use Rattle.std.proofs.lemmas.Result.{err_from_is_err_and}
 use Rattle.cs_value.specs.State.{State}
@@ -22,64 +20,6 @@ use Rattle.cs_store.proofs.CrashLemmas.{begun_tables}
 use Rattle.cs_store.proofs.FailureLemmas.{begin_fails, commit_fails, work_fails}
 use Rattle.cs_store.proofs.store.Store.edit.Goals as goal
 
-pub returns-in_err-written-clause-kept : goal.returns-in_err-written-clause-kept
-returns-in_err-written-clause-kept g c clean =
-    let old = state g.S.Store c.args.self.now in
-    let begun = state g.S.Store c.in_ok-batch.batch.store.now in
-    let mid = state g.S.Store c.edit_in.new.rows.store.now in
-    let last = state g.S.Store c.drop-batch.new.self.0 in
-    let same : c.drop-batch.new.self.0 ≡ c.self-in_err-written-1.given.0 = search rules in
-    let last_clean : HasCleanDisk last = rw same clean in
-    let kept = undone_batch old begun mid last c.in_ok-batch.ensures.begun c.edit_in.ensures.kept.1 (was_clean mid last c.drop-batch.ensures.survives last_clean) (c.drop-batch.ensures.undone last_clean) in
-    rw (← same) (on_err c.from_residual-in_err-written.result (KeepsContent old last) kept)
-
-pub returns-in_err-commit-clause-kept : goal.returns-in_err-commit-clause-kept
-returns-in_err-commit-clause-kept g c clean =
-    let old = state g.S.Store c.args.self.now in
-    let begun = state g.S.Store c.in_ok-batch.batch.store.now in
-    let mid = state g.S.Store c.edit_in.new.rows.store.now in
-    let last = state g.S.Store c.commit.new.self.0 in
-    let same : c.commit.new.self.0 ≡ c.self-2-1.given.0 = search rules in
-    let last_clean : HasCleanDisk last = rw same clean in
-    let kept = undone_batch old begun mid last c.in_ok-batch.ensures.begun c.edit_in.ensures.kept.1 (was_clean mid last c.commit.ensures.atomic.survives last_clean) (c.in_err-commit.ensures.undone last_clean) in
-    rw (← same) (on_err c.from_residual-in_err-commit.result (KeepsContent old last) kept)
-
-pub returns-in_err-batch-clause-atomic : goal.returns-in_err-batch-clause-atomic
-returns-in_err-batch-clause-atomic g c =
-    let old = state g.S.Store c.args.self.now in
-    let new = state g.S.Store c.begin.follows.lender-at-none in
-    let keeps : KeepsCrash old new = search rules in
-    idle_atomic old new c.crash_law.ensures CanBegin (EditsInto (tables_in old.now) c.args.edit.now) keeps
-
-pub returns-in_err-written-clause-atomic : goal.returns-in_err-written-clause-atomic
-returns-in_err-written-clause-atomic g c =
-    let old = state g.S.Store c.args.self.now in
-    let begun = state g.S.Store c.in_ok-batch.batch.store.now in
-    let mid = state g.S.Store c.edit_in.new.rows.store.now in
-    let last = state g.S.Store c.drop-batch.new.self.0 in
-    let same : c.drop-batch.new.self.0 ≡ c.self-in_err-written-1.given.0 = search rules in
-    rw (← same) (dropped_atomic old begun mid last c.crash_law.ensures c.in_ok-batch.ensures.survives c.edit_in.ensures.kept.1 (EditsInto (tables_in old.now) c.args.edit.now) c.drop-batch.ensures.survives)
-
-pub returns-in_err-commit-clause-atomic : goal.returns-in_err-commit-clause-atomic
-returns-in_err-commit-clause-atomic g c =
-    let old = state g.S.Store c.args.self.now in
-    let begun = state g.S.Store c.in_ok-batch.batch.store.now in
-    let mid = state g.S.Store c.edit_in.new.rows.store.now in
-    let last = state g.S.Store c.commit.new.self.0 in
-    let same : c.commit.new.self.0 ≡ c.self-2-1.given.0 = search rules in
-    rw (← same) (made_atomic old begun mid last c.crash_law.ensures c.in_ok-batch.ensures.survives c.edit_in.ensures.kept.1 (λ before. EditsInto before c.args.edit.now) c.in_ok-batch.ensures.begun
-    (λ clean. (map written_of c.in_ok-written.written.items, c.in_ok-written.ensures.edited clean)) c.commit.ensures.atomic.survives)
-
-pub returns-clause-atomic : goal.returns-clause-atomic
-returns-clause-atomic g c =
-    let old = state g.S.Store c.args.self.now in
-    let begun = state g.S.Store c.in_ok-batch.batch.store.now in
-    let mid = state g.S.Store c.edit_in.new.rows.store.now in
-    let last = state g.S.Store c.commit.new.self.0 in
-    let same : c.commit.new.self.0 ≡ c.self-2-1.given.0 = search rules in
-    rw (← same) (made_atomic old begun mid last c.crash_law.ensures c.in_ok-batch.ensures.survives c.edit_in.ensures.kept.1 (λ before. EditsInto before c.args.edit.now) c.in_ok-batch.ensures.begun
-    (λ clean. (map written_of c.in_ok-written.written.items, c.in_ok-written.ensures.edited clean)) c.commit.ensures.atomic.survives)
-
 pub returns-clause-edited : goal.returns-clause-edited
 returns-clause-edited g c =
     let old = state g.S.Store c.args.self.now in
@@ -90,31 +30,41 @@ returns-clause-edited g c =
     rw (← same) (made_tables old begun mid last (λ before after. edited before c.args.edit.now ≡ Ok (record { state = after; written = map written_of c.in_ok-written.written.items }))
     c.in_ok-batch.ensures.begun c.edit_in.ensures.kept.1 c.commit.ensures.atomic.survives c.in_ok-written.ensures.edited c.in_ok-commit.ensures.committed)
 
-pub returns-clause-others : goal.returns-clause-others
-returns-clause-others g c clean =
-    let same : c.commit.new.self.0 ≡ c.self-2-1.given.0 = search rules in
-    let last : HasCleanDisk (state g.S.Store c.commit.new.self.0) = rw same clean in
-    rw (← same) (made_others _ _ _ _ c.in_ok-batch.ensures.begun c.edit_in.ensures.kept.1 c.commit.ensures.atomic.survives last (c.in_ok-commit.ensures.committed last) (c.in_ok-commit.ensures.others last))
+pub returns-in_err-batch-clause-transacts : goal.returns-in_err-batch-clause-transacts
+returns-in_err-batch-clause-transacts g c =
+    let old = state g.S.Store c.args.self.now in
+    let new = state g.S.Store c.begin.follows.lender-at-none in
+    let keeps : KeepsCrash old new = search rules in
+    let kept : HasCleanDisk new → KeepsContent old new = search rules in
+    let p = err_from_is_err_and c.from_residual.result c.from_residual.ensures.1 in
+    rw (p.1, p.2) (unbegun_transacts g.S.Store g.met.S.Store.settled g.met.S.Store.stays c.args.self.now c.begin.follows.lender-at-none c.crash_law.ensures _ (EditsInto (tables_in old.now) c.args.edit.now) keeps kept)
 
-pub returns-clause-left : goal.returns-clause-left
-returns-clause-left g c =
+pub returns-in_err-written-clause-transacts : goal.returns-in_err-written-clause-transacts
+returns-in_err-written-clause-transacts g c =
+    let old = state g.S.Store c.args.self.now in
+    let begun = state g.S.Store c.in_ok-batch.batch.store.now in
     let mid = state g.S.Store c.edit_in.new.rows.store.now in
-    let last = state g.S.Store c.commit.new.self.0 in
+    let same : c.drop-batch.new.self.0 ≡ c.self-in_err-written-1.given.0 = search rules in
+    let p = err_from_is_err_and c.from_residual-in_err-written.result c.from_residual-in_err-written.ensures.1 in
+    rw (p.1, p.2, ← same) (dropped_transacts g.S.Store g.met.S.Store.settled g.met.S.Store.stays c.args.self.now c.drop-batch.new.self.0 c.crash_law.ensures begun mid c.in_ok-batch.ensures.begun c.in_ok-batch.ensures.survives c.edit_in.ensures.kept.1
+    _ (EditsInto (tables_in old.now) c.args.edit.now) c.drop-batch.ensures.survives c.drop-batch.ensures.undone)
+
+pub returns-in_err-commit-clause-transacts : goal.returns-in_err-commit-clause-transacts
+returns-in_err-commit-clause-transacts g c =
+    let begun = state g.S.Store c.in_ok-batch.batch.store.now in
+    let mid = state g.S.Store c.edit_in.new.rows.store.now in
     let same : c.commit.new.self.0 ≡ c.self-2-1.given.0 = search rules in
-    rw (← same) (left_new mid last c.in_ok-commit.ensures.committed c.in_ok-commit.ensures.left)
+    let p = err_from_is_err_and c.from_residual-in_err-commit.result c.from_residual-in_err-commit.ensures.1 in
+    rw (p.1, p.2, ← same) (uncommitted_transacts g.S.Store g.met.S.Store.settled g.met.S.Store.stays c.args.self.now c.commit.new.self.0 c.crash_law.ensures begun mid c.in_ok-batch.ensures.begun c.in_ok-batch.ensures.survives c.edit_in.ensures.kept.1
+    (λ before. EditsInto before c.args.edit.now) (λ clean. (map written_of c.in_ok-written.written.items, c.in_ok-written.ensures.edited clean)) c.commit.ensures.atomic.survives _ c.in_err-commit.ensures.undone)
 
-pub returns-in_err-batch-clause-stands : goal.returns-in_err-batch-clause-stands
-returns-in_err-batch-clause-stands g c =
-    let kept : HasCleanDisk (state g.S.Store c.begin.follows.lender-at-none) → OnErr c.from_residual.result (KeepsContent (state g.S.Store c.args.self.now) (state g.S.Store c.begin.follows.lender-at-none)) = search rules in
-    refused_stands g.S.Store g.met.S.Store.settled g.met.S.Store.stays c.args.self.now c.begin.follows.lender-at-none c.crash_law.ensures c.from_residual.result _ _ (returns-in_err-batch-clause-atomic g c) (kept)
-
-pub returns-in_err-written-clause-stands : goal.returns-in_err-written-clause-stands
-returns-in_err-written-clause-stands g c =
-    refused_stands g.S.Store g.met.S.Store.settled g.met.S.Store.stays c.args.self.now c.self-in_err-written-1.given.0 c.crash_law.ensures c.from_residual-in_err-written.result _ _ (returns-in_err-written-clause-atomic g c) (returns-in_err-written-clause-kept g c)
-
-pub returns-in_err-commit-clause-stands : goal.returns-in_err-commit-clause-stands
-returns-in_err-commit-clause-stands g c =
-    refused_stands g.S.Store g.met.S.Store.settled g.met.S.Store.stays c.args.self.now c.self-2-1.given.0 c.crash_law.ensures c.from_residual-in_err-commit.result _ _ (returns-in_err-commit-clause-atomic g c) (returns-in_err-commit-clause-kept g c)
+pub returns-clause-transacts : goal.returns-clause-transacts
+returns-clause-transacts g c =
+    let begun = state g.S.Store c.in_ok-batch.batch.store.now in
+    let mid = state g.S.Store c.edit_in.new.rows.store.now in
+    let same : c.commit.new.self.0 ≡ c.self-2-1.given.0 = search rules in
+    rw (← same) (committed_transacts g.S.Store g.met.S.Store.settled g.met.S.Store.stays c.args.self.now c.commit.new.self.0 c.crash_law.ensures begun mid c.in_ok-batch.ensures.begun c.in_ok-batch.ensures.survives c.edit_in.ensures.kept.1
+    (λ before. EditsInto before c.args.edit.now) (λ clean. (map written_of c.in_ok-written.written.items, c.in_ok-written.ensures.edited clean)) c.commit.ensures.atomic.survives _ c.in_ok-commit.ensures.committed c.in_ok-commit.ensures.others c.in_ok-commit.ensures.left)
 
 pub returns-in_err-batch-clause-caused : goal.returns-in_err-batch-clause-caused
 returns-in_err-batch-clause-caused g c clean =

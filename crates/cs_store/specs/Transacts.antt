@@ -1,0 +1,18 @@
+-- What a call does that makes one transaction of a store.
+use Rattle.std.specs.Prelude.{◌≡◌, IsTrue, Result, OnOk, OnErr}
+use Rattle.sqlite.specs.State.{State, HasCleanDisk}
+use Rattle.cs_value.specs.State as tables
+use Rattle.cs_store_records.specs.Records.{KeepsContent, KeepsOthers}
+use Rattle.cs_store_tables.specs.Crash.{CanBegin, IsAtomic, LeavesOnly}
+use Rattle.cs_store_tables.specs.Store.{IsAtRest, tables_in}
+
+-- A call that commits tables of which `Commits` holds, or is refused and changes nothing. A crash leaves those from
+-- before, or such tables: only these once it is done, and only those once it is refused and the store is open still.
+-- All but the records is kept.
+pub record Transacts {X E : Type 0} (Commits : tables.State → Type 0) (old new : State) (result : Result X E) : Type 0 where
+  pub at_rest : HasCleanDisk new → OnOk result (IsAtRest new)
+  pub others : HasCleanDisk new → OnOk result (KeepsOthers old.now new.now)
+  pub kept : HasCleanDisk new → OnErr result (KeepsContent old new)
+  pub atomic : IsAtomic CanBegin Commits old new
+  pub left : OnOk result (LeavesOnly (λ left. left ≡ tables_in new.now) new)
+  pub stands : OnErr result (IsTrue new.is_open → LeavesOnly (λ left. left ≡ tables_in old.committed) new)
