@@ -8,8 +8,8 @@
 //! revert(alloc, &mut store, file)?;
 //! ```
 //!
-//! `store` applies a file to the rows of a batch, by `cs_apply_rows`, and commits the batch or drops it. The names of `cs_apply_rows`
-//! are passed on. `CALLING.md`, next to this folder, shows a caller.
+//! `store` applies a file to the rows of a batch, by `cs_apply_rows`, and commits the batch or drops it. The names of
+//! `cs_apply_rows` are passed on. `CALLING.md`, next to this folder, shows a caller.
 #![tactic(auto)]
 
 mod store;

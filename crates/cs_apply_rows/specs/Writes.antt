@@ -18,15 +18,15 @@ IsEntryWrite header entry held (removes_row name key) =
     (name ≡ header.name) × (key ≡ key_of header.flags entry.change)
     × (row_after header.flags entry.change (row_at held name key) ≡ None)
 
--- an entry of the group would make the write of such tables, whether or not a run reaches it
+-- the write is that of an entry of the group with such tables, whether or not a run makes it
 abbrev pub IsGroupWrite : GroupData → State → Write → Type 0
 IsGroupWrite group held write = Any (λ entry. IsEntryWrite group.header entry held write) group.entries
 
--- an entry of the changeset would make it
+-- it is that of an entry of the changeset
 abbrev pub IsRunWrite : List GroupData → State → Write → Type 0
 IsRunWrite changeset held write = Any (λ group. IsGroupWrite group held write) changeset
 
--- an entry of the file would make it, or the inverse of one
+-- it is that of an entry of the file, or of the inverse of one
 abbrev pub IsFileWrite : Direction → List ℕ → State → Write → Type 0
 IsFileWrite direction file held write =
     (changeset : List GroupData) × IsReadAs file direction changeset × IsRunWrite changeset held write

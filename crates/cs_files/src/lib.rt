@@ -12,8 +12,8 @@
 //! whose key columns are numbered. `selecting` keeps the tables that are named, and `chaining` concatenates many files:
 //! names and files come in one buffer each, since a list of slices does not cross to C. `fault` has the faults.
 //!
-//! The names of `cs_file_texts` are passed on: the texts of changesets, the streams that they are written to, and the pieces
-//! of lines.
+//! The names of `cs_file_texts` are passed on: the texts of changesets, the streams that they are written to, and the
+//! pieces of lines.
 #![tactic(auto)]
 
 mod chaining;

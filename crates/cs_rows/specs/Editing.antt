@@ -142,17 +142,17 @@ EditsInto state edit next = (written : List WrittenData) × (edited state edit �
 
 -- ---- the writes of an edit
 
--- the row is put into this table, under a key that it has, with all tables as before the edit
+-- the row is put into this table, which it fits, with all tables as before the edit
 abbrev pub IsPutOf : State → List ℕ → List OwnedValue → State → Write → Type 0
 IsPutOf old table row held (puts_row name key it) = (held ≡ old) × (name ≡ table) × (it ≡ row) × Fits held name key it
 IsPutOf old table row held (removes_row name key) = ⊥
 
--- the row under this key is removed
+-- the row under this key is removed, with all tables as before the edit
 abbrev pub IsRemovalOf : State → List ℕ → List ℕ → State → Write → Type 0
 IsRemovalOf old table from held (puts_row name key row) = ⊥
 IsRemovalOf old table from held (removes_row name key) = (held ≡ old) × (name ≡ table) × (key ≡ from)
 
--- it is removed after the row that takes its place was put under another key
+-- it is removed, with all tables as before the edit but for the row that takes its place, which was put under some key
 abbrev pub IsClearingOf : State → List ℕ → List ℕ → List OwnedValue → State → Write → Type 0
 IsClearingOf old table from row held (puts_row name key it) = ⊥
 IsClearingOf old table from row held (removes_row name key) =
@@ -161,7 +161,7 @@ IsClearingOf old table from row held (removes_row name key) =
 abbrev pub IsUpdateOf : State → List ℕ → List ℕ → List OwnedValue → State → Write → Type 0
 IsUpdateOf old table from row held write = IsPutOf old table row held write ⊎ IsClearingOf old table from row held write
 
--- the edit would make this write, of tables that are as `held` then
+-- the write is one of this edit, with tables that are as `held` then, also where the edit is refused for another reason
 abbrev pub IsWriteOf : State → Edit → State → Write → Type 0
 IsWriteOf old (Insert table row) = IsPutOf old (string_bytes table) row
 IsWriteOf old (Update table key row) = IsUpdateOf old (string_bytes table) key row

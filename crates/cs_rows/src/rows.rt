@@ -26,7 +26,8 @@ pub trait Rows {
     ghost is_honest: { Self → Type 0 };
 
     // What a call keeps, whether it is accepted or refused: what the rows are borrowed from, and what lasts of it. Of
-    // an accepted call also that it made no writes but those of which `Is` holds, with the tables as they were then.
+    // an accepted call also this: writes lead from the first rows to the second, and `Is` holds of each with the tables
+    // as they are then.
     ghost keeps: { (State → Write → Type 0) → Bool → Self → Self → Type 0 };
 
     ghost keeps_itself: { (Is : State → Write → Type 0) (b : Self) → keeps Is true b b };
@@ -48,8 +49,8 @@ pub trait Rows {
     ghost leaves_still: { (Is : State → Write → Type 0) (accepted : Bool) (a b : Self) (held : State)
         → keeps Is accepted a b → leaves_only a held → leaves_only b held };
 
-    // Between the first rows and the second, what holds them failed a call for this cause: a read, or a write of which
-    // `Is` holds, with the tables as they were then.
+    // Between the first rows and the second, what holds them fails for this cause: it cannot be read or written, or it
+    // refuses a write, and `Is` holds of that with the tables as they are then.
     ghost fails: { (State → Write → Type 0) → Self → Self → Cause → Type 0 };
 
     ghost fails_then: { (Is : State → Write → Type 0) (accepted : Bool) (a b c : Self) (cause : Cause)

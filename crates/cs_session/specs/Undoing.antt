@@ -34,7 +34,7 @@ pub record Undoes (notes : Notes) (old : State) (report : Report) (new : State) 
 abbrev pub UndoesInto : Notes → State → State → Type 0
 UndoesInto notes old left = left ≡ rewound_state notes old
 
--- an entry of the inverse of the net changeset would make this write, where each table is there as it was attached
+-- the write is that of an entry of the inverse of the net changeset, and each table is there as it was attached
 abbrev pub IsUndoWrite : Notes → State → State → Write → Type 0
 IsUndoWrite notes old held write = HasTables old notes × IsRunWrite (directed Inverse (recorded_changes notes old)) held write
 

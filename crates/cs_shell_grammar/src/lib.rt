@@ -7,8 +7,8 @@
 //!
 //! `line` reads a line as a `command`, or returns a `fault`. A line is a `statement`, which consists of tokens, or a
 //! `dot` line, which consists of words. `.apply` has options: a choice for each kind of conflict, and `noop=ignore` to
-//! ignore changes that would change nothing. `cs_shell_tokens` takes tokens and words from the front of a line. `choice` has
-//! the names of the kinds of conflicts and of the choices.
+//! ignore changes that would change nothing. `cs_shell_tokens` takes tokens and words from the front of a line.
+//! `choice` has the names of the kinds of conflicts and of the choices.
 #![tactic(auto)]
 
 mod choice;

@@ -58,11 +58,6 @@ module _ (old begun mid new : State) (begins : KeepsCrash old begun) (keeps : Ke
   inside : KeepsCrash old mid
   inside = crash_then old begun mid begins keeps.crash
 
-  -- nor where it is dropped
-  pub dropped_survives : (May : Trees → Type 0) → KeepsCrash mid new → Survives old new May
-  dropped_survives May drops =
-      survives_then old mid new (λ _. ⊥) (λ _. ⊥) May (λ clean db none. absurd none) (λ clean db none. absurd none) inside drops
-
   -- one whose commit is tried commits the tables that it shows then
   pub committed_survives : (Holds : tables.State → Type 0) → Survives mid new (MayLeave (λ t. t ≡ tables_in mid.now)) → (HasCleanDisk mid → Holds (tables_in mid.now))
       → Survives old new (MayLeave Holds)

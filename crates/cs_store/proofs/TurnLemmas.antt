@@ -1,4 +1,4 @@
--- What calls of a store keep beside its records, one after another.
+-- What calls of a store, one after another, keep next to its records.
 use Rattle.sqlite.specs.Effect.{Database}
 use Rattle.cs_store.specs.Turns.{SparesOthers, by_nothing, by_each}
 

@@ -6,9 +6,9 @@ use Rattle.cs_store_records.specs.Records.{KeepsContent, KeepsOthers}
 use Rattle.cs_store_tables.specs.Crash.{CanBegin, IsAtomic, LeavesOnly}
 use Rattle.cs_store_tables.specs.Store.{IsAtRest, tables_in}
 
--- A call that commits tables of which `Commits` holds, or is refused and changes nothing. A crash leaves those from
--- before, or such tables: only these once it is done, and only those once it is refused and the store is open still.
--- All but the records is kept.
+-- A call commits tables, and `Commits` holds of them; or it is refused and changes nothing. A crash leaves the tables
+-- from before or such tables: only the latter once it is done, and only the former once it is refused and the store is
+-- still open. All but the records is kept.
 pub record Transacts {X E : Type 0} (Commits : tables.State → Type 0) (old new : State) (result : Result X E) : Type 0 where
   pub at_rest : HasCleanDisk new → OnOk result (IsAtRest new)
   pub others : HasCleanDisk new → OnOk result (KeepsOthers old.now new.now)

@@ -1,4 +1,4 @@
--- What a store shows and tells of its disk, and what a call makes of it.
+-- What a store shows, what it reports of its disk, and what a call makes of it.
 use Rattle.std.specs.Prelude.{◌≡◌, ◌⊎◌, ◌≤◌, Bool, true, false, IsTrue}
 use Rattle.sqlite_disk.specs.Disk.{MoreFaults}
 use Rattle.sqlite_trees.specs.View.{doubt}

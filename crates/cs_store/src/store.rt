@@ -225,8 +225,8 @@ impl<S: Alter> Store<S> {
     /// # Errors
     ///
     /// A refusal changes nothing. `BadSchema` if the name or the columns make no table, and then `TableExists`.
-    /// `DamagedStore` and `NoMemory` as of [`tables`](Store::tables). `StoreFault` if a transaction is open or the database
-    /// refuses.
+    /// `DamagedStore` and `NoMemory` as of [`tables`](Store::tables). `StoreFault` if a transaction is open or the
+    /// database refuses.
     pub fn declare(
         &mut self,
         alloc: Global,

@@ -34,8 +34,8 @@ pub fn open_memory(alloc: Global) -> Result<MemoryStore, StoreError>
     open_file(alloc, MemoryFile::new(alloc))
 }
 
-/// Opens the store in a database file in memory that has no log. An empty file, and a database without a record, becomes
-/// a new store. Other tables of the database are kept.
+/// Opens the store in a database file in memory that has no log. An empty file, and a database without a record,
+/// becomes a new store. Other tables of the database are kept.
 ///
 /// # Errors
 ///

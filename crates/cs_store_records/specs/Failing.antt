@@ -84,7 +84,7 @@ HasDiskFailed old new error = (cause : StoreError) × (error ≡ store_error cau
 abbrev pub CannotWrite : State → State → Statement → Error → Type 0
 CannotWrite old new statement error = HasDiskFailed old new error ⊎ Refuses old.step_limit old.now statement error
 
--- A read fails only so, or where the connection limits the steps of a query.
+-- A read fails only because the disk failed, or where the connection limits the steps of a query.
 abbrev pub CannotRead : State → State → Error → Type 0
 CannotRead old new error = HasDiskFailed old new error ⊎ ((error ≡ SqliteFailure OperationInterrupted) × IsSome old.step_limit)
 

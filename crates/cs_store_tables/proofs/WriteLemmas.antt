@@ -57,10 +57,6 @@ pub on_ok_then : {X E : Type 0} (r : Result X E) (P Q : Type 0) → (P → Q) �
 on_ok_then (Ok x) P Q f p = f p
 on_ok_then (Err e) P Q f p = tt
 
-pub on_err_then : {X E : Type 0} (r : Result X E) (P Q : Type 0) → (P → Q) → OnErr r P → OnErr r Q
-on_err_then (Ok x) P Q f p = tt
-on_err_then (Err e) P Q f p = f p
-
 -- what holds of an answer holds of it with another refusal
 pub mapped : {X E F : Type 0} (Q : E → F → Type 0) (answer : Result X E) (result : Result X F) (P : Type 0)
     → MatchResult answer (λ x. result ≡ Ok x) (λ e. IsErrAnd result (Q e)) → OnOk answer P → OnOk result P
