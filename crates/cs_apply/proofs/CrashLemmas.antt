@@ -5,8 +5,8 @@ use Rattle.cs_value.specs.State as tables
 use Rattle.cs_store.specs.Crash.{CanBegin, IsAtomic}
 use Rattle.cs_store.specs.Transacts.{Transacts}
 use Rattle.cs_store.proofs.CrashLemmas.{atomic_weaker}
-use Rattle.cs_group.specs.declared.conflict.Choice.{Choice}
-use Rattle.cs_group.specs.declared.conflict.Noop.{Noop}
+use Rattle.cs_apply_conflicts.specs.declared.conflict.Choice.{Choice}
+use Rattle.cs_apply_conflicts.specs.declared.conflict.Noop.{Noop}
 use Rattle.cs_apply_rows.specs.declared.conflict.Conflict.{Conflict}
 use Rattle.cs_apply_rows.specs.declared.running.Direction.{Direction}
 use Rattle.cs_apply_rows.specs.Running.{Handler}

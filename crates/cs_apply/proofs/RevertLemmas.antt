@@ -10,14 +10,14 @@ use Rattle.cs_value.specs.State.{State, WrittenData, IsState}
 use Rattle.cs_store.specs.Store.{RefusesShut, tables_in}
 use Rattle.cs_wire.specs.Changeset.{GroupData}
 use Rattle.cs_wire.specs.Laws.{ChangesetFiles}
-use Rattle.cs_group.specs.declared.conflict.Kind.{Kind}
-use Rattle.cs_group.specs.declared.conflict.Choice.{Choice}
-use Rattle.cs_group.specs.declared.conflict.Choice.TheVariants as choice
-use Rattle.cs_group.specs.declared.conflict.Noop.{Noop}
-use Rattle.cs_group.specs.declared.conflict.Noop.TheVariants.{Report as Reported}
+use Rattle.cs_apply_conflicts.specs.declared.conflict.Kind.{Kind}
+use Rattle.cs_apply_conflicts.specs.declared.conflict.Choice.{Choice}
+use Rattle.cs_apply_conflicts.specs.declared.conflict.Choice.TheVariants as choice
+use Rattle.cs_apply_conflicts.specs.declared.conflict.Noop.{Noop}
+use Rattle.cs_apply_conflicts.specs.declared.conflict.Noop.TheVariants.{Report as Reported}
 use Rattle.cs_group.specs.Inverse.{IsInverse}
-use Rattle.cs_group.specs.Applying.{PlacedEntry, Choices, applicable, placed_kind, heeded, met_at, met_under, IsClean, IsApplied, AreApplied, omit_all}
-use Rattle.cs_group.proofs.ApplyLemmas.{none_met, applied_once, applied_reverts}
+use Rattle.cs_apply_conflicts.specs.Applying.{PlacedEntry, Choices, applicable, placed_kind, heeded, met_at, met_under, IsClean, IsApplied, AreApplied, omit_all}
+use Rattle.cs_apply_conflicts.proofs.ApplyLemmas.{none_met, applied_once, applied_reverts}
 use Rattle.cs_apply_rows.proofs.HeededLemmas.{heeded_all}
 use Rattle.cs_apply_rows.specs.declared.conflict.Conflict.{Conflict}
 use Rattle.cs_apply_rows.specs.declared.conflict.Met.{Met}

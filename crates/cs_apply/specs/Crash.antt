@@ -1,7 +1,7 @@
 -- What an apply commits.
 use Rattle.std.specs.Prelude.{ℕ, List}
 use Rattle.cs_value.specs.State.{State, WrittenData}
-use Rattle.cs_group.specs.declared.conflict.Noop.{Noop}
+use Rattle.cs_apply_conflicts.specs.declared.conflict.Noop.{Noop}
 use Rattle.cs_apply_rows.specs.declared.conflict.Met.{Met}
 use Rattle.cs_apply_rows.specs.declared.running.Direction.{Direction}
 use Rattle.cs_apply_rows.specs.Running.{Handler, AppliesWith}

@@ -9,8 +9,8 @@ ghost use Rattle.cs_store.specs.Failing.{StoreFails, Writes};
 ghost use Rattle.cs_store.specs.Records.{KeepsContent, KeepsOthers};
 ghost use Rattle.cs_store.specs.Transacts.{Transacts};
 ghost use Rattle.cs_store.specs.Store.{IsAtRest, RefusesShut, tables_in};
-ghost use Rattle.cs_group.specs.declared.conflict.Choice.TheVariants.{Abort as AbortChoice};
-ghost use Rattle.cs_group.specs.declared.conflict.Noop.TheVariants.{Report as Reported};
+ghost use Rattle.cs_apply_conflicts.specs.declared.conflict.Choice.TheVariants.{Abort as AbortChoice};
+ghost use Rattle.cs_apply_conflicts.specs.declared.conflict.Noop.TheVariants.{Report as Reported};
 ghost use Rattle.cs_apply_rows.specs.declared.running.Direction.TheVariants.{Forward as ForwardRun, Inverse as InverseRun};
 ghost use Rattle.cs_apply.specs.Crash.{AppliesInto};
 ghost use Rattle.cs_apply_rows.specs.Tally.{Tells, is_listed};
@@ -18,8 +18,8 @@ ghost use Rattle.cs_apply_rows.specs.Running.{Applies, AppliesCounted, AppliesTo
 ghost use Rattle.cs_apply_rows.specs.Running.{IsCaused, IsNamed, IsResource};
 ghost use Rattle.cs_apply_rows.specs.Writes.{IsFileWrite};
 
+use cs_apply_conflicts::{Choice, Noop};
 use cs_apply_rows::{ApplyFault, Conflict, Direction, Report, Summary, Tally, Writings, tally_in};
-use cs_group::{Choice, Noop};
 use cs_store::Store;
 use cs_wire::changeset_files_law;
 use sqlite::Alter;

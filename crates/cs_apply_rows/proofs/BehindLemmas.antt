@@ -12,11 +12,11 @@ use Rattle.cs_wire_entries.specs.declared.entry.Entry.{Entry}
 use Rattle.cs_wire.specs.Entry.{key_of}
 use Rattle.cs_wire.specs.Changeset.{HeaderData, GroupData}
 use Rattle.cs_wire.specs.Items.{FlaggedEntry}
-use Rattle.cs_group.specs.declared.judging.Judgement.{Judgement}
-use Rattle.cs_group.specs.declared.judging.Judgement.TheVariants.{Skipped, Wider, Compatible}
-use Rattle.cs_group.specs.declared.conflict.Noop.{Noop}
-use Rattle.cs_group.specs.Judging.{judgement, judged, is_compatible, is_skipped}
-use Rattle.cs_group.specs.Applying.{PlacedEntry, placed, placed_by, placed_in, IsElsewhere, NoneWider, FirstWider, current, refuses_at, refused_at, applicable, heeded, heeded_of, ignored, ignored_of, skipped}
+use Rattle.cs_apply_conflicts.specs.declared.judging.Judgement.{Judgement}
+use Rattle.cs_apply_conflicts.specs.declared.judging.Judgement.TheVariants.{Skipped, Wider, Compatible}
+use Rattle.cs_apply_conflicts.specs.declared.conflict.Noop.{Noop}
+use Rattle.cs_apply_conflicts.specs.Judging.{judgement, judged, is_compatible, is_skipped}
+use Rattle.cs_apply_conflicts.specs.Applying.{PlacedEntry, placed, placed_by, placed_in, IsElsewhere, NoneWider, FirstWider, current, refuses_at, refused_at, applicable, heeded, heeded_of, ignored, ignored_of, skipped}
 use Rattle.cs_apply_rows.specs.declared.ending.Ending.{Ending}
 use Rattle.cs_apply_rows.specs.declared.conflict.Met.{Met}
 use Rattle.cs_apply_rows.specs.declared.tally.Tally.{Tally}
@@ -25,7 +25,7 @@ use Rattle.cs_apply_rows.specs.Report.{met_of}
 use Rattle.cs_apply_rows.specs.Running.{Handler}
 use Rattle.cs_apply_rows.specs.Steps.{HasTable, Carries, Stops, ComesTo, last_of, header_in, placed_in_table}
 use Rattle.cs_apply_rows.specs.Run.{IsAtStart, IsBehind, IsNewEntry, CameTo, TakesEntries, TakesTable, first_wider, group_of, last_group, wider_then}
-use Rattle.cs_group.proofs.ApplyLemmas.{refuses_same}
+use Rattle.cs_apply_conflicts.proofs.ApplyLemmas.{refuses_same}
 use Rattle.cs_apply_rows.proofs.RunLemmas.{applicable_more, each_map, has_table, other_tables, skipped_more}
 use Rattle.cs_apply_rows.proofs.StepLemmas.{Apart, carries_none, carries_then, same_rows, same_rules, stops_more, stops_then}
 use Rattle.cs_apply_rows.proofs.HeededLemmas.{heeded_before, heeded_behind, heeded_more, heeded_none, heeded_same, ignored_more, ignored_none, ignored_same}

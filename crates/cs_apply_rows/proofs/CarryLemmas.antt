@@ -7,10 +7,10 @@ use Rattle.std.proofs.lemmas.List.{append-nil, map-append}
 use Rattle.std.proofs.lemmas.List.Elements.{All-nil, All-cons, All-append, All-head, recursion_from_All}
 use Rattle.cs_value.specs.declared.value.OwnedValue.{OwnedValue}
 use Rattle.cs_value.specs.State.{TableData, State, WrittenData, schema_at, row_at}
-use Rattle.cs_group.specs.declared.conflict.Kind.{Kind}
-use Rattle.cs_group.specs.declared.conflict.Choice.{Choice}
-use Rattle.cs_group.specs.Conflicts.{kinds_met, row_after, ends, is_ended, is_carried_out}
-use Rattle.cs_group.specs.Applying.{PlacedEntry, placed_key, current, refused_at, IsElsewhere, MetData, Choices, conflict_with, met_with, met_at, placed_kinds, placed_result, omit_all}
+use Rattle.cs_apply_conflicts.specs.declared.conflict.Kind.{Kind}
+use Rattle.cs_apply_conflicts.specs.declared.conflict.Choice.{Choice}
+use Rattle.cs_apply_conflicts.specs.Conflicts.{kinds_met, row_after, ends, is_ended, is_carried_out}
+use Rattle.cs_apply_conflicts.specs.Applying.{PlacedEntry, placed_key, current, refused_at, IsElsewhere, MetData, Choices, conflict_with, met_with, met_at, placed_kinds, placed_result, omit_all}
 use Rattle.cs_apply_rows.specs.declared.conflict.Met.{Met}
 use Rattle.cs_apply_rows.specs.declared.tally.Tally.{Tally}
 use Rattle.cs_apply_rows.specs.Report.{met_of}

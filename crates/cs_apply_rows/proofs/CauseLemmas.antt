@@ -16,7 +16,7 @@ use Rattle.cs_rows.specs.declared.fault.StoreError.TheVariants as store
 use Rattle.cs_rows.specs.Faults as stores
 use Rattle.cs_rows.specs.Rows.{Write}
 use Rattle.cs_rows.proofs.CauseLemmas as rows
-use Rattle.cs_group.specs.Conflicts.{row_after}
+use Rattle.cs_apply_conflicts.specs.Conflicts.{row_after}
 use Rattle.cs_group.specs.Inverse.{inverse_group}
 use Rattle.cs_apply_rows.specs.declared.fault.ApplyFault.{ApplyFault}
 use Rattle.cs_apply_rows.specs.declared.fault.ApplyFault.TheVariants.{Store}

@@ -15,14 +15,14 @@ use Rattle.cs_wire.specs.Changeset.{HeaderData}
 use Rattle.cs_rows.specs.Rows.{Fits}
 use Rattle.cs_rows.proofs.EditingLemmas.{fits_in}
 use Rattle.cs_group.specs.Joining.{key_places}
-use Rattle.cs_group.proofs.ConflictLemmas.{and_false}
+use Rattle.cs_apply_conflicts.proofs.ConflictLemmas.{and_false}
 use Rattle.cs_group.proofs.KeyPlaceLemmas.{fits_same, key_of_same}
-use Rattle.cs_group.specs.declared.conflict.Kind.{Kind}
-use Rattle.cs_group.specs.declared.conflict.Kind.TheVariants.{Data, NotFound, Conflict as KeyConflict, Constraint}
-use Rattle.cs_group.specs.declared.conflict.Choice.{Choice}
-use Rattle.cs_group.specs.declared.conflict.Choice.TheVariants as choice
-use Rattle.cs_group.specs.Conflicts.{kind_between, or_constraint, conflict_kind, kinds_from, kinds_met, ends, is_overcome, is_carried_out}
-use Rattle.cs_group.specs.Applying.{PlacedEntry, ConflictData, MetData, conflict_with, met_with, refuses_at}
+use Rattle.cs_apply_conflicts.specs.declared.conflict.Kind.{Kind}
+use Rattle.cs_apply_conflicts.specs.declared.conflict.Kind.TheVariants.{Data, NotFound, Conflict as KeyConflict, Constraint}
+use Rattle.cs_apply_conflicts.specs.declared.conflict.Choice.{Choice}
+use Rattle.cs_apply_conflicts.specs.declared.conflict.Choice.TheVariants as choice
+use Rattle.cs_apply_conflicts.specs.Conflicts.{kind_between, or_constraint, conflict_kind, kinds_from, kinds_met, ends, is_overcome, is_carried_out}
+use Rattle.cs_apply_conflicts.specs.Applying.{PlacedEntry, ConflictData, MetData, conflict_with, met_with, refuses_at}
 use Rattle.cs_apply_rows.specs.declared.conflict.Conflict.{Conflict}
 use Rattle.cs_apply_rows.specs.declared.conflict.Met.{Met}
 use Rattle.cs_apply_rows.specs.declared.entry.Settled.{Settled}

@@ -6,11 +6,11 @@ use Rattle.std.proofs.lemmas.List.Elements.{filter-append}
 use Rattle.cs_value.specs.declared.value.OwnedValue.{OwnedValue}
 use Rattle.cs_value.specs.State.{State}
 use Rattle.cs_value.proofs.ListLemmas.{AllByRecursion-weaker}
-use Rattle.cs_group.specs.declared.conflict.Noop.{Noop}
-use Rattle.cs_group.specs.declared.conflict.Noop.TheVariants.{Report as Reported, Ignore}
-use Rattle.cs_group.specs.Conflicts.{is_idle}
+use Rattle.cs_apply_conflicts.specs.declared.conflict.Noop.{Noop}
+use Rattle.cs_apply_conflicts.specs.declared.conflict.Noop.TheVariants.{Report as Reported, Ignore}
+use Rattle.cs_apply_conflicts.specs.Conflicts.{is_idle}
 use Rattle.cs_apply_rows.specs.Steps.{is_ignored}
-use Rattle.cs_group.specs.Applying.{PlacedEntry, placed_key, current, refused_at, IsElsewhere, is_idle_at, heeded_of, ignored_of}
+use Rattle.cs_apply_conflicts.specs.Applying.{PlacedEntry, placed_key, current, refused_at, IsElsewhere, is_idle_at, heeded_of, ignored_of}
 use Rattle.cs_apply_rows.proofs.StepLemmas.{Apart}
 
 -- ---- one entry behind others

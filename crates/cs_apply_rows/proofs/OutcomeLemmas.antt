@@ -7,8 +7,8 @@ use Rattle.std.proofs.lemmas.List.Elements.{All-nil}
 use Rattle.cs_value.specs.State.{State, WrittenData}
 use Rattle.cs_rows.specs.Editing.{written_of}
 use Rattle.cs_wire.specs.Changeset.{GroupData}
-use Rattle.cs_group.specs.declared.conflict.Noop.{Noop}
-use Rattle.cs_group.specs.Applying.{NoneWider, heeded, ignored, met_at, written_for, skipped}
+use Rattle.cs_apply_conflicts.specs.declared.conflict.Noop.{Noop}
+use Rattle.cs_apply_conflicts.specs.Applying.{NoneWider, heeded, ignored, met_at, written_for, skipped}
 use Rattle.cs_apply_rows.specs.declared.conflict.Met.{Met}
 use Rattle.cs_apply_rows.specs.declared.report.Report.{Report}
 use Rattle.cs_apply_rows.specs.declared.tally.Tally.{Tally}

@@ -8,10 +8,10 @@ use Rattle.std.proofs.lemmas.Grind.{flat_map-append}
 use Rattle.cs_value.specs.State.{SchemaData, State, schema_at}
 use Rattle.cs_value.proofs.ListLemmas.{AllByRecursion-append, AllByRecursion-map, AllByRecursion-weaker}
 use Rattle.cs_wire.specs.Changeset.{HeaderData, GroupData}
-use Rattle.cs_group.specs.declared.judging.Judgement.TheVariants.{Skipped, Wider, Compatible}
+use Rattle.cs_apply_conflicts.specs.declared.judging.Judgement.TheVariants.{Skipped, Wider, Compatible}
 use Rattle.cs_group.specs.Joining.{key_places}
-use Rattle.cs_group.specs.Judging.{leads, judgement, judged, is_compatible, is_skipped}
-use Rattle.cs_group.specs.Applying.{placed_by, placed_in, placed, compatible_groups, applicable, skipped}
+use Rattle.cs_apply_conflicts.specs.Judging.{leads, judgement, judged, is_compatible, is_skipped}
+use Rattle.cs_apply_conflicts.specs.Applying.{placed_by, placed_in, placed, compatible_groups, applicable, skipped}
 use Rattle.cs_apply_rows.specs.Steps.{HasTable}
 
 -- ---- the table of a group

@@ -9,11 +9,11 @@ use Rattle.std.proofs.lemmas.Grind.{flat_map-append}
 use Rattle.cs_value.specs.declared.value.OwnedValue.{OwnedValue}
 use Rattle.cs_value.specs.State.{State, WrittenData}
 use Rattle.cs_value.proofs.ListLemmas.{AllByRecursion-append, AllByRecursion-append_left, AllByRecursion-append_right, AllByRecursion-weaker}
-use Rattle.cs_group.specs.declared.conflict.Kind.{Kind}
-use Rattle.cs_group.specs.declared.conflict.Choice.{Choice}
-use Rattle.cs_group.specs.Conflicts.{is_refused, kinds_met, is_carried_out, entry_result}
-use Rattle.cs_group.specs.Applying.{PlacedEntry, placed_key, current, refused_at, IsElsewhere, MetData, Choices, met_with, met_at, written_for, placed_result, AreApplied, omit_all}
-use Rattle.cs_group.proofs.ApplyLemmas.{refuses_same}
+use Rattle.cs_apply_conflicts.specs.declared.conflict.Kind.{Kind}
+use Rattle.cs_apply_conflicts.specs.declared.conflict.Choice.{Choice}
+use Rattle.cs_apply_conflicts.specs.Conflicts.{is_refused, kinds_met, is_carried_out, entry_result}
+use Rattle.cs_apply_conflicts.specs.Applying.{PlacedEntry, placed_key, current, refused_at, IsElsewhere, MetData, Choices, met_with, met_at, written_for, placed_result, AreApplied, omit_all}
+use Rattle.cs_apply_conflicts.proofs.ApplyLemmas.{refuses_same}
 use Rattle.cs_apply_rows.specs.declared.conflict.Met.{Met}
 use Rattle.cs_apply_rows.specs.declared.tally.Tally.{Tally}
 use Rattle.cs_apply_rows.specs.Report.{met_of}

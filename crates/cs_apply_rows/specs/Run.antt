@@ -8,12 +8,12 @@ use Rattle.cs_wire.specs.Entry.{key_of}
 use Rattle.cs_wire.specs.Changeset.{HeaderData, GroupData}
 use Rattle.cs_wire.specs.Views.{inverse_entry}
 use Rattle.cs_group.specs.Inverse.{inverse_group}
-use Rattle.cs_group.specs.declared.judging.Judgement.{Judgement}
-use Rattle.cs_group.specs.declared.judging.Judgement.TheVariants as judgement
-use Rattle.cs_group.specs.Judging.{judged, is_skipped}
-use Rattle.cs_group.specs.Judging as judging
-use Rattle.cs_group.specs.declared.conflict.Noop.{Noop}
-use Rattle.cs_group.specs.Applying.{heeded, ignored, refuses_at, skipped}
+use Rattle.cs_apply_conflicts.specs.declared.judging.Judgement.{Judgement}
+use Rattle.cs_apply_conflicts.specs.declared.judging.Judgement.TheVariants as judgement
+use Rattle.cs_apply_conflicts.specs.Judging.{judged, is_skipped}
+use Rattle.cs_apply_conflicts.specs.Judging as judging
+use Rattle.cs_apply_conflicts.specs.declared.conflict.Noop.{Noop}
+use Rattle.cs_apply_conflicts.specs.Applying.{heeded, ignored, refuses_at, skipped}
 use Rattle.cs_apply_rows.specs.declared.ending.Ending.{Ending}
 use Rattle.cs_apply_rows.specs.declared.fault.ApplyFault.{ApplyFault}
 use Rattle.cs_apply_rows.specs.declared.fault.ApplyFault.TheVariants.{Wider}

@@ -10,13 +10,13 @@ use Rattle.cs_rows.specs.Faults.{IsStoreFault}
 use Rattle.cs_rows.specs.Faults as stores
 use Rattle.cs_rows.specs.declared.fault.Cause.{Cause}
 use Rattle.cs_rows.specs.Editing.{written_of}
-use Rattle.cs_group.specs.declared.conflict.Choice.{Choice}
-use Rattle.cs_group.specs.declared.conflict.Choice.TheVariants as choice
-use Rattle.cs_group.specs.declared.conflict.Noop.{Noop}
+use Rattle.cs_apply_conflicts.specs.declared.conflict.Choice.{Choice}
+use Rattle.cs_apply_conflicts.specs.declared.conflict.Choice.TheVariants as choice
+use Rattle.cs_apply_conflicts.specs.declared.conflict.Noop.{Noop}
 use Rattle.cs_group.specs.Inverse.{IsInverse, inverse_group}
-use Rattle.cs_group.specs.Conflicts.{ends}
-use Rattle.cs_group.specs.Applying.{MetData, Choices, FirstWider, NoneWider, IsClean, IsApplied}
-use Rattle.cs_group.specs.Applying.{IsAppliedUnder, met_under, skipped, written_under, ignored}
+use Rattle.cs_apply_conflicts.specs.Conflicts.{ends}
+use Rattle.cs_apply_conflicts.specs.Applying.{MetData, Choices, FirstWider, NoneWider, IsClean, IsApplied}
+use Rattle.cs_apply_conflicts.specs.Applying.{IsAppliedUnder, met_under, skipped, written_under, ignored}
 use Rattle.cs_apply_rows.specs.declared.conflict.Conflict.{Conflict}
 use Rattle.cs_apply_rows.specs.declared.conflict.Met.{Met}
 use Rattle.cs_apply_rows.specs.declared.report.Report.{Report}

@@ -8,14 +8,14 @@ use Rattle.cs_wire.specs.Changeset.{HeaderData}
 use Rattle.cs_wire.specs.Items.{FlaggedEntry}
 use Rattle.cs_rows.specs.declared.fault.StoreError.TheVariants.{DamagedStore}
 use Rattle.cs_rows.specs.Rows.{Write, puts_row, removes_row}
-use Rattle.cs_group.specs.declared.conflict.Kind.{Kind}
-use Rattle.cs_group.specs.declared.conflict.Choice.{Choice}
-use Rattle.cs_group.specs.declared.conflict.Choice.TheVariants as choice
-use Rattle.cs_group.specs.declared.conflict.Noop.{Noop}
-use Rattle.cs_group.specs.declared.conflict.Noop.TheVariants as noop
-use Rattle.cs_group.specs.Conflicts.{kinds_met, is_idle, is_overcome, is_carried_out}
+use Rattle.cs_apply_conflicts.specs.declared.conflict.Kind.{Kind}
+use Rattle.cs_apply_conflicts.specs.declared.conflict.Choice.{Choice}
+use Rattle.cs_apply_conflicts.specs.declared.conflict.Choice.TheVariants as choice
+use Rattle.cs_apply_conflicts.specs.declared.conflict.Noop.{Noop}
+use Rattle.cs_apply_conflicts.specs.declared.conflict.Noop.TheVariants as noop
+use Rattle.cs_apply_conflicts.specs.Conflicts.{kinds_met, is_idle, is_overcome, is_carried_out}
 use Rattle.cs_group.specs.Joining.{key_places}
-use Rattle.cs_group.specs.Applying.{PlacedEntry, ConflictData, MetData, Choices, AreApplied, met_with, met_at, written_for, heeded_of, ignored_of}
+use Rattle.cs_apply_conflicts.specs.Applying.{PlacedEntry, ConflictData, MetData, Choices, AreApplied, met_with, met_at, written_for, heeded_of, ignored_of}
 use Rattle.cs_apply_rows.specs.declared.conflict.Conflict.{Conflict}
 use Rattle.cs_apply_rows.specs.declared.conflict.Met.{Met}
 use Rattle.cs_apply_rows.specs.declared.ending.Ending.{Ending}

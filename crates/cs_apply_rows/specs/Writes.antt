@@ -5,7 +5,7 @@ use Rattle.cs_wire_entries.specs.declared.entry.Entry.{Entry}
 use Rattle.cs_wire.specs.Entry.{key_of}
 use Rattle.cs_wire.specs.Changeset.{HeaderData, GroupData}
 use Rattle.cs_rows.specs.Rows.{Write, puts_row, removes_row}
-use Rattle.cs_group.specs.Conflicts.{row_after}
+use Rattle.cs_apply_conflicts.specs.Conflicts.{row_after}
 use Rattle.cs_apply_rows.specs.declared.running.Direction.{Direction}
 use Rattle.cs_apply_rows.specs.Running.{IsReadAs}
 

@@ -2,7 +2,7 @@
 ghost use Rattle.std.specs.Prelude.{◌≡◌, IfOk, option_map};
 ghost use Rattle.cs_apply_rows.specs.Report.{conflict_of};
 
-use cs_group::{Choice, Kind};
+use cs_apply_conflicts::{Choice, Kind};
 use cs_value::{NoMemory, Row};
 use cs_wire::{Entry, EntryRef};
 use std::alloc::Global;

@@ -4,7 +4,7 @@ ghost use Rattle.cs_apply_rows.specs.Steps.{ending_by, refusal_of};
 
 use crate::conflict::Conflict;
 use crate::fault::ApplyFault;
-use cs_group::Choice;
+use cs_apply_conflicts::Choice;
 
 /// How a run ended at an entry.
 #[derive(Debug, Drop)]

@@ -1,13 +1,13 @@
 //! Whether the tables of a changeset fit the tables of the rows.
 ghost use Rattle.std.specs.Prelude.{◌≡◌, IfOk, IfErr, OnOk, option_map, is_ok};
 ghost use Rattle.cs_value.specs.State.{schema_at};
-ghost use Rattle.cs_group.specs.Judging.{judgement};
-ghost use Rattle.cs_group.specs.Applying.{refuses_at};
+ghost use Rattle.cs_apply_conflicts.specs.Judging.{judgement};
+ghost use Rattle.cs_apply_conflicts.specs.Applying.{refuses_at};
 ghost use Rattle.cs_apply_rows.specs.Running.{IsCaused, IsResource};
 ghost use Rattle.cs_apply_rows.specs.Steps.{IsStoreRefusal};
 
 use crate::fault::ApplyFault;
-use cs_group::{Judgement, judge};
+use cs_apply_conflicts::{Judgement, judge};
 use cs_rows::Rows;
 use cs_wire::HeaderRef;
 use std::alloc::Global;

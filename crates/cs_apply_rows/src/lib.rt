@@ -25,7 +25,7 @@ mod running;
 mod tally;
 
 pub use conflict::{Conflict, Met};
-pub use cs_group::{Choice, Kind, Noop};
+pub use cs_apply_conflicts::{Choice, Kind, Noop};
 pub use fault::ApplyFault;
 pub use owned::run_changeset_in;
 pub use policy::Policy;

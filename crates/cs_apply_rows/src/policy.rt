@@ -3,7 +3,7 @@ ghost use Rattle.std.specs.Prelude.{◌≡◌};
 ghost use Rattle.cs_apply_rows.specs.Report.{chosen};
 
 use crate::conflict::Conflict;
-use cs_group::{Choice, Kind};
+use cs_apply_conflicts::{Choice, Kind};
 
 /// A choice for each kind of conflict.
 #[derive(Clone, Copy, Debug, PartialEq, Eq)]

@@ -1,7 +1,9 @@
 -- Images that are made column by column.
-use Rattle.std.proofs.Common.{◌≡◌, ℕ, zero, suc, ◌+◌, ◌<◌, List, [], ◌∷◌, ◌++◌, length, map, take, get_or, refl, sym, ap, ◌∙◌, arith}
+use Rattle.std.proofs.Common.{◌≡◌, ℕ, zero, suc, ◌+◌, ◌<◌, ℤ, true, true≢false, List, [], ◌∷◌, ◌++◌, length, map, take, get_or, refl, sym, ap, ◌∙◌, arith}
 use Rattle.std.specs.List.{AllByRecursion, cons_option}
-use Rattle.std.specs.Cmp.Lexicographic.{pointwise}
+use Rattle.std.specs.Cmp.Lexicographic.{pointwise, same_text, nat_list_eq_equiv}
+use Rattle.std.proofs.lemmas.Cmp.{int_eq_equiv}
+use Rattle.std.proofs.lemmas.Bool.Decides.{Decides-int_eq}
 use Rattle.std.proofs.lemmas.List.Elements.{filter_map-append}
 use Rattle.std.proofs.lemmas.List.{append-nil, map-append, map_more, take-map, get_or-map, length-map, get_or_default}
 use Rattle.cs_value.specs.declared.value.Field.{Field}
@@ -10,8 +12,9 @@ use Rattle.cs_value.specs.declared.value.Value.{Value}
 use Rattle.cs_value.specs.declared.value.Value.TheVariants as value
 use Rattle.cs_value.specs.contracts.value.FieldPartialEq.TheImpl as borrowed_eq
 use Rattle.cs_value.specs.declared.value.OwnedValue.{OwnedValue}
+use Rattle.cs_value.specs.declared.value.OwnedValue.TheVariants.{Int, Text, Blob, Null}
 use Rattle.cs_value.specs.declared.value.OwnedField.{OwnedField}
-use Rattle.cs_value.specs.declared.value.OwnedField.TheVariants.{Undefined}
+use Rattle.cs_value.specs.declared.value.OwnedField.TheVariants.{Undefined, Defined}
 use Rattle.cs_value.specs.Value.{value_of, field_of, FieldFits}
 use Rattle.cs_value.proofs.ListLemmas.{AllByRecursion-push}
 use Rattle.cs_wire.specs.Entry.{with_key}
@@ -84,6 +87,41 @@ pub pushed : (items new : List Field) (x : Field) (fields : List OwnedField) (f 
     → (map field_of new ≡ fields ++ f ∷ []) × AllByRecursion FieldFits new
 pushed items new x fields f grown is one fit fits =
     rw grown (map-append field_of items (x ∷ []) ∙ cc (is, one), AllByRecursion-push FieldFits items x fit fits)
+
+-- ---- equal fields
+
+-- fields that are found equal are one
+pub same_values : (v w : OwnedValue) → is_same (Defined v) (Defined w) ≡ true → v ≡ w
+same_values (Int z) (Int w) e = ap (λ (i : ℤ). Int i) ((Decides-int_eq z w).0 e)
+same_values (Text s) (Text t) e = ap (λ (b : List ℕ). Text b) (same_text s t (sym e))
+same_values (Blob s) (Blob t) e = ap (λ (b : List ℕ). Blob b) (same_text s t (sym e))
+same_values Null Null e = refl
+same_values (Int z) (Text t) e = absurd (true≢false (sym e))
+same_values (Int z) (Blob t) e = absurd (true≢false (sym e))
+same_values (Int z) Null e = absurd (true≢false (sym e))
+same_values (Text s) (Int w) e = absurd (true≢false (sym e))
+same_values (Text s) (Blob t) e = absurd (true≢false (sym e))
+same_values (Text s) Null e = absurd (true≢false (sym e))
+same_values (Blob s) (Int w) e = absurd (true≢false (sym e))
+same_values (Blob s) (Text t) e = absurd (true≢false (sym e))
+same_values (Blob s) Null e = absurd (true≢false (sym e))
+same_values Null (Int w) e = absurd (true≢false (sym e))
+same_values Null (Text t) e = absurd (true≢false (sym e))
+same_values Null (Blob t) e = absurd (true≢false (sym e))
+
+pub same_fields : (f g : OwnedField) → is_same f g ≡ true → f ≡ g
+same_fields Undefined Undefined e = refl
+same_fields Undefined (Defined w) e = absurd (true≢false (sym e))
+same_fields (Defined v) Undefined e = absurd (true≢false (sym e))
+same_fields (Defined v) (Defined w) e = ap (λ (x : OwnedValue). Defined x) (same_values v w e)
+
+-- and each is found equal to itself
+pub same_itself : (f : OwnedField) → is_same f f ≡ true
+same_itself Undefined = refl
+same_itself (Defined (Int z)) = int_eq_equiv.refl z
+same_itself (Defined (Text t)) = nat_list_eq_equiv.refl t
+same_itself (Defined (Blob b)) = nat_list_eq_equiv.refl b
+same_itself (Defined Null) = refl
 
 -- ---- equal images
 

@@ -9,11 +9,10 @@ use Rattle.cs_wire_entries.specs.declared.entry.Entry.{Entry}
 use Rattle.cs_wire.specs.Entry.{before_image, after_image}
 use Rattle.cs_wire.specs.Changeset.{GroupData, ImageData, IsGroup}
 use Rattle.cs_wire.specs.Inverse.{IsInverseEntry, IsInverseGroup}
-use Rattle.cs_group.specs.Inverse.{IsInverse}
+use Rattle.cs_group.specs.Inverse.{IsInverse, InverseJoins}
 use Rattle.cs_group.specs.Net.{is_same, net_between}
 use Rattle.cs_group.specs.Joining.{known, is_alike, merged, left_of, entry_key, table_name, is_new, outcome, joined_by, joined_entry, some_group, joined_group}
-use Rattle.cs_group.specs.JoinLaw.{InverseJoins}
-use Rattle.cs_group.proofs.ConflictLemmas.{same_itself}
+use Rattle.cs_group.proofs.ImageLemmas.{same_itself}
 use Rattle.cs_group.proofs.TextLemmas.{Once, with_text-at}
 
 -- ---- two entries

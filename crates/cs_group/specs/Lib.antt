@@ -2,17 +2,11 @@ pub mod Inverse
 pub mod Net
 pub mod Joining
 pub mod Marks
-pub mod JoinLaw
 pub mod Views
-pub mod Judging
-pub mod Conflicts
-pub mod Applying
-pub mod Laws
 pub mod Numbering
 pub use Rattle.cs_value.specs.Value
 pub use Rattle.cs_value.specs.Key
 pub use Rattle.cs_value.specs.Table
-pub use Rattle.cs_value.specs.State
 pub use Rattle.cs_value.specs.Refusals
 pub use Rattle.cs_wire.specs.Entry
 pub use Rattle.cs_wire.specs.Changeset

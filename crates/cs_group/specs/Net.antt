@@ -1,7 +1,8 @@
 -- The net change of a row: the introduction to SQLite's session extension, under "changesets and patchsets": a row that
 -- is there after and was not before is an INSERT, one that was there and is not a DELETE, and for one that was changed
 -- the columns that differ are an UPDATE.
-use Rattle.std.specs.Prelude.{ℕ, zero, suc, Bool, if◌then◌else◌, List, [], ◌∷◌, map, filter_map, Option, None, Some, option_map}
+use Rattle.std.specs.Prelude.{ℕ, zero, suc, Bool, false, if◌then◌else◌, List, [], ◌∷◌, map, filter_map}
+use Rattle.std.specs.Prelude.{Option, None, Some, option_map}
 use Rattle.std.specs.Cmp.Lexicographic.{pointwise}
 use Rattle.cs_value.specs.declared.value.OwnedValue.{OwnedValue}
 use Rattle.cs_value.specs.declared.value.OwnedField.{OwnedField}
@@ -9,6 +10,7 @@ use Rattle.cs_value.specs.declared.value.OwnedField.TheVariants.{Undefined, Defi
 use Rattle.cs_value.specs.contracts.value.OwnedFieldPartialEq.TheImpl as field_eq
 use Rattle.cs_wire_entries.specs.declared.entry.Change.{Change}
 use Rattle.cs_wire_entries.specs.declared.entry.Change.TheVariants.{Insert, Delete, Update}
+use Rattle.cs_wire_entries.specs.declared.entry.Entry.{Entry}
 use Rattle.cs_wire.specs.Changeset.{ImageData}
 
 -- whether two fields are equal: both are undefined, or their values have one type and content
@@ -67,3 +69,7 @@ image_of_row = option_map (map Defined)
 -- the change from a row to a row
 abbrev pub net_row_change : List ℕ → Option (List OwnedValue) → Option (List OwnedValue) → Option Change
 net_row_change flags before after = net_between flags (image_of_row before) (image_of_row after)
+
+-- the net change of a row, as an entry
+abbrev pub net_entry : List ℕ → Option (List OwnedValue) → Option (List OwnedValue) → Option Entry
+net_entry flags before after = option_map (λ change. let e : Entry = record { indirect = false; change = change } in e) (net_row_change flags before after)

@@ -45,7 +45,7 @@ pub fn have_same_columns(flags: &[u8], other: &[u8]) -> bool
 }
 
 /// Returns whether a flag marks a column of the key.
-pub(crate) fn is_of_key(flag: u8) -> bool
+pub fn is_of_key(flag: u8) -> bool
     ensures { result ≡ by_flag flag false true }
 {
     flag != 0

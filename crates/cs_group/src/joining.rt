@@ -6,7 +6,6 @@ ghost use Rattle.cs_value.specs.Refusals.{Refuses};
 ghost use Rattle.cs_wire.specs.Changeset.{GroupData, IsChangeset, file_bytes};
 ghost use Rattle.cs_wire.specs.Views.{IsPlaceOf};
 ghost use Rattle.cs_group.specs.Inverse.{IsInverse};
-ghost use Rattle.cs_group.specs.JoinLaw.{DoesBoth, NetsBoth};
 ghost use Rattle.cs_group.specs.Joining.{table_name, key_places, AreJoinable, FirstClash, IsJoined};
 ghost use Rattle.cs_group.specs.Joining.{with_text, is_new, outcome, joined_group};
 ghost use Rattle.cs_group.specs.Marks.{AreMet};
@@ -21,8 +20,8 @@ use std::alloc::Global;
 
 /// Returns the changeset that does what `first` does and then what `second` does, as SQLite's
 /// `sqlite3changeset_concat` does, but for the order of keys. If `first` applies without a conflict and then `second`
-/// does, the concatenation applies without a conflict, with the same result. A changeset and its inverse make an empty
-/// one.
+/// does, the concatenation applies without a conflict, with the same result (`join_applies_law` of
+/// `cs_apply_conflicts`). A changeset and its inverse make an empty one.
 ///
 /// The tables of `first` come first, in their order and with their headers, and then those that only `second` has. The
 /// same goes for the keys of a table. Two entries of one key are merged ([`merge`]). Entries and tables of which
@@ -38,8 +37,6 @@ pub fn concat(
     second: &Changeset,
 ) -> Result<Changeset, ConcatFault>
     ensures joined { IfOk result (IsJoined first.now second.now) }
-    ensures applies { IfOk result (DoesBoth first.now second.now) }
-    ensures nets { IfOk result (NetsBoth first.now second.now) }
     ensures undone { IfOk result (λ join. IsInverse first.now second.now → join ≡ []) }
     ensures length { IfOk result (λ join. length (file_bytes join)
         ≤ length (file_bytes first.now) + length (file_bytes second.now)) }

@@ -1,4 +1,4 @@
-//! The inverse of a changeset, the concatenation of two, and what a changeset does to a row.
+//! The inverse of a changeset, and the concatenation of two.
 //!
 //! ```rust
 //! // An INSERT of ('k', 'x') into the table t, whose first column is its key, and the UPDATE of that
@@ -13,35 +13,26 @@
 //! `columns` decides whether their tables agree, `entries` goes through the keys of a table, `keyed` finds groups by
 //! name and entries by key, `joined` collects the result, and `merging` merges two entries. `net` has the change from
 //! one row to another, `image` the rows of entries before and after, and `fault` why two changesets are not
-//! concatenated.
-//!
-//! For applies, `judging` decides whether a group fits its table, `conflict` has the conflicts of entries and the rows
-//! that they leave, and `laws` what holds of all states and changesets. `CALLING.md`, next to this folder, shows a
-//! caller.
+//! concatenated. `CALLING.md`, next to this folder, shows a caller. What a changeset does to a row is said by
+//! `cs_apply_conflicts`.
 #![tactic(auto)]
 
 mod columns;
-mod conflict;
 mod entries;
 mod fault;
 mod image;
 mod inverse;
 mod joined;
 mod joining;
-mod judging;
 mod keyed;
-mod laws;
 mod merging;
 mod net;
 mod numbering;
 
-pub use columns::have_same_columns;
-pub use conflict::{Choice, Kind, Noop, agrees, conflict_kind, is_refused, row_after};
+pub use columns::{have_same_columns, is_of_key};
 pub use fault::{ConcatFault, SchemaFault};
 pub use inverse::{changeset_inverses_law, inverse_twice_law, invert};
 pub use joining::concat;
-pub use judging::{Judgement, judge};
-pub use laws::{applied_once_law, applied_reverts_law, idle_law, ignored_law, written_tells_law};
 pub use merging::{Merged, merge, merge_refs};
 pub use net::{net_change, net_row_change};
 pub use numbering::{number_flags, number_keys};

@@ -3,7 +3,7 @@ ghost use Rattle.std.specs.Prelude.{◌≡◌, length, IfOk, if◌then◌else◌
 ghost use Rattle.cs_wire.specs.Changeset.{IsChangeset, file_bytes, images};
 ghost use Rattle.cs_group.specs.Net.{by_flag};
 ghost use Rattle.cs_group.specs.Numbering.{next_number, numbered_flags, numbered_header, numbered_group, numbered};
-ghost use Rattle.cs_group.specs.Numbering.{InvertsNumbered, DoesAlike};
+ghost use Rattle.cs_group.specs.Numbering.{InvertsNumbered};
 
 use crate::columns::is_of_key;
 use cs_value::NoMemory;
@@ -11,8 +11,8 @@ use cs_wire::{Changeset, Group, Header};
 use std::alloc::Global;
 
 /// Returns the changeset with its key columns numbered in column order, as SQLite's session extension does: 1 for the
-/// first column of the key, 2 for the second, and so on, and 255 from the 255th on. It has the same effect, and its
-/// file the same length.
+/// first column of the key, 2 for the second, and so on, and 255 from the 255th on. It has the same effect
+/// (`numbering_does_law` of `cs_apply_conflicts`), and its file the same length.
 ///
 /// SQLite's `sqlite3changeset_apply` skips a table whose flags are not these numbers. Do not call this on a changeset
 /// that SQLite recorded: it has its numbers, and they need not be in column order.
@@ -25,7 +25,6 @@ pub fn number_keys(alloc: Global, changeset: Changeset) -> Result<Changeset, NoM
     ensures well_formed { IfOk result IsChangeset }
     ensures images { IfOk result (λ other. images other ≡ images changeset) }
     ensures inverse { IfOk result (InvertsNumbered changeset) }
-    ensures does { IfOk result (DoesAlike changeset) }
     ensures length { IfOk result (λ other. length (file_bytes other) ≡ length (file_bytes changeset)) }
 {
     let mut numbered = Changeset::new(alloc);

@@ -14,12 +14,12 @@ use Rattle.cs_wire.specs.Laws.{ChangesetFiles}
 use Rattle.cs_store.specs.Laws.{was_clean}
 use Rattle.cs_store.specs.Records.{KeepsCrash}
 use Rattle.cs_store.specs.Store.{Begins, tables_in}
-use Rattle.cs_group.specs.declared.conflict.Choice.{Choice}
-use Rattle.cs_group.specs.declared.judging.Judgement.TheVariants.{Compatible}
-use Rattle.cs_group.specs.Judging.{judgement, judged}
-use Rattle.cs_group.specs.Applying.{omit_all, skipped}
+use Rattle.cs_apply_conflicts.specs.declared.conflict.Choice.{Choice}
+use Rattle.cs_apply_conflicts.specs.declared.judging.Judgement.TheVariants.{Compatible}
+use Rattle.cs_apply_conflicts.specs.Judging.{judgement, judged}
+use Rattle.cs_apply_conflicts.specs.Applying.{omit_all, skipped}
 use Rattle.cs_value.proofs.ListLemmas.{recursion_from_AllPairs}
-use Rattle.cs_group.specs.declared.conflict.Noop.TheVariants as noop
+use Rattle.cs_apply_conflicts.specs.declared.conflict.Noop.TheVariants as noop
 use Rattle.cs_apply_rows.specs.declared.conflict.Conflict.{Conflict}
 use Rattle.cs_apply_rows.specs.declared.fault.ApplyFault.{ApplyFault}
 use Rattle.cs_apply_rows.specs.declared.fault.ApplyFault.TheVariants as apply

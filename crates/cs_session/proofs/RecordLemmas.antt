@@ -8,9 +8,9 @@ use Rattle.sqlite.specs.State.{HasCleanDisk}
 use Rattle.cs_value.specs.State.{State, WrittenData, IsState}
 use Rattle.cs_store.specs.Editing.{written_of}
 use Rattle.cs_store.specs.Store.{RefusesShut, tables_in}
-use Rattle.cs_group.specs.Laws.{TellsFormer}
-use Rattle.cs_group.proofs.ApplyLemmas.{written_tells}
-use Rattle.cs_group.specs.declared.conflict.Noop.{Noop}
+use Rattle.cs_apply_conflicts.specs.Laws.{TellsFormer}
+use Rattle.cs_apply_conflicts.proofs.ApplyLemmas.{written_tells}
+use Rattle.cs_apply_conflicts.specs.declared.conflict.Noop.{Noop}
 use Rattle.cs_apply_rows.specs.declared.fault.ApplyFault.{ApplyFault}
 use Rattle.cs_apply_rows.specs.declared.fault.ApplyFault.TheVariants.{Read, Wider, Abort, Misuse, Store, NoMemory}
 use Rattle.cs_apply_rows.specs.declared.report.Report.{Report}

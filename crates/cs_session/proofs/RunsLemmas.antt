@@ -18,10 +18,10 @@ use Rattle.sqlite.specs.State.{State as Connection}
 use Rattle.cs_store.specs.Editing.{Declares, Edited}
 use Rattle.cs_store.specs.Records.{KeepsContent}
 use Rattle.cs_store.specs.Store.{tables_in}
-use Rattle.cs_group.specs.Laws.{TellsFormer}
-use Rattle.cs_group.specs.declared.conflict.Noop.{Noop}
-use Rattle.cs_group.specs.Applying.{written_under}
-use Rattle.cs_group.proofs.ApplyLemmas.{written_tells}
+use Rattle.cs_apply_conflicts.specs.Laws.{TellsFormer}
+use Rattle.cs_apply_conflicts.specs.declared.conflict.Noop.{Noop}
+use Rattle.cs_apply_conflicts.specs.Applying.{written_under}
+use Rattle.cs_apply_conflicts.proofs.ApplyLemmas.{written_tells}
 use Rattle.cs_apply_rows.specs.declared.report.Report.{Report}
 use Rattle.cs_apply_rows.specs.Running.{Handler}
 use Rattle.cs_session.specs.FirstImages.{FirstImage, AttachedTable, Notes, HasAttached, first_at, put_all_back, rewound_rows, rewound, rewound_state, noted_in, recorded}

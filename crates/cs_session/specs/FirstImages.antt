@@ -10,7 +10,7 @@ use Rattle.cs_value.specs.Table.{IsName}
 use Rattle.cs_value.specs.State.{SchemaData, IsSchema, IsRowAt, RowMap, State, WrittenData, schema_at, rows_at, row_at, with_rows}
 use Rattle.cs_wire_entries.specs.declared.entry.Entry.{Entry}
 use Rattle.cs_wire.specs.Changeset.{HeaderData, GroupData}
-use Rattle.cs_group.specs.JoinLaw.{net_entry}
+use Rattle.cs_group.specs.Net.{net_entry}
 
 -- ---- what is remembered
 

@@ -10,4 +10,4 @@ pub mod Images
 pub mod Views
 pub use Rattle.cs_value.specs.State
 pub use Rattle.cs_wire.specs.Changeset
-pub use Rattle.cs_group.specs.Applying
+pub use Rattle.cs_apply_conflicts.specs.Applying

@@ -11,7 +11,7 @@ use Rattle.cs_apply_rows.specs.declared.report.Report.{Report}
 use Rattle.cs_apply_rows.specs.declared.running.Direction.TheVariants.{Forward}
 use Rattle.cs_apply_rows.specs.declared.fault.ApplyFault.{ApplyFault}
 use Rattle.cs_apply_rows.specs.declared.fault.ApplyFault.TheVariants as apply_fault
-use Rattle.cs_group.specs.declared.conflict.Noop.{Noop}
+use Rattle.cs_apply_conflicts.specs.declared.conflict.Noop.{Noop}
 use Rattle.cs_apply_rows.specs.Running.{Handler, Applies, Refuses}
 use Rattle.cs_session.specs.declared.fault.SessionFault.{SessionFault}
 use Rattle.cs_session.specs.declared.fault.SessionFault.TheVariants.{Store, Apply, AlreadyAttached, WrongStore, NoMemory}

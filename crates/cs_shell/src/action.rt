@@ -1,7 +1,7 @@
 //! What words ask for.
 
+use cs_apply_conflicts::Noop;
 use cs_apply_rows::Policy;
-use cs_group::Noop;
 
 /// The store that is in memory, where a store in a file is named.
 pub const IN_MEMORY: &str = ":memory:";

@@ -8,8 +8,8 @@ use crate::action::{Action, IN_MEMORY};
 use crate::command_line::command_line;
 use crate::fault::WordsFault;
 use clap::ArgMatches;
+use cs_apply_conflicts::Noop;
 use cs_apply_rows::{Choice, Policy};
-use cs_group::Noop;
 use cs_shell_grammar::choice_name;
 use std::alloc::Global;
 

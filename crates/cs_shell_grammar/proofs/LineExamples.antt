@@ -3,8 +3,8 @@ use Rattle.std.proofs.Common.{true, false, [], ◌∷◌, codes, refl}
 use Rattle.std.specs.Prelude.{⊤, pos, negsuc}
 use Rattle.std.proofs.lemmas.Str.{IsUtf8-from_is_utf8}
 use Rattle.cs_value.specs.declared.value.OwnedValue.TheVariants.{Int, Text, Blob, Null}
-use Rattle.cs_group.specs.declared.conflict.Choice.TheVariants.{Omit, Replace, Abort}
-use Rattle.cs_group.specs.declared.conflict.Noop.TheVariants.{Report, Ignore}
+use Rattle.cs_apply_conflicts.specs.declared.conflict.Choice.TheVariants.{Omit, Replace, Abort}
+use Rattle.cs_apply_conflicts.specs.declared.conflict.Noop.TheVariants.{Report, Ignore}
 use Rattle.cs_shell_grammar.specs.Commands.{CommandData, Create, Insert, Update, Delete, Select, Load, Hex, Dump, Invert, Concat, Apply, Revert}
 use Rattle.cs_shell_grammar.specs.Commands.{SessionOpen, SessionAttach, SessionChangeset, SessionIsEmpty, SessionUndo, SessionClose}
 use Rattle.cs_shell_tokens.specs.Words.{words_of, behind_word, text_in, slot_in, no_word_in, one_slot_in}

@@ -11,9 +11,9 @@ use Rattle.cs_wire.specs.ReadFaults.{ReadFails}
 use Rattle.sqlite.specs.Effect.{IsDatabase}
 use Rattle.cs_store.specs.Records.{KeepsContent, KeepsOthers}
 use Rattle.cs_store.specs.Store.{IsAtRest, tables_in}
-use Rattle.cs_group.specs.declared.conflict.Choice.{Choice}
-use Rattle.cs_group.specs.declared.conflict.Noop.{Noop}
-use Rattle.cs_group.specs.declared.conflict.Noop.TheVariants as noop
+use Rattle.cs_apply_conflicts.specs.declared.conflict.Choice.{Choice}
+use Rattle.cs_apply_conflicts.specs.declared.conflict.Noop.{Noop}
+use Rattle.cs_apply_conflicts.specs.declared.conflict.Noop.TheVariants as noop
 use Rattle.cs_apply_rows.specs.declared.conflict.Conflict.{Conflict}
 use Rattle.cs_apply_rows.specs.declared.fault.ApplyFault.{ApplyFault}
 use Rattle.cs_apply_rows.specs.declared.report.Report.{Report}

@@ -7,8 +7,8 @@ use Rattle.cs_value.specs.State.{State as Tables}
 use Rattle.cs_value.specs.declared.refusal.OrNoMemory.{OrNoMemory}
 use Rattle.cs_value.specs.declared.refusal.OrNoMemory.TheVariants as tool
 use Rattle.cs_store.specs.Editing.{inserted}
-use Rattle.cs_group.specs.declared.conflict.Choice.{Choice}
-use Rattle.cs_group.specs.declared.conflict.Noop.{Noop}
+use Rattle.cs_apply_conflicts.specs.declared.conflict.Choice.{Choice}
+use Rattle.cs_apply_conflicts.specs.declared.conflict.Noop.{Noop}
 use Rattle.cs_apply_rows.specs.declared.running.Direction.TheVariants.{Forward}
 use Rattle.cs_session.specs.FirstImages.{Notes}
 use Rattle.cs_shell_grammar.specs.declared.fault.SyntaxFault.{SyntaxFault}

@@ -16,10 +16,10 @@ use Rattle.cs_rows.specs.declared.fault.StoreError.{StoreError}
 use Rattle.cs_rows.specs.declared.fault.StoreError.TheVariants.{KeyTaken, NoRow}
 use Rattle.cs_rows.proofs.WrittenRows.{same_schemas, rows_here, rows_other}
 use Rattle.cs_store.specs.Editing.{Edited, row_fault, unless, has_row, when, inserted_in, moved, updated_in, deleted_in, found_table, inserted, updated, deleted}
-use Rattle.cs_group.specs.declared.conflict.Noop.{Noop}
-use Rattle.cs_group.specs.declared.conflict.Noop.TheVariants as noop
-use Rattle.cs_group.specs.Applying.{written_under}
-use Rattle.cs_group.proofs.ApplyLemmas.{written_tells}
+use Rattle.cs_apply_conflicts.specs.declared.conflict.Noop.{Noop}
+use Rattle.cs_apply_conflicts.specs.declared.conflict.Noop.TheVariants as noop
+use Rattle.cs_apply_conflicts.specs.Applying.{written_under}
+use Rattle.cs_apply_conflicts.proofs.ApplyLemmas.{written_tells}
 use Rattle.cs_apply_rows.specs.declared.running.Direction.{Direction}
 use Rattle.cs_apply_rows.specs.declared.running.Direction.TheVariants.{Forward, Inverse}
 use Rattle.cs_apply_rows.specs.declared.report.Summary.{Summary}

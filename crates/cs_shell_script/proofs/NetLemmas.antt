@@ -17,8 +17,8 @@ use Rattle.cs_wire_entries.specs.declared.entry.Entry.{Entry}
 use Rattle.cs_wire_entries.specs.declared.entry.Change.{Change}
 use Rattle.cs_wire_entries.specs.declared.entry.Change.TheVariants.{Update}
 use Rattle.cs_group.specs.Net.{is_same, old_record, new_record}
-use Rattle.cs_group.specs.JoinLaw.{net_entry}
-use Rattle.cs_group.proofs.ConflictLemmas.{same_values, same_itself}
+use Rattle.cs_group.specs.Net.{net_entry}
+use Rattle.cs_group.proofs.ImageLemmas.{same_values, same_itself}
 use Rattle.cs_session.specs.FirstImages.{writes_of}
 use Rattle.cs_shell_script.specs.ShellState.{SessionTable, with_keys, touch}
 use Rattle.cs_shell_script.specs.Net.{IsTracked}

@@ -16,9 +16,9 @@ use Rattle.cs_rows.specs.declared.edit.Edit.{Edit}
 use Rattle.cs_rows.specs.declared.fault.StoreError.{StoreError}
 use Rattle.cs_store.specs.Faults.{IsResource}
 use Rattle.cs_store.specs.Editing.{Edited, Declares, edited, written_of}
-use Rattle.cs_group.specs.declared.conflict.Noop.{Noop}
-use Rattle.cs_group.specs.declared.conflict.Noop.TheVariants as noop
-use Rattle.cs_group.specs.Applying.{met_under}
+use Rattle.cs_apply_conflicts.specs.declared.conflict.Noop.{Noop}
+use Rattle.cs_apply_conflicts.specs.declared.conflict.Noop.TheVariants as noop
+use Rattle.cs_apply_conflicts.specs.Applying.{met_under}
 use Rattle.cs_apply_rows.specs.declared.report.Report.{Report}
 use Rattle.cs_apply_rows.specs.declared.report.Summary.{Summary}
 use Rattle.cs_apply_rows.specs.declared.running.Direction.{Direction}

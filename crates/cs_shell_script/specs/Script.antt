@@ -12,9 +12,9 @@ use Rattle.cs_value.specs.State.{SchemaData, State, schema_at, rows_at, row_at}
 use Rattle.cs_wire_entries.specs.declared.fault.ReadFault.{ReadFault}
 use Rattle.cs_wire.specs.Changeset.{GroupData, IsChangeset, file_bytes}
 use Rattle.cs_wire.specs.ReadFaults.{ReadFails}
-use Rattle.cs_group.specs.declared.conflict.Choice.{Choice}
-use Rattle.cs_group.specs.declared.conflict.Noop.{Noop}
-use Rattle.cs_group.specs.declared.conflict.Noop.TheVariants as noop
+use Rattle.cs_apply_conflicts.specs.declared.conflict.Choice.{Choice}
+use Rattle.cs_apply_conflicts.specs.declared.conflict.Noop.{Noop}
+use Rattle.cs_apply_conflicts.specs.declared.conflict.Noop.TheVariants as noop
 use Rattle.cs_rows.specs.declared.fault.StoreError.{StoreError}
 use Rattle.cs_rows.specs.declared.fault.StoreError.TheVariants.{NoTable, NullInKey, NoRow}
 use Rattle.cs_rows.specs.Faults.{IsStoreFault}

@@ -1,7 +1,7 @@
 -- `store::revert`: the clauses `applied`, `refused`, `reverts` and `transacts`.
 use Rattle.std.proofs.Common.{Ok, Err, refl, rules}
 use Rattle.std.proofs.lemmas.Result.{err_from_is_err_and}
-use Rattle.cs_group.specs.declared.conflict.Noop.TheVariants.{Report as Reported}
+use Rattle.cs_apply_conflicts.specs.declared.conflict.Noop.TheVariants.{Report as Reported}
 use Rattle.cs_apply_rows.specs.declared.running.Direction.TheVariants.{Inverse}
 use Rattle.cs_apply_rows.specs.Running.{AlwaysAborts}
 use Rattle.cs_apply_rows.proofs.OutcomeLemmas.{told_reports}

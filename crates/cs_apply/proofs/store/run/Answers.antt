@@ -8,7 +8,7 @@ use Rattle.cs_store.specs.Store.{tables_in}
 use Rattle.cs_store.specs.Records.{KeepsContent, KeepsCrash}
 use Rattle.cs_store.proofs.TransactLemmas.{unbegun_transacts, dropped_transacts, uncommitted_transacts, committed_transacts}
 use Rattle.cs_value.specs.State as tables
-use Rattle.cs_group.specs.declared.conflict.Noop.{Noop}
+use Rattle.cs_apply_conflicts.specs.declared.conflict.Noop.{Noop}
 use Rattle.cs_apply_rows.specs.declared.running.Direction.{Direction}
 use Rattle.cs_apply_rows.specs.declared.tally.Tally.{Tally}
 use Rattle.cs_apply_rows.specs.Running.{Handler, AppliesTold}

@@ -6,8 +6,8 @@ use Rattle.std.specs.Rc.{rc_str_bytes}
 use Rattle.std.specs.FinMap.{get}
 use Rattle.cs_value.specs.State.{State}
 use Rattle.cs_value.proofs.StateLemmas.{table_of_schema}
-use Rattle.cs_group.specs.Conflicts.{is_refused, row_after}
-use Rattle.cs_group.specs.Applying.{current, refused_at}
+use Rattle.cs_apply_conflicts.specs.Conflicts.{is_refused, row_after}
+use Rattle.cs_apply_conflicts.specs.Applying.{current, refused_at}
 use Rattle.cs_apply_rows.specs.Steps.{header_in, placed_in_table, with_result}
 use Rattle.cs_apply_rows.specs.Writes.{IsEntryWrite}
 use Rattle.cs_apply_rows.proofs.CauseLemmas.{caused_on, entry_write, rows_caused_on}

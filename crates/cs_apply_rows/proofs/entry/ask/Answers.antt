@@ -2,8 +2,8 @@
 use Rattle.std.proofs.Common.{◌≡◌, true, false, refl, sym, ap, ◌∙◌}
 use Rattle.std.specs.Fn.{FnReturnsAt}
 use Rattle.std.proofs.lemmas.Fn.{says_at}
-use Rattle.cs_group.specs.Conflicts.{ends}
-use Rattle.cs_group.specs.Applying.{ConflictData}
+use Rattle.cs_apply_conflicts.specs.Conflicts.{ends}
+use Rattle.cs_apply_conflicts.specs.Applying.{ConflictData}
 use Rattle.cs_apply_rows.proofs.EntryLemmas.{ended_as, told_as}
 use Rattle.cs_apply_rows.proofs.entry.ask.Goals as goal
 

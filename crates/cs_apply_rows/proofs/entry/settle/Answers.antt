@@ -2,7 +2,7 @@
 use Rattle.std.proofs.Common.{◌≡◌, false, true≢false, Some, option_map, sym, ◌∙◌}
 use Rattle.std.specs.Fn.{FnReturnsAt}
 use Rattle.std.proofs.lemmas.Result.{IfOk-weaker}
-use Rattle.cs_group.specs.Conflicts.{conflict_kind, is_refused}
+use Rattle.cs_apply_conflicts.specs.Conflicts.{conflict_kind, is_refused}
 use Rattle.cs_apply_rows.specs.declared.entry.Settled.TheVariants.{Carried}
 use Rattle.cs_apply_rows.specs.Steps.{placed_in_table}
 use Rattle.cs_apply_rows.proofs.EntryLemmas.{settled_clean, settled_first, settled_second}

@@ -2,7 +2,7 @@
 use Rattle.std.proofs.Common.{sym, ap, ◌∙◌, rules}
 use Rattle.std.proofs.lemmas.Result.{err_from_is_err_and}
 use Rattle.cs_value.specs.Value.{IsRow}
-use Rattle.cs_group.specs.Applying.{refuses_at}
+use Rattle.cs_apply_conflicts.specs.Applying.{refuses_at}
 use Rattle.cs_apply_rows.specs.Steps.{header_in, write_of}
 use Rattle.cs_apply_rows.proofs.CauseLemmas.{rows_caused_on}
 use Rattle.cs_apply_rows.proofs.EntryLemmas.{keyed_here, kept_here, fits_here}

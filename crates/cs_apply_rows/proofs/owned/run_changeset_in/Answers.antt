@@ -10,7 +10,7 @@ use Rattle.cs_apply_rows.specs.Writes.{IsRunWrite}
 use Rattle.cs_apply_rows.proofs.BehindLemmas.{behind_start}
 use Rattle.cs_apply_rows.proofs.CauseLemmas.{caused_on, run_write}
 use Rattle.cs_apply_rows.proofs.DirectedLemmas.{directed_none, group_names, groups_more, read_as, run_outcome}
-use Rattle.cs_group.specs.declared.conflict.Noop.TheVariants.{Report as Reported}
+use Rattle.cs_apply_conflicts.specs.declared.conflict.Noop.TheVariants.{Report as Reported}
 use Rattle.cs_apply_rows.proofs.OutcomeLemmas.{told_reports}
 use Rattle.cs_apply_rows.proofs.owned.run_changeset_in.Goals as goal
 

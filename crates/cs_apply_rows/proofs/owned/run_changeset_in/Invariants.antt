@@ -1,7 +1,7 @@
 -- The groups so far are behind the run.
 use Rattle.std.proofs.Common.{◌≡◌, true, take}
 use Rattle.std.specs.Fn.{FnReturnsAt}
-use Rattle.cs_group.specs.declared.conflict.Noop.TheVariants.{Report as Reported}
+use Rattle.cs_apply_conflicts.specs.declared.conflict.Noop.TheVariants.{Report as Reported}
 use Rattle.cs_apply_rows.specs.Tally.{is_listed}
 use Rattle.cs_apply_rows.specs.Running.{directed}
 use Rattle.cs_apply_rows.specs.Run.{IsBehind}

@@ -5,9 +5,9 @@ use Rattle.std.specs.Fn.{FnReturnsAt}
 use Rattle.std.specs.Rc.{rc_str_bytes}
 use Rattle.cs_value.specs.State.{State}
 use Rattle.cs_wire.specs.Changeset.{GroupData}
-use Rattle.cs_group.specs.declared.conflict.Noop.TheVariants.{Report as Reported}
-use Rattle.cs_group.specs.Applying.{refuses_at}
-use Rattle.cs_group.specs.Judging.{judged}
+use Rattle.cs_apply_conflicts.specs.declared.conflict.Noop.TheVariants.{Report as Reported}
+use Rattle.cs_apply_conflicts.specs.Applying.{refuses_at}
+use Rattle.cs_apply_conflicts.specs.Judging.{judged}
 use Rattle.cs_apply_rows.specs.Tally.{is_listed}
 use Rattle.cs_apply_rows.specs.Run.{IsBehind, directed_group, group_of}
 use Rattle.cs_apply_rows.specs.Writes.{IsGroupWrite}

@@ -7,8 +7,8 @@ use Rattle.std.specs.Rc.{rc_str_bytes}
 use Rattle.cs_wire_entries.specs.declared.entry.Entry.{Entry}
 use Rattle.cs_wire.specs.Headers.{header_of}
 use Rattle.cs_wire.specs.Items.{FlaggedEntry}
-use Rattle.cs_group.specs.Applying.{refuses_at}
-use Rattle.cs_group.proofs.ApplyLemmas.{judged_same, refuses_same}
+use Rattle.cs_apply_conflicts.specs.Applying.{refuses_at}
+use Rattle.cs_apply_conflicts.proofs.ApplyLemmas.{judged_same, refuses_same}
 use Rattle.cs_apply_rows.specs.Run.{directed_entry, directed_group, group_of}
 use Rattle.cs_apply_rows.specs.Writes.{IsGroupWrite}
 use Rattle.cs_apply_rows.specs.Steps.{header_in}

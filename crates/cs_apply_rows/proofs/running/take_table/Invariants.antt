@@ -6,8 +6,8 @@ use Rattle.cs_wire_entries.specs.declared.entry.Entry.{Entry}
 use Rattle.cs_wire.specs.Changeset.{GroupData}
 use Rattle.cs_wire.specs.Headers.{header_of}
 use Rattle.cs_file_tables.specs.Tables.{AreLeft}
-use Rattle.cs_group.specs.Applying.{refuses_at}
-use Rattle.cs_group.specs.Judging.{judged}
+use Rattle.cs_apply_conflicts.specs.Applying.{refuses_at}
+use Rattle.cs_apply_conflicts.specs.Judging.{judged}
 use Rattle.cs_apply_rows.specs.Run.{directed_group, group_of}
 use Rattle.cs_apply_rows.specs.Writes.{IsGroupWrite}
 use Rattle.cs_apply_rows.specs.Tally.{is_listed}

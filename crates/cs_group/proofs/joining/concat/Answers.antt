@@ -1,17 +1,7 @@
--- `joining::concat`: the clauses `applies`, `nets`, `length` and `undone`.
+-- `joining::concat`: the clauses `length` and `undone`.
 use Rattle.cs_group.proofs.InverseJoinLemmas.{inverse_joins}
-use Rattle.cs_group.proofs.JoinApplyLemmas.{join_applies}
-use Rattle.cs_group.proofs.JoinNetLemmas.{join_nets}
 use Rattle.cs_group.proofs.JoinLengths.{join_length}
 use Rattle.cs_group.proofs.joining.concat.Goals as goal
-
-pub returns-clause-applies : goal.returns-clause-applies
-returns-clause-applies c =
-    join_applies c.args.first.now c.args.second.now c.in_ok-join_all.field-0 c.in_ok-join_all.ensures.well_formed.0 c.in_ok-join_all.ensures.well_formed.1 c.in_ok-join_all.ensures.joined
-
-pub returns-clause-nets : goal.returns-clause-nets
-returns-clause-nets c =
-    join_nets c.args.first.now c.args.second.now c.in_ok-join_all.field-0 c.in_ok-join_all.ensures.well_formed.0 c.in_ok-join_all.ensures.well_formed.1 c.in_ok-join_all.ensures.joined
 
 pub returns-clause-length : goal.returns-clause-length
 returns-clause-length c = join_length c.args.first.now c.args.second.now c.in_ok-join_all.field-0 c.in_ok-join_all.ensures.well_formed.0 c.in_ok-join_all.ensures.joined

@@ -1,6 +1,6 @@
--- `numbering::number_keys`: what `push` asks for, the clauses `images`, `inverse`, `does` and `length`.
+-- `numbering::number_keys`: what `push` asks for, the clauses `images`, `inverse` and `length`.
 use Rattle.std.proofs.Common.{arith}
-use Rattle.cs_group.proofs.NumberingLemmas.{NumberedSoFar-all, next_table, images_stay, inverse_numbered, does_alike, length_stays}
+use Rattle.cs_group.proofs.NumberingLemmas.{NumberedSoFar-all, next_table, images_stay, inverse_numbered, length_stays}
 use Rattle.cs_group.proofs.numbering.number_keys.Goals as goal
 
 pub push-requires : goal.push-requires
@@ -17,11 +17,6 @@ pub returns-clause-inverse : goal.returns-clause-inverse
 returns-clause-inverse c =
     let is = NumberedSoFar-all c.args.changeset c.loop-group.numbered c.loop-group.yielded c.loop-group.group-iterator.rest.items c.loop-group.invariant (omega (arith, c.in-None.ensures.steps.0)) in
     rw is (inverse_numbered c.args.changeset)
-
-pub returns-clause-does : goal.returns-clause-does
-returns-clause-does c =
-    let is = NumberedSoFar-all c.args.changeset c.loop-group.numbered c.loop-group.yielded c.loop-group.group-iterator.rest.items c.loop-group.invariant (omega (arith, c.in-None.ensures.steps.0)) in
-    rw is (does_alike c.args.changeset)
 
 pub returns-clause-length : goal.returns-clause-length
 returns-clause-length c =

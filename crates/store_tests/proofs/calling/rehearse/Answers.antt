@@ -8,7 +8,7 @@ use Rattle.cs_value.specs.State.{State, WrittenData, rows_at}
 use Rattle.cs_rows.specs.declared.edit.Edit.{Edit}
 use Rattle.cs_store.specs.Editing.{written_of}
 use Rattle.cs_store.specs.Store.{tables_in}
-use Rattle.cs_group.specs.declared.conflict.Noop.{Noop}
+use Rattle.cs_apply_conflicts.specs.declared.conflict.Noop.{Noop}
 use Rattle.cs_apply_rows.specs.declared.report.Report.{Report}
 use Rattle.cs_apply_rows.specs.Running.{Handler}
 use Rattle.cs_session.specs.FirstImages.{AttachedTable, Notes, HasAttached, recorded, rewound_state}

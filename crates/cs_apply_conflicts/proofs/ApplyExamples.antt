@@ -1,0 +1,618 @@
+-- What changesets do to tables, worked as examples: on the table t of columns a and b, of which a is the key.
+use Rattle.std.proofs.Common.{◌≡◌, ◌≢◌, ℕ, zero, suc, arith, pos, Bool, true, false, true≢false, not, cond, List, [], ◌∷◌, ◌++◌, get_or, map, length, filter_map, All, Option, Some, None, option_map, unwrap_or, codes, refl, sym, ap, ◌∙◌, subst}
+use Rattle.std.specs.List.{cons_option, flat_map, AllPairs}
+use Rattle.std.specs.Char.{encode_utf8}
+use Rattle.std.specs.Str.{chars, is_utf8}
+use Rattle.std.proofs.lemmas.Str.{IsUtf8-from_is_utf8}
+use Rattle.std.specs.Ordering.{nat_cmp, is_eq}
+use Rattle.std.specs.Cmp.Lexicographic.{slice_cmp, nat_list_cmp_total}
+use Rattle.std.specs.FinMap.{get, insert, empty, get-insert, get-empty}
+use Rattle.std.proofs.lemmas.List.Elements.{All-nil}
+use Rattle.cs_value.specs.declared.value.OwnedValue.{OwnedValue}
+use Rattle.cs_value.specs.declared.value.OwnedField.TheVariants.{Undefined, Defined}
+use Rattle.cs_value.specs.declared.value.OwnedValue.TheVariants.{Int, Text, Null}
+use Rattle.cs_value.specs.Spelling.{value_bytes, field_bytes}
+use Rattle.cs_value.specs.State.{SchemaData, IsColumnName, IsSchema, IsRowAt, TableData, State, IsState, schema_at, row_at}
+use Rattle.cs_value.proofs.StateLemmas.{empty_table, table_insert, empty_state, state_insert}
+use Rattle.cs_value.proofs.ByteMaps.{tied_bytes}
+use Rattle.cs_wire_entries.specs.declared.entry.Change.{Change}
+use Rattle.cs_wire_entries.specs.declared.entry.Change.TheVariants.{Insert, Delete, Update}
+use Rattle.cs_wire.specs.Entry.{key_of}
+use Rattle.cs_wire.specs.Changeset.{HeaderData, GroupData}
+use Rattle.cs_wire.proofs.Examples.{one, flags, flags_are, header, header_is, direct, group, one_change, one_change_of, x, y, row, row_is as row_has_values, row_is_keyed, update, idle_update, update_is_changeset}
+use Rattle.cs_apply_conflicts.specs.declared.judging.Judgement.{Judgement}
+use Rattle.cs_apply_conflicts.specs.declared.judging.Judgement.TheVariants.{Skipped, Wider, Compatible}
+use Rattle.cs_apply_conflicts.specs.declared.conflict.Kind.{Kind}
+use Rattle.cs_apply_conflicts.specs.declared.conflict.Kind.TheVariants.{Data, NotFound, Conflict, Constraint}
+use Rattle.cs_apply_conflicts.specs.declared.conflict.Choice.{Choice}
+use Rattle.cs_apply_conflicts.specs.declared.conflict.Choice.TheVariants.{Omit, Replace, Abort}
+use Rattle.cs_apply_conflicts.specs.declared.conflict.Noop.TheVariants.{Report, Ignore}
+use Rattle.cs_group.specs.declared.merging.Merged.TheVariants.{Keep, Becomes}
+use Rattle.cs_group.specs.Joining.{merged}
+use Rattle.cs_apply_conflicts.specs.Judging.{judgement, judged, is_skipped, is_compatible}
+use Rattle.cs_apply_conflicts.specs.Conflicts.{has_values, is_refused, conflict_kind, kinds_met, is_idle, row_after, is_carried_out, entry_result}
+use Rattle.cs_apply_conflicts.specs.Applying.{PlacedEntry, placed_by, placed, placed_result, current, refuses_at, refused_at, IsElsewhere, skipped, FirstWider, applicable, placed_kind, NoneWider, IsClean, Choices, met_with, met_at, met_under, written_for, written, written_under, ignored, ignored_of, heeded, heeded_of, AreApplied, IsApplied, omit_all}
+use Rattle.cs_apply_conflicts.proofs.ApplyLemmas.{applied_reverts}
+use Rattle.cs_group.proofs.Examples.{update_and_back}
+
+-- the rows (1, 'y') and (1, 'z')
+abbrev later : List OwnedValue
+later = Int (pos 1) ∷ y ∷ []
+
+abbrev apart : List OwnedValue
+apart = Int (pos 1) ∷ Text (codes "z") ∷ []
+
+-- the row (2, 'q')
+abbrev second_row : List OwnedValue
+second_row = Int (pos 2) ∷ Text (codes "q") ∷ []
+
+-- the row (1, NULL)
+abbrev null_row : List OwnedValue
+null_row = Int (pos 1) ∷ Null ∷ []
+
+-- a row of three columns
+abbrev wide : OwnedValue → List OwnedValue
+wide middle = Int (pos 1) ∷ middle ∷ Text (codes "q") ∷ []
+
+-- the update of 'x' to 'y' in the second of three columns
+abbrev middle_update : Change
+middle_update = Update (Defined (Int (pos 1)) ∷ Defined x ∷ Undefined ∷ []) (Undefined ∷ Defined y ∷ Undefined ∷ [])
+
+-- the same choice for each kind of conflict
+abbrev always : Choice → Kind → Choice
+always choice kind = choice
+
+-- the columns of t that refuse NULL, which are those of its key, and the columns of a table in which b refuses it too
+abbrev refuses : List Bool
+refuses = true ∷ false ∷ []
+
+abbrev both_refuse : List Bool
+both_refuse = true ∷ true ∷ []
+
+-- ---- an entry and the row with its key
+
+-- what a change meets in t, and what it leaves there
+abbrev meets : Change → Option (List OwnedValue) → Option Kind
+meets change row = conflict_kind (is_refused refuses flags change) change row
+
+abbrev leaves : Change → Option (List OwnedValue) → (Kind → Choice) → Option (Option (List OwnedValue))
+leaves change row choose = entry_result (is_refused refuses flags change) flags change row choose
+
+-- the update of 'x' to 'y' meets no conflict at (1, 'x')
+update_meets_none : meets (update x y) (Some row) ≡ None
+update_meets_none = refl
+
+-- and leaves (1, 'y'), whatever the choice
+update_leaves_later : (choose : Kind → Choice) → leaves (update x y) (Some row) choose ≡ Some (Some later)
+update_leaves_later choose = refl
+
+-- its inverse meets none at (1, 'y')
+update_back_meets_none : meets (update y x) (Some later) ≡ None
+update_back_meets_none = refl
+
+-- and gives (1, 'x') back
+update_back_leaves_row : (choose : Kind → Choice) → leaves (update y x) (Some later) choose ≡ Some (Some row)
+update_back_leaves_row choose = refl
+
+-- the update of 'x' to 'y' meets (1, 'z'), which has another value
+update_meets_data : meets (update x y) (Some apart) ≡ Some Data
+update_meets_data = refl
+
+-- and leaves (1, 'y') in its place where that is chosen
+update_replaces : leaves (update x y) (Some apart) (always Replace) ≡ Some (Some later)
+update_replaces = refl
+
+-- an update of 'x' to 'x' meets none at (1, 'x')
+update_of_same_meets_none : meets (update x x) (Some row) ≡ None
+update_of_same_meets_none = refl
+
+-- and leaves it
+update_of_same_leaves_row : (choose : Kind → Choice) → leaves (update x x) (Some row) choose ≡ Some (Some row)
+update_of_same_leaves_row choose = refl
+
+-- an update that modifies nothing meets none at (1, 'x')
+idle_update_meets_none : meets idle_update (Some row) ≡ None
+idle_update_meets_none = refl
+
+-- and leaves the row, whose second column it does not say
+idle_update_leaves_row : row_after flags idle_update (Some row) ≡ Some row
+idle_update_leaves_row = refl
+
+-- where no row stands it finds none
+idle_update_finds_none : meets idle_update None ≡ Some NotFound
+idle_update_finds_none = refl
+
+-- an insert of (2, 'q') where no row stands meets none
+insert_meets_none : meets (Insert second_row) None ≡ None
+insert_meets_none = refl
+
+-- and leaves that row
+insert_leaves_row : (choose : Kind → Choice) → leaves (Insert second_row) None choose ≡ Some (Some second_row)
+insert_leaves_row choose = refl
+
+-- an insert of (1, 'x') meets (1, 'z'), which has its key
+insert_meets_conflict : meets (Insert row) (Some apart) ≡ Some Conflict
+insert_meets_conflict = refl
+
+-- passed over it leaves (1, 'z')
+insert_omitted : leaves (Insert row) (Some apart) (always Omit) ≡ Some (Some apart)
+insert_omitted = refl
+
+-- in its place it leaves (1, 'x')
+insert_replaces : leaves (Insert row) (Some apart) (always Replace) ≡ Some (Some row)
+insert_replaces = refl
+
+-- and where all is to end it leaves nothing
+insert_aborts : leaves (Insert row) (Some apart) (always Abort) ≡ None
+insert_aborts = refl
+
+-- a delete of (1, 'x') at that row leaves none
+delete_leaves_none : (choose : Kind → Choice) → leaves (Delete row) (Some row) choose ≡ Some None
+delete_leaves_none choose = refl
+
+-- where no row stands it finds none
+delete_finds_none : meets (Delete row) None ≡ Some NotFound
+delete_finds_none = refl
+
+-- and there is nothing to replace
+delete_of_none_ends : leaves (Delete row) None (always Replace) ≡ None
+delete_of_none_ends = refl
+
+-- passed over it leaves none
+delete_of_none_omitted : leaves (Delete row) None (always Omit) ≡ Some None
+delete_of_none_omitted = refl
+
+-- a delete of (1, 'x') meets (1, 'y'), which has another value
+delete_meets_data : meets (Delete row) (Some later) ≡ Some Data
+delete_meets_data = refl
+
+-- and leaves no row where it is carried out in its place
+delete_replaces : leaves (Delete row) (Some later) (always Replace) ≡ Some None
+delete_replaces = refl
+
+-- an update from NULL meets none at (1, NULL)
+update_from_null_meets_none : meets (update Null y) (Some null_row) ≡ None
+update_from_null_meets_none = refl
+
+-- and meets (1, 'x'), which has another value
+update_from_null_meets_data : meets (update Null y) (Some row) ≡ Some Data
+update_from_null_meets_data = refl
+
+-- where no row stands an update finds none
+update_finds_none : meets (update x y) None ≡ Some NotFound
+update_finds_none = refl
+
+-- and passed over it leaves none
+update_of_none_omitted : leaves (update x y) None (always Omit) ≡ Some None
+update_of_none_omitted = refl
+
+-- an update of the second of three columns meets (1, 'z', 'q'), which has another value there
+middle_update_meets_data : conflict_kind false middle_update (Some (wide (Text (codes "z")))) ≡ Some Data
+middle_update_meets_data = refl
+
+-- in its place it leaves (1, 'y', 'q'): the third column, which it does not say, stays
+middle_update_replaces : entry_result false (1 ∷ 0 ∷ 0 ∷ []) middle_update (Some (wide (Text (codes "z")))) (always Replace) ≡ Some (Some (wide y))
+middle_update_replaces = refl
+
+-- ---- a column that refuses NULL
+
+-- what a change meets where b refuses NULL, one after another, and what it leaves there
+abbrev meets_all : Change → Option (List OwnedValue) → (Kind → Choice) → List Kind
+meets_all change row choose = kinds_met (is_refused both_refuse flags change) change row choose
+
+abbrev leaves_all : Change → Option (List OwnedValue) → (Kind → Choice) → Option (Option (List OwnedValue))
+leaves_all change row choose = entry_result (is_refused both_refuse flags change) flags change row choose
+
+-- an insert of (1, NULL) where no row stands breaks that rule
+null_insert_is_refused : meets_all (Insert null_row) None (always Replace) ≡ Constraint ∷ []
+null_insert_is_refused = refl
+
+-- and meets nothing in t, where b may be NULL
+null_insert_meets_none : meets (Insert null_row) None ≡ None
+null_insert_meets_none = refl
+
+-- passed over it leaves no row
+null_insert_omitted : leaves_all (Insert null_row) None (always Omit) ≡ Some None
+null_insert_omitted = refl
+
+-- and it cannot be carried out all the same
+null_insert_ends : leaves_all (Insert null_row) None (always Replace) ≡ None
+null_insert_ends = refl
+
+null_insert_aborts : leaves_all (Insert null_row) None (always Abort) ≡ None
+null_insert_aborts = refl
+
+-- where (1, 'x') stands it meets that row
+null_insert_meets_row : meets_all (Insert null_row) (Some row) (always Omit) ≡ Conflict ∷ []
+null_insert_meets_row = refl
+
+-- and in place of that row breaks the rule
+null_insert_replaces : meets_all (Insert null_row) (Some row) (always Replace) ≡ Conflict ∷ Constraint ∷ []
+null_insert_replaces = refl
+
+-- the choices for the two need not be one: where the second is passed over (1, 'x') stays
+abbrev replace_row : Kind → Choice
+replace_row Constraint = Omit
+replace_row Conflict = Replace
+replace_row Data = Replace
+replace_row NotFound = Omit
+
+null_insert_keeps_row : leaves_all (Insert null_row) (Some row) replace_row ≡ Some (Some row)
+null_insert_keeps_row = refl
+
+-- an update of 'x' to NULL breaks the rule at (1, 'x')
+null_update_is_refused : meets_all (update x Null) (Some row) (always Replace) ≡ Constraint ∷ []
+null_update_is_refused = refl
+
+-- at (1, 'z') it meets the other value, and in its place breaks the rule
+null_update_meets_row : meets_all (update x Null) (Some apart) (always Omit) ≡ Data ∷ []
+null_update_meets_row = refl
+
+null_update_replaces : meets_all (update x Null) (Some apart) (always Replace) ≡ Data ∷ Constraint ∷ []
+null_update_replaces = refl
+
+-- where no row stands it finds none, and that alone
+null_update_finds_none : meets_all (update x Null) None (always Replace) ≡ NotFound ∷ []
+null_update_finds_none = refl
+
+-- an update that does not say b does not break it
+idle_update_is_not_refused : (choose : Kind → Choice) → meets_all idle_update (Some row) choose ≡ []
+idle_update_is_not_refused choose = refl
+
+-- and a delete breaks none
+deletes_break_none : (rules : List Bool) (old : List OwnedValue) → is_refused rules flags (Delete old) ≡ false
+deletes_break_none rules old = refl
+
+-- an insert that is refused is not idle where no row stands
+null_insert_is_not_idle : is_idle true flags (Insert null_row) None ≡ false
+null_insert_is_not_idle = refl
+
+-- ---- changes that change nothing
+
+-- a change is idle in t
+abbrev idles : Change → Option (List OwnedValue) → Bool
+idles change row = is_idle (is_refused refuses flags change) flags change row
+
+-- an insert of (1, 'x') is idle at that row, and not at (1, 'z')
+insert_is_idle : idles (Insert row) (Some row) ≡ true
+insert_is_idle = refl
+
+other_insert_is_not_idle : idles (Insert row) (Some apart) ≡ false
+other_insert_is_not_idle = refl
+
+-- nor where no row stands, where it meets no conflict
+new_insert_is_not_idle : idles (Insert row) None ≡ false
+new_insert_is_not_idle = refl
+
+-- a delete is idle where no row stands, and not at another row than its own
+delete_is_idle : idles (Delete row) None ≡ true
+delete_is_idle = refl
+
+other_delete_is_not_idle : idles (Delete row) (Some later) ≡ false
+other_delete_is_not_idle = refl
+
+-- the update of 'x' to 'y' is idle at (1, 'y'), and neither at (1, 'x') nor at (1, 'z') nor where no row stands
+update_is_idle : idles (update x y) (Some later) ≡ true
+update_is_idle = refl
+
+clean_update_is_not_idle : idles (update x y) (Some row) ≡ false
+clean_update_is_not_idle = refl
+
+other_update_is_not_idle : idles (update x y) (Some apart) ≡ false
+other_update_is_not_idle = refl
+
+update_of_none_is_not_idle : idles (update x y) None ≡ false
+update_of_none_is_not_idle = refl
+
+-- ---- the columns of a group and of its table
+
+-- there is no table
+no_table_is_skipped : judgement flags None ≡ Skipped
+no_table_is_skipped = refl
+
+-- it has a third column
+third_column_is_wider : judgement flags (Some (1 ∷ 0 ∷ 0 ∷ [])) ≡ Wider
+third_column_is_wider = refl
+
+-- so it is where that column is of the key
+third_key_column_is_wider : judgement flags (Some (1 ∷ 0 ∷ 1 ∷ [])) ≡ Wider
+third_key_column_is_wider = refl
+
+-- it has the second column as its key
+other_key_is_skipped : judgement flags (Some (0 ∷ 1 ∷ [])) ≡ Skipped
+other_key_is_skipped = refl
+
+-- it has no second column
+one_column_is_skipped : judgement flags (Some (1 ∷ [])) ≡ Skipped
+one_column_is_skipped = refl
+
+-- it has the same columns
+same_columns_are_compatible : judgement flags (Some flags) ≡ Compatible
+same_columns_are_compatible = refl
+
+-- any flag other than 0 marks a column of the key
+any_mark_is_compatible : (mark : ℕ) → judgement (suc mark ∷ 0 ∷ []) (Some flags) ≡ Compatible
+any_mark_is_compatible mark = refl
+
+-- ---- changesets and states
+
+-- the key 1
+abbrev key : List ℕ
+key = 0x01 ∷ 0 ∷ 0 ∷ 0 ∷ 0 ∷ 0 ∷ 0 ∷ 0 ∷ 1 ∷ []
+
+-- the columns of t, t with this row alone, under the key 1, and the state of that table alone, where these columns
+-- refuse NULL
+abbrev schema_by : List Bool → SchemaData
+schema_by rules = record { columns = codes "a" ∷ codes "b" ∷ []; flags = flags; refuses = rules }
+
+abbrev table_by : List Bool → List OwnedValue → TableData
+table_by rules r = record { schema = schema_by rules; rows = insert empty key r }
+
+abbrev state_by : List Bool → List OwnedValue → State
+state_by rules r = insert empty (codes "t") (table_by rules r)
+
+-- those where b may be NULL
+abbrev schema : SchemaData
+schema = schema_by refuses
+
+abbrev state_of : List OwnedValue → State
+state_of r = state_by refuses r
+
+-- whether texts are one
+abbrev is_text : List ℕ → List ℕ → Bool
+is_text q k = is_eq (slice_cmp nat_cmp q k)
+
+-- what a map of one entry has
+single : {X : Type 0} (k : List ℕ) (v : X) (q : List ℕ) → get (insert (empty {K = List ℕ} {X = X} {R = slice_cmp nat_cmp}) k v) q ≡ cond (is_text q k) (Some v) None
+single k v q = get-insert nat_list_cmp_total empty k v q ∙ ap (cond (is_text q k) (Some v)) (get-empty (slice_cmp nat_cmp) q)
+
+-- what is looked up in a table, if there is one
+abbrev schema_in : Option TableData → Option SchemaData
+schema_in o = option_map (λ t. t.schema) o
+
+abbrev row_in : Option TableData → List ℕ → Option (List OwnedValue)
+row_in o q = get (unwrap_or (option_map (λ t. t.rows) o) empty) q
+
+-- an entry of t
+abbrev in_t : Change → PlacedEntry
+in_t change = placed_by header (direct change)
+
+-- what is said of a state, of its rules and of the row that an entry meets there
+module _ (rules : List Bool) where
+  -- the schemas of the state, and its rows
+  schema_is : (r : List OwnedValue) (name : List ℕ) → schema_at (state_by rules r) name ≡ cond (is_text name (codes "t")) (Some (schema_by rules)) None
+  schema_is r name = ap schema_in (single (codes "t") (table_by rules r) name) ∙ at (is_text name (codes "t"))
+    where
+      at : (b : Bool) → schema_in (cond b (Some (table_by rules r)) None) ≡ cond b (Some (schema_by rules)) None
+      at true = refl
+      at false = refl
+
+  row_is : (r : List OwnedValue) (name q : List ℕ) → row_at (state_by rules r) name q ≡ cond (is_text name (codes "t")) (cond (is_text q key) (Some r) None) None
+  row_is r name q = ap (λ o. row_in o q) (single (codes "t") (table_by rules r) name) ∙ at (is_text name (codes "t"))
+    where
+      at : (b : Bool) → row_in (cond b (Some (table_by rules r)) None) q ≡ cond b (cond (is_text q key) (Some r) None) None
+      at true = single key r q
+      at false = get-empty (slice_cmp nat_cmp) q
+
+  -- changes of t are compatible
+  t_is_compatible : (r : List OwnedValue) (change : Change) → judged (state_by rules r) (group (change ∷ [])) ≡ Compatible
+  t_is_compatible r change = ap (λ (o : Option SchemaData). judgement flags (option_map (λ s. s.flags) o)) (schema_is r (codes "t"))
+
+  t_is_applicable : (r : List OwnedValue) (change : Change) → applicable (state_by rules r) (one_change change) ≡ in_t change ∷ []
+  t_is_applicable r change = ap (λ (j : Judgement). placed (cond (is_compatible j) (one_change change) [])) (t_is_compatible r change)
+
+  -- a change of the row with key 1 meets it
+  row_is_met : (r : List OwnedValue) (change : Change) → key_of flags change ≡ key → current (state_by rules r) (in_t change) ≡ Some r
+  row_is_met r change same = ap (row_at (state_by rules r) (codes "t")) same ∙ row_is r (codes "t") key
+
+  -- the columns of t are those
+  rules_are : (r : List OwnedValue) → refuses_at (state_by rules r) (codes "t") ≡ rules
+  rules_are r = ap (λ (o : Option SchemaData). unwrap_or (option_map (λ s. s.refuses) o) []) (schema_is r (codes "t"))
+
+  -- so what is said of such a change, of the rules and of the row, is said of these
+  module _ (r : List OwnedValue) (change : Change) (same : key_of flags change ≡ key) where
+    in_state : {X : Type 0} (said : Bool → Option (List OwnedValue) → X)
+        → said (refused_at (state_by rules r) (in_t change)) (current (state_by rules r) (in_t change)) ≡ said (is_refused rules flags change) (Some r)
+    in_state said =
+        ap (λ (found : List Bool). said (is_refused found flags change) (current (state_by rules r) (in_t change))) (rules_are r)
+        ∙ ap (said (is_refused rules flags change)) (row_is_met r change same)
+
+    -- as what it meets
+    met_are : (choose : Choices) → met_under Report (state_by rules r) (one_change change) choose
+        ≡ met_with (is_refused rules flags change) (in_t change) (Some r) (choose (in_t change)) ++ []
+    met_are choose =
+        ap (flat_map (met_at (state_by rules r) choose)) (t_is_applicable r change)
+        ∙ in_state (λ refused row. met_with refused (in_t change) row (choose (in_t change)) ++ [])
+
+-- no table is wider
+none_wider : (r : List OwnedValue) (change : Change) → NoneWider (state_of r) (one_change change)
+none_wider r change = one (λ g. judged (state_of r) g ≢ Wider) (group (change ∷ [])) (λ wider. let e = sym (t_is_compatible refuses r change) ∙ wider in cc)
+
+-- the update of 'x' to 'y' meets no conflict where t has (1, 'x')
+update_is_clean : IsClean (state_of row) (one_change (update x y))
+unfolding value_bytes field_bytes
+update_is_clean = record {
+  none_wider = none_wider row (update x y);
+  no_conflict = subst (All MeetsNone) (sym (t_is_applicable refuses row (update x y))) (one MeetsNone (in_t (update x y)) (in_state refuses row (update x y) refl (λ refused o. conflict_kind refused (update x y) o)));
+}
+  where
+    MeetsNone : PlacedEntry → Type 0
+    MeetsNone p = placed_kind (state_of row) p ≡ None
+
+-- and makes the state in which t has (1, 'y')
+update_is_applied : (choose : Choices) → IsApplied (state_of row) (one_change (update x y)) choose (state_of later)
+unfolding value_bytes field_bytes
+update_is_applied choose =
+    subst (λ (ps : List PlacedEntry). AreApplied (state_of row) ps choose (state_of later)) (sym (t_is_applicable refuses row (update x y))) (record {
+      schemas = λ table. schema_is refuses later table ∙ sym (schema_is refuses row table);
+      results = one (λ p. placed_result (state_of row) choose p ≡ Some (current (state_of later) p)) (in_t (update x y)) result;
+      others = λ table k elsewhere. row_is refuses later table k ∙ other table k (elsewhere 0 (in_t (update x y)) (omega arith)) (is_text table (codes "t")) (is_text k key) refl refl ∙ sym (row_is refuses row table k);
+    })
+  where
+    result : placed_result (state_of row) choose (in_t (update x y)) ≡ Some (current (state_of later) (in_t (update x y)))
+    result =
+        in_state refuses row (update x y) refl (λ refused o. entry_result refused flags (update x y) o (choose (in_t (update x y))))
+        ∙ ap Some (sym (row_is_met refuses later (update x y) refl))
+
+    other : (table k : List ℕ) → IsElsewhere (in_t (update x y)) table k → (b c : Bool) → is_text table (codes "t") ≡ b → is_text k key ≡ c
+        → cond b (cond c (Some later) None) None ≡ cond b (cond c (Some row) None) None
+    other table k elsewhere true true t is = absurd (elsewhere (sym (tied_bytes table (codes "t") t), sym (tied_bytes k key is)))
+    other table k elsewhere true false t is = refl
+    other table k elsewhere false c t is = refl
+
+-- the first is a state
+a_is_name : IsColumnName (codes "a")
+unfolding encode_utf8 chars is_utf8
+a_is_name = record { some = omega arith; text = IsUtf8-from_is_utf8 (codes "a") refl; short = omega arith }
+
+b_is_name : IsColumnName (codes "b")
+unfolding encode_utf8 chars is_utf8
+b_is_name = record { some = omega arith; text = IsUtf8-from_is_utf8 (codes "b") refl; short = omega arith }
+
+first_byte : List ℕ → ℕ
+first_byte bytes = get_or bytes 0 0
+
+a_is_not_b : codes "a" ≢ codes "b"
+unfolding first_byte
+a_is_not_b e = absurd (omega (arith, ap first_byte e))
+
+names_are_apart : AllPairs ◌≢◌ (codes "a" ∷ codes "b" ∷ [])
+names_are_apart zero zero d lt below = absurd (omega arith)
+names_are_apart zero (suc zero) d lt below = a_is_not_b
+names_are_apart zero (suc (suc j)) d lt below = absurd (omega arith)
+names_are_apart (suc i) zero d lt below = absurd (omega arith)
+names_are_apart (suc i) (suc zero) d lt below = absurd (omega arith)
+names_are_apart (suc i) (suc (suc j)) d lt below = absurd (omega arith)
+
+schema_is_one : IsSchema schema
+schema_is_one = record {
+  flags = flags_are;
+  bits = (omega arith, (omega arith, tt));
+  rules = (refl, tt);
+  as_many = refl;
+  named = (a_is_name, (b_is_name, tt));
+  apart = names_are_apart;
+}
+
+row_stands : IsRowAt schema key row
+unfolding value_bytes
+row_stands = record { values = row_has_values; keyed = row_is_keyed; obeys = refl; own = refl }
+
+state_is_one : IsState (state_of row)
+state_is_one =
+    state_insert empty (codes "t") (table_by refuses row) empty_state header_is.name
+    (table_insert (record { schema = schema; rows = empty }) key row (empty_table schema schema_is_one) row_stands)
+
+-- in which the inverse meets no conflict, and from which it makes the first
+update_is_undone : (choose : Choices) → IsClean (state_of later) (one_change (update y x)) × IsApplied (state_of later) (one_change (update y x)) choose (state_of row)
+update_is_undone choose = applied_reverts (state_of row) (one_change (update x y)) (one_change (update y x)) omit_all choose (state_of later) state_is_one update_is_changeset update_and_back update_is_clean (update_is_applied omit_all)
+
+-- the key 1 is told as written, with the row that stood there
+update_tells_former : (choose : Choices) → written (state_of row) (one_change (update x y)) choose ≡ record { table = codes "t"; key = key; former = Some row } ∷ []
+unfolding value_bytes field_bytes
+update_tells_former choose =
+    ap (filter_map (written_for (state_of row) choose)) (t_is_applicable refuses row (update x y))
+    ∙ in_state refuses row (update x y) refl (λ refused o.
+    cons_option (cond (is_carried_out (kinds_met refused (update x y) o (choose (in_t (update x y)))) (choose (in_t (update x y)))) (Some (record { table = codes "t"; key = key; former = o })) None) [])
+
+-- an insert of (1, 'x') where t has (1, 'z') meets that row
+insert_meets_row : (choose : Choices) → met_under Report (state_of apart) (one_change (Insert row)) choose
+    ≡ record {
+      conflict = record { kind = Conflict; table = codes "t"; entry = direct (Insert row); current = Some apart };
+      choice = choose (in_t (Insert row)) Conflict;
+    } ∷ []
+unfolding value_bytes field_bytes
+insert_meets_row choose = met_are refuses apart (Insert row) refl choose
+
+-- an insert of (1, NULL) where t has (1, 'x') and b refuses NULL meets that row, and in its place breaks the rule
+insert_meets_two : met_under Report (state_by both_refuse row) (one_change (Insert null_row)) (λ p. always Replace)
+    ≡ record {
+      conflict = record { kind = Conflict; table = codes "t"; entry = direct (Insert null_row); current = Some row };
+      choice = Replace;
+    } ∷ record {
+      conflict = record { kind = Constraint; table = codes "t"; entry = direct (Insert null_row); current = Some row };
+      choice = Replace;
+    } ∷ []
+unfolding value_bytes field_bytes
+insert_meets_two = met_are both_refuse row (Insert null_row) refl (λ p. always Replace)
+
+-- the update of 'x' to 'y' is ignored where t has (1, 'y') already
+update_is_ignored : ignored Ignore (state_of later) (one_change (update x y)) ≡ 1
+unfolding value_bytes field_bytes
+update_is_ignored =
+    ap (λ (ps : List PlacedEntry). length (ignored_of Ignore (state_of later) ps)) (t_is_applicable refuses later (update x y))
+    ∙ in_state refuses later (update x y) refl (λ refused o. length (cond (is_idle refused flags (update x y) o) (in_t (update x y) ∷ []) []))
+
+-- where no-ops are reported, it is not
+update_is_reported : ignored Report (state_of later) (one_change (update x y)) ≡ 0
+update_is_reported = refl
+
+-- an ignored update asks for no choice and writes nothing
+none_is_heeded : heeded Ignore (state_of later) (one_change (update x y)) ≡ []
+unfolding value_bytes field_bytes
+none_is_heeded =
+    ap (heeded_of Ignore (state_of later)) (t_is_applicable refuses later (update x y))
+    ∙ in_state refuses later (update x y) refl (λ refused o. cond (not (is_idle refused flags (update x y) o)) (in_t (update x y) ∷ []) [])
+
+ignored_meets_none : (choose : Choices) → met_under Ignore (state_of later) (one_change (update x y)) choose ≡ []
+ignored_meets_none choose = ap (flat_map (met_at (state_of later) choose)) none_is_heeded
+
+ignored_writes_none : (choose : Choices) → written_under Ignore (state_of later) (one_change (update x y)) choose ≡ []
+ignored_writes_none choose = ap (filter_map (written_for (state_of later) choose)) none_is_heeded
+
+-- the table t with only the column a
+abbrev header_a : HeaderData
+header_a = record { name = codes "t"; flags = 1 ∷ [] }
+
+-- changes of the column a alone find the table wider
+a_alone_is_wider : FirstWider (state_of row) (one_change_of header_a (Insert (Int (pos 1) ∷ []))) 0
+a_alone_is_wider = record {
+  within = omega arith;
+  before = All-nil (λ g. judged (state_of row) g ≢ Wider);
+  wider = λ d. ap (λ (o : Option SchemaData). judgement header_a.flags (option_map (λ s. s.flags) o)) (schema_is refuses row (codes "t"));
+}
+
+-- ---- a table z that is not there
+
+-- an insert of (1, 'x') into it
+abbrev header_z : HeaderData
+header_z = record { name = codes "z"; flags = flags }
+
+abbrev group_z : GroupData
+group_z = record { header = header_z; entries = direct (Insert row) ∷ [] }
+
+-- it is passed over
+z_is_skipped : judged (state_of row) group_z ≡ Skipped
+z_is_skipped = ap (λ (o : Option SchemaData). judgement flags (option_map (λ s. s.flags) o)) (schema_is refuses row (codes "z"))
+
+-- its name is told
+z_is_told : skipped (state_of row) (one_change_of header_z (Insert row)) ≡ codes "z" ∷ []
+z_is_told = ap (λ (j : Judgement). map (λ g. g.header.name) (cond (is_skipped j) (group_z ∷ []) [])) z_is_skipped
+
+-- and its changes meet no conflict
+z_meets_none : (choose : Choices) → met_under Report (state_of row) (one_change_of header_z (Insert row)) choose ≡ []
+z_meets_none choose = ap (λ (j : Judgement). flat_map (met_at (state_of row) choose) (placed (cond (is_compatible j) (group_z ∷ []) []))) z_is_skipped
+
+-- ---- the join of two entries of one key
+
+-- the insert of (1, 'x') and the update of 'x' to 'y' become the insert of (1, 'y')
+inserted_later : merged flags (direct (Insert row)) (direct (update x y)) ≡ Becomes (direct (Insert later))
+inserted_later = refl
+
+-- which meets no conflict where the first meets none, and leaves what the second leaves
+joined_meets_none : meets (Insert later) None ≡ None
+joined_meets_none = refl
+
+joined_leaves_same : row_after flags (Insert later) None ≡ row_after flags (update x y) (row_after flags (Insert row) None)
+joined_leaves_same = refl
+
+-- where the second meets a conflict the first stays
+inserted_twice : merged flags (direct (Insert row)) (direct (Insert later)) ≡ Keep
+inserted_twice = refl
+
+second_meets_conflict : meets (Insert later) (row_after flags (Insert row) None) ≡ Some Conflict
+second_meets_conflict = refl
+
+-- and then leaves another row than both, the second in place of what stood there
+joined_leaves_other : leaves (Insert later) (row_after flags (Insert row) None) (always Replace) ≢ Some (row_after flags (Insert row) None)
+joined_leaves_other = λ e. true≢false (sym (ap (λ (o : Option (Option (List OwnedValue))). has_values (unwrap_or (unwrap_or o None) []) (map Defined row)) e))

@@ -1,0 +1,12 @@
+pub mod ConflictLemmas
+pub mod RuleLemmas
+pub mod JudgingLemmas
+pub mod ApplyLemmas
+pub mod IdleLemmas
+pub mod ApplyExamples
+pub mod NetLemmas
+pub mod EntryJoinLemmas
+pub mod TableLemmas
+pub mod JoinApplyLemmas
+pub mod JoinNetLemmas
+pub mod NumberingApplyLemmas

@@ -1,0 +1,16 @@
+pub mod Conflicts
+pub mod Judging
+pub mod Applying
+pub mod Laws
+pub mod JoinLaw
+pub mod NumberingLaw
+pub use Rattle.cs_value.specs.Value
+pub use Rattle.cs_value.specs.Key
+pub use Rattle.cs_value.specs.Table
+pub use Rattle.cs_value.specs.State
+pub use Rattle.cs_wire.specs.Entry
+pub use Rattle.cs_wire.specs.Changeset
+pub use Rattle.cs_group.specs.Inverse
+pub use Rattle.cs_group.specs.Net
+pub use Rattle.cs_group.specs.Joining
+pub use Rattle.cs_group.specs.Numbering
